@@ -1,0 +1,38 @@
+-- What a raw attribute is, and what reading one gives.
+use Rattle.std.specs.Prelude.{◌≡◌, ℕ, ◌+◌, ◌-◌, Bool, true, List, length, drop, slice_range, Option, Some, None, nat_lt, if◌then◌else◌}
+use Rattle.stun_grammar.specs.declared.error.StunParseError.{StunParseError}
+use Rattle.stun_grammar.specs.declared.error.StunParseError.TheVariants.{Truncated}
+use Rattle.stun_grammar.specs.Numbers.{number}
+use Rattle.stun_grammar.specs.Attributes.{Attribute, first_attribute, text, stated_length}
+use Rattle.stun_base.specs.Data.{data_bytes, is_borrowed}
+use Rattle.stun_attrs.specs.declared.raw.RawAttribute.{RawAttribute}
+
+abbrev pub raw_type : RawAttribute → ℕ
+raw_type raw = raw.header.atype.0
+
+abbrev pub raw_value : RawAttribute → List ℕ
+raw_value raw = data_bytes raw.value
+
+-- a raw attribute of this type and value
+pub record IsRawOf (type : ℕ) (value : List ℕ) (raw : RawAttribute) : Type 0 where
+  pub type_is : raw_type raw ≡ type
+  pub value_is : raw_value raw ≡ value
+
+-- the same, with a value that is borrowed
+pub record Borrows (type : ℕ) (value : List ℕ) (raw : RawAttribute) : Type 0 where
+  pub raw_is : IsRawOf type value raw
+  pub borrowed : is_borrowed raw.value ≡ true
+
+-- why bytes aren't an attribute, its padding aside
+unfoldable pub raw_fault : List ℕ → Option StunParseError
+raw_fault d =
+    let n = stated_length d in
+    if nat_lt (length d) 4 then Some (Truncated 4 (length d)) else (
+    if nat_lt (length d) (4 + n) then Some (Truncated n (length d - 4)) else None)
+
+-- raw is the attribute whose header stands at an offset of d, its value is borrowed, and what follows it begins at behind
+pub record Finds (raw : RawAttribute) (behind offset : ℕ) (d : List ℕ) : Type 0 where
+  pub attribute : Attribute
+  pub first_is : first_attribute (drop offset d) ≡ Some attribute
+  pub raw_is : Borrows attribute.type attribute.value raw
+  pub behind_is : behind ≡ offset + length (text attribute)

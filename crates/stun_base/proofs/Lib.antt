@@ -1,0 +1,2 @@
+mod IdLaws
+mod HexLaws

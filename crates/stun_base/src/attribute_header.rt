@@ -1,0 +1,74 @@
+ghost use Rattle.std.specs.Prelude.{◌≡◌, ◌+◌, ◌-◌, ◌<◌, ◌≤◌, ◌++◌, ◌*◌, length, MatchResult, slice_range};
+ghost use Rattle.stun_grammar.specs.Numbers.{be16, number, padded_length};
+
+use byteorder::{BigEndian, ByteOrder};
+use stun_grammar::{AttributeType, StunParseError};
+
+/// The header of an attribute: four bytes, the type and the length of the value in two bytes each,
+/// big-endian (RFC 8489, section 14).
+#[derive(Clone, Copy, Debug, PartialEq, Eq)]
+pub struct AttributeHeader {
+    /// The type.
+    pub atype: AttributeType,
+    /// How many bytes the value has, its padding not counted.
+    pub length: u16,
+}
+
+impl AttributeHeader {
+    /// The header in the first four bytes; what follows them isn't looked at.
+    ///
+    /// # Errors
+    ///
+    /// `Truncated { expected: 4, actual }` where there are fewer than four bytes.
+    pub fn from_bytes(bytes: &[u8]) -> Result<Self, StunParseError>
+        ensures { MatchResult result
+            (λ header. (4 ≤ length bytes.now) × (header ≡ record { atype = record { 0 = number (slice_range bytes.now 0 2) }; length = number (slice_range bytes.now 2 4) }))
+            (λ e. (length bytes.now < 4) × (e ≡ StunParseError.Truncated 4 (length bytes.now))) }
+    {
+        if bytes.len() < 4 {
+            return Err(StunParseError::Truncated {
+                expected: 4,
+                actual: bytes.len(),
+            });
+        }
+        Ok(AttributeHeader {
+            atype: AttributeType(BigEndian::read_u16(bytes)),
+            length: BigEndian::read_u16(&bytes[2..]),
+        })
+    }
+
+    /// The four bytes.
+    pub fn to_bytes(&self) -> [u8; 4]
+        ensures { result ≡ be16 self.now.atype.0 ++ be16 self.now.length }
+    {
+        let mut bytes = [0; 4];
+        BigEndian::write_u16(&mut bytes, self.atype.0);
+        BigEndian::write_u16(&mut bytes[2..], self.length);
+        bytes
+    }
+
+    /// The type.
+    pub fn get_type(&self) -> AttributeType
+        ensures { result ≡ self.now.atype }
+    {
+        self.atype
+    }
+
+    /// How many bytes the value has, its padding not counted.
+    pub fn length(&self) -> u16
+        ensures { result ≡ self.now.length }
+    {
+        self.length
+    }
+}
+
+/// The least multiple of 4 that isn't below `len`: how many bytes a value of `len` bytes takes with
+/// its padding (RFC 8489, section 14).
+///
+/// `len` is at most `usize::MAX - 3`.
+pub fn pad_attribute_len(len: usize) -> usize
+    requires { len ≤ usize.MAX - 3 }
+    ensures { result ≡ padded_length len }
+{
+    (len + 3) / 4 * 4
+}

@@ -1,0 +1,149 @@
+ghost use Rattle.std.specs.Prelude.{◌≡◌, ◌+◌, ◌≤◌, ◌<◌, slice_range, ◌==◌, nat_lt, length, take, drop, slice_index, MatchResult, None, Some};
+ghost use Rattle.std.specs.List.{list_all, zip};
+ghost use Rattle.stun_grammar.specs.Numbers.{be32, number};
+ghost use Rattle.stun_grammar.specs.Headers.{magic_cookie, is_header, begins, header_fault, id_field};
+ghost use Rattle.stun_base.specs.Types.{header_of};
+
+use crate::{MAGIC_COOKIE, MessageType, TransactionId};
+use byteorder::{BigEndian, ByteOrder};
+use std::marker::Model;
+use stun_grammar::StunParseError;
+
+/// The header of a message: twenty bytes, the type in two, how many bytes follow in two, the
+/// cookie in four and the transaction id in twelve, all of them big-endian (RFC 8489, section 5).
+#[derive(Debug, Drop)]
+pub struct MessageHeader {
+    mtype: MessageType,
+    transaction_id: TransactionId,
+    length: u16,
+}
+
+impl Model for MessageHeader {
+    ghost use Rattle.stun_base.specs.Types.{Header};
+
+    ghost Value = { Header };
+
+    ghost view = { λ h. record { type = h.mtype; length = h.length; id = h.transaction_id } };
+}
+
+/// The first byte, if there is one, may be that of a header.
+fn first_may_begin(bytes: &[u8]) -> bool
+    ensures { result ≡ list_all (λ first. nat_lt first 64) (take 1 bytes.now) }
+{
+    bytes.iter().take(1).all(|first| *first < 64)
+}
+
+/// As much as is there of bytes 4 to 8 is the cookie's front.
+fn cookie_may_follow(bytes: &[u8]) -> bool
+    ensures { result ≡ list_all (λ pair. pair.0 == pair.1) (zip (drop 4 bytes.now) (be32 magic_cookie)) }
+{
+    let cookie = MAGIC_COOKIE.to_be_bytes();
+    bytes
+        .iter()
+        .skip(4)
+        .zip(cookie.iter())
+        .all(|(byte, wanted)| *byte == *wanted)
+}
+
+/// A header may begin with these bytes, fewer than twenty.
+#[tactic(auto, unfolding(stun_grammar::specs::Headers::begins))]
+fn may_begin(bytes: &[u8]) -> bool
+    ensures { result ≡ begins bytes.now }
+{
+    first_may_begin(bytes) && cookie_may_follow(bytes)
+}
+
+/// A header stands at the front of these bytes, twenty or more.
+fn begins_with_header(bytes: &[u8]) -> bool
+    requires { 20 ≤ length bytes.now }
+    ensures { result ≡ is_header bytes.now }
+{
+    let cookie = MAGIC_COOKIE.to_be_bytes();
+    bytes[0] < 64 && bytes[4..8] == cookie[..]
+}
+
+/// The number that the two bytes from `at` on spell.
+pub fn number_at(bytes: &[u8], at: usize) -> u16
+    requires { at + 2 ≤ length bytes.now }
+    ensures { result ≡ number (slice_range bytes.now at (at + 2)) }
+{
+    BigEndian::read_u16(&bytes[at..at + 2])
+}
+
+/// The transaction id of a header: its last twelve bytes.
+fn read_id(bytes: &[u8]) -> TransactionId
+    requires { 20 ≤ length bytes.now }
+    ensures { result ≡ id_field bytes.now }
+{
+    let (_, cookie_and_id) = bytes.split_at(4);
+    TransactionId::from(BigEndian::read_u128(cookie_and_id))
+}
+
+/// The header at the front of bytes of which it is known that one stands there.
+pub fn read_header(bytes: &[u8]) -> MessageHeader
+    requires long { 20 ≤ length bytes.now }
+    requires low { slice_index bytes.now 0 < 64 }
+    ensures { result ≡ header_of bytes.now }
+{
+    MessageHeader {
+        mtype: MessageType::of_number(number_at(bytes, 0)),
+        transaction_id: read_id(bytes),
+        length: number_at(bytes, 2),
+    }
+}
+
+impl MessageHeader {
+    /// How many bytes a header has.
+    pub const LENGTH: usize = 20;
+
+    /// The header at the front of `bytes`; what follows it isn't looked at.
+    ///
+    /// A message that comes in pieces, as over TCP, is told from other protocols as soon as its
+    /// bytes differ.
+    ///
+    /// # Errors
+    ///
+    /// `NotStun` where no header begins there, whatever may follow: the first byte is 64 or more,
+    /// or what is there of bytes 4 to 8 isn't the cookie's front. Else
+    /// `Truncated { expected: 20, actual }` where there are fewer than twenty bytes.
+    pub fn from_bytes(bytes: &[u8]) -> Result<Self, StunParseError>
+        ensures { MatchResult result
+            (λ header. (header_fault bytes.now ≡ None) × (header ≡ header_of bytes.now))
+            (λ e. header_fault bytes.now ≡ Some e) }
+    {
+        if bytes.len() < Self::LENGTH {
+            if !may_begin(bytes) {
+                return Err(StunParseError::NotStun);
+            }
+            return Err(StunParseError::Truncated {
+                expected: Self::LENGTH,
+                actual: bytes.len(),
+            });
+        }
+        if !begins_with_header(bytes) {
+            return Err(StunParseError::NotStun);
+        }
+        Ok(read_header(bytes))
+    }
+
+    /// How many bytes the header says follow it.
+    pub fn data_length(&self) -> u16
+        ensures { result ≡ self.now.length }
+    {
+        self.length
+    }
+
+    /// The transaction id.
+    pub fn transaction_id(&self) -> TransactionId
+        ensures { result ≡ self.now.id }
+    {
+        self.transaction_id
+    }
+
+    /// The type.
+    pub fn get_type(&self) -> MessageType
+        ensures { result ≡ self.now.type }
+    {
+        self.mtype
+    }
+}

@@ -1,0 +1,14 @@
+//! A law of the definitions. The function does nothing: its contract is the law.
+
+ghost use Rattle.std.specs.Prelude.{◌≡◌, ℕ, ◌%◌, ◌^◌, ◌<◌};
+ghost use Rattle.stun_base.specs.declared.message_type.MessageClass.{MessageClass};
+ghost use Rattle.stun_base.specs.Types.{type_of, class_of, method_of};
+
+/// A class and the low twelve bits of a method are told by the type that they make, and a type of
+/// fourteen bits is made by what it tells.
+pub fn one_message_type()
+    ensures class { (class : MessageClass) (method : ℕ) → class_of (type_of class method) ≡ class }
+    ensures method { (class : MessageClass) (method : ℕ) → method_of (type_of class method) ≡ method % 2 ^ 12 }
+    ensures bits { (class : MessageClass) (method : ℕ) → type_of class method < 2 ^ 14 }
+    ensures made { (type : ℕ) → type < 2 ^ 14 → type_of (class_of type) (method_of type) ≡ type }
+{}

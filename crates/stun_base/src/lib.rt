@@ -1,0 +1,18 @@
+//! What attributes and messages stand on: bytes that are borrowed or owned, the header of a
+//! message with its type and transaction id, the header of an attribute, and the error types.
+#![tactic(auto)]
+
+mod attribute_header;
+mod data;
+mod header;
+mod laws;
+mod message_type;
+mod transaction_id;
+
+pub use attribute_header::{AttributeHeader, pad_attribute_len};
+pub use data::{Data, DataOwned, DataSlice};
+pub use header::{MessageHeader, number_at, read_header};
+pub use laws::one_message_type;
+pub use message_type::{BINDING, MessageClass, MessageType, Method};
+pub use stun_grammar::{AttributeType, StunParseError, StunWriteError, ValidateError};
+pub use transaction_id::{MAGIC_COOKIE, TransactionId};

@@ -1,0 +1,211 @@
+//! The type of a message: its class and its method (RFC 8489, section 5).
+
+ghost use Rattle.std.specs.Prelude.{◌≡◌, ◌↔◌, ◌<◌, ◌≤◌, ◌++◌, ◌+◌, ◌^◌, IsTrue, Result, Ok, Err, IfOk, IfErr, length, drop, slice_range};
+ghost use Rattle.stun_grammar.specs.Numbers.{be16, number};
+ghost use Rattle.stun_base.specs.Types.{type_of, class_of, method_of, class_bits, is_response as responds};
+
+use byteorder::{BigEndian, ByteOrder};
+use std::alloc::Global;
+use std::marker::Model;
+use stun_grammar::{StunParseError, StunWriteError};
+
+/// What a message asks or answers: a number below 0xf000, of which a message carries the low
+/// twelve bits.
+#[derive(Clone, Copy, Debug, PartialEq, Eq, PartialOrd, Ord, Hash)]
+pub struct Method(u16);
+
+impl Model for Method {
+    ghost use Rattle.std.specs.Prelude.{ℕ, ◌<◌};
+
+    ghost Value = { ℕ };
+
+    ghost view = { λ method. method.0 };
+
+    ghost invariant = { λ method. method.0 < 0xf000 };
+
+    ghost inverse = { λ number. record { 0 = number } };
+}
+
+/// The method of a binding request and its answers.
+pub const BINDING: Method = Method(0x0001);
+
+impl Method {
+    /// The method of this number, which is below 0xf000 ([`Method::is_valid`] tells).
+    pub fn new(val: u16) -> Self
+        requires { val < 0xf000 }
+        ensures { result ≡ val }
+    {
+        Method(val)
+    }
+
+    /// A method has this number: it is below 0xf000.
+    pub fn is_valid(val: u16) -> bool
+        ensures { IsTrue result ↔ (val < 0xf000) }
+    {
+        val < 0xf000
+    }
+
+    /// The number.
+    pub fn value(&self) -> u16
+        ensures number { result ≡ self.now }
+        ensures valid { result < 0xf000 }
+    {
+        self.0
+    }
+}
+
+/// Whether a message asks or answers.
+#[derive(Clone, Copy, Debug, PartialEq, Eq)]
+pub enum MessageClass {
+    /// It asks, and expects an answer.
+    Request,
+    /// It tells, and expects no answer.
+    Indication,
+    /// It answers a request that succeeded.
+    Success,
+    /// It answers a request that failed.
+    Error,
+}
+
+impl MessageClass {
+    /// Success or error.
+    pub fn is_response(self) -> bool
+        ensures { result ≡ responds self }
+    {
+        matches!(self, MessageClass::Success | MessageClass::Error)
+    }
+
+    /// The two bits of the class in their places.
+    fn to_bits(self) -> u16
+        ensures { result ≡ class_bits self }
+    {
+        match self {
+            MessageClass::Request => 0x000,
+            MessageClass::Indication => 0x010,
+            MessageClass::Success => 0x100,
+            MessageClass::Error => 0x110,
+        }
+    }
+}
+
+/// The type of a message: the first two bytes of its header, big-endian. The two highest bits are
+/// zero; bits 4 and 8 are the class, and the twelve others the method.
+#[derive(Clone, Copy, Debug, PartialEq, Eq)]
+pub struct MessageType(u16);
+
+impl Model for MessageType {
+    ghost use Rattle.std.specs.Prelude.{ℕ, ◌<◌};
+
+    ghost Value = { ℕ };
+
+    ghost view = { λ mtype. mtype.0 };
+
+    ghost invariant = { λ mtype. mtype.0 < 0x4000 };
+
+    ghost inverse = { λ number. record { 0 = number } };
+}
+
+impl MessageType {
+    /// The type of this number.
+    pub(crate) fn of_number(number: u16) -> Self
+        requires { number < 2 ^ 14 }
+        ensures { result ≡ number }
+    {
+        MessageType(number)
+    }
+
+    /// The type of a class and a method, of which the low twelve bits are kept.
+    pub fn from_class_method(class: MessageClass, method: Method) -> Self
+        ensures { result ≡ type_of class method }
+    {
+        let method = method.value();
+        MessageType(
+            class.to_bits() + method % 16 + method / 16 % 8 * 0x20 + method / 128 % 32 * 0x200,
+        )
+    }
+
+    /// The class.
+    pub fn class(self) -> MessageClass
+        ensures { result ≡ class_of self }
+    {
+        match (self.0 / 0x100 % 2 == 1, self.0 / 0x10 % 2 == 1) {
+            (false, false) => MessageClass::Request,
+            (false, true) => MessageClass::Indication,
+            (true, false) => MessageClass::Success,
+            (true, true) => MessageClass::Error,
+        }
+    }
+
+    /// The class is this one.
+    pub fn has_class(self, cls: MessageClass) -> bool
+        ensures { IsTrue result ↔ (class_of self ≡ cls) }
+    {
+        self.class() == cls
+    }
+
+    /// The class is success or error.
+    pub fn is_response(self) -> bool
+        ensures { result ≡ responds (class_of self) }
+    {
+        self.class().is_response()
+    }
+
+    /// The method, below 0x1000.
+    pub fn method(self) -> Method
+        ensures { result ≡ method_of self }
+    {
+        Method(self.0 % 16 + self.0 / 0x20 % 8 * 16 + self.0 / 0x200 % 32 * 128)
+    }
+
+    /// The method is this one.
+    pub fn has_method(self, method: Method) -> bool
+        ensures { IsTrue result ↔ (method_of self ≡ method) }
+    {
+        self.method() == method
+    }
+
+    /// Writes the two bytes at the front of `dest`, which has two or more; the others stay.
+    pub fn write_into(&self, dest: &mut [u8])
+        requires { 2 ≤ length dest.old }
+        ensures { dest.new ≡ be16 self.now ++ drop 2 dest.old }
+    {
+        BigEndian::write_u16(dest, self.0);
+    }
+
+    /// The two bytes, in memory that `alloc` gives.
+    ///
+    /// # Errors
+    ///
+    /// `OutOfMemory` alone.
+    pub fn to_bytes(self, alloc: Global) -> Result<Vec<u8>, StunWriteError>
+        ensures ok { IfOk result (λ bytes. bytes.items ≡ be16 self) }
+        ensures err { IfErr result (λ e. e ≡ StunWriteError.OutOfMemory) }
+    {
+        let bytes = self.0.to_be_bytes();
+        Vec::from_slice(alloc, &bytes).map_err(|_| StunWriteError::OutOfMemory)
+    }
+
+    /// The type in the first two bytes; what follows them isn't looked at.
+    ///
+    /// # Errors
+    ///
+    /// `Truncated { expected: 2, actual }` where there are fewer than two bytes, and else `NotStun`
+    /// where one of the two highest bits isn't zero.
+    pub fn from_bytes(bytes: &[u8]) -> Result<Self, StunParseError>
+        ensures short { length bytes.now < 2 → result ≡ Err (StunParseError.Truncated 2 (length bytes.now)) }
+        ensures foreign { 2 ≤ length bytes.now → 2 ^ 14 ≤ number (slice_range bytes.now 0 2) → result ≡ Err StunParseError.NotStun }
+        ensures ok { 2 ≤ length bytes.now → number (slice_range bytes.now 0 2) < 2 ^ 14 → result ≡ Ok (number (slice_range bytes.now 0 2)) }
+    {
+        if bytes.len() < 2 {
+            return Err(StunParseError::Truncated {
+                expected: 2,
+                actual: bytes.len(),
+            });
+        }
+        let number = BigEndian::read_u16(bytes);
+        if number >= 0x4000 {
+            return Err(StunParseError::NotStun);
+        }
+        Ok(MessageType(number))
+    }
+}

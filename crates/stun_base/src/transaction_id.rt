@@ -1,0 +1,64 @@
+use std::fmt;
+use std::marker::Model;
+
+/// The number that tells STUN from other protocols: bytes 4 to 8 of each header, big-endian
+/// (RFC 8489, section 5).
+pub const MAGIC_COOKIE: u32 = 0x2112_A442;
+
+/// The number by which an answer goes with its request: 96 bits (RFC 8489, section 5).
+/// It prints in hexadecimal without leading zeros: `0x3e8`.
+#[derive(Clone, Copy, Debug, PartialEq, Eq, PartialOrd, Ord, Hash)]
+pub struct TransactionId {
+    id: u128,
+}
+
+impl Model for TransactionId {
+    ghost use Rattle.std.specs.Prelude.{ℕ, ◌^◌, ◌<◌};
+
+    ghost Value = { ℕ };
+
+    ghost view = { λ transaction. transaction.id };
+
+    ghost invariant = { λ transaction. transaction.id < 2 ^ 96 };
+
+    ghost inverse = { λ number. record { id = number } };
+}
+
+impl From<u128> for TransactionId {
+    ghost use Rattle.std.specs.Prelude.{◌≡◌, ◌%◌, ◌^◌};
+
+    ghost from_gives = { λ number transaction. transaction ≡ number % 2 ^ 96 };
+
+    /// The id of the low 96 bits.
+    fn from(id: u128) -> Self {
+        TransactionId { id: id % (1 << 96) }
+    }
+}
+
+impl From<TransactionId> for u128 {
+    ghost use Rattle.std.specs.Prelude.{◌≡◌};
+
+    ghost from_gives = { λ transaction number. number ≡ transaction };
+
+    fn from(transaction: TransactionId) -> Self {
+        transaction.id
+    }
+}
+
+impl fmt::Display for TransactionId {
+    ghost use Rattle.std.specs.Prelude.{Some};
+    ghost use Rattle.stun_base.specs.Types.{id_text};
+
+    ghost output = { λ id. Some (id_text id) };
+
+    #[tactic(auto, using(crate::proofs::HexLaws::digits_in_halves))]
+    fn fmt<W: fmt::Write>(&self, f: &mut fmt::Formatter<W>) -> fmt::Result {
+        let high = (self.id >> 64) as u64;
+        let low = (self.id % (1 << 64)) as u64;
+        if high == 0 {
+            write!(f, "0x{low:x}")
+        } else {
+            write!(f, "0x{high:x}{low:016x}")
+        }
+    }
+}

@@ -1,0 +1,12 @@
+pub mod NumberLaws
+pub mod Texts
+pub mod Chains
+pub mod Fronts
+pub mod Orders
+pub mod AnyOrders
+pub mod OrderLaw
+pub mod Faults
+pub mod HeaderLaws
+pub mod BeginsLaw
+pub mod Scans
+pub mod ChecksumLaws

@@ -1,0 +1,24 @@
+-- Numbers as bytes, the most significant byte first, and the boundary of four bytes (RFC 8489, sections 5 and 14).
+use Rattle.std.specs.Prelude.{ℕ, ◌+◌, ◌*◌, ◌/◌, ◌<◌, List, fold}
+use Rattle.std.specs.Int.{w16, w32, to_be_bytes}
+use Rattle.std.specs.List.{AllByRecursion}
+
+-- a number in two bytes
+abbrev pub be16 : ℕ → List ℕ
+be16 = to_be_bytes w16
+
+-- a number in four bytes
+abbrev pub be32 : ℕ → List ℕ
+be32 = to_be_bytes w32
+
+-- the number that bytes spell
+abbrev pub number : List ℕ → ℕ
+number = fold (λ high byte. 256 * high + byte) 0
+
+-- the least multiple of 4 that isn't below n
+abbrev pub padded_length : ℕ → ℕ
+padded_length n = 4 * ((n + 3) / 4)
+
+-- each member of the list is a byte
+abbrev pub IsBytes : List ℕ → Type 0
+IsBytes = AllByRecursion (λ byte. byte < 256)

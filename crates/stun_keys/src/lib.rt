@@ -1,0 +1,4 @@
+//! The checksum of a FINGERPRINT.
+#![tactic(auto)]
+
+pub mod digest;

@@ -1,0 +1,3 @@
+pub mod Message
+pub mod Iterate
+pub mod Seen

@@ -1,0 +1,3 @@
+//! Bytes that are borrowed or owned.
+
+pub use stun_base::{Data, DataOwned, DataSlice};
