@@ -1,0 +1,119 @@
+ghost use Rattle.std.specs.Prelude.{◌≡◌, MatchResult, IsNone};
+ghost use Rattle.std.specs.Io.KnownBytes.{Appends};
+ghost use Rattle.stun_show.specs.Run.{ReadsAll, StopsReading, WritesPart, Ends};
+
+use crate::report::report;
+use std::alloc::Global;
+use std::io::{ErrorKind, Read, Write};
+
+/// How a run ends.
+#[derive(Debug, Clone, Copy, PartialEq, Eq)]
+pub enum RunEnd {
+    /// The message was shown.
+    Shown,
+    /// The bytes were refused, and why was told.
+    Refused,
+    /// The arguments were not understood.
+    Usage,
+    /// More was to be read than may be.
+    TooLong,
+    /// A read failed.
+    ReadFailed,
+    /// A write failed, or took no byte.
+    WriteFailed,
+    /// A growth was refused.
+    NoMemory,
+}
+
+/// The most that is read: 128 KiB.
+const LONGEST_INPUT: usize = 131_072;
+
+/// Reads all that is left, at most `LONGEST_INPUT` bytes.
+fn read_all<R: Read>(alloc: Global, reader: &mut R) -> Result<Vec<u8>, RunEnd>
+    ensures { MatchResult result
+        (λ input. ReadsAll (R.remaining reader.old) (R.remaining reader.new) input.items)
+        (λ end. StopsReading end (R.remaining reader.old) (R.remaining reader.new)) }
+{
+    let mut input = Vec::new(alloc);
+    let mut piece = [0; 4096];
+    for _turn in 0..u64::MAX {
+        match reader.read(&mut piece) {
+            Ok(0) => return Ok(input),
+            Ok(count) => {
+                if count > LONGEST_INPUT - input.len() {
+                    return Err(RunEnd::TooLong);
+                }
+                if input.extend_from_slice(&piece[..count]).is_err() {
+                    return Err(RunEnd::NoMemory);
+                }
+            }
+            Err(e) => {
+                if e.kind() != ErrorKind::Interrupted {
+                    return Err(RunEnd::ReadFailed);
+                }
+            }
+        }
+    }
+    Err(RunEnd::ReadFailed)
+}
+
+/// Writes all of the bytes; where that fails, a beginning of them.
+fn write_all<W: Write>(bytes: &[u8], writer: &mut W) -> Result<(), RunEnd>
+    ensures { MatchResult result
+        (λ _. Appends (W.contents writer.old) (W.contents writer.new) bytes.now)
+        (λ end. (end ≡ RunEnd.WriteFailed) × WritesPart (W.contents writer.old) (W.contents writer.new) bytes.now) }
+{
+    let mut written = 0;
+    for _turn in 0..u64::MAX {
+        if written == bytes.len() {
+            break;
+        }
+        match writer.write(&bytes[written..]) {
+            Ok(0) => break,
+            Ok(count) => written += count,
+            Err(e) => {
+                if e.kind() != ErrorKind::Interrupted {
+                    break;
+                }
+            }
+        }
+    }
+    if written < bytes.len() {
+        return Err(RunEnd::WriteFailed);
+    }
+    Ok(())
+}
+
+/// Reads a message to the end of `reader`, and writes its report.
+///
+/// It reads at most 131072 bytes, makes the report in memory, and then writes it; nothing is
+/// written before all is read and the report is made. Beside the input and the report it takes no
+/// memory. `password` is None: integrity is not checked yet.
+///
+/// It ends with `Shown` or `Refused` where the whole report was written: `Refused` where the
+/// message was refused. `WriteFailed`: a beginning of the report was written, and then a write
+/// failed or took no byte. With every other end nothing was written: `TooLong` where more than
+/// 131072 bytes were to be read, `ReadFailed` where a read failed, `NoMemory` where a growth was
+/// refused. It never ends with `Usage`.
+pub fn run<R: Read, W: Write>(
+    alloc: Global,
+    reader: &mut R,
+    password: Option<&str>,
+    writer: &mut W,
+) -> RunEnd
+    requires { IsNone password }
+    ensures { Ends result (R.remaining reader.old) (R.remaining reader.new) (W.contents writer.old) (W.contents writer.new) }
+{
+    let _ = password;
+    let input = match read_all(alloc, reader) {
+        Ok(input) => input,
+        Err(end) => return end,
+    };
+    let Ok((text, end)) = report(alloc, &input) else {
+        return RunEnd::NoMemory;
+    };
+    match write_all(text.as_bytes(), writer) {
+        Ok(()) => end,
+        Err(stopped) => stopped,
+    }
+}

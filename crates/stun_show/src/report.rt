@@ -1,0 +1,138 @@
+//! The report of a message.
+
+ghost use Rattle.std.specs.Prelude.{◌≡◌, ◌++◌, OnOk, IfOk, MatchResult, None, Some, string_bytes};
+ghost use Rattle.stun_grammar.specs.Messages.{parse_fault, shown};
+ghost use Rattle.std.specs.List.{flat_map};
+ghost use Rattle.stun_base.specs.Types.{header_of};
+ghost use Rattle.stun_attrs.specs.Raw.{raw_type, raw_value};
+ghost use Rattle.stun_types.specs.Message.{message_bytes};
+ghost use Rattle.stun_show.specs.Report.{hex_byte, hex, class_name, header_line, value_text, attribute_line, refusal_line, report, end_of};
+
+use crate::engine::RunEnd;
+use std::alloc::{AllocError, Global};
+use stun_types::attribute::RawAttribute;
+use stun_types::message::{Message, MessageClass, MessageHeader, StunParseError};
+
+/// Writes a byte in two hexadecimal digits.
+#[tactic(auto, using(std::proofs::lemmas::Fmt::hex_byte))]
+fn write_byte(text: &mut String, byte: u8) -> Result<(), AllocError>
+    ensures { OnOk result (string_bytes text.new ≡ string_bytes text.old ++ hex_byte byte) }
+{
+    write!(text, "{byte:02x}")
+}
+
+/// Writes bytes in hexadecimal.
+fn write_hex(text: &mut String, bytes: &[u8]) -> Result<(), AllocError>
+    ensures { OnOk result (string_bytes text.new ≡ string_bytes text.old ++ hex bytes.now) }
+{
+    for byte in bytes {
+        write_byte(text, *byte)?;
+    }
+    Ok(())
+}
+
+/// The name of a class.
+fn name_of(class: MessageClass) -> &'static str
+    ensures { result.now ≡ class_name class }
+{
+    match class {
+        MessageClass::Request => "Request",
+        MessageClass::Indication => "Indication",
+        MessageClass::Success => "Success",
+        MessageClass::Error => "Error",
+    }
+}
+
+/// Writes the line of a header.
+fn write_header(text: &mut String, header: &MessageHeader) -> Result<(), AllocError>
+    ensures { OnOk result (string_bytes text.new ≡ string_bytes text.old ++ header_line header.now) }
+{
+    let class = name_of(header.get_type().class());
+    let method = header.get_type().method().value();
+    let id = header.transaction_id();
+    let length = header.data_length();
+    write!(text, "{class} method={method} id={id} length={length}\n")
+}
+
+/// Writes a value in hexadecimal, and a dash for none.
+fn write_value(text: &mut String, value: &[u8]) -> Result<(), AllocError>
+    ensures { OnOk result (string_bytes text.new ≡ string_bytes text.old ++ value_text value.now) }
+{
+    if value.is_empty() {
+        return text.push_str("-");
+    }
+    write_hex(text, value)
+}
+
+/// Writes the line of an attribute.
+fn write_attribute(
+    text: &mut String,
+    offset: usize,
+    attribute: &RawAttribute<'_>,
+) -> Result<(), AllocError>
+    ensures { OnOk result (string_bytes text.new ≡ string_bytes text.old ++ attribute_line (record { offset = offset; type = raw_type attribute.now; value = raw_value attribute.now })) }
+{
+    let header = attribute.header();
+    let length = header.length();
+    write!(text, "{offset} 0x")?;
+    write_hex(text, &header.get_type().value().to_be_bytes())?;
+    write!(text, " {length} ")?;
+    write_value(text, attribute.value().as_bytes())?;
+    text.push_str("\n")
+}
+
+/// Writes the line of each attribute that is shown.
+fn write_attributes(text: &mut String, message: &Message<'_>) -> Result<(), AllocError>
+    ensures { OnOk result (string_bytes text.new ≡ string_bytes text.old ++ flat_map attribute_line (shown (message_bytes message.now))) }
+{
+    for (offset, attribute) in message.iter_attributes() {
+        write_attribute(text, offset, &attribute)?;
+    }
+    Ok(())
+}
+
+/// Writes why bytes are refused.
+fn write_refusal(text: &mut String, refusal: StunParseError) -> Result<(), AllocError>
+    ensures { OnOk result (string_bytes text.new ≡ string_bytes text.old ++ refusal_line refusal) }
+{
+    match refusal {
+        StunParseError::NotStun => text.push_str("not STUN\n"),
+        StunParseError::Truncated { expected, actual } => {
+            write!(text, "truncated {expected} {actual}\n")
+        }
+        StunParseError::TooLarge { expected, actual } => {
+            write!(text, "too large {expected} {actual}\n")
+        }
+        StunParseError::FingerprintMismatch => text.push_str("fingerprint mismatch\n"),
+        _ => Ok(()),
+    }
+}
+
+/// The header of bytes, and the message that they are.
+fn parsed(bytes: &[u8]) -> Result<(MessageHeader, Message<'_>), StunParseError>
+    ensures { MatchResult result
+        (λ found. (parse_fault bytes.now ≡ None) × (found.0 ≡ header_of bytes.now) × (message_bytes found.1 ≡ bytes.now))
+        (λ e. parse_fault bytes.now ≡ Some e) }
+{
+    let header = MessageHeader::from_bytes(bytes)?;
+    let message = Message::from_bytes(bytes)?;
+    Ok((header, message))
+}
+
+/// The report of bytes, and how a run ends that has written it.
+pub fn report(alloc: Global, bytes: &[u8]) -> Result<(String, RunEnd), AllocError>
+    ensures { IfOk result (λ made. (string_bytes made.0 ≡ report bytes.now) × (made.1 ≡ end_of bytes.now)) }
+{
+    let mut text = String::new(alloc);
+    match parsed(bytes) {
+        Ok((header, message)) => {
+            write_header(&mut text, &header)?;
+            write_attributes(&mut text, &message)?;
+            Ok((text, RunEnd::Shown))
+        }
+        Err(refusal) => {
+            write_refusal(&mut text, refusal)?;
+            Ok((text, RunEnd::Refused))
+        }
+    }
+}
