@@ -9,4 +9,5 @@ pub mod Faults
 pub mod HeaderLaws
 pub mod BeginsLaw
 pub mod Scans
+pub mod Refusals
 pub mod ChecksumLaws

@@ -3,7 +3,7 @@ use Rattle.std.specs.Prelude.{ℕ, ◌+◌, ◌-◌, ◌%◌, List, [], ◌++◌
 use Rattle.std.specs.Cmp.Lexicographic.{pointwise}
 use Rattle.std.specs.Option.{option_or, option_map_or}
 use Rattle.stun_grammar.specs.declared.error.StunParseError.{StunParseError}
-use Rattle.stun_grammar.specs.declared.error.StunParseError.TheVariants.{Truncated, TooLarge, FingerprintMismatch}
+use Rattle.stun_grammar.specs.declared.error.StunParseError.TheVariants.{NotStun, Truncated, TooLarge, FingerprintMismatch}
 use Rattle.stun_grammar.specs.Numbers.{be16, be32}
 use Rattle.stun_grammar.specs.Checksums.{crc}
 use Rattle.stun_grammar.specs.Attributes.{Attribute, Shown, chain, rest, fault, placed, types, texts}
@@ -65,3 +65,11 @@ body_fault d =
 -- why d is refused; nothing where it is parsed
 unfoldable pub parse_fault : List ℕ → Option StunParseError
 parse_fault d = option_or (frame_fault d) (body_fault d)
+
+-- the refusals that parsing tells
+abbrev pub IsRefusal : StunParseError → Type 0
+IsRefusal NotStun = Unit {0}
+IsRefusal (Truncated expected actual) = Unit {0}
+IsRefusal (TooLarge expected actual) = Unit {0}
+IsRefusal FingerprintMismatch = Unit {0}
+IsRefusal _ = ⊥

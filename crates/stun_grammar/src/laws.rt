@@ -1,11 +1,12 @@
 //! The laws of the grammar. Each function does nothing: its contract is the law.
 
-ghost use Rattle.std.specs.Prelude.{◌≡◌, ℕ, ◌<◌, ◌↔◌, List, [], ◌++◌, Bool, true, length, IsTrue, Some};
+ghost use Rattle.std.specs.Prelude.{◌≡◌, ℕ, ◌<◌, ◌↔◌, List, [], ◌++◌, Bool, true, length, IsTrue, IfSome, Some};
 ghost use Rattle.std.specs.List.{AllByRecursion};
 ghost use Rattle.stun_grammar.specs.Numbers.{IsBytes};
 ghost use Rattle.stun_grammar.specs.Headers.{Begins, begins};
 ghost use Rattle.stun_grammar.specs.Attributes.{Attribute, IsAttribute, IsChain, text, texts, first_attribute, chain, rest};
 ghost use Rattle.stun_grammar.specs.Shapes.{in_order, in_any_order, IsInOrder, IsInAnyOrder, longest_front, IsLongestFront};
+ghost use Rattle.stun_grammar.specs.Messages.{parse_fault, IsRefusal};
 
 /// Bytes are the texts of one list of attributes and one rest.
 pub fn one_chain()
@@ -46,4 +47,10 @@ pub fn one_longest_front()
 /// With some bytes behind them, bytes are a header exactly if they pass the test.
 pub fn incomplete_header()
     ensures { (b : List ℕ) → (begins b ≡ true) ↔ Begins b }
+{}
+
+/// Parsing tells four refusals: that bytes are no STUN message, that some are missing, that a
+/// FINGERPRINT is too long, and that it doesn't match.
+pub fn refusals_of_parsing()
+    ensures { (d : List ℕ) → IfSome (parse_fault d) IsRefusal }
 {}

@@ -14,5 +14,5 @@ pub use attribute_type::AttributeType;
 pub use error::{StunParseError, StunWriteError, ValidateError};
 pub use laws::{
     front_of_chain, incomplete_header, one_any_order, one_chain, one_longest_front, one_order,
-    text_is_read_back,
+    refusals_of_parsing, text_is_read_back,
 };
