@@ -4,14 +4,19 @@ use Rattle.stun_grammar.specs.declared.error.StunParseError.{StunParseError}
 use Rattle.stun_grammar.specs.declared.error.StunParseError.TheVariants.{Truncated}
 use Rattle.stun_grammar.specs.Numbers.{number}
 use Rattle.stun_grammar.specs.Attributes.{Attribute, first_attribute, text, stated_length}
+use Rattle.stun_base.specs.declared.data.Data.{Data}
 use Rattle.stun_base.specs.Data.{data_bytes, is_borrowed}
 use Rattle.stun_attrs.specs.declared.raw.RawAttribute.{RawAttribute}
 
 abbrev pub raw_type : RawAttribute → ℕ
 raw_type raw = raw.header.atype.0
 
+-- the value, borrowed or owned
+abbrev pub raw_data : RawAttribute → Data
+raw_data raw = raw.value
+
 abbrev pub raw_value : RawAttribute → List ℕ
-raw_value raw = data_bytes raw.value
+raw_value raw = data_bytes (raw_data raw)
 
 -- a raw attribute of this type and value
 pub record IsRawOf (type : ℕ) (value : List ℕ) (raw : RawAttribute) : Type 0 where
@@ -21,7 +26,7 @@ pub record IsRawOf (type : ℕ) (value : List ℕ) (raw : RawAttribute) : Type 0
 -- the same, with a value that is borrowed
 pub record Borrows (type : ℕ) (value : List ℕ) (raw : RawAttribute) : Type 0 where
   pub raw_is : IsRawOf type value raw
-  pub borrowed : is_borrowed raw.value ≡ true
+  pub borrowed : is_borrowed (raw_data raw) ≡ true
 
 -- why bytes aren't an attribute, its padding aside
 unfoldable pub raw_fault : List ℕ → Option StunParseError

@@ -16,7 +16,7 @@ impl<'a> RawAttribute<'a> {
     ghost use Rattle.stun_base.specs.Data.{data_bytes};
     ghost use Rattle.stun_grammar.specs.Numbers.{number};
     ghost use Rattle.stun_grammar.specs.Attributes.{stated_length};
-    ghost use Rattle.stun_attrs.specs.Raw.{raw_type, raw_value, Borrows, raw_fault};
+    ghost use Rattle.stun_attrs.specs.Raw.{raw_type, raw_data, raw_value, Borrows, raw_fault};
 
     /// An attribute of this header that borrows its value.
     pub(crate) fn borrowed(header: AttributeHeader, value: &'a [u8]) -> Self
@@ -84,14 +84,14 @@ impl<'a> RawAttribute<'a> {
 
     /// The value, borrowed or owned.
     pub fn value(&self) -> &Data<'a>
-        ensures { result.now ≡ self.now.value }
+        ensures { result.now ≡ raw_data self.now }
     {
         &self.value
     }
 
     /// The value, taken out: where it is borrowed, it is still the part of the bytes that were read.
     pub fn into_value(self) -> Data<'a>
-        ensures { result ≡ self.entry.value }
+        ensures { result ≡ raw_data self.entry }
     {
         let RawAttribute { header: _, value } = self;
         value

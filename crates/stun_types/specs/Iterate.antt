@@ -3,13 +3,13 @@ use Rattle.std.specs.Prelude.{ℕ, Bool, true, List, ◌∷◌, drop, map}
 use Rattle.stun_grammar.specs.Attributes.{Shown, chain, placed, types}
 use Rattle.stun_grammar.specs.Shapes.{in_order, longest_front}
 use Rattle.stun_base.specs.Data.{is_borrowed}
-use Rattle.stun_attrs.specs.Raw.{raw_type, raw_value}
+use Rattle.stun_attrs.specs.Raw.{raw_type, raw_data, raw_value}
 use Rattle.stun_attrs.specs.declared.raw.RawAttribute.{RawAttribute}
 use Rattle.stun_types.specs.declared.message.iterate.MessageAttributesIter.{MessageAttributesIter}
 
 -- what an item shows: the attribute at its offset, and whether its value is borrowed
 abbrev pub item_view : ℕ × RawAttribute → Shown × Bool
-item_view item = (record { offset = item.0; type = raw_type item.1; value = raw_value item.1 }, is_borrowed item.1.value)
+item_view item = (record { offset = item.0; type = raw_type item.1; value = raw_value item.1 }, is_borrowed (raw_data item.1))
 
 -- attributes that are shown, the value of each borrowed
 abbrev pub borrowed : List Shown → List (Shown × Bool)
