@@ -167,3 +167,16 @@ chain-texts attributes all =
       ap chain (sym nothing) ∙ joined.chain_is ∙ ap (λ (xs : List Attribute). attributes ++ xs) chain-nil ∙ append-nil attributes,
       ap rest (sym nothing) ∙ joined.rest_is ∙ rest-none [] first_attribute-nil,
     )
+
+within_short : (n : ℕ) (b : List ℕ) → length (chain_within n b) ≤ n
+unfolding chain_within
+within_short zero b = omega arith
+within_short (suc n) b = elim (none_or_some (first_attribute b)) [
+  | inl e ↦ rw (within-none (suc n) b e) (omega arith)
+  | inr (a, e) ↦ let behind = within_short n (drop (length (text a)) b) in rw (within-some n b a e) (omega (arith, behind))
+]
+
+-- there are no more attributes than bytes
+pub length-chain : (b : List ℕ) → length (chain b) ≤ length b
+unfolding chain
+length-chain b = within_short (length b) b

@@ -1,13 +1,13 @@
 -- One step of an iterator over what is shown.
-use Rattle.std.proofs.Common.{◌≡◌, ℕ, ◌+◌, true, false, cond, List, [], ◌∷◌, length, drop, Some, None, refl, sym, ap, ◌∙◌, arith}
+use Rattle.std.proofs.Common.{◌≡◌, ℕ, ◌+◌, ◌≤◌, true, false, cond, List, [], ◌∷◌, length, drop, Some, None, refl, sym, ap, ◌∙◌, arith}
 use Rattle.std.proofs.lemmas.Bool.{cond-true, cond-false}
-use Rattle.std.proofs.lemmas.List.{drop-drop, drop_all}
+use Rattle.std.proofs.lemmas.List.{drop-drop, drop_all, length-drop}
 use Rattle.stun_grammar.specs.declared.error.StunParseError.{StunParseError}
 use Rattle.stun_grammar.specs.Attributes.{Attribute, Shown, text, first_attribute, chain, placed, types}
 use Rattle.stun_grammar.specs.Shapes.{in_order, longest_front}
 use Rattle.stun_grammar.specs.Messages.{frame_fault, shown}
-use Rattle.stun_grammar.proofs.Chains.{chain-none, chain-some, first_attribute-nil}
-use Rattle.stun_grammar.proofs.Fronts.{longest-nil, longest-cons, longest_same}
+use Rattle.stun_grammar.proofs.Chains.{chain-none, chain-some, first_attribute-nil, length-chain}
+use Rattle.stun_grammar.proofs.Fronts.{longest-nil, longest-cons, longest_same, length-longest_front}
 use Rattle.stun_grammar.proofs.Orders.{in_order_more, in_order_first, in_order-ordinary}
 use Rattle.stun_attrs.specs.declared.raw.RawAttribute.{RawAttribute}
 use Rattle.stun_attrs.specs.Raw.{Finds, raw_type}
@@ -66,3 +66,21 @@ unfolding shown
 nothing_shown last d told e =
     let none : first_attribute (drop (length d) d) ≡ None = ap first_attribute (drop_all (length d) d (omega arith)) ∙ first_attribute-nil in
     behind_none last (length d) d none ∙ rw e refl
+
+-- ---- no more is shown than there are bytes
+
+length-placed : (offset : ℕ) (attributes : List Attribute) → length (placed offset attributes) ≡ length attributes
+unfolding placed
+length-placed offset [] = refl
+length-placed offset (a ∷ attributes) = omega (arith, length-placed (offset + length (text a)) attributes)
+
+length-borrowed : (attributes : List Shown) → length (borrowed attributes) ≡ length attributes
+length-borrowed [] = refl
+length-borrowed (a ∷ attributes) = omega (arith, length-borrowed attributes)
+
+pub length-items : (last offset : ℕ) (d : List ℕ) → length (borrowed (shown_behind last offset d)) ≤ length d
+unfolding shown_behind
+length-items last offset d =
+    let all = chain (drop offset d) in
+    let front = longest_front (λ q. in_order (last ∷ types q)) all in
+    omega (arith, length-borrowed (placed offset front), length-placed offset front, length-longest_front (λ q. in_order (last ∷ types q)) all, length-chain (drop offset d), length-drop offset d)

@@ -20,11 +20,14 @@ pub struct MessageAttributesIter<'a> {
 }
 
 impl<'a> MessageAttributesIter<'a> {
+    ghost use Rattle.std.specs.Prelude.{◌^◌, ◌<◌};
     ghost use Rattle.stun_types.specs.Iterate.{items_left, borrowed};
 
-    /// Over any bytes: nothing is shown where they are no header and what it says follows it.
+    /// Over any bytes: nothing is shown where they are no header and what it says follows it. A
+    /// FINGERPRINT is shown whether it is right or not.
     pub fn new(bytes: &'a [u8]) -> MessageAttributesIter<'a>
-        ensures { items_left result ≡ borrowed (shown bytes.now) }
+        ensures items { items_left result ≡ borrowed (shown bytes.now) }
+        ensures bound { length (items_left result) < 2 ^ 64 }
     {
         let Ok(_header) = framed(bytes) else {
             return MessageAttributesIter {

@@ -21,7 +21,7 @@ pub struct Message<'a> {
 }
 
 impl<'a> Message<'a> {
-    ghost use Rattle.std.specs.Prelude.{◌≡◌, ◌↔◌, IsTrue, MatchResult, None, Some};
+    ghost use Rattle.std.specs.Prelude.{◌≡◌, ◌↔◌, ◌^◌, ◌<◌, IsTrue, MatchResult, None, Some, length};
     ghost use Rattle.stun_grammar.specs.Headers.{type_field, id_field};
     ghost use Rattle.stun_grammar.specs.Messages.{parse_fault, shown};
     ghost use Rattle.stun_base.specs.Types.{class_of, method_of, header_of, is_response as responds};
@@ -133,7 +133,8 @@ impl<'a> Message<'a> {
 
     /// The attributes that are shown, each with the offset of its header.
     pub fn iter_attributes(&self) -> MessageAttributesIter<'a>
-        ensures { items_left result ≡ borrowed (shown (message_bytes self.now)) }
+        ensures items { items_left result ≡ borrowed (shown (message_bytes self.now)) }
+        ensures bound { length (items_left result) < 2 ^ 64 }
     {
         MessageAttributesIter::new(self.bytes)
     }

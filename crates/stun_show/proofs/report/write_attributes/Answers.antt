@@ -24,7 +24,7 @@ shown_items items attributes e = first_parts items ∙ ap (map (λ (x : Shown ×
 pub returns : goal.returns
 returns c =
     let d = message_bytes c.args.message.now in
-    let start = ap items_left c.into_iter-offset-iterator.ensures.into_iter_gives ∙ c.iter_attributes-offset-items.ensures in
+    let start = ap items_left c.into_iter-offset-iterator.ensures.into_iter_gives ∙ c.iter_attributes-offset-items.ensures.items in
     let all = YieldsList-end (YieldsList-from_first item_view items_left {s = c.into_iter-offset-iterator.result} (borrowed (shown d)) start) c.loop-offset.yielded c.loop-offset.offset-iterator c.loop-offset.yielded_by c.next.result c.next.new.self c.in-None.is c.next.ensures.steps in
     c.loop-offset.invariant
     ∙ ap (λ (xs : List Shown). string_bytes c.args.text.now ++ flat_map attribute_line xs) (shown_items c.loop-offset.yielded (shown d) all.0)

@@ -1,0 +1,37 @@
+//! The example of the README.
+
+use super::{SOFTWARE, USERNAME, message};
+use std::test::Fail;
+use stun_types::attribute::AttributeType;
+use stun_types::data::Data;
+use stun_types::message::{BINDING, Message, MessageClass, StunParseError};
+
+/// The value of the first SOFTWARE attribute that a binding request shows.
+pub fn software_of(bytes: &[u8]) -> Result<Option<Data<'_>>, StunParseError> {
+    let message = Message::from_bytes(bytes)?;
+    if !message.has_class(MessageClass::Request) || !message.has_method(BINDING) {
+        return Ok(None);
+    }
+    for (_offset, attribute) in message.iter_attributes() {
+        if attribute.header().get_type() == AttributeType(0x8022) {
+            return Ok(Some(attribute.into_value()));
+        }
+    }
+    Ok(None)
+}
+
+#[test]
+fn finds_a_software(rt: HostRuntime) -> Result<(), Fail> {
+    let bytes = message(
+        rt.alloc(),
+        16,
+        &[&USERNAME, &[0x80, 0x22, 0x00, 0x02, 0x69, 0x63, 0x00, 0x00]],
+    )?;
+    let found = software_of(&bytes)?.ok_or("no SOFTWARE")?;
+    assert_eq!(rt; found.as_bytes(), b"ic".as_slice());
+    let none = message(rt.alloc(), 8, &[&USERNAME])?;
+    assert!(rt; software_of(&none)?.is_none());
+    let empty = message(rt.alloc(), 4, &[&SOFTWARE])?;
+    assert!(rt; matches!(software_of(&empty)?, Some(Data::Borrowed(_))));
+    Ok(())
+}
