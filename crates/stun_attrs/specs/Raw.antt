@@ -1,8 +1,7 @@
 -- What a raw attribute is, and what reading one gives.
-use Rattle.std.specs.Prelude.{◌≡◌, ℕ, ◌+◌, ◌-◌, Bool, true, List, length, drop, slice_range, Option, Some, None, nat_lt, if◌then◌else◌}
+use Rattle.std.specs.Prelude.{◌≡◌, ℕ, ◌+◌, ◌-◌, true, List, length, drop, Option, Some, None, nat_lt, if◌then◌else◌}
 use Rattle.stun_grammar.specs.declared.error.StunParseError.{StunParseError}
 use Rattle.stun_grammar.specs.declared.error.StunParseError.TheVariants.{Truncated}
-use Rattle.stun_grammar.specs.Numbers.{number}
 use Rattle.stun_grammar.specs.Attributes.{Attribute, first_attribute, text, stated_length}
 use Rattle.stun_base.specs.declared.data.Data.{Data}
 use Rattle.stun_base.specs.Data.{data_bytes, is_borrowed}

@@ -1,6 +1,6 @@
 -- What parsing may tell.
-use Rattle.std.proofs.Common.{◌≡◌, ℕ, ◌+◌, Bool, true, false, cond, List, length, drop, Option, Some, None, eqb, ltb}
-use Rattle.std.specs.Prelude.{IfSome, find, is_some, nat_eq}
+use Rattle.std.proofs.Common.{ℕ, ◌+◌, Bool, true, false, cond, List, length, drop, Option, Some, None, eqb, ltb}
+use Rattle.std.specs.Prelude.{IfSome, find, nat_eq}
 use Rattle.std.specs.Cmp.Lexicographic.{pointwise}
 use Rattle.std.specs.Option.{option_or, option_map_or}
 use Rattle.stun_grammar.specs.declared.error.StunParseError.{StunParseError}

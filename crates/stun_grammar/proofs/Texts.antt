@@ -1,7 +1,7 @@
 -- The attribute that a text is of, and the text of the attribute that bytes begin with.
 use Rattle.std.proofs.Common.{◌≡◌, ℕ, ◌+◌, ◌-◌, ◌<◌, ◌≤◌, false, ltb, List, ◌++◌, length, take, drop, Some, None, refl, sym, ap, subst, ◌∙◌, append_assoc, arith, inl, inr}
 use Rattle.std.proofs.lemmas.Bool.{cases_lt, le-ltb, lt-ltb}
-use Rattle.std.proofs.lemmas.List.{take_at, drop_at, take-append-drop, drop-drop, length-append, length-take, length-drop, get_or-drop, get_or-take, get_or_past}
+use Rattle.std.proofs.lemmas.List.{take_at, drop_at, take-append-drop, drop-drop, length-append, length-take, length-drop}
 use Rattle.stun_grammar.specs.Numbers.{be16, number, padded_length, IsBytes}
 use Rattle.stun_grammar.specs.Attributes.{Attribute, IsAttribute, text, stated_length, first_attribute}
 use Rattle.stun_grammar.proofs.NumberLaws.{IsBytes-get, IsBytes-drop, IsBytes-take, number-two, number-be16, be16-number}

@@ -1,4 +1,4 @@
-use Rattle.std.proofs.Common.{take, drop, refl, sym, ap, ◌∙◌}
+use Rattle.std.proofs.Common.{take, drop, refl, ap, ◌∙◌}
 use Rattle.std.specs.Prelude.{nat_eq}
 use Rattle.std.specs.Cmp.Lexicographic.{pointwise}
 use Rattle.std.proofs.lemmas.Bool.{lt-ltb, le-ltb}

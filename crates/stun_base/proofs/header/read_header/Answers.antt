@@ -1,4 +1,4 @@
-use Rattle.std.proofs.Common.{◌≡◌, ◌+◌, ◌*◌, take, get_or, ◌∙◌, arith}
+use Rattle.std.proofs.Common.{take, ◌∙◌, arith}
 use Rattle.std.proofs.lemmas.List.{length-take, get_or-take}
 use Rattle.stun_grammar.proofs.NumberLaws.{number-two}
 use Rattle.stun_base.proofs.header.read_header.Goals as goal

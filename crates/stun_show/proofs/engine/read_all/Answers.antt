@@ -1,4 +1,4 @@
-use Rattle.std.proofs.Common.{ℕ, ◌++◌, length, take, vec_len, arith}
+use Rattle.std.proofs.Common.{◌++◌, take, arith}
 use Rattle.std.proofs.lemmas.List.{length-append}
 use Rattle.stun_show.proofs.KnownBytes.{Consumes-append}
 use Rattle.stun_show.proofs.engine.read_all.Goals as goal

@@ -1,5 +1,4 @@
 use Rattle.std.proofs.Common.{take, length, ap, arith}
-use Rattle.std.specs.Io.KnownBytes.{Appends}
 use Rattle.std.proofs.lemmas.List.{take_rest, length-drop}
 use Rattle.stun_show.proofs.KnownBytes.{Appends-keep, Appends-more}
 use Rattle.stun_show.proofs.engine.write_all.Goals as goal

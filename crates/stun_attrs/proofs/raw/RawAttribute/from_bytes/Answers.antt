@@ -1,7 +1,6 @@
-use Rattle.std.proofs.Common.{◌≡◌, ℕ, ◌+◌, ◌-◌, Some, take, drop, sym, ap, subst, ◌∙◌, arith}
+use Rattle.std.proofs.Common.{Some, sym, ap, ◌∙◌}
 use Rattle.std.proofs.lemmas.Result.{err_from_is_err_and}
 use Rattle.stun_base.specs.declared.attribute_header.AttributeHeader.{AttributeHeader}
-use Rattle.stun_attrs.specs.Raw.{Borrows}
 use Rattle.stun_attrs.proofs.RawFaults.{no_header, no_value, all_there}
 use Rattle.stun_attrs.proofs.raw.RawAttribute.from_bytes.Goals as goal
 

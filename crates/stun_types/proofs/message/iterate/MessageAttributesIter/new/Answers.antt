@@ -1,5 +1,5 @@
 use Rattle.stun_grammar.proofs.HeaderLaws.{header_there, frame_there}
-use Rattle.std.proofs.Common.{length, ap, ◌∙◌, arith}
+use Rattle.std.proofs.Common.{length, ap, arith}
 use Rattle.stun_types.specs.Iterate.{borrowed}
 use Rattle.stun_types.proofs.Steps.{from_start, nothing_shown, length-items}
 use Rattle.stun_types.proofs.message.iterate.MessageAttributesIter.new.Goals as goal

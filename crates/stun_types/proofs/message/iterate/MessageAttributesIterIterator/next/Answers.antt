@@ -1,4 +1,4 @@
-use Rattle.std.proofs.Common.{◌≡◌, ℕ, Bool, true, false, List, [], ◌∷◌, length, sym, ap, ◌∙◌, arith}
+use Rattle.std.proofs.Common.{◌≡◌, ℕ, Bool, [], ◌∷◌, length, sym, ap, ◌∙◌, arith}
 use Rattle.stun_grammar.specs.Shapes.{in_order}
 use Rattle.stun_types.specs.Iterate.{borrowed}
 use Rattle.stun_types.proofs.Steps.{behind_none, read_stop, read_more}

@@ -1,4 +1,4 @@
-use Rattle.std.proofs.Common.{None, refl, sym, ◌∙◌, arith}
+use Rattle.std.proofs.Common.{None, ◌∙◌, arith}
 use Rattle.std.proofs.lemmas.Result.{err_from_is_err_and}
 use Rattle.stun_grammar.proofs.HeaderLaws.{header_there, frame_there}
 use Rattle.stun_grammar.proofs.Scans.{parse-frame, parse-body}
