@@ -1,1 +1,3 @@
 pub mod Raw
+pub mod Texts
+pub mod Checks

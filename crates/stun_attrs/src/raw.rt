@@ -1,7 +1,11 @@
 ghost use Rattle.std.specs.Prelude.{◌≡◌, length};
 ghost use Rattle.stun_base.specs.Data.{data_bytes};
 
-use stun_base::{AttributeHeader, AttributeType, Data, StunParseError};
+use crate::check::checked_length;
+use crate::{Attribute, AttributeWrite, lent_attribute, write_text};
+use std::alloc::Global;
+use std::boxed::BoxedSlice;
+use stun_base::{AttributeHeader, AttributeType, Data, StunParseError, StunWriteError};
 
 /// An attribute as its type and the bytes of its value, which it borrows or owns.
 #[derive(Debug, PartialEq, Eq, Drop)]
@@ -12,16 +16,30 @@ pub struct RawAttribute<'a> {
 }
 
 impl<'a> RawAttribute<'a> {
-    ghost use Rattle.std.specs.Prelude.{◌≡◌, ◌+◌, ◌<◌, ◌≤◌, IfOk, IsOk, MatchResult, Result, Err, Some, None, length, slice_range};
-    ghost use Rattle.stun_base.specs.Data.{data_bytes};
+    ghost use Rattle.std.specs.Prelude.{◌≡◌, ◌+◌, ◌<◌, ◌≤◌, true, false, IfOk, IfErr, IsOk, MatchResult, Result, Err, Some, None, length, slice_range};
+    ghost use Rattle.stun_base.specs.Data.{data_bytes, is_borrowed};
     ghost use Rattle.stun_grammar.specs.Numbers.{number};
     ghost use Rattle.stun_grammar.specs.Attributes.{stated_length};
-    ghost use Rattle.stun_attrs.specs.Raw.{raw_type, raw_data, raw_value, Borrows, raw_fault};
+    ghost use Rattle.std.specs.Box.{boxed_slice_items};
+    ghost use Rattle.stun_attrs.specs.Texts.{attribute_text};
+    ghost use Rattle.stun_attrs.specs.Raw.{raw_type, raw_data, raw_value, IsRawOf, Borrows, raw_fault};
 
     /// An attribute of this header that borrows its value.
     pub(crate) fn borrowed(header: AttributeHeader, value: &'a [u8]) -> Self
         requires { header.length ≡ length value.now }
         ensures { Borrows header.atype.0 value.now result }
+    {
+        RawAttribute {
+            header,
+            value: Data::from(value),
+        }
+    }
+
+    /// An attribute of this header that owns its value.
+    pub(crate) fn owned(header: AttributeHeader, value: BoxedSlice<u8>) -> Self
+        requires { header.length ≡ length (boxed_slice_items value) }
+        ensures raw { IsRawOf header.atype.0 (boxed_slice_items value) result }
+        ensures owned { is_borrowed (raw_data result) ≡ false }
     {
         RawAttribute {
             header,
@@ -40,14 +58,27 @@ impl<'a> RawAttribute<'a> {
         ensures fits { length value.now ≤ 65535 → IsOk result }
         ensures large { 65535 < length value.now → result ≡ Err (StunParseError.TooLarge 65535 (length value.now)) }
     {
-        if value.len() > 65535 {
-            return Err(StunParseError::TooLarge {
-                expected: 65535,
-                actual: value.len(),
-            });
-        }
-        let length = value.len() as u16;
-        Ok(Self::borrowed(AttributeHeader { atype, length }, value))
+        checked_length(value.len())?;
+        Ok(lent_attribute(atype, value))
+    }
+
+    /// An attribute of this type that owns its value.
+    ///
+    /// # Errors
+    ///
+    /// `TooLarge { expected: 65535, actual }` where the value is longer than its length field can
+    /// tell; it is dropped then.
+    pub fn new_owned(atype: AttributeType, value: BoxedSlice<u8>) -> Result<Self, StunParseError>
+        ensures ok { IfOk result (IsRawOf atype.0 (boxed_slice_items value)) }
+        ensures owned { IfOk result (λ raw. is_borrowed (raw_data raw) ≡ false) }
+        ensures fits { length (boxed_slice_items value) ≤ 65535 → IsOk result }
+        ensures large { 65535 < length (boxed_slice_items value) → result ≡ Err (StunParseError.TooLarge 65535 (length (boxed_slice_items value))) }
+    {
+        let length = checked_length(value.len())?;
+        Ok(RawAttribute {
+            header: AttributeHeader { atype, length },
+            value: Data::from(value),
+        })
     }
 
     /// The attribute at the front of `bytes`: four bytes of header, and as many bytes of value as it
@@ -79,7 +110,8 @@ impl<'a> RawAttribute<'a> {
         ensures atype { result.atype.0 ≡ raw_type self.now }
         ensures length { result.length ≡ length (raw_value self.now) }
     {
-        self.header
+        let RawAttribute { header, value: _ } = self;
+        *header
     }
 
     /// The value, borrowed or owned.
@@ -95,5 +127,91 @@ impl<'a> RawAttribute<'a> {
     {
         let RawAttribute { header: _, value } = self;
         value
+    }
+
+    /// The same attribute with a value that it owns: of a borrowed one a copy in memory that `alloc`
+    /// gives, of an owned one itself, which takes no memory.
+    ///
+    /// # Errors
+    ///
+    /// `OutOfMemory` alone, and only for a value that is borrowed.
+    pub fn into_owned(self, alloc: Global) -> Result<RawAttribute<'static>, StunWriteError>
+        ensures same { IfOk result (IsRawOf (raw_type self.entry) (raw_value self.entry)) }
+        ensures owned { IfOk result (λ raw. is_borrowed (raw_data raw) ≡ false) }
+        ensures err { IfErr result (λ e. e ≡ StunWriteError.OutOfMemory) }
+        ensures free { is_borrowed (raw_data self.entry) ≡ false → IsOk result }
+    {
+        let RawAttribute { header, value } = self;
+        let value = value.into_owned(alloc)?;
+        Ok(RawAttribute { header, value })
+    }
+
+    /// The bytes of the attribute as it is written: type and length in two bytes each, big-endian,
+    /// the value, and zeros up to a multiple of 4; in memory that `alloc` gives.
+    ///
+    /// # Errors
+    ///
+    /// `OutOfMemory` alone.
+    pub fn to_bytes(&self, alloc: Global) -> Result<Vec<u8>, StunWriteError>
+        ensures text { IfOk result (λ bytes. bytes.items ≡ attribute_text (raw_type self.now) (raw_value self.now)) }
+        ensures err { IfErr result (λ e. e ≡ StunWriteError.OutOfMemory) }
+    {
+        let mut bytes = Vec::new(alloc);
+        bytes
+            .resize(self.padded_len(), 0)
+            .map_err(|_| StunWriteError::OutOfMemory)?;
+        self.write_into_unchecked(&mut bytes);
+        Ok(bytes)
+    }
+
+    /// The same attribute: where its value is borrowed, the same borrow, which takes no memory, and
+    /// else a copy of it in memory that `alloc` gives.
+    ///
+    /// # Errors
+    ///
+    /// `OutOfMemory` alone, and only for a value that is owned.
+    pub fn clone(&self, alloc: Global) -> Result<RawAttribute<'a>, StunWriteError>
+        ensures same { IfOk result (IsRawOf (raw_type self.now) (raw_value self.now)) }
+        ensures borrowed { IfOk result (λ copy. is_borrowed (raw_data copy) ≡ is_borrowed (raw_data self.now)) }
+        ensures err { IfErr result (λ e. e ≡ StunWriteError.OutOfMemory) }
+        ensures free { is_borrowed (raw_data self.now) ≡ true → IsOk result }
+    {
+        let value = self.value.clone(alloc)?;
+        Ok(RawAttribute {
+            header: self.header,
+            value,
+        })
+    }
+}
+
+impl Attribute for RawAttribute<'_> {
+    ghost use Rattle.stun_attrs.specs.Raw.{raw_type, raw_value};
+
+    ghost atype = { raw_type };
+
+    ghost value = { raw_value };
+
+    fn get_type(&self) -> AttributeType {
+        self.header().get_type()
+    }
+
+    fn length(&self) -> u16 {
+        self.header().length()
+    }
+}
+
+/// A raw attribute is written as it is, and `to_raw` is its `clone`.
+impl AttributeWrite for RawAttribute<'_> {
+    ghost use Rattle.stun_base.specs.Data.{is_borrowed};
+    ghost use Rattle.stun_attrs.specs.Raw.{raw_data};
+
+    ghost lends = { λ raw. is_borrowed (raw_data raw) };
+
+    fn write_into_unchecked(&self, dest: &mut [u8]) {
+        write_text(self.header().get_type(), self.value.as_bytes(), dest);
+    }
+
+    fn to_raw(&self, alloc: Global) -> Result<RawAttribute<'_>, StunWriteError> {
+        self.clone(alloc)
     }
 }

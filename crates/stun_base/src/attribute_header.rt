@@ -1,4 +1,4 @@
-ghost use Rattle.std.specs.Prelude.{◌≡◌, ◌+◌, ◌-◌, ◌<◌, ◌≤◌, ◌++◌, ◌*◌, length, MatchResult, slice_range};
+ghost use Rattle.std.specs.Prelude.{◌≡◌, ◌+◌, ◌-◌, ◌<◌, ◌≤◌, ◌++◌, ◌*◌, length, drop, MatchResult, slice_range};
 ghost use Rattle.stun_grammar.specs.Numbers.{be16, number, padded_length};
 
 use byteorder::{BigEndian, ByteOrder};
@@ -45,6 +45,15 @@ impl AttributeHeader {
         BigEndian::write_u16(&mut bytes, self.atype.0);
         BigEndian::write_u16(&mut bytes[2..], self.length);
         bytes
+    }
+
+    /// Writes the four bytes at the front of `dest`, which has four or more; the others stay.
+    pub fn write_into(&self, dest: &mut [u8])
+        requires { 4 ≤ length dest.old }
+        ensures { dest.new ≡ be16 self.now.atype.0 ++ be16 self.now.length ++ drop 4 dest.old }
+    {
+        BigEndian::write_u16(dest, self.atype.0);
+        BigEndian::write_u16(&mut dest[2..], self.length);
     }
 
     /// The type.

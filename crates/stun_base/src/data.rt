@@ -1,9 +1,12 @@
 //! Bytes that are borrowed or owned.
 
-ghost use Rattle.std.specs.Prelude.{◌≡◌};
-ghost use Rattle.stun_base.specs.Data.{slice_bytes, owned_bytes, data_bytes};
+ghost use Rattle.std.specs.Prelude.{◌≡◌, true, false, IfOk, IfErr, IsOk};
+ghost use Rattle.std.specs.Box.{boxed_slice_items};
+ghost use Rattle.stun_base.specs.Data.{slice_bytes, owned_bytes, data_bytes, is_borrowed};
 
+use std::alloc::Global;
 use std::boxed::BoxedSlice;
+use stun_grammar::StunWriteError;
 
 /// Borrowed bytes.
 #[derive(Clone, Copy, Debug, PartialEq, Eq)]
@@ -16,7 +19,29 @@ impl<'a> DataSlice<'a> {
     pub fn as_bytes(&self) -> &[u8]
         ensures { result.now ≡ slice_bytes self.now }
     {
+        self.take()
+    }
+
+    /// The bytes, for as long as they are borrowed.
+    pub fn take(self) -> &'a [u8]
+        ensures { result.now ≡ slice_bytes self.entry }
+    {
         self.bytes
+    }
+
+    /// A copy of the bytes, in memory that `alloc` gives.
+    ///
+    /// # Errors
+    ///
+    /// `OutOfMemory` alone.
+    pub fn to_owned(&self, alloc: Global) -> Result<DataOwned, StunWriteError>
+        ensures bytes { IfOk result (λ copy. owned_bytes copy ≡ slice_bytes self.now) }
+        ensures err { IfErr result (λ e. e ≡ StunWriteError.OutOfMemory) }
+    {
+        let bytes = BoxedSlice::from_slice(alloc, self.bytes).map_err(
+            |_| StunWriteError::OutOfMemory,
+        )?;
+        Ok(DataOwned { bytes })
     }
 }
 
@@ -41,6 +66,22 @@ impl DataOwned {
     {
         &self.bytes
     }
+
+    /// The box that holds the bytes.
+    pub fn take(self) -> BoxedSlice<u8>
+        ensures { boxed_slice_items result ≡ owned_bytes self }
+    {
+        let DataOwned { bytes } = self;
+        bytes
+    }
+}
+
+impl From<BoxedSlice<u8>> for DataOwned {
+    ghost from_gives = { λ bytes made. owned_bytes made ≡ boxed_slice_items bytes };
+
+    fn from(bytes: BoxedSlice<u8>) -> Self {
+        DataOwned { bytes }
+    }
 }
 
 /// Borrowed or owned bytes.
@@ -64,6 +105,45 @@ impl<'a> Data<'a> {
             Data::Owned(owned) => owned.as_bytes(),
         }
     }
+
+    /// The same bytes, owned: of borrowed bytes a copy in memory that `alloc` gives, of owned ones
+    /// themselves, which takes no memory.
+    ///
+    /// # Errors
+    ///
+    /// `OutOfMemory` alone, and only for borrowed bytes.
+    pub fn into_owned(self, alloc: Global) -> Result<Data<'static>, StunWriteError>
+        ensures bytes { IfOk result (λ owned. data_bytes owned ≡ data_bytes self.entry) }
+        ensures owned { IfOk result (λ owned. is_borrowed owned ≡ false) }
+        ensures err { IfErr result (λ e. e ≡ StunWriteError.OutOfMemory) }
+        ensures free { is_borrowed self.entry ≡ false → IsOk result }
+    {
+        match self {
+            Data::Borrowed(slice) => Ok(Data::Owned(slice.to_owned(alloc)?)),
+            Data::Owned(owned) => Ok(Data::Owned(owned)),
+        }
+    }
+
+    /// The same bytes: of borrowed bytes the same borrow, which takes no memory, of owned ones a copy
+    /// in memory that `alloc` gives.
+    ///
+    /// # Errors
+    ///
+    /// `OutOfMemory` alone, and only for owned bytes.
+    pub fn clone(&self, alloc: Global) -> Result<Data<'a>, StunWriteError>
+        ensures bytes { IfOk result (λ copy. data_bytes copy ≡ data_bytes self.now) }
+        ensures borrowed { IfOk result (λ copy. is_borrowed copy ≡ is_borrowed self.now) }
+        ensures err { IfErr result (λ e. e ≡ StunWriteError.OutOfMemory) }
+        ensures free { is_borrowed self.now ≡ true → IsOk result }
+    {
+        match self {
+            Data::Borrowed(slice) => Ok(Data::Borrowed(*slice)),
+            Data::Owned(owned) => {
+                let copy = DataSlice::from(owned.as_bytes()).to_owned(alloc)?;
+                Ok(Data::Owned(copy))
+            }
+        }
+    }
 }
 
 impl<'a> From<&'a [u8]> for Data<'a> {
@@ -74,5 +154,16 @@ impl<'a> From<&'a [u8]> for Data<'a> {
 
     fn from(bytes: &'a [u8]) -> Self {
         Data::Borrowed(DataSlice::from(bytes))
+    }
+}
+
+impl<'a> From<BoxedSlice<u8>> for Data<'a> {
+    ghost use Rattle.std.specs.Prelude.{false};
+    ghost use Rattle.stun_base.specs.Data.{is_borrowed};
+
+    ghost from_gives = { λ bytes made. (data_bytes made ≡ boxed_slice_items bytes) × (is_borrowed made ≡ false) };
+
+    fn from(bytes: BoxedSlice<u8>) -> Self {
+        Data::Owned(DataOwned::from(bytes))
     }
 }

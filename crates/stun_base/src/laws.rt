@@ -1,8 +1,10 @@
-//! A law of the definitions. The function does nothing: its contract is the law.
+//! Laws of the definitions. The contract of each function is the law.
 
 ghost use Rattle.std.specs.Prelude.{◌≡◌, ℕ, ◌%◌, ◌^◌, ◌<◌};
 ghost use Rattle.stun_base.specs.declared.message_type.MessageClass.{MessageClass};
 ghost use Rattle.stun_base.specs.Types.{type_of, class_of, method_of};
+
+use crate::{BINDING, MessageClass, MessageType};
 
 /// A class and the low twelve bits of a method are told by the type that they make, and a type of
 /// fourteen bits is made by what it tells.
@@ -12,3 +14,10 @@ pub fn one_message_type()
     ensures bits { (class : MessageClass) (method : ℕ) → type_of class method < 2 ^ 14 }
     ensures made { (type : ℕ) → type < 2 ^ 14 → type_of (class_of type) (method_of type) ≡ type }
 {}
+
+/// The type of a binding request is 0x0001 (RFC 8489, section 18.2).
+pub fn binding_request() -> MessageType
+    ensures { result ≡ 0x0001 }
+{
+    MessageType::from_class_method(MessageClass::Request, BINDING)
+}

@@ -8,11 +8,13 @@ mod header;
 mod laws;
 mod message_type;
 mod transaction_id;
+mod transport;
 
 pub use attribute_header::{AttributeHeader, pad_attribute_len};
 pub use data::{Data, DataOwned, DataSlice};
 pub use header::{MessageHeader, number_at, read_header};
-pub use laws::one_message_type;
+pub use laws::{binding_request, one_message_type};
 pub use message_type::{BINDING, MessageClass, MessageType, Method};
 pub use stun_grammar::{AttributeType, StunParseError, StunWriteError, ValidateError};
 pub use transaction_id::{MAGIC_COOKIE, TransactionId};
+pub use transport::{AddressFamily, ParseTransportTypeError, TransportType};

@@ -167,7 +167,8 @@ impl MessageType {
     /// Writes the two bytes at the front of `dest`, which has two or more; the others stay.
     pub fn write_into(&self, dest: &mut [u8])
         requires { 2 ≤ length dest.old }
-        ensures { dest.new ≡ be16 self.now ++ drop 2 dest.old }
+        ensures written { dest.new ≡ be16 self.now ++ drop 2 dest.old }
+        ensures bits { self.now < 2 ^ 14 }
     {
         BigEndian::write_u16(dest, self.0);
     }

@@ -36,9 +36,9 @@ impl From<u128> for TransactionId {
 }
 
 impl From<TransactionId> for u128 {
-    ghost use Rattle.std.specs.Prelude.{◌≡◌};
+    ghost use Rattle.std.specs.Prelude.{◌≡◌, ◌^◌, ◌<◌};
 
-    ghost from_gives = { λ transaction number. number ≡ transaction };
+    ghost from_gives = { λ transaction number. (number ≡ transaction) × (number < 2 ^ 96) };
 
     fn from(transaction: TransactionId) -> Self {
         transaction.id

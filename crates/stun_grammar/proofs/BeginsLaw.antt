@@ -54,7 +54,7 @@ begins_some (p ∷ q ∷ r ∷ s ∷ b) e =
       is_header-long (p ∷ q ∷ r ∷ s ∷ (b ++ more)) long ∙ and_from (ltb p 64) _ (and_parts (ltb p 64) true parts.0).0 (agree_filled b (be32 magic_cookie) zeros parts.1),
     )
 
-header_length : (w : List ℕ) → is_header w ≡ true → 20 ≤ length w
+pub header_length : (w : List ℕ) → is_header w ≡ true → 20 ≤ length w
 unfolding is_header
 header_length w e = leb-true 20 (length w) (and_parts _ _ e).0
 

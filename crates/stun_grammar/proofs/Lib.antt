@@ -1,5 +1,6 @@
 pub mod NumberLaws
 pub mod Texts
+pub mod Spelled
 pub mod Chains
 pub mod Fronts
 pub mod Orders
@@ -11,3 +12,15 @@ pub mod BeginsLaw
 pub mod Scans
 pub mod Refusals
 pub mod ChecksumLaws
+pub mod HmacLaws
+pub mod Written
+pub mod Shown
+pub mod Verdicts
+pub mod Validated
+pub mod Carried
+pub mod Exactness
+pub mod Fingerprinted
+pub mod Told
+pub mod Signed
+pub mod Origin
+pub mod Stepped

@@ -4,4 +4,9 @@ pub mod Attributes
 pub mod Shapes
 pub mod Checksums
 pub mod Messages
+pub mod Hmac
+pub mod Integrity
+pub mod Writing
+pub mod Steps
+pub mod Origin
 pub mod Names

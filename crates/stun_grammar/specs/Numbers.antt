@@ -1,6 +1,6 @@
 -- Numbers as bytes, the most significant byte first, and the boundary of four bytes (RFC 8489, sections 5 and 14).
 use Rattle.std.specs.Prelude.{ℕ, ◌+◌, ◌*◌, ◌/◌, ◌<◌, List, fold}
-use Rattle.std.specs.Int.{w16, w32, to_be_bytes}
+use Rattle.std.specs.Int.{w16, w32, to_be_bytes, bytes_high_first}
 use Rattle.std.specs.List.{AllByRecursion}
 
 -- a number in two bytes
@@ -10,6 +10,10 @@ be16 = to_be_bytes w16
 -- a number in four bytes
 abbrev pub be32 : ℕ → List ℕ
 be32 = to_be_bytes w32
+
+-- a number in twelve bytes
+abbrev pub be96 : ℕ → List ℕ
+be96 = bytes_high_first 12
 
 -- the number that bytes spell
 abbrev pub number : List ℕ → ℕ

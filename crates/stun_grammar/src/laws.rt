@@ -1,12 +1,13 @@
 //! The laws of the grammar. Each function does nothing: its contract is the law.
 
-ghost use Rattle.std.specs.Prelude.{◌≡◌, ℕ, ◌<◌, ◌↔◌, List, [], ◌++◌, Bool, true, length, IsTrue, IfSome, Some};
+ghost use Rattle.std.specs.Prelude.{◌≡◌, ℕ, ◌<◌, ◌+◌, ◌^◌, ◌↔◌, List, [], ◌∷◌, ◌++◌, Bool, true, false, length, take, drop, IsTrue, IfSome, None, Some};
 ghost use Rattle.std.specs.List.{AllByRecursion};
-ghost use Rattle.stun_grammar.specs.Numbers.{IsBytes};
-ghost use Rattle.stun_grammar.specs.Headers.{Begins, begins};
-ghost use Rattle.stun_grammar.specs.Attributes.{Attribute, IsAttribute, IsChain, text, texts, first_attribute, chain, rest};
-ghost use Rattle.stun_grammar.specs.Shapes.{in_order, in_any_order, IsInOrder, IsInAnyOrder, longest_front, IsLongestFront};
-ghost use Rattle.stun_grammar.specs.Messages.{parse_fault, IsRefusal};
+ghost use Rattle.stun_grammar.specs.Numbers.{be16, padded_length, IsBytes};
+ghost use Rattle.stun_grammar.specs.Headers.{Begins, begins, type_field, length_field, id_field};
+ghost use Rattle.stun_grammar.specs.Attributes.{Attribute, IsAttribute, IsChain, canonical, text, texts, first_attribute, chain, rest, placed, types};
+ghost use Rattle.stun_grammar.specs.Shapes.{FINGERPRINT, has, in_order, in_any_order, IsInOrder, IsInAnyOrder, longest_front, IsLongestFront};
+ghost use Rattle.stun_grammar.specs.Messages.{parse_fault, shown, fingerprint_value, first_fingerprint_fault, IsRefusal};
+ghost use Rattle.stun_grammar.specs.Writing.{message_text, IsWritable};
 
 /// Bytes are the texts of one list of attributes and one rest.
 pub fn one_chain()
@@ -53,4 +54,40 @@ pub fn incomplete_header()
 /// FINGERPRINT is too long, and that it doesn't match.
 pub fn refusals_of_parsing()
     ensures { (d : List ℕ) → IfSome (parse_fault d) IsRefusal }
+{}
+
+/// An attribute as it is written is one, and takes four bytes and its value's, padded.
+pub fn canonical_is_attribute()
+    ensures attribute { (type : ℕ) (value : List ℕ) → type < 2 ^ 16 → length value < 2 ^ 16 → IsAttribute (canonical type value) }
+    ensures size { (type : ℕ) (value : List ℕ) → type < 2 ^ 16 → length value < 2 ^ 16 → length (text (canonical type value)) ≡ 4 + padded_length (length value) }
+{}
+
+/// A message that may be written is parsed, and is read as what was written: its fields, and its
+/// attributes, each at its place.
+pub fn written_is_read_back()
+    ensures parses { (type id : ℕ) (attributes : List Attribute) → IsWritable type id attributes → parse_fault (message_text type id attributes) ≡ None }
+    ensures shows { (type id : ℕ) (attributes : List Attribute) → IsWritable type id attributes → shown (message_text type id attributes) ≡ placed 20 attributes }
+    ensures kind { (type id : ℕ) (attributes : List Attribute) → IsWritable type id attributes → type_field (message_text type id attributes) ≡ type }
+    ensures field { (type id : ℕ) (attributes : List Attribute) → IsWritable type id attributes → length_field (message_text type id attributes) ≡ length (texts attributes) }
+    ensures id { (type id : ℕ) (attributes : List Attribute) → IsWritable type id attributes → id_field (message_text type id attributes) ≡ id }
+{}
+
+/// One more attribute sets the length field, and its text stands behind what was there.
+pub fn text_grows()
+    ensures size { (type id : ℕ) (attributes : List Attribute) → length (message_text type id attributes) ≡ 20 + length (texts attributes) }
+    ensures text { (type id : ℕ) (attributes : List Attribute) (a : Attribute) → let old = message_text type id attributes in
+        message_text type id (attributes ++ a ∷ []) ≡ take 2 old ++ (be16 (length (texts attributes) + length (text a)) ++ (drop 4 old ++ text a)) }
+{}
+
+/// A FINGERPRINT that was computed over the message before it is right, whatever stands behind it.
+pub fn right_fingerprint()
+    ensures { (type id : ℕ) (before behind : List Attribute) → has FINGERPRINT (types before) ≡ false
+        → (let a = canonical FINGERPRINT (fingerprint_value (message_text type id before) (length (message_text type id before))) in
+        first_fingerprint_fault (message_text type id (before ++ a ∷ behind)) (placed 20 (before ++ a ∷ behind)) ≡ None) }
+{}
+
+/// No text of an attribute begins the text of another: where one stands at the front of another they
+/// are the same, with one type, one value and one padding.
+pub fn one_spelling()
+    ensures { (a b : Attribute) (more : List ℕ) → IsAttribute a → IsAttribute b → text b ≡ text a ++ more → a ≡ b }
 {}

@@ -1,8 +1,12 @@
-//! CRC-32, as ISO-HDLC defines it.
+//! CRC-32, as ISO-HDLC defines it, and HMAC, as RFC 2104 defines it. Both take a text in pieces.
 
 ghost use Rattle.std.specs.Prelude.{◌≡◌, map};
 ghost use Rattle.std.specs.List.{concat};
 ghost use Rattle.stun_grammar.specs.Checksums.{shifted, after_byte, crc};
+
+mod hmac;
+
+pub use hmac::{hmac_sha1, hmac_sha256};
 
 /// The register after one bit has left it at its low end.
 fn shift(register: u32) -> u32

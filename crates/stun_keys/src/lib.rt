@@ -1,4 +1,5 @@
-//! The checksum of a FINGERPRINT.
+//! The checksum of a FINGERPRINT, the digests of the integrity attributes, and their keys.
 #![tactic(auto)]
 
 pub mod digest;
+pub mod keys;

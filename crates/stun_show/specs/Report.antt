@@ -1,10 +1,15 @@
 -- The report of a message: what the program prints.
-use Rattle.std.specs.Prelude.{ℕ, ◌/◌, ◌%◌, false, List, [], ◌∷◌, ◌++◌, length, codes, is_some, if◌then◌else◌}
+use Rattle.std.specs.Prelude.{ℕ, ◌/◌, ◌%◌, false, List, [], ◌∷◌, ◌++◌, length, codes, is_some, if◌then◌else◌, Option, None, Result, Ok, Err}
 use Rattle.std.specs.List.{flat_map}
 use Rattle.std.specs.Option.{option_map_or}
 use Rattle.std.specs.Fmt.{decimal, digit_glyph}
 use Rattle.stun_grammar.specs.declared.error.StunParseError.{StunParseError}
-use Rattle.stun_grammar.specs.declared.error.StunParseError.TheVariants.{NotStun, Truncated, TooLarge, FingerprintMismatch}
+use Rattle.stun_grammar.specs.declared.error.StunParseError.TheVariants.{NotStun, Truncated, TooLarge, FingerprintMismatch, MissingAttribute}
+use Rattle.stun_grammar.specs.declared.error.ValidateError.{ValidateError}
+use Rattle.stun_grammar.specs.declared.error.ValidateError.TheVariants.{Parse, IntegrityFailed}
+use Rattle.stun_grammar.specs.declared.integrity_algorithm.IntegrityAlgorithm.{IntegrityAlgorithm}
+use Rattle.stun_grammar.specs.declared.integrity_algorithm.IntegrityAlgorithm.TheVariants.{Sha1, Sha256}
+use Rattle.stun_grammar.specs.Integrity.{verdict, is_wanted}
 use Rattle.stun_grammar.specs.Numbers.{be16}
 use Rattle.stun_grammar.specs.Attributes.{Shown}
 use Rattle.stun_grammar.specs.Messages.{parse_fault, shown}
@@ -57,10 +62,37 @@ refusal_line (TooLarge expected actual) = codes "too large " ++ decimal expected
 refusal_line FingerprintMismatch = codes "fingerprint mismatch" ++ line_feed
 refusal_line _ = []
 
--- the header and each attribute that is shown have a line; a refusal is the only line
-unfoldable pub report : List ℕ → List ℕ
-report d = option_map_or refusal_line (parse_fault d) (header_line (header_of d) ++ flat_map attribute_line (shown d))
+-- what is answered of a message's integrity with a password, which is a short-term key
+abbrev pub password_verdict : List ℕ → List ℕ → Result IntegrityAlgorithm ValidateError
+password_verdict d password = verdict (is_wanted None) (λ _. password) d
+
+abbrev pub integrity_word : Result IntegrityAlgorithm ValidateError → List ℕ
+integrity_word (Ok Sha1) = codes "Sha1"
+integrity_word (Ok Sha256) = codes "Sha256"
+integrity_word (Err (Parse (MissingAttribute type))) = codes "missing"
+integrity_word (Err (Parse _)) = codes "malformed"
+integrity_word (Err IntegrityFailed) = codes "failed"
+
+-- the last line, where a password is given
+abbrev pub integrity_line : Result IntegrityAlgorithm ValidateError → List ℕ
+integrity_line answer = codes "integrity: " ++ integrity_word answer ++ line_feed
+
+abbrev pub integrity_lines : List ℕ → Option (List ℕ) → List ℕ
+integrity_lines d password = option_map_or (λ key. integrity_line (password_verdict d key)) password []
+
+-- the header and each attribute that is shown have a line, and with a password so has its verdict; a refusal is the only line
+unfoldable pub report : List ℕ → Option (List ℕ) → List ℕ
+report d password =
+    option_map_or refusal_line (parse_fault d) (header_line (header_of d) ++ flat_map attribute_line (shown d) ++ integrity_lines d password)
+
+-- how a run ends that has shown a message: a password that doesn't validate it refuses it
+abbrev pub end_of_verdict : Result IntegrityAlgorithm ValidateError → RunEnd
+end_of_verdict (Ok algorithm) = EndsShown
+end_of_verdict (Err e) = EndsRefused
+
+abbrev pub end_of_message : List ℕ → Option (List ℕ) → RunEnd
+end_of_message d password = option_map_or (λ key. end_of_verdict (password_verdict d key)) password EndsShown
 
 -- how a run ends whose report was written
-unfoldable pub end_of : List ℕ → RunEnd
-end_of d = if is_some (parse_fault d) then EndsRefused else EndsShown
+unfoldable pub end_of : List ℕ → Option (List ℕ) → RunEnd
+end_of d password = if is_some (parse_fault d) then EndsRefused else end_of_message d password

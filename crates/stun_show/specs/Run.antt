@@ -16,11 +16,11 @@ pub record ReadsAll (left left' : Option (List ℕ)) (input : List ℕ) : Type 0
   pub fits : length input ≤ longest_input
 
 -- all was read, and its report was written: nothing else is
-pub record Reports (end : RunEnd) (left left' held held' : Option (List ℕ)) : Type 0 where
+pub record Reports (password : Option (List ℕ)) (end : RunEnd) (left left' held held' : Option (List ℕ)) : Type 0 where
   pub input : List ℕ
   pub all : ReadsAll left left' input
-  pub written : Appends held held' (report input)
-  pub end_is : end ≡ end_of input
+  pub written : Appends held held' (report input password)
+  pub end_is : end ≡ end_of input password
 
 -- a beginning of some bytes was written, and not all of them
 pub record WritesPart (held held' : Option (List ℕ)) (bytes : List ℕ) : Type 0 where
@@ -29,10 +29,10 @@ pub record WritesPart (held held' : Option (List ℕ)) (bytes : List ℕ) : Type
   pub written : Appends held held' (take count bytes)
 
 -- all was read, and a beginning of its report was written
-pub record ReportsPart (left left' held held' : Option (List ℕ)) : Type 0 where
+pub record ReportsPart (password : Option (List ℕ)) (left left' held held' : Option (List ℕ)) : Type 0 where
   pub input : List ℕ
   pub all : ReadsAll left left' input
-  pub written : WritesPart held held' (report input)
+  pub written : WritesPart held held' (report input password)
 
 -- more was left than may be read
 pub record ReadsTooMuch (left left' : Option (List ℕ)) : Type 0 where
@@ -41,14 +41,14 @@ pub record ReadsTooMuch (left left' : Option (List ℕ)) : Type 0 where
   pub long : longest_input < length input
 
 -- by how the run ends
-abbrev pub Ends : RunEnd → (left left' held held' : Option (List ℕ)) → Type 0
-Ends Shown left left' held held' = Reports Shown left left' held held'
-Ends Refused left left' held held' = Reports Refused left left' held held'
-Ends WriteFailed left left' held held' = ReportsPart left left' held held'
-Ends TooLong left left' held held' = ReadsTooMuch left left' × Keeps held held'
-Ends ReadFailed left left' held held' = Keeps held held'
-Ends NoMemory left left' held held' = Keeps held held'
-Ends Usage left left' held held' = ⊥
+abbrev pub Ends : Option (List ℕ) → RunEnd → (left left' held held' : Option (List ℕ)) → Type 0
+Ends password Shown left left' held held' = Reports password Shown left left' held held'
+Ends password Refused left left' held held' = Reports password Refused left left' held held'
+Ends password WriteFailed left left' held held' = ReportsPart password left left' held held'
+Ends password TooLong left left' held held' = ReadsTooMuch left left' × Keeps held held'
+Ends password ReadFailed left left' held held' = Keeps held held'
+Ends password NoMemory left left' held held' = Keeps held held'
+Ends password Usage left left' held held' = ⊥
 
 -- why not all was read
 abbrev pub StopsReading : RunEnd → (left left' : Option (List ℕ)) → Type 0

@@ -1,4 +1,5 @@
-ghost use Rattle.std.specs.Prelude.{◌≡◌, MatchResult, IsNone};
+ghost use Rattle.std.specs.Prelude.{◌≡◌, MatchResult};
+ghost use Rattle.std.specs.Option.{option_map};
 ghost use Rattle.std.specs.Io.KnownBytes.{Appends};
 ghost use Rattle.stun_show.specs.Run.{ReadsAll, StopsReading, WritesPart, Ends};
 
@@ -87,11 +88,12 @@ fn write_all<W: Write>(bytes: &[u8], writer: &mut W) -> Result<(), RunEnd>
 /// Reads a message to the end of `reader`, and writes its report.
 ///
 /// It reads at most 131072 bytes, makes the report in memory, and then writes it; nothing is
-/// written before all is read and the report is made. Beside the input and the report it takes no
-/// memory. `password` is None: integrity is not checked yet.
+/// written before all is read and the report is made. Beside the input, the report and a key it takes
+/// no memory. With a password the message's integrity is checked with it as a short-term key, and the
+/// report ends with what was answered.
 ///
 /// It ends with `Shown` or `Refused` where the whole report was written: `Refused` where the
-/// message was refused. `WriteFailed`: a beginning of the report was written, and then a write
+/// message was refused, or isn't valid with the password. `WriteFailed`: a beginning of the report was written, and then a write
 /// failed or took no byte. With every other end nothing was written: `TooLong` where more than
 /// 131072 bytes were to be read, `ReadFailed` where a read failed, `NoMemory` where a growth was
 /// refused. It never ends with `Usage`.
@@ -101,15 +103,13 @@ pub fn run<R: Read, W: Write>(
     password: Option<&str>,
     writer: &mut W,
 ) -> RunEnd
-    requires { IsNone password }
-    ensures { Ends result (R.remaining reader.old) (R.remaining reader.new) (W.contents writer.old) (W.contents writer.new) }
+    ensures { Ends (option_map (λ given. given.now) password.entry) result (R.remaining reader.old) (R.remaining reader.new) (W.contents writer.old) (W.contents writer.new) }
 {
-    let _ = password;
     let input = match read_all(alloc, reader) {
         Ok(input) => input,
         Err(end) => return end,
     };
-    let Ok((text, end)) = report(alloc, &input) else {
+    let Ok((text, end)) = report(alloc, &input, password) else {
         return RunEnd::NoMemory;
     };
     match write_all(text.as_bytes(), writer) {

@@ -25,21 +25,27 @@ fn status_of(end: RunEnd) -> (u8, &'static str) {
     }
 }
 
-/// The arguments are tested before anything is read. None is understood yet.
-fn test_arguments(rt: &(impl Env + Alloc)) -> Result<(), RunEnd> {
+/// The password that the arguments give, if they give one. They are tested before anything is read.
+fn password<R: Env + Alloc>(rt: &R) -> Result<Option<String<R::A>>, RunEnd> {
     match env::args(rt) {
-        Ok(mut arguments) => match arguments.nth(1) {
-            Some(_) => Err(RunEnd::Usage),
-            None => Ok(()),
-        },
+        Ok(mut arguments) => {
+            let given = arguments.nth(1);
+            match arguments.next() {
+                Some(_) => Err(RunEnd::Usage),
+                None => Ok(given),
+            }
+        }
         Err(e) if e.kind() == ErrorKind::OutOfMemory => Err(RunEnd::NoMemory),
         Err(_) => Err(RunEnd::Usage),
     }
 }
 
 fn main(rt: HostRuntime) -> ExitCode {
-    let end = match test_arguments(&rt) {
-        Ok(()) => run(rt.alloc(), &mut rt.stdin(), None, &mut rt.stdout()),
+    let end = match password(&rt) {
+        Ok(given) => {
+            let given = given.as_deref();
+            run(rt.alloc(), &mut rt.stdin(), given, &mut rt.stdout())
+        }
         Err(end) => end,
     };
     let (status, line) = status_of(end);

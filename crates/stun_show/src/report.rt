@@ -6,12 +6,14 @@ ghost use Rattle.std.specs.List.{flat_map};
 ghost use Rattle.stun_base.specs.Types.{header_of};
 ghost use Rattle.stun_attrs.specs.Raw.{raw_type, raw_value};
 ghost use Rattle.stun_types.specs.Message.{message_bytes};
-ghost use Rattle.stun_show.specs.Report.{hex_byte, hex, class_name, header_line, value_text, attribute_line, refusal_line, report, end_of};
+ghost use Rattle.stun_show.specs.Report.{hex_byte, hex, class_name, header_line, value_text, attribute_line, refusal_line, password_verdict, integrity_line, integrity_lines, end_of_verdict, end_of_message, report, end_of};
+ghost use Rattle.std.specs.Option.{option_map};
 
 use crate::engine::RunEnd;
 use std::alloc::{AllocError, Global};
 use stun_types::attribute::RawAttribute;
-use stun_types::message::{Message, MessageClass, MessageHeader, StunParseError};
+use stun_types::message::keys::{IntegrityAlgorithm, ShortTermCredentials};
+use stun_types::message::{Message, MessageClass, MessageHeader, StunParseError, ValidateError};
 
 /// Writes a byte in two hexadecimal digits.
 #[tactic(auto, using(std::proofs::lemmas::Fmt::hex_byte))]
@@ -119,16 +121,77 @@ fn parsed(bytes: &[u8]) -> Result<(MessageHeader, Message<'_>), StunParseError>
     Ok((header, message))
 }
 
+/// What is answered of a message's integrity with a password.
+fn verdict_of(
+    alloc: Global,
+    message: &Message<'_>,
+    password: &str,
+) -> Result<Result<IntegrityAlgorithm, ValidateError>, AllocError>
+    ensures { IfOk result (λ answer. answer ≡ password_verdict (message_bytes message.now) password.now) }
+{
+    let password = String::from_str(alloc, password)?;
+    let Ok(key) = ShortTermCredentials::new(password).make_key(alloc) else {
+        return Err(AllocError);
+    };
+    Ok(message.validate_integrity_with_key(&key))
+}
+
+/// The line for what is answered of a message's integrity.
+fn line_of(answer: Result<IntegrityAlgorithm, ValidateError>) -> &'static str
+    ensures { result.now ≡ integrity_line answer }
+{
+    match answer {
+        Ok(IntegrityAlgorithm::Sha1) => "integrity: Sha1\n",
+        Ok(IntegrityAlgorithm::Sha256) => "integrity: Sha256\n",
+        Err(ValidateError::Parse(StunParseError::MissingAttribute(_))) => "integrity: missing\n",
+        Err(ValidateError::Parse(_)) => "integrity: malformed\n",
+        Err(ValidateError::IntegrityFailed) => "integrity: failed\n",
+    }
+}
+
+/// How a run ends that has shown a message with this verdict.
+fn end_with(answer: Result<IntegrityAlgorithm, ValidateError>) -> RunEnd
+    ensures { result ≡ end_of_verdict answer }
+{
+    match answer {
+        Ok(_) => RunEnd::Shown,
+        Err(_) => RunEnd::Refused,
+    }
+}
+
+/// Writes the line of a message's integrity, where a password is given, and answers how the run ends.
+fn write_integrity(
+    alloc: Global,
+    text: &mut String,
+    message: &Message<'_>,
+    password: Option<&str>,
+) -> Result<RunEnd, AllocError>
+    ensures text { OnOk result (string_bytes text.new ≡ string_bytes text.old ++ integrity_lines (message_bytes message.now) (option_map (λ given. given.now) password.entry)) }
+    ensures end { IfOk result (λ end. end ≡ end_of_message (message_bytes message.now) (option_map (λ given. given.now) password.entry)) }
+{
+    let Some(password) = password else {
+        return Ok(RunEnd::Shown);
+    };
+    let answer = verdict_of(alloc, message, password)?;
+    text.push_str(line_of(answer))?;
+    Ok(end_with(answer))
+}
+
 /// The report of bytes, and how a run ends that has written it.
-pub fn report(alloc: Global, bytes: &[u8]) -> Result<(String, RunEnd), AllocError>
-    ensures { IfOk result (λ made. (string_bytes made.0 ≡ report bytes.now) × (made.1 ≡ end_of bytes.now)) }
+pub fn report(
+    alloc: Global,
+    bytes: &[u8],
+    password: Option<&str>,
+) -> Result<(String, RunEnd), AllocError>
+    ensures { IfOk result (λ made. (string_bytes made.0 ≡ report bytes.now (option_map (λ given. given.now) password.entry)) × (made.1 ≡ end_of bytes.now (option_map (λ given. given.now) password.entry))) }
 {
     let mut text = String::new(alloc);
     match parsed(bytes) {
         Ok((header, message)) => {
             write_header(&mut text, &header)?;
             write_attributes(&mut text, &message)?;
-            Ok((text, RunEnd::Shown))
+            let end = write_integrity(alloc, &mut text, &message, password)?;
+            Ok((text, end))
         }
         Err(refusal) => {
             write_refusal(&mut text, refusal)?;

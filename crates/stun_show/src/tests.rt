@@ -188,3 +188,33 @@ fn reads_as_much_as_may_be(rt: HostRuntime) -> Result<(), Fail> {
     }
     Ok(())
 }
+
+/// Messages of a BINDING request with the id 1000, a password, and the report. The first is signed with
+/// `pass` for SHA-1 and has a FINGERPRINT.
+#[rattlefmt::skip]
+const SIGNED: [(&str, &[u8], &str, RunEnd, &[u8]); 9] = [
+    ("valid", b"\x00\x01\x00\x20\x21\x12\xA4\x42\x00\x00\x00\x00\x00\x00\x00\x00\x00\x00\x03\xE8\x00\x08\x00\x14\x69\x9E\x82\x4C\x1E\xE3\xA6\x75\xDB\x9E\x32\x27\x7F\xAD\xA7\x0F\x25\x7E\x0C\x0D\x80\x28\x00\x04\x7E\x79\xAC\x9A", "pass", RunEnd::Shown, b"Request method=1 id=0x3e8 length=32\n20 0x0008 20 699e824c1ee3a675db9e32277fada70f257e0c0d\n44 0x8028 4 7e79ac9a\nintegrity: Sha1\n"),
+    ("another password", b"\x00\x01\x00\x20\x21\x12\xA4\x42\x00\x00\x00\x00\x00\x00\x00\x00\x00\x00\x03\xE8\x00\x08\x00\x14\x69\x9E\x82\x4C\x1E\xE3\xA6\x75\xDB\x9E\x32\x27\x7F\xAD\xA7\x0F\x25\x7E\x0C\x0D\x80\x28\x00\x04\x7E\x79\xAC\x9A", "past", RunEnd::Refused, b"Request method=1 id=0x3e8 length=32\n20 0x0008 20 699e824c1ee3a675db9e32277fada70f257e0c0d\n44 0x8028 4 7e79ac9a\nintegrity: failed\n"),
+    ("something else behind the HMAC", b"\x00\x01\x00\x20\x21\x12\xA4\x42\x00\x00\x00\x00\x00\x00\x00\x00\x00\x00\x03\xE8\x00\x08\x00\x14\x69\x9E\x82\x4C\x1E\xE3\xA6\x75\xDB\x9E\x32\x27\x7F\xAD\xA7\x0F\x25\x7E\x0C\x0D\x80\x22\x00\x04\x61\x62\x63\x64", "pass", RunEnd::Shown, b"Request method=1 id=0x3e8 length=32\n20 0x0008 20 699e824c1ee3a675db9e32277fada70f257e0c0d\nintegrity: Sha1\n"),
+    ("both algorithms", b"\x00\x01\x00\x3C\x21\x12\xA4\x42\x00\x00\x00\x00\x00\x00\x00\x00\x00\x00\x03\xE8\x00\x08\x00\x14\x69\x9E\x82\x4C\x1E\xE3\xA6\x75\xDB\x9E\x32\x27\x7F\xAD\xA7\x0F\x25\x7E\x0C\x0D\x00\x1C\x00\x20\x33\x10\x3C\x98\x25\x37\x95\x3A\x7C\xA8\xF9\x5A\xBC\xF1\xC7\xD4\xD3\x10\x3A\xF5\x17\xC7\xE7\xBB\x5A\xD3\x08\x0C\x08\x35\x12\x08", "pass", RunEnd::Shown, b"Request method=1 id=0x3e8 length=60\n20 0x0008 20 699e824c1ee3a675db9e32277fada70f257e0c0d\n44 0x001c 32 33103c982537953a7ca8f95abcf1c7d4d3103af517c7e7bb5ad3080c08351208\nintegrity: Sha256\n"),
+    ("the later HMAC stripped", b"\x00\x01\x00\x18\x21\x12\xA4\x42\x00\x00\x00\x00\x00\x00\x00\x00\x00\x00\x03\xE8\x00\x08\x00\x14\x69\x9E\x82\x4C\x1E\xE3\xA6\x75\xDB\x9E\x32\x27\x7F\xAD\xA7\x0F\x25\x7E\x0C\x0D", "pass", RunEnd::Shown, b"Request method=1 id=0x3e8 length=24\n20 0x0008 20 699e824c1ee3a675db9e32277fada70f257e0c0d\nintegrity: Sha1\n"),
+    ("the later HMAC cut", b"\x00\x01\x00\x2C\x21\x12\xA4\x42\x00\x00\x00\x00\x00\x00\x00\x00\x00\x00\x03\xE8\x00\x08\x00\x14\x69\x9E\x82\x4C\x1E\xE3\xA6\x75\xDB\x9E\x32\x27\x7F\xAD\xA7\x0F\x25\x7E\x0C\x0D\x00\x1C\x00\x10\x33\x10\x3C\x98\x25\x37\x95\x3A\x7C\xA8\xF9\x5A\xBC\xF1\xC7\xD4", "pass", RunEnd::Refused, b"Request method=1 id=0x3e8 length=44\n20 0x0008 20 699e824c1ee3a675db9e32277fada70f257e0c0d\n44 0x001c 16 33103c982537953a7ca8f95abcf1c7d4\nintegrity: failed\n"),
+    ("an HMAC of twelve bytes", b"\x00\x01\x00\x10\x21\x12\xA4\x42\x00\x00\x00\x00\x00\x00\x00\x00\x00\x00\x03\xE8\x00\x1C\x00\x0C\x2B\x8C\x03\x15\x4F\xFE\xEF\x44\x76\x74\x0D\x3B", "pass", RunEnd::Refused, b"Request method=1 id=0x3e8 length=16\n20 0x001c 12 2b8c03154ffeef4476740d3b\nintegrity: malformed\n"),
+    ("no integrity attribute", BINDING_REQUEST, "pass", RunEnd::Refused, b"Request method=1 id=0x7392 length=8\n20 0x001d 4 00020000\nintegrity: missing\n"),
+    ("an empty password", BINDING_REQUEST, "", RunEnd::Refused, b"Request method=1 id=0x7392 length=8\n20 0x001d 4 00020000\nintegrity: missing\n"),
+];
+
+#[test]
+fn checks_passwords(rt: HostRuntime) -> Result<(), Fail> {
+    for (name, bytes, password, end, report) in &SIGNED {
+        let mut reader = *bytes;
+        let mut written = Vec::new(rt.alloc());
+        assert_eq!(rt;
+            run(rt.alloc(), &mut reader, Some(*password), &mut written),
+            *end,
+            "{name}"
+        );
+        assert_eq!(rt; written.as_slice(), *report, "{name}");
+    }
+    Ok(())
+}

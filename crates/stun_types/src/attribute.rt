@@ -1,4 +1,14 @@
 //! Attributes: a type and a value.
 
-pub use stun_attrs::RawAttribute;
+pub mod typed;
+
+pub use stun_attrs::{
+    Attribute, AttributeFromRaw, AttributeStaticType, AttributeWrite, RawAttribute,
+};
 pub use stun_base::{AttributeHeader, AttributeType, pad_attribute_len};
+pub use typed::{
+    AlternateDomain, AlternateServer, ErrorCode, ErrorCodeBuilder, Fingerprint, MappedSocketAddr,
+    MessageIntegrity, MessageIntegritySha256, Nonce, PasswordAlgorithm, PasswordAlgorithmValue,
+    PasswordAlgorithms, Realm, Software, TextAttribute, UnknownAttributes, Userhash, Username,
+    XorMappedAddress, XorSocketAddr,
+};

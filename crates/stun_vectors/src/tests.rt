@@ -5,7 +5,15 @@ mod checksums;
 mod errors;
 mod example;
 mod headers;
+mod keys;
 mod messages;
+mod owned;
+mod signing;
+mod slice;
+mod steps;
+mod validate;
+mod values;
+mod writing;
 
 use std::alloc::{AllocError, Global};
 use std::process::Abort;

@@ -10,7 +10,7 @@ use stun_keys::digest::crc32;
 
 /// The value of a FINGERPRINT at an offset: the checksum of the message before it, with a length
 /// field that counts it in, XORed with 53 54 55 4E.
-fn fingerprint_at(bytes: &[u8], offset: usize) -> [u8; 4]
+pub(crate) fn fingerprint_at(bytes: &[u8], offset: usize) -> [u8; 4]
     requires header { 20 ≤ offset }
     requires within { offset ≤ length bytes.now }
     ensures { result ≡ fingerprint_value bytes.now offset }

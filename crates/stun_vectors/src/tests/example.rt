@@ -1,10 +1,15 @@
-//! The example of the README.
+//! The examples of the README.
 
 use super::{SOFTWARE, USERNAME, message};
+use std::alloc::Global;
 use std::test::Fail;
-use stun_types::attribute::AttributeType;
+use stun_types::attribute::{AttributeType, Software};
 use stun_types::data::Data;
-use stun_types::message::{BINDING, Message, MessageClass, StunParseError};
+use stun_types::message::{
+    BINDING, Message, MessageClass, MessageType, MessageWriteVec, StunParseError, StunWriteError,
+    TransactionId,
+};
+use stun_types::prelude::*;
 
 /// The value of the first SOFTWARE attribute that a binding request shows.
 pub fn software_of(bytes: &[u8]) -> Result<Option<Data<'_>>, StunParseError> {
@@ -33,5 +38,28 @@ fn finds_a_software(rt: HostRuntime) -> Result<(), Fail> {
     assert!(rt; software_of(&none)?.is_none());
     let empty = message(rt.alloc(), 4, &[&SOFTWARE])?;
     assert!(rt; matches!(software_of(&empty)?, Some(Data::Borrowed(_))));
+    Ok(())
+}
+
+/// A binding request that says what made it.
+pub fn request_with(alloc: Global, id: u128, name: &str) -> Result<Vec<u8>, StunWriteError> {
+    let mtype = MessageType::from_class_method(MessageClass::Request, BINDING);
+    let id = TransactionId::from(id);
+    let mut message = Message::builder(mtype, id, MessageWriteVec::new(alloc))?;
+    message.add_attribute(&Software::new(alloc, name)?)?;
+    Ok(message.finish())
+}
+
+#[test]
+fn writes_a_software(rt: HostRuntime) -> Result<(), Fail> {
+    let bytes = request_with(rt.alloc(), 1000, "ic")?;
+    assert_eq!(rt;
+        bytes,
+        message(
+            rt.alloc(),
+            8,
+            &[&[0x80, 0x22, 0x00, 0x02, 0x69, 0x63, 0x00, 0x00]]
+        )?
+    );
     Ok(())
 }

@@ -1,0 +1,124 @@
+//! What carries a message, and the families of addresses.
+
+use std::net::{IpAddr, Ipv4Addr, Ipv6Addr, SocketAddr, SocketAddrV4, SocketAddrV6};
+use std::str::FromStr;
+use thiserror::Error;
+
+/// What carries a message.
+#[derive(Clone, Copy, Debug, PartialEq, Eq)]
+pub enum TransportType {
+    /// UDP.
+    Udp,
+    /// TCP.
+    Tcp,
+}
+
+/// Why a text names no transport.
+#[derive(Debug, Drop, Error)]
+pub enum ParseTransportTypeError {
+    /// It is neither `udp` nor `tcp`.
+    #[error("Unknown transport value was provided")]
+    UnknownTransport,
+}
+
+/// The transport of the name `udp` or `tcp`, in which the case of letters makes no difference; else
+/// `UnknownTransport`.
+impl FromStr for TransportType {
+    ghost use Rattle.stun_base.specs.Transports.{NamesTransport};
+
+    type Err = ParseTransportTypeError;
+
+    ghost from_str_gives = { NamesTransport };
+
+    fn from_str(s: &str) -> Result<Self, Self::Err> {
+        if s.eq_ignore_ascii_case("udp") {
+            Ok(TransportType::Udp)
+        } else if s.eq_ignore_ascii_case("tcp") {
+            Ok(TransportType::Tcp)
+        } else {
+            Err(ParseTransportTypeError::UnknownTransport)
+        }
+    }
+}
+
+/// The family of an address.
+#[derive(Clone, Copy, Debug, PartialEq, Eq)]
+pub enum AddressFamily {
+    /// IPv4.
+    IPV4,
+    /// IPv6.
+    IPV6,
+}
+
+impl From<&SocketAddr> for AddressFamily {
+    ghost use Rattle.std.specs.Prelude.{◌≡◌};
+    ghost use Rattle.std.specs.Net.Socket.{socket_ip};
+    ghost use Rattle.stun_base.specs.Transports.{family_of};
+
+    ghost from_gives = { λ addr family. family ≡ family_of (socket_ip addr.now) };
+
+    fn from(addr: &SocketAddr) -> Self {
+        match addr {
+            SocketAddr::V4(_) => AddressFamily::IPV4,
+            SocketAddr::V6(_) => AddressFamily::IPV6,
+        }
+    }
+}
+
+impl From<&SocketAddrV4> for AddressFamily {
+    ghost use Rattle.std.specs.Prelude.{◌≡◌};
+    ghost use Rattle.stun_base.specs.declared.transport.AddressFamily.TheVariants.{IPV4};
+
+    ghost from_gives = { λ _ family. family ≡ IPV4 };
+
+    fn from(_addr: &SocketAddrV4) -> Self {
+        AddressFamily::IPV4
+    }
+}
+
+impl From<&SocketAddrV6> for AddressFamily {
+    ghost use Rattle.std.specs.Prelude.{◌≡◌};
+    ghost use Rattle.stun_base.specs.declared.transport.AddressFamily.TheVariants.{IPV6};
+
+    ghost from_gives = { λ _ family. family ≡ IPV6 };
+
+    fn from(_addr: &SocketAddrV6) -> Self {
+        AddressFamily::IPV6
+    }
+}
+
+impl From<&IpAddr> for AddressFamily {
+    ghost use Rattle.std.specs.Prelude.{◌≡◌};
+    ghost use Rattle.stun_base.specs.Transports.{family_of};
+
+    ghost from_gives = { λ ip family. family ≡ family_of ip.now };
+
+    fn from(ip: &IpAddr) -> Self {
+        match ip {
+            IpAddr::V4(_) => AddressFamily::IPV4,
+            IpAddr::V6(_) => AddressFamily::IPV6,
+        }
+    }
+}
+
+impl From<&Ipv4Addr> for AddressFamily {
+    ghost use Rattle.std.specs.Prelude.{◌≡◌};
+    ghost use Rattle.stun_base.specs.declared.transport.AddressFamily.TheVariants.{IPV4};
+
+    ghost from_gives = { λ _ family. family ≡ IPV4 };
+
+    fn from(_ip: &Ipv4Addr) -> Self {
+        AddressFamily::IPV4
+    }
+}
+
+impl From<&Ipv6Addr> for AddressFamily {
+    ghost use Rattle.std.specs.Prelude.{◌≡◌};
+    ghost use Rattle.stun_base.specs.declared.transport.AddressFamily.TheVariants.{IPV6};
+
+    ghost from_gives = { λ _ family. family ≡ IPV6 };
+
+    fn from(_ip: &Ipv6Addr) -> Self {
+        AddressFamily::IPV6
+    }
+}

@@ -1,0 +1,7 @@
+use Rattle.stun_grammar.proofs.Scans.{parsed_frame}
+use Rattle.stun_grammar.proofs.Carried.{carries}
+use Rattle.stun_grammar.proofs.Exactness.{carried}
+use Rattle.stun_grammar.proofs.integrity_laws.integrity_is_exact.Goals as goal
+
+pub returns : goal.returns
+returns c = λ key d t a bytes parsed. (carries key d t a bytes, carried key d t a bytes (parsed_frame d parsed))

@@ -1,0 +1,19 @@
+//! Credentials, and the keys that they give the integrity attributes (RFC 8489, section 9).
+//!
+//! Texts are taken as they are: no call prepares them (RFC 8265).
+
+mod copied;
+mod credentials;
+mod integrity_key;
+mod long_term;
+mod long_term_key;
+mod md5_key;
+mod sha256_key;
+mod short_term;
+
+pub use credentials::MessageIntegrityCredentials;
+pub use integrity_key::IntegrityKey;
+pub use long_term::LongTermCredentials;
+pub use long_term_key::LongTermKeyCredentials;
+pub use short_term::ShortTermCredentials;
+pub use stun_grammar::IntegrityAlgorithm;

@@ -1,0 +1,76 @@
+ghost use Rattle.std.specs.Prelude.{◌≡◌, IfOk, IfErr};
+ghost use Rattle.stun_keys.specs.Keys.{SameCredentials, IsKey, credentials_key, credentials_algorithm};
+
+use crate::keys::{IntegrityKey, LongTermKeyCredentials, ShortTermCredentials};
+use std::alloc::Global;
+use stun_grammar::{IntegrityAlgorithm, StunWriteError};
+
+/// What a message is signed and checked with (RFC 8489, section 9).
+#[derive(Debug, PartialEq, Eq, Drop)]
+pub enum MessageIntegrityCredentials {
+    /// A password that is good for a short time.
+    ShortTerm(ShortTermCredentials),
+    /// A username and a password in a realm.
+    LongTerm(LongTermKeyCredentials),
+}
+
+impl MessageIntegrityCredentials {
+    /// The same credentials, copied into memory that `alloc` gives.
+    ///
+    /// # Errors
+    ///
+    /// `OutOfMemory` alone.
+    pub fn clone(&self, alloc: Global) -> Result<Self, StunWriteError>
+        ensures same { IfOk result (λ copy. SameCredentials copy self.now) }
+        ensures err { IfErr result (λ e. e ≡ StunWriteError.OutOfMemory) }
+    {
+        match self {
+            MessageIntegrityCredentials::ShortTerm(short) => {
+                Ok(MessageIntegrityCredentials::ShortTerm(short.clone(alloc)?))
+            }
+            MessageIntegrityCredentials::LongTerm(long) => {
+                Ok(MessageIntegrityCredentials::LongTerm(long.clone(alloc)?))
+            }
+        }
+    }
+
+    /// The key for an algorithm, in memory that `alloc` gives, as
+    /// [`ShortTermCredentials::make_key`] and [`LongTermKeyCredentials::make_key`] make it.
+    ///
+    /// # Errors
+    ///
+    /// `OutOfMemory` alone.
+    pub fn make_key(
+        &self,
+        alloc: Global,
+        algorithm: IntegrityAlgorithm,
+    ) -> Result<IntegrityKey, StunWriteError>
+        ensures ok { IfOk result (IsKey (credentials_algorithm self.now algorithm) (credentials_key self.now algorithm)) }
+        ensures err { IfErr result (λ e. e ≡ StunWriteError.OutOfMemory) }
+    {
+        match self {
+            MessageIntegrityCredentials::ShortTerm(short) => short.make_key(alloc),
+            MessageIntegrityCredentials::LongTerm(long) => long.make_key(alloc, algorithm),
+        }
+    }
+}
+
+impl From<ShortTermCredentials> for MessageIntegrityCredentials {
+    ghost use Rattle.stun_keys.specs.declared.keys.credentials.MessageIntegrityCredentials.TheVariants.{ShortTerm};
+
+    ghost from_gives = { λ short made. made ≡ ShortTerm short };
+
+    fn from(short: ShortTermCredentials) -> Self {
+        MessageIntegrityCredentials::ShortTerm(short)
+    }
+}
+
+impl From<LongTermKeyCredentials> for MessageIntegrityCredentials {
+    ghost use Rattle.stun_keys.specs.declared.keys.credentials.MessageIntegrityCredentials.TheVariants.{LongTerm};
+
+    ghost from_gives = { λ long made. made ≡ LongTerm long };
+
+    fn from(long: LongTermKeyCredentials) -> Self {
+        MessageIntegrityCredentials::LongTerm(long)
+    }
+}

@@ -1,0 +1,75 @@
+ghost use Rattle.std.specs.Prelude.{◌≡◌, IfOk, IfErr};
+ghost use Rattle.std.specs.String.{string_bytes};
+ghost use Rattle.stun_keys.specs.Keys.{login_username, login_password, long_term_username, long_term_password, long_term_realm, SameLogin};
+
+use crate::keys::LongTermKeyCredentials;
+use crate::keys::copied::copied;
+use std::alloc::Global;
+use stun_grammar::StunWriteError;
+
+/// A username and a password that are good for many requests, as yet without the realm that a server
+/// tells (RFC 8489, section 9.2).
+#[derive(Debug, PartialEq, Eq, Drop)]
+pub struct LongTermCredentials {
+    username: String,
+    password: String,
+}
+
+impl LongTermCredentials {
+    /// Credentials of these texts, which are kept.
+    pub fn new(username: String, password: String) -> Self
+        ensures username { login_username result ≡ string_bytes username }
+        ensures password { login_password result ≡ string_bytes password }
+    {
+        LongTermCredentials { username, password }
+    }
+
+    /// The same credentials, copied into memory that `alloc` gives.
+    ///
+    /// # Errors
+    ///
+    /// `OutOfMemory` alone.
+    pub fn clone(&self, alloc: Global) -> Result<Self, StunWriteError>
+        ensures same { IfOk result (λ copy. SameLogin copy self.now) }
+        ensures err { IfErr result (λ e. e ≡ StunWriteError.OutOfMemory) }
+    {
+        let username = copied(alloc, &self.username)?;
+        let password = copied(alloc, &self.password)?;
+        Ok(LongTermCredentials { username, password })
+    }
+
+    /// The username.
+    pub fn username(&self) -> &str
+        ensures { result.now ≡ login_username self.now }
+    {
+        self.username.as_str()
+    }
+
+    /// The password.
+    pub fn password(&self) -> &str
+        ensures { result.now ≡ login_password self.now }
+    {
+        self.password.as_str()
+    }
+
+    /// These credentials in a realm, which is kept: username and password are copied into memory that
+    /// `alloc` gives.
+    ///
+    /// # Errors
+    ///
+    /// `OutOfMemory` alone.
+    pub fn to_key(
+        &self,
+        alloc: Global,
+        realm: String,
+    ) -> Result<LongTermKeyCredentials, StunWriteError>
+        ensures username { IfOk result (λ made. long_term_username made ≡ login_username self.now) }
+        ensures password { IfOk result (λ made. long_term_password made ≡ login_password self.now) }
+        ensures realm { IfOk result (λ made. long_term_realm made ≡ string_bytes realm) }
+        ensures err { IfErr result (λ e. e ≡ StunWriteError.OutOfMemory) }
+    {
+        let username = copied(alloc, &self.username)?;
+        let password = copied(alloc, &self.password)?;
+        Ok(LongTermKeyCredentials::new(username, password, realm))
+    }
+}

@@ -1,0 +1,103 @@
+ghost use Rattle.std.specs.Prelude.{◌≡◌, Some, IfOk, IfErr};
+ghost use Rattle.std.specs.String.{string_bytes};
+ghost use Rattle.stun_keys.specs.Keys.{long_term_username, long_term_password, long_term_realm, SameLongTerm, IsKey, long_term_key};
+
+use crate::keys::IntegrityKey;
+use crate::keys::copied::copied;
+use crate::keys::md5_key::md5_key;
+use crate::keys::sha256_key::sha256_key;
+use std::alloc::Global;
+use stun_grammar::{IntegrityAlgorithm, StunWriteError};
+
+/// A username and a password in a realm, which make a key (RFC 8489, section 9.2.2).
+#[derive(Debug, PartialEq, Eq, Drop)]
+pub struct LongTermKeyCredentials {
+    username: String,
+    password: String,
+    realm: String,
+}
+
+impl LongTermKeyCredentials {
+    /// Credentials of these texts, which are kept.
+    pub fn new(username: String, password: String, realm: String) -> Self
+        ensures username { long_term_username result ≡ string_bytes username }
+        ensures password { long_term_password result ≡ string_bytes password }
+        ensures realm { long_term_realm result ≡ string_bytes realm }
+    {
+        LongTermKeyCredentials {
+            username,
+            password,
+            realm,
+        }
+    }
+
+    /// The same credentials, copied into memory that `alloc` gives.
+    ///
+    /// # Errors
+    ///
+    /// `OutOfMemory` alone.
+    pub fn clone(&self, alloc: Global) -> Result<Self, StunWriteError>
+        ensures same { IfOk result (λ copy. SameLongTerm copy self.now) }
+        ensures err { IfErr result (λ e. e ≡ StunWriteError.OutOfMemory) }
+    {
+        let username = copied(alloc, &self.username)?;
+        let password = copied(alloc, &self.password)?;
+        let realm = copied(alloc, &self.realm)?;
+        Ok(LongTermKeyCredentials {
+            username,
+            password,
+            realm,
+        })
+    }
+
+    /// The username.
+    pub fn username(&self) -> &str
+        ensures { result.now ≡ long_term_username self.now }
+    {
+        self.username.as_str()
+    }
+
+    /// The password.
+    pub fn password(&self) -> &str
+        ensures { result.now ≡ long_term_password self.now }
+    {
+        self.password.as_str()
+    }
+
+    /// The realm.
+    pub fn realm(&self) -> &str
+        ensures { result.now ≡ long_term_realm self.now }
+    {
+        self.realm.as_str()
+    }
+
+    /// The key for an algorithm, in memory that `alloc` gives: of `username:realm:password` the MD5,
+    /// 16 bytes, for `Sha1`, and the SHA-256, 32 bytes, for `Sha256` (RFC 8489, sections 9.2.2 and
+    /// 18.5.1). The texts themselves are not joined.
+    ///
+    /// # Errors
+    ///
+    /// `OutOfMemory` alone.
+    pub fn make_key(
+        &self,
+        alloc: Global,
+        algorithm: IntegrityAlgorithm,
+    ) -> Result<IntegrityKey, StunWriteError>
+        ensures ok { IfOk result (IsKey (Some algorithm) (long_term_key algorithm (long_term_username self.now) (long_term_realm self.now) (long_term_password self.now))) }
+        ensures err { IfErr result (λ e. e ≡ StunWriteError.OutOfMemory) }
+    {
+        let (username, realm, password) = (self.username(), self.realm(), self.password());
+        match algorithm {
+            IntegrityAlgorithm::Sha1 => IntegrityKey::new(
+                alloc,
+                Some(IntegrityAlgorithm::Sha1),
+                &md5_key(username, realm, password),
+            ),
+            IntegrityAlgorithm::Sha256 => IntegrityKey::new(
+                alloc,
+                Some(IntegrityAlgorithm::Sha256),
+                &sha256_key(username, realm, password),
+            ),
+        }
+    }
+}

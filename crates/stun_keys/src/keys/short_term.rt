@@ -1,0 +1,56 @@
+ghost use Rattle.std.specs.Prelude.{◌≡◌, None, IfOk, IfErr};
+ghost use Rattle.std.specs.String.{string_bytes};
+ghost use Rattle.stun_keys.specs.Keys.{short_term_password, IsKey};
+
+use crate::keys::IntegrityKey;
+use crate::keys::copied::copied;
+use std::alloc::Global;
+use stun_grammar::StunWriteError;
+
+/// A password that is good for a short time (RFC 8489, section 9.1).
+#[derive(Debug, PartialEq, Eq, Drop)]
+pub struct ShortTermCredentials {
+    password: String,
+}
+
+impl ShortTermCredentials {
+    /// Credentials of this text, which is kept.
+    pub fn new(password: String) -> Self
+        ensures { short_term_password result ≡ string_bytes password }
+    {
+        ShortTermCredentials { password }
+    }
+
+    /// The same credentials, copied into memory that `alloc` gives.
+    ///
+    /// # Errors
+    ///
+    /// `OutOfMemory` alone.
+    pub fn clone(&self, alloc: Global) -> Result<Self, StunWriteError>
+        ensures same { IfOk result (λ copy. short_term_password copy ≡ short_term_password self.now) }
+        ensures err { IfErr result (λ e. e ≡ StunWriteError.OutOfMemory) }
+    {
+        let password = copied(alloc, &self.password)?;
+        Ok(ShortTermCredentials { password })
+    }
+
+    /// The password.
+    pub fn password(&self) -> &str
+        ensures { result.now ≡ short_term_password self.now }
+    {
+        self.password.as_str()
+    }
+
+    /// The key, in memory that `alloc` gives: the bytes of the password, made for no one algorithm
+    /// (RFC 8489, section 9.1.1).
+    ///
+    /// # Errors
+    ///
+    /// `OutOfMemory` alone.
+    pub fn make_key(&self, alloc: Global) -> Result<IntegrityKey, StunWriteError>
+        ensures ok { IfOk result (IsKey None (short_term_password self.now)) }
+        ensures err { IfErr result (λ e. e ≡ StunWriteError.OutOfMemory) }
+    {
+        IntegrityKey::new(alloc, None, self.password().as_bytes())
+    }
+}

@@ -1,0 +1,32 @@
+ghost use Rattle.std.specs.Prelude.{◌≡◌};
+ghost use Rattle.stun_texts.specs.Texts.{text_bytes};
+
+use crate::TextAttribute;
+use std::fmt;
+use stun_attrs::Attribute;
+
+/// ALTERNATE-DOMAIN: the domain name of the server in an ALTERNATE-SERVER, of as many bytes as a
+/// value may have (RFC 8489, section 14.16).
+pub type AlternateDomain = TextAttribute<0x8003, 65535>;
+
+impl AlternateDomain {
+    /// The text.
+    pub fn domain(&self) -> &str
+        ensures { result.now ≡ text_bytes self.now }
+    {
+        self.text()
+    }
+}
+
+impl fmt::Display for AlternateDomain {
+    ghost use Rattle.std.specs.Prelude.{Some};
+    ghost use Rattle.stun_texts.specs.Texts.{plain_text};
+
+    ghost output = { λ attribute. Some (plain_text 0x8003 (text_bytes attribute)) };
+
+    fn fmt<W: fmt::Write>(&self, f: &mut fmt::Formatter<W>) -> fmt::Result {
+        let atype = self.get_type();
+        let text = self.text();
+        write!(f, "{atype}: {text}")
+    }
+}

@@ -1,0 +1,31 @@
+ghost use Rattle.std.specs.Prelude.{◌≡◌};
+ghost use Rattle.stun_texts.specs.Texts.{text_bytes};
+
+use crate::TextAttribute;
+use std::fmt;
+use stun_attrs::Attribute;
+
+/// NONCE: what a server has a client repeat, of at most 763 bytes (RFC 8489, section 14.10).
+pub type Nonce = TextAttribute<0x0015, 763>;
+
+impl Nonce {
+    /// The text.
+    pub fn nonce(&self) -> &str
+        ensures { result.now ≡ text_bytes self.now }
+    {
+        self.text()
+    }
+}
+
+impl fmt::Display for Nonce {
+    ghost use Rattle.std.specs.Prelude.{Some};
+    ghost use Rattle.stun_texts.specs.Texts.{plain_text};
+
+    ghost output = { λ attribute. Some (plain_text 0x0015 (text_bytes attribute)) };
+
+    fn fmt<W: fmt::Write>(&self, f: &mut fmt::Formatter<W>) -> fmt::Result {
+        let atype = self.get_type();
+        let text = self.text();
+        write!(f, "{atype}: {text}")
+    }
+}

@@ -1,0 +1,31 @@
+ghost use Rattle.std.specs.Prelude.{◌≡◌};
+ghost use Rattle.stun_texts.specs.Texts.{text_bytes};
+
+use crate::TextAttribute;
+use std::fmt;
+use stun_attrs::Attribute;
+
+/// REALM: where a long-term credential holds, of at most 763 bytes (RFC 8489, section 14.9).
+pub type Realm = TextAttribute<0x0014, 763>;
+
+impl Realm {
+    /// The text.
+    pub fn realm(&self) -> &str
+        ensures { result.now ≡ text_bytes self.now }
+    {
+        self.text()
+    }
+}
+
+impl fmt::Display for Realm {
+    ghost use Rattle.std.specs.Prelude.{Some};
+    ghost use Rattle.stun_texts.specs.Texts.{plain_text};
+
+    ghost output = { λ attribute. Some (plain_text 0x0014 (text_bytes attribute)) };
+
+    fn fmt<W: fmt::Write>(&self, f: &mut fmt::Formatter<W>) -> fmt::Result {
+        let atype = self.get_type();
+        let text = self.text();
+        write!(f, "{atype}: {text}")
+    }
+}

@@ -1,0 +1,31 @@
+ghost use Rattle.std.specs.Prelude.{◌≡◌};
+ghost use Rattle.stun_texts.specs.Texts.{text_bytes};
+
+use crate::TextAttribute;
+use std::fmt;
+use stun_attrs::Attribute;
+
+/// SOFTWARE: what made the message, in words, of at most 763 bytes (RFC 8489, section 14.14).
+pub type Software = TextAttribute<0x8022, 763>;
+
+impl Software {
+    /// The text.
+    pub fn software(&self) -> &str
+        ensures { result.now ≡ text_bytes self.now }
+    {
+        self.text()
+    }
+}
+
+impl fmt::Display for Software {
+    ghost use Rattle.std.specs.Prelude.{Some};
+    ghost use Rattle.stun_texts.specs.Texts.{quoted_text};
+
+    ghost output = { λ attribute. Some (quoted_text 0x8022 (text_bytes attribute)) };
+
+    fn fmt<W: fmt::Write>(&self, f: &mut fmt::Formatter<W>) -> fmt::Result {
+        let atype = self.get_type();
+        let text = self.text();
+        write!(f, "{atype}: '{text}'")
+    }
+}

@@ -1,0 +1,128 @@
+ghost use Rattle.std.specs.Prelude.{◌≡◌, ◌≤◌, length};
+ghost use Rattle.std.specs.String.{string_bytes};
+
+use crate::check::checked_text;
+use std::alloc::Global;
+use stun_attrs::{
+    Attribute, AttributeFromRaw, AttributeStaticType, AttributeWrite, RawAttribute, lent_attribute,
+    write_text,
+};
+use stun_base::{AttributeType, StunParseError, StunWriteError};
+
+/// An attribute of the type `TYPE` whose value is a text of at most `MOST` bytes of UTF-8, taken as
+/// they are. Each has a name of its own, as [`crate::Software`].
+#[derive(Debug, PartialEq, Eq, Drop)]
+pub struct TextAttribute<const TYPE: u16, const MOST: u16> {
+    text: String,
+    ghost short: { length (string_bytes text) ≤ MOST },
+}
+
+impl<const TYPE: u16, const MOST: u16> TextAttribute<TYPE, MOST> {
+    ghost use Rattle.std.specs.Prelude.{◌≡◌, ◌≤◌, ◌<◌, Err, IfOk, IfErr, MatchOption, MatchResult, length};
+    ghost use Rattle.stun_attrs.specs.Raw.{raw_type, raw_value};
+    ghost use Rattle.stun_texts.specs.Texts.{text_bytes, ReadsText};
+
+    /// The attribute of this text, which is copied into memory that `alloc` gives.
+    ///
+    /// # Errors
+    ///
+    /// `TooLarge { expected, actual }` with the most bytes that the text may have and how many it
+    /// has, where it has more. Else `OutOfMemory` alone.
+    pub fn new(alloc: Global, text: &str) -> Result<Self, StunWriteError>
+        ensures ok { IfOk result (λ made. text_bytes made ≡ text.now) }
+        ensures large { MOST < length text.now → result ≡ Err (StunWriteError.TooLarge MOST (length text.now)) }
+        ensures err { length text.now ≤ MOST → IfErr result (λ e. e ≡ StunWriteError.OutOfMemory) }
+    {
+        let most = MOST as usize;
+        if text.len() > most {
+            return Err(StunWriteError::TooLarge {
+                expected: most,
+                actual: text.len(),
+            });
+        }
+        let text = String::from_str(alloc, text).map_err(|_| StunWriteError::OutOfMemory)?;
+        Ok(TextAttribute { text })
+    }
+
+    /// The same attribute, its text copied into memory that `alloc` gives.
+    ///
+    /// # Errors
+    ///
+    /// `OutOfMemory` alone.
+    pub fn clone(&self, alloc: Global) -> Result<Self, StunWriteError>
+        ensures same { IfOk result (λ copy. text_bytes copy ≡ text_bytes self.now) }
+        ensures err { IfErr result (λ e. e ≡ StunWriteError.OutOfMemory) }
+    {
+        Self::new(alloc, self.text())
+    }
+
+    /// The text.
+    pub(crate) fn text(&self) -> &str
+        ensures text { result.now ≡ text_bytes self.now }
+        ensures short { length result.now ≤ MOST }
+    {
+        self.text.as_str()
+    }
+
+    /// Reads a raw attribute: its value is checked, and then copied.
+    fn read(alloc: Global, raw: &RawAttribute<'_>) -> Result<Self, StunParseError>
+        ensures { ReadsText TYPE MOST (raw_type raw.now) (raw_value raw.now) result }
+    {
+        let text = checked_text(raw, Self::TYPE, MOST)?;
+        let text = String::from_str(alloc, text).map_err(|_| StunParseError::OutOfMemory)?;
+        Ok(TextAttribute { text })
+    }
+}
+
+impl<const TYPE: u16, const MOST: u16> AttributeStaticType for TextAttribute<TYPE, MOST> {
+    ghost TYPE = { record { 0 = TYPE } };
+
+    const TYPE: AttributeType = AttributeType(TYPE);
+}
+
+impl<const TYPE: u16, const MOST: u16> Attribute for TextAttribute<TYPE, MOST> {
+    ghost use Rattle.stun_texts.specs.Texts.{text_bytes};
+
+    ghost atype = { λ _. TYPE };
+
+    ghost value = { text_bytes };
+
+    fn get_type(&self) -> AttributeType {
+        Self::TYPE
+    }
+
+    fn length(&self) -> u16 {
+        self.text().len() as u16
+    }
+}
+
+impl<const TYPE: u16, const MOST: u16> AttributeWrite for TextAttribute<TYPE, MOST> {
+    ghost use Rattle.std.specs.Prelude.{true};
+
+    ghost lends = { λ _. true };
+
+    fn write_into_unchecked(&self, dest: &mut [u8]) {
+        write_text(Self::TYPE, self.text().as_bytes(), dest);
+    }
+
+    /// The text is lent.
+    fn to_raw(&self, _alloc: Global) -> Result<RawAttribute<'_>, StunWriteError> {
+        Ok(lent_attribute(Self::TYPE, self.text().as_bytes()))
+    }
+}
+
+impl<const TYPE: u16, const MOST: u16> AttributeFromRaw<'_> for TextAttribute<TYPE, MOST> {
+    ghost use Rattle.stun_texts.specs.Texts.{ReadsText};
+
+    ghost reads_ref = { ReadsText TYPE MOST };
+
+    ghost reads = { ReadsText TYPE MOST };
+
+    fn from_raw_ref(alloc: Global, raw: &RawAttribute<'_>) -> Result<Self, StunParseError> {
+        Self::read(alloc, raw)
+    }
+
+    fn from_raw(alloc: Global, raw: RawAttribute<'_>) -> Result<Self, StunParseError> {
+        Self::read(alloc, &raw)
+    }
+}

@@ -1,0 +1,7 @@
+mod Octets
+mod XorLaws
+mod AddressLaws
+mod AlgorithmLaws
+mod ErrorLaws
+mod Lists
+mod ReadBack

@@ -1,0 +1,177 @@
+ghost use Rattle.std.specs.Prelude.{◌≡◌, ◌≤◌, length};
+
+use crate::PasswordAlgorithmValue;
+use crate::algorithm::{check_algorithms, read_algorithm, write_algorithms};
+use crate::check::check_type;
+use crate::value::{MakeValue, raw_made, write_made};
+use std::alloc::Global;
+use stun_attrs::{Attribute, AttributeFromRaw, AttributeStaticType, AttributeWrite, RawAttribute};
+use stun_base::{AttributeType, StunParseError, StunWriteError};
+
+/// PASSWORD-ALGORITHMS: the algorithms that a server takes for passwords, the preferred one first
+/// (RFC 8489, section 14.11).
+///
+/// Its value has four bytes for each, in order: the number in two, big-endian, and two zeros.
+#[derive(Debug, PartialEq, Eq, Drop)]
+pub struct PasswordAlgorithms {
+    algorithms: Vec<PasswordAlgorithmValue>,
+    ghost few: { length algorithms.items ≤ 16383 },
+}
+
+impl PasswordAlgorithms {
+    ghost use Rattle.std.specs.Prelude.{◌<◌, ◌*◌, ◌/◌, ◌%◌, Err, None, IfOk, IfErr, MatchResult};
+    ghost use Rattle.stun_attrs.specs.Raw.{raw_type, raw_value};
+    ghost use Rattle.stun_values.specs.Algorithms.{ReadsAlgorithms, algorithms_text, fault_within};
+    ghost use Rattle.stun_values.specs.Passwords.{held_algorithms};
+
+    /// The attribute of these algorithms, copied into memory that `alloc` gives. An empty list is
+    /// taken, though reading refuses its value.
+    ///
+    /// # Errors
+    ///
+    /// `TooLarge { expected: 16383, actual }` where there are more than 16383. Else `OutOfMemory`
+    /// alone.
+    pub fn new(alloc: Global, algorithms: &[PasswordAlgorithmValue]) -> Result<Self, StunWriteError>
+        ensures ok { IfOk result (λ made. held_algorithms made ≡ algorithms.now) }
+        ensures large { 16383 < length algorithms.now → result ≡ Err (StunWriteError.TooLarge 16383 (length algorithms.now)) }
+        ensures err { length algorithms.now ≤ 16383 → IfErr result (λ e. e ≡ StunWriteError.OutOfMemory) }
+    {
+        if algorithms.len() > 16383 {
+            return Err(StunWriteError::TooLarge {
+                expected: 16383,
+                actual: algorithms.len(),
+            });
+        }
+        let algorithms = Vec::from_slice(alloc, algorithms).map_err(
+            |_| StunWriteError::OutOfMemory,
+        )?;
+        Ok(PasswordAlgorithms { algorithms })
+    }
+
+    /// The same attribute, its list copied into memory that `alloc` gives.
+    ///
+    /// # Errors
+    ///
+    /// `OutOfMemory` alone.
+    pub fn clone(&self, alloc: Global) -> Result<Self, StunWriteError>
+        ensures same { IfOk result (λ copy. held_algorithms copy ≡ held_algorithms self.now) }
+        ensures err { IfErr result (λ e. e ≡ StunWriteError.OutOfMemory) }
+    {
+        Self::new(alloc, self.algorithms())
+    }
+
+    /// The algorithms, in order.
+    pub fn algorithms(&self) -> &[PasswordAlgorithmValue]
+        ensures algorithms { result.now ≡ held_algorithms self.now }
+        ensures few { length result.now ≤ 16383 }
+    {
+        &self.algorithms
+    }
+
+    /// The list of a value whose fours are algorithms.
+    fn list_of(alloc: Global, value: &[u8]) -> Result<Vec<PasswordAlgorithmValue>, StunParseError>
+        requires fours { length value.now % 4 ≡ 0 }
+        requires each { fault_within (length value.now / 4) value.now ≡ None }
+        ensures { MatchResult result
+            (λ list. (algorithms_text list.items ≡ value.now) × (length value.now ≡ 4 * length list.items))
+            (λ e. e ≡ StunParseError.OutOfMemory) }
+    {
+        let mut list = Vec::new(alloc);
+        for i in 0..value.len() / 4 {
+            let algorithm = read_algorithm(&value[4 * i..])?;
+            let Ok(()) = list.push(algorithm) else {
+                return Err(StunParseError::OutOfMemory);
+            };
+        }
+        Ok(list)
+    }
+
+    /// Reads a raw attribute: its type is tested, and then its value, of which the list is copied.
+    fn read(alloc: Global, raw: &RawAttribute<'_>) -> Result<Self, StunParseError>
+        ensures { ReadsAlgorithms held_algorithms (raw_type raw.now) (raw_value raw.now) result }
+    {
+        check_type(raw, Self::TYPE)?;
+        let _length = raw.length();
+        let value = raw.value().as_bytes();
+        check_algorithms(value)?;
+        let algorithms = Self::list_of(alloc, value)?;
+        Ok(PasswordAlgorithms { algorithms })
+    }
+}
+
+impl AttributeStaticType for PasswordAlgorithms {
+    ghost TYPE = { record { 0 = 0x8002 } };
+
+    const TYPE: AttributeType = AttributeType(0x8002);
+}
+
+impl MakeValue for PasswordAlgorithms {
+    ghost use Rattle.stun_values.specs.Algorithms.{algorithms_text};
+    ghost use Rattle.stun_values.specs.Passwords.{held_algorithms};
+
+    ghost bytes = { λ attribute. algorithms_text (held_algorithms attribute) };
+
+    #[tactic(auto, using(crate::proofs::Lists::length_of_fours))]
+    fn size(&self) -> u16 {
+        4 * self.algorithms().len() as u16
+    }
+
+    #[tactic(auto, using(crate::proofs::Lists::length_of_fours))]
+    fn write_value(&self, dest: &mut [u8]) {
+        write_algorithms(self.algorithms(), dest);
+    }
+}
+
+impl Attribute for PasswordAlgorithms {
+    ghost use Rattle.stun_values.specs.Algorithms.{algorithms_text};
+    ghost use Rattle.stun_values.specs.Passwords.{held_algorithms};
+
+    ghost atype = { λ _. 0x8002 };
+
+    ghost value = { λ attribute. algorithms_text (held_algorithms attribute) };
+
+    fn get_type(&self) -> AttributeType {
+        Self::TYPE
+    }
+
+    fn length(&self) -> u16 {
+        self.size()
+    }
+}
+
+impl AttributeWrite for PasswordAlgorithms {
+    ghost use Rattle.std.specs.Prelude.{false};
+
+    ghost lends = { λ _. false };
+
+    fn write_into_unchecked(&self, dest: &mut [u8]) {
+        write_made(Self::TYPE, self, dest);
+    }
+
+    /// The value is owned, in memory that `alloc` gives.
+    fn to_raw(&self, alloc: Global) -> Result<RawAttribute<'_>, StunWriteError> {
+        raw_made(alloc, Self::TYPE, self)
+    }
+}
+
+/// Reading refuses, in this order: another type by `WrongAttributeImplementation`; fewer than four
+/// bytes by `Truncated { expected: 4, actual }`; a length that is no multiple of 4 by
+/// `InvalidAttributeData`; the first four bytes that tell parameters of p bytes by
+/// `TooLarge { expected: 4, actual: 4 + p }` or another number by `InvalidAttributeData`; and at last
+/// `OutOfMemory`, since the list is kept in memory that `alloc` gives.
+impl AttributeFromRaw<'_> for PasswordAlgorithms {
+    ghost use Rattle.stun_values.specs.Algorithms.{ReadsAlgorithms};
+    ghost use Rattle.stun_values.specs.Passwords.{held_algorithms};
+
+    ghost reads_ref = { ReadsAlgorithms held_algorithms };
+
+    ghost reads = { ReadsAlgorithms held_algorithms };
+
+    fn from_raw_ref(alloc: Global, raw: &RawAttribute<'_>) -> Result<Self, StunParseError> {
+        Self::read(alloc, raw)
+    }
+
+    fn from_raw(alloc: Global, raw: RawAttribute<'_>) -> Result<Self, StunParseError> {
+        Self::read(alloc, &raw)
+    }
+}

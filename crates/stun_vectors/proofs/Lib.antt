@@ -1,0 +1,4 @@
+mod Adds
+mod InSlices
+mod Requests
+mod Numbers

@@ -1,0 +1,96 @@
+//! An attribute of a user's own, over what `stun_types` offers to everybody.
+
+ghost use Rattle.std.specs.Prelude.{◌≡◌, ◌<◌, ◌^◌, Result, Ok};
+ghost use Rattle.stun_grammar.specs.declared.error.StunParseError.{StunParseError};
+ghost use Rattle.stun_grammar.specs.Numbers.{be32};
+ghost use Rattle.stun_attrs.specs.Raw.{raw_type, raw_value};
+ghost use Rattle.stun_vectors.specs.declared.my_attribute.MyAttribute.{MyAttribute};
+ghost use Rattle.stun_vectors.specs.MyValue.{ReadsNumber};
+
+use byteorder::{BigEndian, ByteOrder};
+use std::alloc::Global;
+use std::ops::Bound;
+use stun_types::attribute::{AttributeType, RawAttribute};
+use stun_types::message::{StunParseError, StunWriteError};
+use stun_types::prelude::*;
+
+/// A number of 32 bits, in four bytes, big-endian.
+#[derive(Clone, Copy, Debug, PartialEq, Eq)]
+pub struct MyAttribute {
+    /// The number.
+    pub value: u32,
+}
+
+impl AttributeStaticType for MyAttribute {
+    ghost TYPE = { record { 0 = 0x8851 } };
+
+    const TYPE: AttributeType = AttributeType(0x8851);
+}
+
+impl Attribute for MyAttribute {
+    ghost use Rattle.stun_grammar.specs.Numbers.{be32};
+
+    ghost atype = { λ _. 0x8851 };
+
+    ghost value = { λ attribute. be32 attribute.value };
+
+    fn get_type(&self) -> AttributeType {
+        Self::TYPE
+    }
+
+    fn length(&self) -> u16 {
+        4
+    }
+}
+
+impl AttributeWrite for MyAttribute {
+    ghost use Rattle.std.specs.Prelude.{false};
+
+    ghost lends = { λ _. false };
+
+    #[tactic(auto, unfolding(stun_grammar::specs::Attributes::text))]
+    fn write_into_unchecked(&self, dest: &mut [u8]) {
+        self.write_header_unchecked(dest);
+        BigEndian::write_u32(&mut dest[4..], self.value);
+    }
+
+    /// The value is owned.
+    fn to_raw(&self, alloc: Global) -> Result<RawAttribute<'_>, StunWriteError> {
+        let value = self.value.to_be_bytes();
+        let Ok(raw) = RawAttribute::new(Self::TYPE, &value) else {
+            unreachable!()
+        };
+        raw.into_owned(alloc)
+    }
+}
+
+impl AttributeFromRaw<'_> for MyAttribute {
+    ghost use Rattle.stun_vectors.specs.MyValue.{ReadsNumber};
+
+    ghost reads_ref = { ReadsNumber };
+
+    ghost reads = { ReadsNumber };
+
+    fn from_raw_ref(_alloc: Global, raw: &RawAttribute<'_>) -> Result<Self, StunParseError> {
+        read(raw)
+    }
+
+    fn from_raw(_alloc: Global, raw: RawAttribute<'_>) -> Result<Self, StunParseError> {
+        read(&raw)
+    }
+}
+
+/// Reads it: the type, exactly four bytes, and the number that they spell.
+fn read(raw: &RawAttribute<'_>) -> Result<MyAttribute, StunParseError>
+    ensures { ReadsNumber (raw_type raw.now) (raw_value raw.now) result }
+{
+    let four = Bound::Included(4);
+    raw.check_type_and_len(MyAttribute::TYPE, four, four)?;
+    let value = BigEndian::read_u32(raw.value().as_bytes());
+    Ok(MyAttribute { value })
+}
+
+/// The type and the value of a number are read as that number.
+pub fn my_attribute_is_read_back()
+    ensures { (attribute : MyAttribute) (result : Result MyAttribute StunParseError) → attribute.value < 2 ^ 32 → ReadsNumber 0x8851 (be32 attribute.value) result → result ≡ Ok attribute }
+{}
