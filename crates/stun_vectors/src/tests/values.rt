@@ -1,5 +1,8 @@
 //! Addresses, error codes, lists and hashes: what is written, what is refused, and what is read.
 
+ghost use Rattle.std.specs.Prelude.{◌≡◌, length};
+ghost use Rattle.stun_values.specs.Addresses.{address_value};
+
 use super::header;
 use std::alloc::Global;
 use std::net::{IpAddr, Ipv4Addr, Ipv6Addr, SocketAddr, SocketAddrV4, SocketAddrV6};
@@ -19,7 +22,9 @@ use stun_types::prelude::*;
 use stun_types::{AddressFamily, ParseTransportTypeError, TransportType};
 
 /// 192.168.0.1:3178.
-fn ipv4() -> SocketAddr {
+fn ipv4() -> SocketAddr
+    ensures { length (address_value result) ≡ 8 }
+{
     SocketAddr::new(IpAddr::V4(Ipv4Addr::new(192, 168, 0, 1)), 3178)
 }
 
@@ -77,6 +82,11 @@ fn reads_an_address(rt: HostRuntime) -> Result<(), Fail> {
     first_byte[0] = 0xFF;
     let raw = RawAttribute::new(AttributeType(0x0001), &first_byte)?;
     assert!(rt; MappedSocketAddr::from_raw(&raw)?.addr() == ipv4());
+    Ok(())
+}
+
+#[test]
+fn writes_an_address(rt: HostRuntime) -> Result<(), Fail> {
     let mut dest = [0xFF; 8];
     let mapped = MappedSocketAddr::new(ipv4());
     mapped.write_into_unchecked(&mut dest);
