@@ -7,3 +7,4 @@ mod Barred
 mod Covered
 mod Validating
 mod Runs
+pub mod Items

@@ -2,7 +2,8 @@
 
 ghost use Rattle.std.specs.Prelude.{◌≡◌, ◌<◌, MatchResult, length};
 ghost use Rattle.stun_grammar.specs.declared.error.StunParseError.TheVariants.{OutOfMemory};
-ghost use Rattle.stun_values.specs.Addresses.{IsPlain};
+ghost use Rattle.std.specs.declared.net.socket_addr.SocketAddr.{SocketAddr};
+ghost use Rattle.stun_values.specs.Addresses.{IsPlain, IsXored};
 ghost use Rattle.stun_values.specs.AddressTypes.{server_addr, written_mapped_addr};
 ghost use Rattle.stun_values.specs.ErrorCodes.{error_code, error_reason, IsError};
 ghost use Rattle.stun_values.specs.Unknown.{listed};
@@ -22,7 +23,8 @@ use stun_base::{StunParseError, TransactionId};
 /// was.
 pub fn xor_twice(addr: SocketAddr, transaction: TransactionId) -> SocketAddr
     requires { IsPlain addr }
-    ensures { result ≡ addr }
+    ensures back { result ≡ addr }
+    ensures law { (x y : SocketAddr) → IsXored transaction addr x → IsXored transaction x y → y ≡ addr }
 {
     let xored = XorSocketAddr::xor_addr(addr, transaction);
     XorSocketAddr::xor_addr(xored, transaction)

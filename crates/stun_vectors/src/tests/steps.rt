@@ -98,6 +98,54 @@ fn writes_a_signed_message(rt: HostRuntime) -> Result<(), Fail> {
         (60, 0x8028, &FINGERED_SIGNED[4..]),
     ];
     assert_shows(&rt, "signed", read.iter_attributes(), &shown);
+    assert_eq!(rt;
+        read.validate_integrity(rt.alloc(), &credentials),
+        Ok(IntegrityAlgorithm::Sha1)
+    );
+    Ok(())
+}
+
+/// Adds a SOFTWARE, signs, and adds a FINGERPRINT, in this slice: the length of what is written.
+fn sign_in_slice(
+    alloc: Global,
+    software: &Software,
+    credentials: &MessageIntegrityCredentials,
+    verdicts: &mut [Result<(), StunWriteError>; 3],
+    buf: &mut [u8],
+) -> Result<usize, StunWriteError>
+    requires { 20 ≤ length buf.old }
+{
+    let written = write_steps(
+        alloc,
+        binding_request(),
+        TransactionId::from(1000),
+        &[
+            Step::Add(software),
+            Step::Sign(credentials, IntegrityAlgorithm::Sha1),
+            Step::Finger,
+        ],
+        verdicts,
+        MessageWriteMutSlice::new(alloc, buf),
+    )?;
+    Ok(written.finish())
+}
+
+#[test]
+fn signs_in_a_slice(rt: HostRuntime) -> Result<(), Fail> {
+    let software = Software::new(rt.alloc(), "stun-types")?;
+    let credentials = short_term(rt.alloc(), "pass")?;
+    let mut verdicts = [Err(StunWriteError::OutOfMemory); 3];
+    let mut buf = [0xFF; 68];
+    let written = sign_in_slice(rt.alloc(), &software, &credentials, &mut verdicts, &mut buf)?;
+    assert_eq!(rt; verdicts, [Ok(()); 3]);
+    assert_eq!(rt; written, 68);
+    assert_eq!(rt; &buf[..20], header(48).as_slice());
+    assert_eq!(rt; &buf[20..60], &SIGNED_TWICE[..40]);
+    assert_eq!(rt; &buf[60..], FINGERED_SIGNED.as_slice());
+    assert_eq!(rt;
+        Message::from_bytes(&buf)?.validate_integrity(rt.alloc(), &credentials),
+        Ok(IntegrityAlgorithm::Sha1)
+    );
     Ok(())
 }
 

@@ -1,0 +1,28 @@
+-- What the driver adds up.
+use Rattle.std.specs.Prelude.{ℕ, ◌+◌, ◌*◌, ◌%◌, ◌^◌, ◌-◌, List, [], ◌∷◌, length, Result, Ok, Err}
+use Rattle.stun_grammar.specs.declared.error.ValidateError.{ValidateError}
+use Rattle.stun_grammar.specs.declared.error.ValidateError.TheVariants.{Parse, IntegrityFailed}
+use Rattle.stun_grammar.specs.declared.integrity_algorithm.IntegrityAlgorithm.{IntegrityAlgorithm}
+use Rattle.stun_grammar.specs.declared.integrity_algorithm.IntegrityAlgorithm.TheVariants.{Sha1, Sha256}
+use Rattle.stun_grammar.specs.Attributes.{Shown}
+
+-- the first byte, and 0 where there is none
+abbrev pub first_byte : List ℕ → ℕ
+first_byte [] = 0
+first_byte (byte ∷ bytes) = byte
+
+-- what was made of the attributes before, and one more, in 64 bits
+abbrev pub mixed : ℕ → Shown → ℕ
+mixed sum attribute =
+    (sum * 31 + attribute.offset + attribute.type * 2 ^ 20 + length attribute.value * 2 ^ 40 + first_byte attribute.value) % 2 ^ 64
+
+-- the answer of a workload that can't be run
+abbrev pub none : ℕ
+none = 2 ^ 64 - 1
+
+-- the number of a verdict
+abbrev pub verdict_number : Result IntegrityAlgorithm ValidateError → ℕ
+verdict_number (Ok Sha1) = 1
+verdict_number (Ok Sha256) = 2
+verdict_number (Err IntegrityFailed) = 3
+verdict_number (Err (Parse _)) = 4

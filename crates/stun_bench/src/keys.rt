@@ -1,0 +1,151 @@
+//! Keys, and validating with one.
+
+ghost use Rattle.std.specs.Prelude.{◌≡◌, ◌*◌, ◌%◌, ◌^◌, true, ◌⊎◌, None, IfOk, IfSome, string_bytes};
+ghost use Rattle.stun_grammar.specs.declared.integrity_algorithm.IntegrityAlgorithm.{IntegrityAlgorithm};
+ghost use Rattle.stun_grammar.specs.Integrity.{is_wanted, verdict};
+ghost use Rattle.stun_keys.specs.Keys.{IsKey, credentials_key, credentials_algorithm};
+ghost use Rattle.stun_bench.specs.Answers.{none, verdict_number};
+
+use std::alloc::Global;
+use stun_types::message::keys::{
+    IntegrityAlgorithm, IntegrityKey, LongTermKeyCredentials, MessageIntegrityCredentials,
+    ShortTermCredentials,
+};
+use stun_types::message::{Message, StunWriteError, ValidateError};
+
+/// The answer of a workload that can't be run.
+pub const NONE: u64 = u64::MAX;
+
+/// A text out of bytes.
+fn text(alloc: Global, bytes: &[u8]) -> Option<String>
+    ensures { IfSome result (λ made. string_bytes made ≡ bytes.now) }
+{
+    String::from_str(alloc, str::from_utf8(bytes).ok()?).ok()
+}
+
+/// The algorithm of a number: 2 is SHA-256.
+pub fn algorithm_of(number: u32) -> IntegrityAlgorithm {
+    match number {
+        2 => IntegrityAlgorithm::Sha256,
+        _ => IntegrityAlgorithm::Sha1,
+    }
+}
+
+/// The credentials of a password.
+fn short_term(alloc: Global, password: &[u8]) -> Option<MessageIntegrityCredentials>
+    ensures key { IfSome result (λ made. (a : IntegrityAlgorithm) → credentials_key made a ≡ password.now) }
+    ensures free { IfSome result (λ made. (a : IntegrityAlgorithm) → credentials_algorithm made a ≡ None) }
+{
+    let short = ShortTermCredentials::new(text(alloc, password)?);
+    Some(MessageIntegrityCredentials::from(short))
+}
+
+/// The short-term key of a password.
+pub fn short_key(alloc: Global, password: &[u8]) -> Option<IntegrityKey>
+    ensures { IfSome result (IsKey None password.now) }
+{
+    short_term(alloc, password)?
+        .make_key(alloc, IntegrityAlgorithm::Sha1)
+        .ok()
+}
+
+/// Whether credentials give the same key twice.
+fn same_twice(
+    alloc: Global,
+    credentials: &MessageIntegrityCredentials,
+    algorithm: IntegrityAlgorithm,
+) -> Result<bool, StunWriteError>
+    ensures { IfOk result (λ same. same ≡ true) }
+{
+    let first = credentials.make_key(alloc, algorithm)?;
+    let second = credentials.make_key(alloc, algorithm)?;
+    Ok(first == second)
+}
+
+/// 1 where the keys are the same.
+fn answer_of(same: Result<bool, StunWriteError>) -> u64
+    requires { IfOk same (λ same. same ≡ true) }
+    ensures { (result ≡ 1) ⊎ (result ≡ none) }
+{
+    match same {
+        Ok(same) => u64::from(same),
+        Err(_) => NONE,
+    }
+}
+
+/// The short-term key of a password, made twice.
+#[unsafe(no_mangle)]
+pub extern "C" fn stun_bench_short_key(alloc: Global, password: &[u8]) -> u64
+    ensures { (result ≡ 1) ⊎ (result ≡ none) }
+{
+    match short_term(alloc, password) {
+        Some(credentials) => answer_of(same_twice(alloc, &credentials, IntegrityAlgorithm::Sha1)),
+        None => NONE,
+    }
+}
+
+/// The credentials of a username and a password in a realm.
+fn long_term(
+    alloc: Global,
+    user: &[u8],
+    realm: &[u8],
+    password: &[u8],
+) -> Option<MessageIntegrityCredentials> {
+    let user = text(alloc, user)?;
+    let realm = text(alloc, realm)?;
+    let password = text(alloc, password)?;
+    let long = LongTermKeyCredentials::new(user, password, realm);
+    Some(MessageIntegrityCredentials::from(long))
+}
+
+/// The long-term key of a username, a realm and a password, made twice.
+#[unsafe(no_mangle)]
+pub extern "C" fn stun_bench_long_key(
+    alloc: Global,
+    user: &[u8],
+    realm: &[u8],
+    password: &[u8],
+    algorithm: u32,
+) -> u64
+    ensures { (result ≡ 1) ⊎ (result ≡ none) }
+{
+    match long_term(alloc, user, realm, password) {
+        Some(credentials) => answer_of(same_twice(alloc, &credentials, algorithm_of(algorithm))),
+        None => NONE,
+    }
+}
+
+/// The number of a verdict.
+fn verdict_of(answer: Result<IntegrityAlgorithm, ValidateError>) -> u64
+    ensures { result ≡ verdict_number answer }
+{
+    match answer {
+        Ok(IntegrityAlgorithm::Sha1) => 1,
+        Ok(IntegrityAlgorithm::Sha256) => 2,
+        Err(ValidateError::IntegrityFailed) => 3,
+        Err(ValidateError::Parse(_)) => 4,
+    }
+}
+
+/// Parses a message and makes the short-term key of a password, and then validates so often.
+#[unsafe(no_mangle)]
+pub extern "C" fn stun_bench_validate(
+    alloc: Global,
+    message: &[u8],
+    password: &[u8],
+    rounds: u64,
+) -> u64
+    ensures { (result ≡ none) ⊎ (result ≡ (rounds * verdict_number (verdict (is_wanted None) (λ _. password.now) message.now)) % 2 ^ 64) }
+{
+    let Ok(parsed) = Message::from_bytes(message) else {
+        return NONE;
+    };
+    let Some(key) = short_key(alloc, password) else {
+        return NONE;
+    };
+    let mut sum: u64 = 0;
+    for _ in 0..rounds {
+        sum = sum.wrapping_add(verdict_of(parsed.validate_integrity_with_key(&key)));
+    }
+    sum
+}

@@ -1,0 +1,16 @@
+//! The functions of `bench/stun_bench.h`, which the driver of `bench/` measures, over what
+//! `stun_types` offers to everybody.
+#![tactic(auto)]
+
+mod keys;
+mod reading;
+mod typed;
+mod writing;
+
+pub use keys::{stun_bench_long_key, stun_bench_short_key, stun_bench_validate};
+pub use reading::{stun_bench_crc, stun_bench_iterate, stun_bench_parse};
+pub use typed::stun_bench_typed;
+pub use writing::{
+    stun_bench_write_plain_slice, stun_bench_write_plain_vec, stun_bench_write_slice,
+    stun_bench_write_vec,
+};

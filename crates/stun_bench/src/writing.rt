@@ -1,0 +1,245 @@
+//! Writing an ICE connectivity check.
+
+ghost use Rattle.std.specs.Prelude.{◌≡◌, ◌≤◌, [], length};
+ghost use Rattle.stun_attrs.specs.Raw.{raw_type};
+ghost use Rattle.stun_types.specs.Writing.{Fits, IsOrdinary};
+
+use crate::keys::{NONE, algorithm_of, short_key};
+use std::alloc::Global;
+use stun_types::attribute::{AttributeType, RawAttribute, Username};
+use stun_types::message::{
+    BINDING, IntegrityAlgorithm, IntegrityKey, Message, MessageClass, MessageHeader, MessageType,
+    MessageWriteMutSlice, MessageWriteVec, StunWriteError, TransactionId,
+};
+use stun_types::prelude::*;
+
+/// PRIORITY.
+const PRIORITY: [u8; 4] = [0x6E, 0x00, 0x01, 0xFF];
+
+/// ICE-CONTROLLED.
+const CONTROLLED: [u8; 8] = [0x93, 0x2F, 0xF9, 0xB1, 0x51, 0x26, 0x3B, 0x36];
+
+/// Adds an attribute of an ordinary type.
+fn add<B: MessageWrite>(message: &mut B, attribute: &RawAttribute<'_>) -> Result<(), StunWriteError>
+    requires { IsOrdinary (raw_type attribute.now) }
+{
+    message.add_attribute(attribute)
+}
+
+/// Adds an attribute of type 0x0024.
+fn add_priority<B: MessageWrite>(message: &mut B) -> Result<(), StunWriteError> {
+    let priority = RawAttribute::new(AttributeType(0x0024), &PRIORITY).map_err(
+        |_| StunWriteError::OutOfMemory,
+    )?;
+    add(message, &priority)
+}
+
+/// Adds an attribute of type 0x8029.
+fn add_controlled<B: MessageWrite>(message: &mut B) -> Result<(), StunWriteError> {
+    let controlled = RawAttribute::new(AttributeType(0x8029), &CONTROLLED).map_err(
+        |_| StunWriteError::OutOfMemory,
+    )?;
+    add(message, &controlled)
+}
+
+/// Adds the attributes of a check that any sender may write.
+fn add_plain<B: MessageWrite>(message: &mut B, username: &Username) -> Result<(), StunWriteError> {
+    message.add_attribute(username)?;
+    add_priority(message)?;
+    add_controlled(message)
+}
+
+/// Adds the attributes of a signed check.
+fn add_signed<B: MessageWrite>(
+    message: &mut B,
+    username: &Username,
+    key: &IntegrityKey,
+    algorithm: IntegrityAlgorithm,
+) -> Result<(), StunWriteError> {
+    add_plain(message, username)?;
+    message.add_message_integrity_with_key(key, algorithm)?;
+    message.add_fingerprint()
+}
+
+/// A binding request.
+fn binding() -> MessageType {
+    MessageType::from_class_method(MessageClass::Request, BINDING)
+}
+
+/// The transaction id of a check.
+fn id() -> TransactionId {
+    TransactionId::from(0x0102_0304_0506_0708_090A_0B0C)
+}
+
+/// The number of bytes and the last four of them.
+fn answer_of(message: &[u8]) -> u64 {
+    let last = match message {
+        [.., first, second, third, fourth] => {
+            u32::from_be_bytes([*first, *second, *third, *fourth])
+        }
+        _ => 0,
+    };
+    ((message.len() as u64) << 32) | u64::from(last)
+}
+
+/// The username of a text.
+fn username_of(alloc: Global, user: &[u8]) -> Option<Username> {
+    Username::new(alloc, str::from_utf8(user).ok()?).ok()
+}
+
+/// A signed check in a vector.
+fn signed_vector(
+    alloc: Global,
+    username: &Username,
+    key: &IntegrityKey,
+    algorithm: IntegrityAlgorithm,
+) -> Result<Vec<u8>, StunWriteError> {
+    let write = MessageWriteVec::with_capacity(alloc, 128)?;
+    let mut message = Message::builder(binding(), id(), write)?;
+    add_signed(&mut message, username, key, algorithm)?;
+    Ok(message.finish())
+}
+
+/// A check without integrity in a vector.
+fn plain_vector(alloc: Global, username: &Username) -> Result<Vec<u8>, StunWriteError> {
+    let write = MessageWriteVec::with_capacity(alloc, 128)?;
+    let mut message = Message::builder(binding(), id(), write)?;
+    add_plain(&mut message, username)?;
+    Ok(message.finish())
+}
+
+/// A signed check in a slice.
+fn signed_slice(
+    alloc: Global,
+    username: &Username,
+    key: &IntegrityKey,
+    algorithm: IntegrityAlgorithm,
+    destination: &mut [u8],
+) -> Result<usize, StunWriteError>
+    requires { 20 ≤ length destination.old }
+{
+    let write = MessageWriteMutSlice::new(alloc, destination);
+    let mut message = Message::builder(binding(), id(), write)?;
+    add_signed(&mut message, username, key, algorithm)?;
+    Ok(message.finish())
+}
+
+/// A check without integrity in a slice.
+fn plain_slice(
+    alloc: Global,
+    username: &Username,
+    destination: &mut [u8],
+) -> Result<usize, StunWriteError>
+    requires { 20 ≤ length destination.old }
+{
+    let write = MessageWriteMutSlice::new(alloc, destination);
+    let mut message = Message::builder(binding(), id(), write)?;
+    add_plain(&mut message, username)?;
+    Ok(message.finish())
+}
+
+/// What a signed check in a vector answers.
+fn signed_vector_answer(alloc: Global, user: &[u8], key: &IntegrityKey, algorithm: u32) -> u64 {
+    let Some(username) = username_of(alloc, user) else {
+        return NONE;
+    };
+    match signed_vector(alloc, &username, key, algorithm_of(algorithm)) {
+        Ok(message) => answer_of(&message),
+        Err(_) => NONE,
+    }
+}
+
+/// What a signed check in a slice answers.
+fn signed_slice_answer(
+    alloc: Global,
+    user: &[u8],
+    key: &IntegrityKey,
+    algorithm: u32,
+    destination: &mut [u8],
+) -> u64 {
+    if destination.len() < MessageHeader::LENGTH {
+        return NONE;
+    }
+    let Some(username) = username_of(alloc, user) else {
+        return NONE;
+    };
+    let written = signed_slice(alloc, &username, key, algorithm_of(algorithm), destination);
+    slice_answer(destination, written)
+}
+
+/// What a written slice answers.
+fn slice_answer(destination: &[u8], written: Result<usize, StunWriteError>) -> u64 {
+    match written.map(|count| destination.get(..count)) {
+        Ok(Some(message)) => answer_of(message),
+        _ => NONE,
+    }
+}
+
+/// A check without integrity, in a vector that has room for 128 bytes.
+#[unsafe(no_mangle)]
+pub extern "C" fn stun_bench_write_plain_vec(alloc: Global, user: &[u8]) -> u64 {
+    let Some(username) = username_of(alloc, user) else {
+        return NONE;
+    };
+    match plain_vector(alloc, &username) {
+        Ok(message) => answer_of(&message),
+        Err(_) => NONE,
+    }
+}
+
+/// A check without integrity, in a lent slice.
+#[unsafe(no_mangle)]
+pub extern "C" fn stun_bench_write_plain_slice(
+    alloc: Global,
+    user: &[u8],
+    destination: &mut [u8],
+) -> u64 {
+    if destination.len() < MessageHeader::LENGTH {
+        return NONE;
+    }
+    let Some(username) = username_of(alloc, user) else {
+        return NONE;
+    };
+    let written = plain_slice(alloc, &username, destination);
+    slice_answer(destination, written)
+}
+
+/// Makes the short-term key of a password, and then a signed check so often, each time in a new
+/// vector that has room for 128 bytes.
+#[unsafe(no_mangle)]
+pub extern "C" fn stun_bench_write_vec(
+    alloc: Global,
+    user: &[u8],
+    password: &[u8],
+    algorithm: u32,
+    rounds: u64,
+) -> u64 {
+    let Some(key) = short_key(alloc, password) else {
+        return NONE;
+    };
+    let mut sum: u64 = 0;
+    for _ in 0..rounds {
+        sum = sum.wrapping_add(signed_vector_answer(alloc, user, &key, algorithm));
+    }
+    sum
+}
+
+/// The same in a lent slice.
+#[unsafe(no_mangle)]
+pub extern "C" fn stun_bench_write_slice(
+    alloc: Global,
+    user: &[u8],
+    password: &[u8],
+    algorithm: u32,
+    destination: &mut [u8],
+    rounds: u64,
+) -> u64 {
+    let Some(key) = short_key(alloc, password) else {
+        return NONE;
+    };
+    let mut sum: u64 = 0;
+    for _ in 0..rounds {
+        sum = sum.wrapping_add(signed_slice_answer(alloc, user, &key, algorithm, destination));
+    }
+    sum
+}
