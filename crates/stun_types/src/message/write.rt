@@ -278,6 +278,7 @@ pub trait MessageWriteExt: MessageWrite {
         ensures answer { IsAddAnswer (add_refusal (sign algorithm (credentials_key credentials.now algorithm)) (Self.types self.old) (length (Self.bytes self.old)) (Self.greatest self.old)) (Unit {0}) result }
         ensures ok { OnOk result (Self.bytes self.new ≡ appended (Self.bytes self.old) (type_of_algorithm algorithm) (integrity_value (Self.bytes self.old) (credentials_key credentials.now algorithm) algorithm)) }
         ensures length { OnOk result (length (Self.bytes self.new) ≡ length (Self.bytes self.old) + (4 + digest_length algorithm)) }
+        ensures header { is_header (Self.bytes self.old) ≡ true → is_header (Self.bytes self.new) ≡ true }
         ensures types { OnOk result (Self.types self.new ≡ Self.types self.old ++ (type_of_algorithm algorithm) ∷ []) }
         ensures rest { OnOk result (Self.rest self.new ≡ drop (4 + digest_length algorithm) (Self.rest self.old)) }
         ensures same { OnErr result (Self.bytes self.new ≡ Self.bytes self.old) }
@@ -303,6 +304,7 @@ pub trait MessageWriteExt: MessageWrite {
         ensures answer { IsAddAnswer (add_refusal (sign algorithm (key_bytes key.now)) (Self.types self.old) (length (Self.bytes self.old)) (Self.greatest self.old)) (Self.ready_bytes self.old < 4 + digest_length algorithm ⊎ Self.ready_types self.old < 1) result }
         ensures ok { OnOk result (Self.bytes self.new ≡ appended (Self.bytes self.old) (type_of_algorithm algorithm) (integrity_value (Self.bytes self.old) (key_bytes key.now) algorithm)) }
         ensures length { OnOk result (length (Self.bytes self.new) ≡ length (Self.bytes self.old) + (4 + digest_length algorithm)) }
+        ensures header { is_header (Self.bytes self.old) ≡ true → is_header (Self.bytes self.new) ≡ true }
         ensures types { OnOk result (Self.types self.new ≡ Self.types self.old ++ (type_of_algorithm algorithm) ∷ []) }
         ensures rest { OnOk result (Self.rest self.new ≡ drop (4 + digest_length algorithm) (Self.rest self.old)) }
         ensures same { OnErr result (Self.bytes self.new ≡ Self.bytes self.old) }
@@ -328,6 +330,7 @@ pub trait MessageWriteExt: MessageWrite {
         requires { add_refusal (sign algorithm (key_bytes key.now)) (Self.types self.old) (length (Self.bytes self.old)) (Self.greatest self.old) ≡ None }
         ensures ok { OnOk result (Self.bytes self.new ≡ appended (Self.bytes self.old) (type_of_algorithm algorithm) (integrity_value (Self.bytes self.old) (key_bytes key.now) algorithm)) }
         ensures length { OnOk result (length (Self.bytes self.new) ≡ length (Self.bytes self.old) + (4 + digest_length algorithm)) }
+        ensures header { is_header (Self.bytes self.old) ≡ true → is_header (Self.bytes self.new) ≡ true }
         ensures types { OnOk result (Self.types self.new ≡ Self.types self.old ++ (type_of_algorithm algorithm) ∷ []) }
         ensures rest { OnOk result (Self.rest self.new ≡ drop (4 + digest_length algorithm) (Self.rest self.old)) }
         ensures same { OnErr result (Self.bytes self.new ≡ Self.bytes self.old) }
@@ -356,6 +359,7 @@ pub trait MessageWriteExt: MessageWrite {
         ensures answer { IsAddAnswer (add_refusal (finger) (Self.types self.old) (length (Self.bytes self.old)) (Self.greatest self.old)) (Self.ready_bytes self.old < 4 + 4 ⊎ Self.ready_types self.old < 1) result }
         ensures ok { OnOk result (Self.bytes self.new ≡ appended (Self.bytes self.old) 0x8028 (fingerprint_value (Self.bytes self.old) (length (Self.bytes self.old)))) }
         ensures length { OnOk result (length (Self.bytes self.new) ≡ length (Self.bytes self.old) + (4 + 4)) }
+        ensures header { is_header (Self.bytes self.old) ≡ true → is_header (Self.bytes self.new) ≡ true }
         ensures types { OnOk result (Self.types self.new ≡ Self.types self.old ++ 0x8028 ∷ []) }
         ensures rest { OnOk result (Self.rest self.new ≡ drop (4 + 4) (Self.rest self.old)) }
         ensures same { OnErr result (Self.bytes self.new ≡ Self.bytes self.old) }
@@ -377,6 +381,7 @@ pub trait MessageWriteExt: MessageWrite {
         requires { add_refusal finger (Self.types self.old) (length (Self.bytes self.old)) (Self.greatest self.old) ≡ None }
         ensures ok { OnOk result (Self.bytes self.new ≡ appended (Self.bytes self.old) 0x8028 (fingerprint_value (Self.bytes self.old) (length (Self.bytes self.old)))) }
         ensures length { OnOk result (length (Self.bytes self.new) ≡ length (Self.bytes self.old) + (4 + 4)) }
+        ensures header { is_header (Self.bytes self.old) ≡ true → is_header (Self.bytes self.new) ≡ true }
         ensures types { OnOk result (Self.types self.new ≡ Self.types self.old ++ 0x8028 ∷ []) }
         ensures rest { OnOk result (Self.rest self.new ≡ drop (4 + 4) (Self.rest self.old)) }
         ensures same { OnErr result (Self.bytes self.new ≡ Self.bytes self.old) }
@@ -453,7 +458,7 @@ impl<W: MessageWrite> MessageWriteExt for W {
         self.add_message_integrity_with_key_unchecked(key, algorithm)
     }
 
-    #[tactic(auto, using(crate::proofs::Barred::no_refusal))]
+    #[tactic(auto, using(crate::proofs::Barred::no_refusal, crate::proofs::Appended::appended_begins))]
     fn add_message_integrity_with_key_unchecked(
         &mut self,
         key: &IntegrityKey,
@@ -467,7 +472,7 @@ impl<W: MessageWrite> MessageWriteExt for W {
         self.add_fingerprint_unchecked()
     }
 
-    #[tactic(auto, using(crate::proofs::Barred::no_refusal))]
+    #[tactic(auto, using(crate::proofs::Barred::no_refusal, crate::proofs::Appended::appended_begins))]
     fn add_fingerprint_unchecked(&mut self) -> Result<(), StunWriteError> {
         push_fingerprint(self)
     }

@@ -156,6 +156,7 @@ fn reads_the_header_of_what_is_written(rt: HostRuntime) -> Result<(), Fail> {
     let software = Software::new(rt.alloc(), "stun-types")?;
     let mut message = Message::builder(mtype, id, MessageWriteVec::new(rt.alloc()))?;
     message.add_attribute(&software)?;
+    message.add_fingerprint()?;
     assert_eq!(rt; message.get_type(), mtype);
     assert_eq!(rt; message.class(), MessageClass::Error);
     assert!(rt; message.has_class(MessageClass::Error));

@@ -1,4 +1,4 @@
-use Rattle.std.proofs.Common.{◌≡◌, ◌++◌, List, string_bytes, ap, ◌∙◌}
+use Rattle.std.proofs.Common.{◌++◌, List, string_bytes, ap, ◌∙◌}
 use Rattle.std.specs.List.{flat_map}
 use Rattle.std.proofs.lemmas.Iterator.Consumers.{YieldsList-from_first, YieldsList-end}
 use Rattle.stun_grammar.specs.Attributes.{Shown}
