@@ -1,1 +1,1 @@
-mod RawFaults
+mod RawLemmas

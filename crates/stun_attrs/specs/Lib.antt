@@ -1,3 +1,3 @@
 pub mod Raw
-pub mod Texts
 pub mod Checks
+pub mod Reading

@@ -1,12 +1,14 @@
--- What a raw attribute is, and what reading one gives.
+-- What a raw attribute holds, and what reading one from bytes returns.
 use Rattle.std.specs.Prelude.{◌≡◌, ℕ, ◌+◌, ◌-◌, true, List, length, drop, Option, Some, None, nat_lt, if◌then◌else◌}
 use Rattle.stun_grammar.specs.declared.error.StunParseError.{StunParseError}
 use Rattle.stun_grammar.specs.declared.error.StunParseError.TheVariants.{Truncated}
-use Rattle.stun_grammar.specs.Attributes.{Attribute, first_attribute, text, stated_length}
+use Rattle.stun_grammar.specs.Attributes.{Attribute, encoding}
+use Rattle.stun_grammar.specs.Chains.{first_attribute, stated_length}
 use Rattle.stun_base.specs.declared.data.Data.{Data}
 use Rattle.stun_base.specs.Data.{data_bytes, is_borrowed}
 use Rattle.stun_attrs.specs.declared.raw.RawAttribute.{RawAttribute}
 
+-- the type
 abbrev pub raw_type : RawAttribute → ℕ
 raw_type raw = raw.header.atype.0
 
@@ -14,6 +16,7 @@ raw_type raw = raw.header.atype.0
 abbrev pub raw_data : RawAttribute → Data
 raw_data raw = raw.value
 
+-- the bytes of the value
 abbrev pub raw_value : RawAttribute → List ℕ
 raw_value raw = data_bytes (raw_data raw)
 
@@ -27,16 +30,17 @@ pub record Borrows (type : ℕ) (value : List ℕ) (raw : RawAttribute) : Type 0
   pub raw_is : IsRawOf type value raw
   pub borrowed : is_borrowed (raw_data raw) ≡ true
 
--- why bytes aren't an attribute, its padding aside
+-- why bytes do not begin with the header and the value of an attribute; its padding may be missing
 unfoldable pub raw_fault : List ℕ → Option StunParseError
 raw_fault d =
     let n = stated_length d in
     if nat_lt (length d) 4 then Some (Truncated 4 (length d)) else (
     if nat_lt (length d) (4 + n) then Some (Truncated n (length d - 4)) else None)
 
--- raw is the attribute whose header stands at an offset of d, its value is borrowed, and what follows it begins at behind
+-- raw is the attribute whose header is at an offset of d, with a borrowed value, and what follows
+-- the attribute begins at behind
 pub record Finds (raw : RawAttribute) (behind offset : ℕ) (d : List ℕ) : Type 0 where
   pub attribute : Attribute
   pub first_is : first_attribute (drop offset d) ≡ Some attribute
   pub raw_is : Borrows attribute.type attribute.value raw
-  pub behind_is : behind ≡ offset + length (text attribute)
+  pub behind_is : behind ≡ offset + length (encoding attribute)

@@ -1,11 +1,11 @@
-//! What an attribute is, and what it takes to read and to write one.
+//! The traits of attributes: what an attribute is, and how one is read and written.
 
 ghost use Rattle.std.specs.Prelude.{◌≡◌, ℕ, Bool, true, List, Result, IsOk, Ok, Err, ◌+◌, ◌<◌, ◌≤◌, ◌++◌, IfOk, IfErr, length, drop};
 ghost use Rattle.stun_grammar.specs.declared.error.StunParseError.{StunParseError};
 ghost use Rattle.stun_grammar.specs.declared.attribute_type.AttributeType.{AttributeType};
 ghost use Rattle.stun_base.specs.Data.{is_borrowed};
 ghost use Rattle.stun_attrs.specs.Raw.{raw_type, raw_data, raw_value, IsRawOf};
-ghost use Rattle.stun_attrs.specs.Texts.{header_text, attribute_text, attribute_length};
+ghost use Rattle.stun_grammar.specs.Attributes.{header_encoding, attribute_encoding, attribute_length};
 
 use crate::RawAttribute;
 use std::alloc::Global;
@@ -15,7 +15,7 @@ use stun_base::{
 
 /// An attribute of a message: a type, and a value of at most 65535 bytes (RFC 8489, section 14).
 ///
-/// For the prover both are functions of what the object holds now: `atype` and `value`.
+/// In contracts `atype` and `value` are the type and the value of the object's current state.
 pub trait Attribute {
     ghost atype: { Self → ℕ };
 
@@ -25,12 +25,12 @@ pub trait Attribute {
     fn get_type(&self) -> AttributeType
         ensures { result.0 ≡ atype self.now };
 
-    /// How many bytes the value has, its padding not counted.
+    /// How many bytes the value has, without its padding.
     fn length(&self) -> u16
         ensures { result ≡ length (value self.now) };
 
     /// How many bytes the attribute takes in a message: four of header, and the value with its
-    /// padding; a multiple of 4, and at most 65540.
+    /// padding. This is a multiple of 4, at most 65540.
     fn padded_len(&self) -> usize
         ensures value { result ≡ attribute_length (length (value self.now)) }
         ensures bound { result ≤ 65540 }
@@ -39,36 +39,41 @@ pub trait Attribute {
     }
 }
 
-/// An attribute whose Rust type tells its type.
-pub trait AttributeStaticType {
+/// An attribute whose Rust type determines its attribute type.
+///
+/// In contracts the law `tells` says that every value of the Rust type has this type.
+pub trait AttributeStaticType: Attribute {
     ghost TYPE: { AttributeType };
 
-    /// The type of each attribute of this Rust type.
+    ghost tells: { (attribute : Self) → Self.atype attribute ≡ TYPE.0 };
+
+    /// The type of every attribute of this Rust type, which is what [`Attribute::get_type`] returns
+    /// of each.
     const TYPE: AttributeType;
 }
 
-/// An attribute that is read from a raw one, which may borrow its value for `'a`.
+/// An attribute that can be read from a raw one, which may borrow its value for `'a`.
 ///
-/// For the prover `reads_ref` and `reads` tell what reading a type and a value may answer. They are
-/// two, since one call may be owed where the other may want memory.
+/// In contracts `reads_ref` and `reads` say what `from_raw_ref` and `from_raw` may return for a
+/// type and a value. They differ where only one of the two may need memory.
 pub trait AttributeFromRaw<'a>: Attribute {
     ghost reads_ref: { ℕ → List ℕ → Result Self StunParseError → Type 0 };
 
     ghost reads: { ℕ → List ℕ → Result Self StunParseError → Type 0 };
 
-    /// Reads a raw attribute that stays with the caller. Memory, where the attribute keeps some, is
-    /// what `alloc` gives.
+    /// Reads a raw attribute that the caller keeps. `alloc` gives the memory that the attribute
+    /// needs, if it needs any.
     ///
     /// # Errors
     ///
-    /// Each implementation tells its own; `WrongAttributeImplementation` where the type is another
-    /// one, and `OutOfMemory` where a growth was refused.
+    /// Each implementation lists its own: `WrongAttributeImplementation` where the type is another
+    /// one, errors of the value, and `OutOfMemory` where an allocation failed.
     fn from_raw_ref(alloc: Global, raw: &RawAttribute<'_>) -> Result<Self, StunParseError>
     where
         Self: Sized,
         ensures { reads_ref (raw_type raw.now) (raw_value raw.now) result };
 
-    /// Reads a raw attribute that is handed over, so that its value may be kept.
+    /// Reads a raw attribute that the caller hands over, so that its value need not be copied.
     ///
     /// # Errors
     ///
@@ -81,38 +86,44 @@ pub trait AttributeFromRaw<'a>: Attribute {
 
 /// An attribute that can be written.
 ///
-/// An implementation writes [`AttributeWrite::write_into_unchecked`] and
-/// [`AttributeWrite::to_raw`]; the other calls have bodies. `stun_attrs::write_text` writes the
-/// whole of an attribute from its type and its value.
+/// An implementation provides [`AttributeWrite::write_into_unchecked`] and
+/// [`AttributeWrite::to_raw`]; the other methods have bodies. `stun_attrs::write_attribute` writes
+/// a whole attribute from its type and its value.
 ///
-/// For the prover `lends` tells where `to_raw` lends the value.
+/// In contracts `to_raw_borrows` says whether `to_raw` borrows the value or owns a copy of it.
 pub trait AttributeWrite: Attribute {
-    ghost lends: { Self → Bool };
+    ghost to_raw_borrows: { Self → Bool };
 
-    /// Writes the attribute at the front of `dest`, which has [`Attribute::padded_len`] bytes or
-    /// more: the type and the length in two bytes each, big-endian, the value, and zeros up to a
-    /// multiple of 4. What stands behind stays.
+    /// Writes the attribute at the start of `dest`, which has at least [`Attribute::padded_len`]
+    /// bytes: the type and the length of the value in two bytes each, big-endian, the value, and
+    /// zeros up to a multiple of 4. What follows is unchanged.
     fn write_into_unchecked(&self, dest: &mut [u8])
         requires { attribute_length (length (Self.value self.now)) ≤ length dest.old }
-        ensures { dest.new ≡ attribute_text (Self.atype self.now) (Self.value self.now) ++ drop (attribute_length (length (Self.value self.now))) dest.old };
+        ensures { dest.new ≡ attribute_encoding (Self.atype self.now) (Self.value self.now)
+            ++ drop (attribute_length (length (Self.value self.now))) dest.old };
 
-    /// The raw attribute of the same type and value. Each implementation tells whether it lends the
-    /// value, which takes no memory, or owns a copy of it in memory that `alloc` gives.
+    /// The raw attribute of the same type and value. Each implementation says whether the result
+    /// borrows the value, which takes no memory, or owns a copy of it in memory that `alloc` gives;
+    /// [`RawAttribute::into_owned`] of a result that owns it takes no more.
     ///
     /// # Errors
     ///
-    /// `OutOfMemory` alone, and none where the value is lent.
+    /// `OutOfMemory` alone, and no error where the value is borrowed.
     fn to_raw(&self, alloc: Global) -> Result<RawAttribute<'_>, StunWriteError>
         ensures ok { IfOk result (IsRawOf (Self.atype self.now) (Self.value self.now)) }
         ensures err { IfErr result (λ e. e ≡ StunWriteError.OutOfMemory) }
-        ensures lent { lends self.now ≡ true → IsOk result × IfOk result (λ raw. is_borrowed (raw_data raw) ≡ true) };
+        ensures borrowed { IfOk result
+            (λ raw. is_borrowed (raw_data raw) ≡ to_raw_borrows self.now) }
+        ensures free { to_raw_borrows self.now ≡ true → IsOk result };
 
-    /// Writes the four bytes of the header at the front of `dest`, which has four or more, and
-    /// answers 4. What stands behind stays.
+    /// Writes the header, four bytes, at the start of `dest`, which has at least four, and returns
+    /// 4. What follows is unchanged.
     fn write_header_unchecked(&self, dest: &mut [u8]) -> usize
         requires { 4 ≤ length dest.old }
         ensures four { result ≡ 4 }
-        ensures written { dest.new ≡ header_text (Self.atype self.now) (length (Self.value self.now)) ++ drop 4 dest.old }
+        ensures written { dest.new
+            ≡ header_encoding (Self.atype self.now) (length (Self.value self.now))
+            ++ drop 4 dest.old }
     {
         let header = AttributeHeader {
             atype: self.get_type(),
@@ -122,14 +133,19 @@ pub trait AttributeWrite: Attribute {
         4
     }
 
-    /// Writes the four bytes of the header at the front of `dest`, and answers 4.
+    /// Writes the header, four bytes, at the start of `dest`, and returns 4.
     ///
     /// # Errors
     ///
-    /// `TooSmall { expected: 4, actual }` where `dest` has fewer than four bytes, which then stay.
+    /// `TooSmall { expected: 4, actual }` where `dest` has fewer than four bytes; they are
+    /// unchanged then.
     fn write_header(&self, dest: &mut [u8]) -> Result<usize, StunWriteError>
-        ensures short { length dest.old < 4 → (result ≡ Err (StunWriteError.TooSmall 4 (length dest.old))) × (dest.new ≡ dest.old) }
-        ensures ok { 4 ≤ length dest.old → (result ≡ Ok 4) × (dest.new ≡ header_text (Self.atype self.now) (length (Self.value self.now)) ++ drop 4 dest.old) }
+        ensures short { length dest.old < 4
+            → (result ≡ Err (StunWriteError.TooSmall 4 (length dest.old)))
+            × (dest.new ≡ dest.old) }
+        ensures ok { 4 ≤ length dest.old → (result ≡ Ok 4)
+            × (dest.new ≡ header_encoding (Self.atype self.now) (length (Self.value self.now))
+            ++ drop 4 dest.old) }
     {
         if dest.len() < 4 {
             return Err(StunWriteError::TooSmall {
@@ -140,16 +156,22 @@ pub trait AttributeWrite: Attribute {
         Ok(self.write_header_unchecked(dest))
     }
 
-    /// Writes the attribute at the front of `dest`, and answers how many bytes it took:
-    /// [`Attribute::padded_len`].
+    /// Writes the attribute at the start of `dest`, as [`AttributeWrite::write_into_unchecked`]
+    /// does, and returns how many bytes it takes: [`Attribute::padded_len`].
     ///
     /// # Errors
     ///
-    /// `TooSmall { expected, actual }` with that number and the length of `dest` where it has fewer
-    /// bytes, which then stay.
+    /// `TooSmall { expected, actual }` where `dest` has fewer bytes than that; they are unchanged
+    /// then. `expected` is [`Attribute::padded_len`], and `actual` the length of `dest`.
     fn write_into(&self, dest: &mut [u8]) -> Result<usize, StunWriteError>
-        ensures short { length dest.old < attribute_length (length (Self.value self.now)) → (result ≡ Err (StunWriteError.TooSmall (attribute_length (length (Self.value self.now))) (length dest.old))) × (dest.new ≡ dest.old) }
-        ensures ok { attribute_length (length (Self.value self.now)) ≤ length dest.old → (result ≡ Ok (attribute_length (length (Self.value self.now)))) × (dest.new ≡ attribute_text (Self.atype self.now) (Self.value self.now) ++ drop (attribute_length (length (Self.value self.now))) dest.old) }
+        ensures short { length dest.old < attribute_length (length (Self.value self.now))
+            → (result ≡ Err (StunWriteError.TooSmall
+            (attribute_length (length (Self.value self.now))) (length dest.old)))
+            × (dest.new ≡ dest.old) }
+        ensures ok { attribute_length (length (Self.value self.now)) ≤ length dest.old
+            → (result ≡ Ok (attribute_length (length (Self.value self.now))))
+            × (dest.new ≡ attribute_encoding (Self.atype self.now) (Self.value self.now)
+            ++ drop (attribute_length (length (Self.value self.now))) dest.old) }
     {
         let len = self.padded_len();
         if dest.len() < len {

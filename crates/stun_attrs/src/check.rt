@@ -1,4 +1,6 @@
-ghost use Rattle.std.specs.Prelude.{◌≡◌, ◌<◌, ◌≤◌, MatchResult, None, Some, length};
+ghost use Rattle.std.specs.Prelude.{◌≡◌, ◌≢◌, ◌<◌, ◌≤◌, MatchResult, None, Some, length};
+ghost use Rattle.stun_grammar.specs.declared.error.StunParseError.TheVariants.{WrongAttributeImplementation};
+ghost use Rattle.stun_grammar.specs.Lengths.{range_fault, exact_fault};
 ghost use Rattle.stun_attrs.specs.Raw.{raw_type, raw_value};
 ghost use Rattle.stun_attrs.specs.Checks.{start_fault, end_fault, check_fault};
 
@@ -6,7 +8,11 @@ use crate::{Attribute, RawAttribute};
 use std::ops::Bound;
 use stun_base::{AttributeType, StunParseError};
 
-/// The length of a value as a header states it: it is at most 65535.
+/// The length of a value as a header states it, in two bytes.
+///
+/// # Errors
+///
+/// `TooLarge { expected: 65535, actual: length }` where it is greater than 65535.
 pub(crate) fn checked_length(length: usize) -> Result<u16, StunParseError>
     ensures { MatchResult result
         (λ stated. (stated ≡ length) × (length ≤ 65535))
@@ -21,9 +27,67 @@ pub(crate) fn checked_length(length: usize) -> Result<u16, StunParseError>
     Ok(length as u16)
 }
 
-/// A length isn't below the start.
-pub(crate) fn check_start(length: usize, start: Bound<usize>) -> Result<(), StunParseError>
-    ensures { MatchResult result (λ _. start_fault start length ≡ None) (λ e. start_fault start length ≡ Some e) }
+/// Tests that a length is at least `least` and at most `greatest`.
+///
+/// # Errors
+///
+/// `Truncated { expected: least, actual: length }` where it is less than `least`. Otherwise
+/// `TooLarge { expected: greatest, actual: length }` where it is greater than `greatest`.
+pub fn check_range(length: usize, least: usize, greatest: usize) -> Result<(), StunParseError>
+    ensures { MatchResult result
+        (λ _. (range_fault least greatest length ≡ None) × (least ≤ length) × (length ≤ greatest))
+        (λ e. range_fault least greatest length ≡ Some e) }
+{
+    if length < least {
+        return Err(StunParseError::Truncated {
+            expected: least,
+            actual: length,
+        });
+    }
+    if length > greatest {
+        return Err(StunParseError::TooLarge {
+            expected: greatest,
+            actual: length,
+        });
+    }
+    Ok(())
+}
+
+/// Tests that a value has exactly `wanted` bytes.
+///
+/// # Errors
+///
+/// `Truncated { expected: wanted, actual }` where it has fewer, and
+/// `TooLarge { expected: wanted, actual }` where it has more.
+pub fn check_length(value: &[u8], wanted: usize) -> Result<(), StunParseError>
+    ensures { MatchResult result
+        (λ _. (exact_fault wanted (length value.now) ≡ None) × (length value.now ≡ wanted))
+        (λ e. exact_fault wanted (length value.now) ≡ Some e) }
+{
+    check_range(value.len(), wanted, wanted)
+}
+
+/// Tests that a raw attribute has the wanted type.
+///
+/// # Errors
+///
+/// `WrongAttributeImplementation` where it has another one.
+pub fn check_type(raw: &RawAttribute<'_>, wanted: AttributeType) -> Result<(), StunParseError>
+    ensures { MatchResult result
+        (λ _. raw_type raw.now ≡ wanted.0)
+        (λ e. (raw_type raw.now ≢ wanted.0) × (e ≡ WrongAttributeImplementation)) }
+{
+    if raw.get_type() != wanted {
+        return Err(StunParseError::WrongAttributeImplementation);
+    }
+    Ok(())
+}
+
+/// Tests that a length is not below the start.
+fn check_start(length: usize, start: Bound<usize>) -> Result<(), StunParseError>
+    ensures { MatchResult result
+        (λ _. start_fault start length ≡ None)
+        (λ e. start_fault start length ≡ Some e) }
 {
     match start {
         Bound::Included(least) if length < least => Err(StunParseError::Truncated {
@@ -38,9 +102,11 @@ pub(crate) fn check_start(length: usize, start: Bound<usize>) -> Result<(), Stun
     }
 }
 
-/// A length isn't above the end.
-pub(crate) fn check_end(length: usize, end: Bound<usize>) -> Result<(), StunParseError>
-    ensures { MatchResult result (λ _. end_fault end length ≡ None) (λ e. end_fault end length ≡ Some e) }
+/// Tests that a length is not above the end.
+fn check_end(length: usize, end: Bound<usize>) -> Result<(), StunParseError>
+    ensures { MatchResult result
+        (λ _. end_fault end length ≡ None)
+        (λ e. end_fault end length ≡ Some e) }
 {
     match end {
         Bound::Included(most) if most < length => Err(StunParseError::TooLarge {
@@ -56,20 +122,20 @@ pub(crate) fn check_end(length: usize, end: Bound<usize>) -> Result<(), StunPars
 }
 
 impl RawAttribute<'_> {
-    /// The attribute has this type, and how many bytes its value has lies between the bounds. The one
-    /// test with which the reading of an attribute begins.
+    /// Tests that the attribute has this type, and that the length of its value is within the
+    /// bounds. The reading of an attribute begins with this test.
     ///
     /// # Errors
     ///
-    /// The first of these that there is, with `actual` the length of the value:
+    /// The first of these that applies, where `actual` is the length of the value:
     ///
     /// - `WrongAttributeImplementation` where the type is another one;
-    /// - `Truncated { expected, actual }` where there are fewer bytes than `start` allows; `expected`
-    ///   is the least that it allows: the bound, or one more where it is excluded, but never more
-    ///   than `usize::MAX`;
-    /// - `TooLarge { expected, actual }` where there are more bytes than `end` allows; `expected` is
-    ///   the most that it allows: the bound, or one less where it is excluded, but never less than 0.
-    ///   An excluded end of 0 refuses every length.
+    /// - `Truncated { expected, actual }` where the length is less than `start` allows. `expected`
+    ///   is the least length allowed: the bound, or one more where it is excluded, but at most
+    ///   `usize::MAX`;
+    /// - `TooLarge { expected, actual }` where the length is greater than `end` allows. `expected`
+    ///   is the greatest length allowed: the bound, or one less where it is excluded, but at least
+    ///   0. An excluded end of 0 allows no length.
     pub fn check_type_and_len(
         &self,
         atype: AttributeType,
@@ -77,12 +143,10 @@ impl RawAttribute<'_> {
         end: Bound<usize>,
     ) -> Result<(), StunParseError>
         ensures { MatchResult result
-            (λ _. check_fault atype.0 start end (raw_type self.now) (length (raw_value self.now)) ≡ None)
-            (λ e. check_fault atype.0 start end (raw_type self.now) (length (raw_value self.now)) ≡ Some e) }
+            (λ _. check_fault atype.0 start end (raw_type self.now) (raw_value self.now) ≡ None)
+            (λ e. check_fault atype.0 start end (raw_type self.now) (raw_value self.now) ≡ Some e) }
     {
-        if self.get_type() != atype {
-            return Err(StunParseError::WrongAttributeImplementation);
-        }
+        check_type(self, atype)?;
         let length = self.length() as usize;
         check_start(length, start)?;
         check_end(length, end)

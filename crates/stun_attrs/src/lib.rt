@@ -1,20 +1,20 @@
-//! What an attribute is, how it is read and written, an attribute as a type and the bytes of its
-//! value, and how attributes are found in a message.
+//! Attributes: the traits of attributes that are read and written, the raw attribute (a type and
+//! the bytes of a value), the encoding of an attribute, the checks of types and lengths, and the
+//! walk over the attributes of a message.
 #![tactic(auto)]
 
 mod attribute;
+mod borrowed;
 mod check;
-mod exact;
-mod lent;
+mod encoding;
 mod owned;
 mod raw;
-mod text;
 mod walk;
 
 pub use attribute::{Attribute, AttributeFromRaw, AttributeStaticType, AttributeWrite};
-pub use exact::check_length;
-pub use lent::lent_attribute;
+pub use borrowed::borrowed_attribute;
+pub use check::{check_length, check_range, check_type};
+pub use encoding::{MakeValue, copy_to_start, raw_made, write_attribute, write_made};
 pub use owned::owned_attribute;
 pub use raw::RawAttribute;
-pub use text::write_text;
 pub use walk::attribute_at;

@@ -7,7 +7,7 @@ use crate::RawAttribute;
 use std::boxed::BoxedSlice;
 use stun_base::{AttributeHeader, AttributeType};
 
-/// The raw attribute of this type and value, of at most 65535 bytes, which it owns.
+/// The raw attribute of this type and value, which it owns. The value has at most 65535 bytes.
 pub fn owned_attribute<'a>(atype: AttributeType, value: BoxedSlice<u8>) -> RawAttribute<'a>
     requires { length (boxed_slice_items value) ≤ 65535 }
     ensures raw { IsRawOf atype.0 (boxed_slice_items value) result }

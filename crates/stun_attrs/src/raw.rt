@@ -2,12 +2,13 @@ ghost use Rattle.std.specs.Prelude.{◌≡◌, length};
 ghost use Rattle.stun_base.specs.Data.{data_bytes};
 
 use crate::check::checked_length;
-use crate::{Attribute, AttributeWrite, lent_attribute, write_text};
+use crate::{Attribute, AttributeWrite, borrowed_attribute, write_attribute};
 use std::alloc::Global;
 use std::boxed::BoxedSlice;
 use stun_base::{AttributeHeader, AttributeType, Data, StunParseError, StunWriteError};
 
-/// An attribute as its type and the bytes of its value, which it borrows or owns.
+/// An attribute as its type and the bytes of its value, at most 65535, which it borrows or owns
+/// (RFC 8489, section 14).
 #[derive(Debug, PartialEq, Eq, Drop)]
 pub struct RawAttribute<'a> {
     header: AttributeHeader,
@@ -19,9 +20,9 @@ impl<'a> RawAttribute<'a> {
     ghost use Rattle.std.specs.Prelude.{◌≡◌, ◌+◌, ◌<◌, ◌≤◌, true, false, IfOk, IfErr, IsOk, MatchResult, Result, Err, Some, None, length, slice_range};
     ghost use Rattle.stun_base.specs.Data.{data_bytes, is_borrowed};
     ghost use Rattle.stun_grammar.specs.Numbers.{number};
-    ghost use Rattle.stun_grammar.specs.Attributes.{stated_length};
+    ghost use Rattle.stun_grammar.specs.Chains.{stated_length};
     ghost use Rattle.std.specs.Box.{boxed_slice_items};
-    ghost use Rattle.stun_attrs.specs.Texts.{attribute_text};
+    ghost use Rattle.stun_grammar.specs.Attributes.{attribute_encoding};
     ghost use Rattle.stun_attrs.specs.Raw.{raw_type, raw_data, raw_value, IsRawOf, Borrows, raw_fault};
 
     /// An attribute of this header that borrows its value.
@@ -52,14 +53,15 @@ impl<'a> RawAttribute<'a> {
     /// # Errors
     ///
     /// `TooLarge { expected: 65535, actual }` where the value is longer than its length field can
-    /// tell.
+    /// state.
     pub fn new(atype: AttributeType, value: &'a [u8]) -> Result<Self, StunParseError>
         ensures ok { length value.now ≤ 65535 → IfOk result (Borrows atype.0 value.now) }
         ensures fits { length value.now ≤ 65535 → IsOk result }
-        ensures large { 65535 < length value.now → result ≡ Err (StunParseError.TooLarge 65535 (length value.now)) }
+        ensures large { 65535 < length value.now
+            → result ≡ Err (StunParseError.TooLarge 65535 (length value.now)) }
     {
         checked_length(value.len())?;
-        Ok(lent_attribute(atype, value))
+        Ok(borrowed_attribute(atype, value))
     }
 
     /// An attribute of this type that owns its value.
@@ -67,12 +69,13 @@ impl<'a> RawAttribute<'a> {
     /// # Errors
     ///
     /// `TooLarge { expected: 65535, actual }` where the value is longer than its length field can
-    /// tell; it is dropped then.
+    /// state. The value is dropped then.
     pub fn new_owned(atype: AttributeType, value: BoxedSlice<u8>) -> Result<Self, StunParseError>
         ensures ok { IfOk result (IsRawOf atype.0 (boxed_slice_items value)) }
         ensures owned { IfOk result (λ raw. is_borrowed (raw_data raw) ≡ false) }
         ensures fits { length (boxed_slice_items value) ≤ 65535 → IsOk result }
-        ensures large { 65535 < length (boxed_slice_items value) → result ≡ Err (StunParseError.TooLarge 65535 (length (boxed_slice_items value))) }
+        ensures large { 65535 < length (boxed_slice_items value)
+            → result ≡ Err (StunParseError.TooLarge 65535 (length (boxed_slice_items value))) }
     {
         let length = checked_length(value.len())?;
         Ok(RawAttribute {
@@ -81,17 +84,19 @@ impl<'a> RawAttribute<'a> {
         })
     }
 
-    /// The attribute at the front of `bytes`: four bytes of header, and as many bytes of value as it
-    /// states, borrowed. What follows them isn't looked at, so the padding may be missing.
+    /// Reads the attribute at the start of `bytes`: a header of four bytes, and a value of as many
+    /// bytes as the header states, which is borrowed. What follows is not looked at, so the padding
+    /// may be missing.
     ///
     /// # Errors
     ///
-    /// `Truncated { expected: 4, actual }` where there are fewer than four bytes, and
-    /// `Truncated { expected, actual }` with the length that the header states and how many bytes
-    /// follow it, where those are fewer.
+    /// `Truncated { expected: 4, actual }` where there are fewer than four bytes. Otherwise
+    /// `Truncated { expected, actual }` where the header states more bytes than follow it:
+    /// `expected` is how many it states, and `actual` how many follow.
     pub fn from_bytes(bytes: &'a [u8]) -> Result<Self, StunParseError>
         ensures { MatchResult result
-            (λ raw. (raw_fault bytes.now ≡ None) × Borrows (number (slice_range bytes.now 0 2)) (slice_range bytes.now 4 (4 + stated_length bytes.now)) raw)
+            (λ raw. (raw_fault bytes.now ≡ None) × Borrows (number (slice_range bytes.now 0 2))
+            (slice_range bytes.now 4 (4 + stated_length bytes.now)) raw)
             (λ e. raw_fault bytes.now ≡ Some e) }
     {
         let header = AttributeHeader::from_bytes(bytes)?;
@@ -105,7 +110,7 @@ impl<'a> RawAttribute<'a> {
         Ok(Self::borrowed(header, &bytes[4..4 + length]))
     }
 
-    /// The type and the length of the value.
+    /// The header: the type, and the length of the value.
     pub fn header(&self) -> AttributeHeader
         ensures atype { result.atype.0 ≡ raw_type self.now }
         ensures length { result.length ≡ length (raw_value self.now) }
@@ -121,7 +126,7 @@ impl<'a> RawAttribute<'a> {
         &self.value
     }
 
-    /// The value, taken out: where it is borrowed, it is still the part of the bytes that were read.
+    /// The value. A value that is borrowed stays borrowed for `'a`, and so outlives the attribute.
     pub fn into_value(self) -> Data<'a>
         ensures { result ≡ raw_data self.entry }
     {
@@ -129,12 +134,12 @@ impl<'a> RawAttribute<'a> {
         value
     }
 
-    /// The same attribute with a value that it owns: of a borrowed one a copy in memory that `alloc`
-    /// gives, of an owned one itself, which takes no memory.
+    /// The same attribute, owning its value. A borrowed value is copied into memory that `alloc`
+    /// gives; an owned value is kept, which takes no memory.
     ///
     /// # Errors
     ///
-    /// `OutOfMemory` alone, and only for a value that is borrowed.
+    /// `OutOfMemory` alone, and only for a borrowed value.
     pub fn into_owned(self, alloc: Global) -> Result<RawAttribute<'static>, StunWriteError>
         ensures same { IfOk result (IsRawOf (raw_type self.entry) (raw_value self.entry)) }
         ensures owned { IfOk result (λ raw. is_borrowed (raw_data raw) ≡ false) }
@@ -146,14 +151,15 @@ impl<'a> RawAttribute<'a> {
         Ok(RawAttribute { header, value })
     }
 
-    /// The bytes of the attribute as it is written: type and length in two bytes each, big-endian,
-    /// the value, and zeros up to a multiple of 4; in memory that `alloc` gives.
+    /// The encoding of the attribute, in memory that `alloc` gives: the type and the length of the
+    /// value in two bytes each, big-endian, the value, and zeros up to a multiple of 4.
     ///
     /// # Errors
     ///
     /// `OutOfMemory` alone.
     pub fn to_bytes(&self, alloc: Global) -> Result<Vec<u8>, StunWriteError>
-        ensures text { IfOk result (λ bytes. bytes.items ≡ attribute_text (raw_type self.now) (raw_value self.now)) }
+        ensures text { IfOk result
+            (λ bytes. bytes.items ≡ attribute_encoding (raw_type self.now) (raw_value self.now)) }
         ensures err { IfErr result (λ e. e ≡ StunWriteError.OutOfMemory) }
     {
         let mut bytes = Vec::new(alloc);
@@ -164,15 +170,16 @@ impl<'a> RawAttribute<'a> {
         Ok(bytes)
     }
 
-    /// The same attribute: where its value is borrowed, the same borrow, which takes no memory, and
-    /// else a copy of it in memory that `alloc` gives.
+    /// The same attribute. A borrowed value stays borrowed, which takes no memory; an owned value
+    /// is copied into memory that `alloc` gives.
     ///
     /// # Errors
     ///
-    /// `OutOfMemory` alone, and only for a value that is owned.
+    /// `OutOfMemory` alone, and only for an owned value.
     pub fn clone(&self, alloc: Global) -> Result<RawAttribute<'a>, StunWriteError>
         ensures same { IfOk result (IsRawOf (raw_type self.now) (raw_value self.now)) }
-        ensures borrowed { IfOk result (λ copy. is_borrowed (raw_data copy) ≡ is_borrowed (raw_data self.now)) }
+        ensures borrowed { IfOk result
+            (λ copy. is_borrowed (raw_data copy) ≡ is_borrowed (raw_data self.now)) }
         ensures err { IfErr result (λ e. e ≡ StunWriteError.OutOfMemory) }
         ensures free { is_borrowed (raw_data self.now) ≡ true → IsOk result }
     {
@@ -205,10 +212,10 @@ impl AttributeWrite for RawAttribute<'_> {
     ghost use Rattle.stun_base.specs.Data.{is_borrowed};
     ghost use Rattle.stun_attrs.specs.Raw.{raw_data};
 
-    ghost lends = { λ raw. is_borrowed (raw_data raw) };
+    ghost to_raw_borrows = { λ raw. is_borrowed (raw_data raw) };
 
     fn write_into_unchecked(&self, dest: &mut [u8]) {
-        write_text(self.header().get_type(), self.value.as_bytes(), dest);
+        write_attribute(self.header().get_type(), self.value.as_bytes(), dest);
     }
 
     fn to_raw(&self, alloc: Global) -> Result<RawAttribute<'_>, StunWriteError> {

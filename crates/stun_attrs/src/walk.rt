@@ -1,17 +1,18 @@
 ghost use Rattle.std.specs.Prelude.{◌≡◌, ◌≤◌, length, drop, MatchResult, MatchOption, Some, None};
-ghost use Rattle.stun_grammar.specs.Attributes.{first_attribute, fault};
+ghost use Rattle.stun_grammar.specs.Chains.{first_attribute, fault};
 ghost use Rattle.stun_attrs.specs.Raw.{Finds};
 
 use crate::RawAttribute;
 use stun_base::{AttributeHeader, StunParseError, pad_attribute_len};
 
-/// The attribute whose header stands at `offset` in a message, its value borrowed, and the offset
-/// behind its padding; nothing where the message ends there.
+/// Reads the attribute whose header is at `offset` in a message: the attribute, which borrows its
+/// value, and the offset after its padding. `None` where the message ends at `offset`.
 ///
 /// # Errors
 ///
-/// `Truncated` where the header, the value or the padding is cut off: `expected` is where it would
-/// end and `actual` where the message ends, but that both are 4 more where the header is cut off.
+/// `Truncated { expected, actual }` where the header, the value or the padding is cut off:
+/// `expected` is the offset at which it would end, and `actual` the length of the message. Where
+/// the header is cut off, both are 4 more than that.
 pub fn attribute_at<'a>(
     bytes: &'a [u8],
     offset: usize,
@@ -19,9 +20,11 @@ pub fn attribute_at<'a>(
     requires { offset ≤ length bytes.now }
     ensures { MatchResult result
         (λ found. MatchOption found
-        ((first_attribute (drop offset bytes.now) ≡ None) × (fault offset (drop offset bytes.now) ≡ None))
+        ((first_attribute (drop offset bytes.now) ≡ None)
+        × (fault offset (drop offset bytes.now) ≡ None))
         (λ x. (x.1 ≤ length bytes.now) × Finds x.0 x.1 offset bytes.now))
-        (λ e. (first_attribute (drop offset bytes.now) ≡ None) × (fault offset (drop offset bytes.now) ≡ Some e)) }
+        (λ e. (first_attribute (drop offset bytes.now) ≡ None)
+        × (fault offset (drop offset bytes.now) ≡ Some e)) }
 {
     let rest = &bytes[offset..];
     if offset == bytes.len() {

@@ -1,2 +1,2 @@
-mod IdLaws
-mod HexLaws
+mod IdLemmas
+mod HexLemmas

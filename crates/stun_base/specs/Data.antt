@@ -6,6 +6,7 @@ use Rattle.stun_base.specs.declared.data.Data.TheVariants.{Borrowed, Owned}
 use Rattle.stun_base.specs.declared.data.DataSlice.{DataSlice}
 use Rattle.stun_base.specs.declared.data.DataOwned.{DataOwned}
 
+-- the bytes that a value holds
 abbrev pub slice_bytes : DataSlice → List ℕ
 slice_bytes slice = slice.bytes.now
 
@@ -16,6 +17,7 @@ abbrev pub data_bytes : Data → List ℕ
 data_bytes (Borrowed slice) = slice_bytes slice
 data_bytes (Owned owned) = owned_bytes owned
 
+-- whether they are borrowed
 abbrev pub is_borrowed : Data → Bool
 is_borrowed (Borrowed slice) = true
 is_borrowed (Owned owned) = false

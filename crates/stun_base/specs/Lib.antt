@@ -1,3 +1,4 @@
 pub mod Types
 pub mod Data
 pub mod Transports
+pub mod Drawing

@@ -1,4 +1,4 @@
--- Transports by their names, and the families of addresses.
+-- The names of transports, and the families of addresses.
 use Rattle.std.specs.Prelude.{◌≡◌, ◌≢◌, List, ℕ, map, codes, Result, Ok, Err}
 use Rattle.std.specs.Char.{to_ascii_lowercase}
 use Rattle.std.specs.declared.net.ip_addr.IpAddr.{IpAddr}
@@ -10,16 +10,19 @@ use Rattle.stun_base.specs.declared.transport.ParseTransportTypeError.TheVariant
 use Rattle.stun_base.specs.declared.transport.AddressFamily.{AddressFamily}
 use Rattle.stun_base.specs.declared.transport.AddressFamily.TheVariants.{IPV4, IPV6}
 
--- a text without regard to the case of its ASCII letters
+-- a text with its ASCII letters in lowercase
 abbrev pub lowercase : List ℕ → List ℕ
 lowercase = map to_ascii_lowercase
 
--- the transport that a text names
-pub record NamesTransport (text : List ℕ) (result : Result TransportType ParseTransportTypeError) : Type 0 where
+-- the transport of a name, in any case of its letters
+pub record NamesTransport (text : List ℕ)
+    (result : Result TransportType ParseTransportTypeError) : Type 0 where
   pub udp : lowercase text ≡ codes "udp" → result ≡ Ok Udp
   pub tcp : lowercase text ≡ codes "tcp" → result ≡ Ok Tcp
-  pub other : lowercase text ≢ codes "udp" → lowercase text ≢ codes "tcp" → result ≡ Err UnknownTransport
+  pub other : lowercase text ≢ codes "udp" → lowercase text ≢ codes "tcp"
+      → result ≡ Err UnknownTransport
 
+-- the family of an address
 abbrev pub family_of : IpAddr → AddressFamily
 family_of (V4 ip) = IPV4
 family_of (V6 ip) = IPV6

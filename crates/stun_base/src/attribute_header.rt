@@ -10,19 +10,22 @@ use stun_grammar::{AttributeType, StunParseError};
 pub struct AttributeHeader {
     /// The type.
     pub atype: AttributeType,
-    /// How many bytes the value has, its padding not counted.
+    /// How many bytes the value has, without its padding.
     pub length: u16,
 }
 
 impl AttributeHeader {
-    /// The header in the first four bytes; what follows them isn't looked at.
+    /// Reads the header from the first four bytes. What follows them is not looked at.
     ///
     /// # Errors
     ///
     /// `Truncated { expected: 4, actual }` where there are fewer than four bytes.
     pub fn from_bytes(bytes: &[u8]) -> Result<Self, StunParseError>
         ensures { MatchResult result
-            (λ header. (4 ≤ length bytes.now) × (header ≡ record { atype = record { 0 = number (slice_range bytes.now 0 2) }; length = number (slice_range bytes.now 2 4) }))
+            (λ header. (4 ≤ length bytes.now) × (header ≡ record {
+              atype = record { 0 = number (slice_range bytes.now 0 2) };
+              length = number (slice_range bytes.now 2 4);
+            }))
             (λ e. (length bytes.now < 4) × (e ≡ StunParseError.Truncated 4 (length bytes.now))) }
     {
         if bytes.len() < 4 {
@@ -37,7 +40,7 @@ impl AttributeHeader {
         })
     }
 
-    /// The four bytes.
+    /// The four bytes of the header.
     pub fn to_bytes(&self) -> [u8; 4]
         ensures { result ≡ be16 self.now.atype.0 ++ be16 self.now.length }
     {
@@ -47,7 +50,8 @@ impl AttributeHeader {
         bytes
     }
 
-    /// Writes the four bytes at the front of `dest`, which has four or more; the others stay.
+    /// Writes the four bytes at the start of `dest`, which has at least four. The others keep their
+    /// values.
     pub fn write_into(&self, dest: &mut [u8])
         requires { 4 ≤ length dest.old }
         ensures { dest.new ≡ be16 self.now.atype.0 ++ be16 self.now.length ++ drop 4 dest.old }
@@ -63,7 +67,7 @@ impl AttributeHeader {
         self.atype
     }
 
-    /// How many bytes the value has, its padding not counted.
+    /// How many bytes the value has, without its padding.
     pub fn length(&self) -> u16
         ensures { result ≡ self.now.length }
     {
@@ -71,7 +75,7 @@ impl AttributeHeader {
     }
 }
 
-/// The least multiple of 4 that isn't below `len`: how many bytes a value of `len` bytes takes with
+/// The least multiple of 4 that is at least `len`: how many bytes a value of `len` bytes takes with
 /// its padding (RFC 8489, section 14).
 ///
 /// `len` is at most `usize::MAX - 3`.

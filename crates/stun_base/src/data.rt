@@ -74,6 +74,18 @@ impl DataOwned {
         let DataOwned { bytes } = self;
         bytes
     }
+
+    /// A copy of the bytes, in memory that `alloc` gives.
+    ///
+    /// # Errors
+    ///
+    /// `OutOfMemory` alone.
+    pub fn clone(&self, alloc: Global) -> Result<Self, StunWriteError>
+        ensures bytes { IfOk result (λ copy. owned_bytes copy ≡ owned_bytes self.now) }
+        ensures err { IfErr result (λ e. e ≡ StunWriteError.OutOfMemory) }
+    {
+        DataSlice::from(self.as_bytes()).to_owned(alloc)
+    }
 }
 
 impl From<BoxedSlice<u8>> for DataOwned {
@@ -89,9 +101,9 @@ impl From<BoxedSlice<u8>> for DataOwned {
 /// Two values are equal where both are borrowed or both are owned, and their bytes are equal.
 #[derive(Debug, PartialEq, Eq, Drop)]
 pub enum Data<'a> {
-    /// Bytes that somebody else holds for `'a`.
+    /// Bytes that are borrowed for `'a`.
     Borrowed(DataSlice<'a>),
-    /// Bytes that go with the value.
+    /// Bytes that the value owns.
     Owned(DataOwned),
 }
 
@@ -106,8 +118,8 @@ impl<'a> Data<'a> {
         }
     }
 
-    /// The same bytes, owned: of borrowed bytes a copy in memory that `alloc` gives, of owned ones
-    /// themselves, which takes no memory.
+    /// The same bytes, owned. Borrowed bytes are copied into memory that `alloc` gives; owned bytes
+    /// are kept, which takes no memory.
     ///
     /// # Errors
     ///
@@ -124,8 +136,8 @@ impl<'a> Data<'a> {
         }
     }
 
-    /// The same bytes: of borrowed bytes the same borrow, which takes no memory, of owned ones a copy
-    /// in memory that `alloc` gives.
+    /// The same bytes. Borrowed bytes stay borrowed, which takes no memory; owned bytes are copied
+    /// into memory that `alloc` gives.
     ///
     /// # Errors
     ///
@@ -138,10 +150,7 @@ impl<'a> Data<'a> {
     {
         match self {
             Data::Borrowed(slice) => Ok(Data::Borrowed(*slice)),
-            Data::Owned(owned) => {
-                let copy = DataSlice::from(owned.as_bytes()).to_owned(alloc)?;
-                Ok(Data::Owned(copy))
-            }
+            Data::Owned(owned) => Ok(Data::Owned(owned.clone(alloc)?)),
         }
     }
 }
@@ -161,7 +170,8 @@ impl<'a> From<BoxedSlice<u8>> for Data<'a> {
     ghost use Rattle.std.specs.Prelude.{false};
     ghost use Rattle.stun_base.specs.Data.{is_borrowed};
 
-    ghost from_gives = { λ bytes made. (data_bytes made ≡ boxed_slice_items bytes) × (is_borrowed made ≡ false) };
+    ghost from_gives = { λ bytes made.
+        (data_bytes made ≡ boxed_slice_items bytes) × (is_borrowed made ≡ false) };
 
     fn from(bytes: BoxedSlice<u8>) -> Self {
         Data::Owned(DataOwned::from(bytes))

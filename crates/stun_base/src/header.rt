@@ -9,8 +9,9 @@ use byteorder::{BigEndian, ByteOrder};
 use std::marker::Model;
 use stun_grammar::StunParseError;
 
-/// The header of a message: twenty bytes, the type in two, how many bytes follow in two, the
-/// cookie in four and the transaction id in twelve, all of them big-endian (RFC 8489, section 5).
+/// The header of a message: twenty bytes. These are the type in two bytes, the number of bytes that
+/// follow in two, the magic cookie in four and the transaction ID in twelve, all of them big-endian
+/// (RFC 8489, section 5).
 #[derive(Debug, Drop)]
 pub struct MessageHeader {
     mtype: MessageType,
@@ -26,16 +27,17 @@ impl Model for MessageHeader {
     ghost view = { λ h. record { type = h.mtype; length = h.length; id = h.transaction_id } };
 }
 
-/// The first byte, if there is one, may be that of a header.
+/// Whether the first byte, if there is one, can be that of a header.
 fn first_may_begin(bytes: &[u8]) -> bool
     ensures { result ≡ list_all (λ first. nat_lt first 64) (take 1 bytes.now) }
 {
     bytes.iter().take(1).all(|first| *first < 64)
 }
 
-/// As much as is there of bytes 4 to 8 is the cookie's front.
+/// Whether the bytes from offset 4 on, as far as there are any, agree with the magic cookie.
 fn cookie_may_follow(bytes: &[u8]) -> bool
-    ensures { result ≡ list_all (λ pair. pair.0 == pair.1) (zip (drop 4 bytes.now) (be32 magic_cookie)) }
+    ensures { result
+        ≡ list_all (λ pair. pair.0 == pair.1) (zip (drop 4 bytes.now) (be32 magic_cookie)) }
 {
     let cookie = MAGIC_COOKIE.to_be_bytes();
     bytes
@@ -45,7 +47,7 @@ fn cookie_may_follow(bytes: &[u8]) -> bool
         .all(|(byte, wanted)| *byte == *wanted)
 }
 
-/// A header may begin with these bytes, fewer than twenty.
+/// Whether a header can begin with these bytes, fewer than twenty.
 #[tactic(auto, unfolding(stun_grammar::specs::Headers::begins))]
 fn may_begin(bytes: &[u8]) -> bool
     ensures { result ≡ begins bytes.now }
@@ -53,7 +55,7 @@ fn may_begin(bytes: &[u8]) -> bool
     first_may_begin(bytes) && cookie_may_follow(bytes)
 }
 
-/// A header stands at the front of these bytes, twenty or more.
+/// Whether these bytes, twenty or more, begin with a header.
 fn begins_with_header(bytes: &[u8]) -> bool
     requires { 20 ≤ length bytes.now }
     ensures { result ≡ is_header bytes.now }
@@ -62,7 +64,7 @@ fn begins_with_header(bytes: &[u8]) -> bool
     bytes[0] < 64 && bytes[4..8] == cookie[..]
 }
 
-/// The number that the two bytes from `at` on spell.
+/// The two bytes at offset `at` as a number, big-endian.
 pub fn number_at(bytes: &[u8], at: usize) -> u16
     requires { at + 2 ≤ length bytes.now }
     ensures { result ≡ number (slice_range bytes.now at (at + 2)) }
@@ -70,7 +72,7 @@ pub fn number_at(bytes: &[u8], at: usize) -> u16
     BigEndian::read_u16(&bytes[at..at + 2])
 }
 
-/// The transaction id of a header: its last twelve bytes.
+/// The transaction ID of a header: its last twelve bytes.
 fn read_id(bytes: &[u8]) -> TransactionId
     requires { 20 ≤ length bytes.now }
     ensures { result ≡ id_field bytes.now }
@@ -79,7 +81,7 @@ fn read_id(bytes: &[u8]) -> TransactionId
     TransactionId::from(BigEndian::read_u128(cookie_and_id))
 }
 
-/// The header at the front of bytes of which it is known that one stands there.
+/// Reads the header from bytes that are known to begin with one.
 pub fn read_header(bytes: &[u8]) -> MessageHeader
     requires long { 20 ≤ length bytes.now }
     requires low { slice_index bytes.now 0 < 64 }
@@ -93,19 +95,20 @@ pub fn read_header(bytes: &[u8]) -> MessageHeader
 }
 
 impl MessageHeader {
-    /// How many bytes a header has.
+    /// How many bytes a header has: 20.
     pub const LENGTH: usize = 20;
 
-    /// The header at the front of `bytes`; what follows it isn't looked at.
+    /// Reads the header at the start of `bytes`. What follows it is not looked at.
     ///
-    /// A message that comes in pieces, as over TCP, is told from other protocols as soon as its
-    /// bytes differ.
+    /// Where a message comes in pieces, as over TCP, another protocol is noticed as soon as a byte
+    /// differs.
     ///
     /// # Errors
     ///
-    /// `NotStun` where no header begins there, whatever may follow: the first byte is 64 or more,
-    /// or what is there of bytes 4 to 8 isn't the cookie's front. Else
-    /// `Truncated { expected: 20, actual }` where there are fewer than twenty bytes.
+    /// `NotStun` where no header can begin with these bytes, whatever follows: the first byte is 64
+    /// or more, or the bytes from offset 4 to 8, as far as there are any, are not those of the
+    /// magic cookie. Otherwise `Truncated { expected: 20, actual }` where there are fewer than
+    /// twenty bytes.
     pub fn from_bytes(bytes: &[u8]) -> Result<Self, StunParseError>
         ensures { MatchResult result
             (λ header. (header_fault bytes.now ≡ None) × (header ≡ header_of bytes.now))
@@ -126,14 +129,14 @@ impl MessageHeader {
         Ok(read_header(bytes))
     }
 
-    /// How many bytes the header says follow it.
+    /// How many bytes follow the header, as it states.
     pub fn data_length(&self) -> u16
         ensures { result ≡ self.now.length }
     {
         self.length
     }
 
-    /// The transaction id.
+    /// The transaction ID.
     pub fn transaction_id(&self) -> TransactionId
         ensures { result ≡ self.now.id }
     {

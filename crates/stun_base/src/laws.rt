@@ -1,4 +1,4 @@
-//! Laws of the definitions. The contract of each function is the law.
+//! Laws of message types. The contract of each function is the law.
 
 ghost use Rattle.std.specs.Prelude.{◌≡◌, ℕ, ◌%◌, ◌^◌, ◌<◌};
 ghost use Rattle.stun_base.specs.declared.message_type.MessageClass.{MessageClass};
@@ -6,11 +6,12 @@ ghost use Rattle.stun_base.specs.Types.{type_of, class_of, method_of};
 
 use crate::{BINDING, MessageClass, MessageType};
 
-/// A class and the low twelve bits of a method are told by the type that they make, and a type of
-/// fourteen bits is made by what it tells.
+/// The type of a class and a method determines the class and the low twelve bits of the method, and
+/// a type of fourteen bits is that of its class and its method.
 pub fn one_message_type()
     ensures class { (class : MessageClass) (method : ℕ) → class_of (type_of class method) ≡ class }
-    ensures method { (class : MessageClass) (method : ℕ) → method_of (type_of class method) ≡ method % 2 ^ 12 }
+    ensures method { (class : MessageClass) (method : ℕ)
+        → method_of (type_of class method) ≡ method % 2 ^ 12 }
     ensures bits { (class : MessageClass) (method : ℕ) → type_of class method < 2 ^ 14 }
     ensures made { (type : ℕ) → type < 2 ^ 14 → type_of (class_of type) (method_of type) ≡ type }
 {}

@@ -1,5 +1,6 @@
-//! What attributes and messages stand on: bytes that are borrowed or owned, the header of a
-//! message with its type and transaction id, the header of an attribute, and the error types.
+//! What attributes and messages are built on: bytes that are borrowed or owned, the header of a
+//! message with its type and transaction ID, the header of an attribute, transports and address
+//! families, and the error types.
 #![tactic(auto)]
 
 mod attribute_header;

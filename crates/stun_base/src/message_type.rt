@@ -9,8 +9,8 @@ use std::alloc::Global;
 use std::marker::Model;
 use stun_grammar::{StunParseError, StunWriteError};
 
-/// What a message asks or answers: a number below 0xf000, of which a message carries the low
-/// twelve bits.
+/// The method of a message: a number below 0xf000, of which a message carries the low twelve bits
+/// (RFC 8489, section 5).
 #[derive(Clone, Copy, Debug, PartialEq, Eq, PartialOrd, Ord, Hash)]
 pub struct Method(u16);
 
@@ -26,11 +26,11 @@ impl Model for Method {
     ghost inverse = { λ number. record { 0 = number } };
 }
 
-/// The method of a binding request and its answers.
+/// The method of a binding request and its responses (RFC 8489, section 18.2).
 pub const BINDING: Method = Method(0x0001);
 
 impl Method {
-    /// The method of this number, which is below 0xf000 ([`Method::is_valid`] tells).
+    /// The method with this number, which is below 0xf000, as [`Method::is_valid`] tests.
     pub fn new(val: u16) -> Self
         requires { val < 0xf000 }
         ensures { result ≡ val }
@@ -38,7 +38,7 @@ impl Method {
         Method(val)
     }
 
-    /// A method has this number: it is below 0xf000.
+    /// Whether a method can have this number: it is below 0xf000.
     pub fn is_valid(val: u16) -> bool
         ensures { IsTrue result ↔ (val < 0xf000) }
     {
@@ -54,28 +54,28 @@ impl Method {
     }
 }
 
-/// Whether a message asks or answers.
+/// The class of a message (RFC 8489, section 5).
 #[derive(Clone, Copy, Debug, PartialEq, Eq)]
 pub enum MessageClass {
-    /// It asks, and expects an answer.
+    /// A request, which expects a response.
     Request,
-    /// It tells, and expects no answer.
+    /// An indication, which expects none.
     Indication,
-    /// It answers a request that succeeded.
+    /// The response to a request that succeeded.
     Success,
-    /// It answers a request that failed.
+    /// The response to a request that failed.
     Error,
 }
 
 impl MessageClass {
-    /// Success or error.
+    /// Whether the class is that of a response: success or error.
     pub fn is_response(self) -> bool
         ensures { result ≡ responds self }
     {
         matches!(self, MessageClass::Success | MessageClass::Error)
     }
 
-    /// The two bits of the class in their places.
+    /// The two bits of the class, at bits 4 and 8.
     fn to_bits(self) -> u16
         ensures { result ≡ class_bits self }
     {
@@ -88,8 +88,8 @@ impl MessageClass {
     }
 }
 
-/// The type of a message: the first two bytes of its header, big-endian. The two highest bits are
-/// zero; bits 4 and 8 are the class, and the twelve others the method.
+/// The type of a message: the first two bytes of its header, big-endian (RFC 8489, section 5). The
+/// two highest bits are zero, bits 4 and 8 are the class, and the other twelve the method.
 #[derive(Clone, Copy, Debug, PartialEq, Eq)]
 pub struct MessageType(u16);
 
@@ -106,7 +106,7 @@ impl Model for MessageType {
 }
 
 impl MessageType {
-    /// The type of this number.
+    /// The type with this number.
     pub(crate) fn of_number(number: u16) -> Self
         requires { number < 2 ^ 14 }
         ensures { result ≡ number }
@@ -114,7 +114,7 @@ impl MessageType {
         MessageType(number)
     }
 
-    /// The type of a class and a method, of which the low twelve bits are kept.
+    /// The type of a class and a method. Of the method only the low twelve bits are kept.
     pub fn from_class_method(class: MessageClass, method: Method) -> Self
         ensures { result ≡ type_of class method }
     {
@@ -136,14 +136,14 @@ impl MessageType {
         }
     }
 
-    /// The class is this one.
+    /// Whether the class is this one.
     pub fn has_class(self, cls: MessageClass) -> bool
         ensures { IsTrue result ↔ (class_of self ≡ cls) }
     {
         self.class() == cls
     }
 
-    /// The class is success or error.
+    /// Whether the class is that of a response: success or error.
     pub fn is_response(self) -> bool
         ensures { result ≡ responds (class_of self) }
     {
@@ -157,14 +157,15 @@ impl MessageType {
         Method(self.0 % 16 + self.0 / 0x20 % 8 * 16 + self.0 / 0x200 % 32 * 128)
     }
 
-    /// The method is this one.
+    /// Whether the method is this one.
     pub fn has_method(self, method: Method) -> bool
         ensures { IsTrue result ↔ (method_of self ≡ method) }
     {
         self.method() == method
     }
 
-    /// Writes the two bytes at the front of `dest`, which has two or more; the others stay.
+    /// Writes the two bytes at the start of `dest`, which has at least two. The others keep their
+    /// values.
     pub fn write_into(&self, dest: &mut [u8])
         requires { 2 ≤ length dest.old }
         ensures written { dest.new ≡ be16 self.now ++ drop 2 dest.old }
@@ -186,16 +187,19 @@ impl MessageType {
         Vec::from_slice(alloc, &bytes).map_err(|_| StunWriteError::OutOfMemory)
     }
 
-    /// The type in the first two bytes; what follows them isn't looked at.
+    /// Reads the type from the first two bytes. What follows them is not looked at.
     ///
     /// # Errors
     ///
-    /// `Truncated { expected: 2, actual }` where there are fewer than two bytes, and else `NotStun`
-    /// where one of the two highest bits isn't zero.
+    /// `Truncated { expected: 2, actual }` where there are fewer than two bytes. Otherwise
+    /// `NotStun` where one of the two highest bits is not zero.
     pub fn from_bytes(bytes: &[u8]) -> Result<Self, StunParseError>
-        ensures short { length bytes.now < 2 → result ≡ Err (StunParseError.Truncated 2 (length bytes.now)) }
-        ensures foreign { 2 ≤ length bytes.now → 2 ^ 14 ≤ number (slice_range bytes.now 0 2) → result ≡ Err StunParseError.NotStun }
-        ensures ok { 2 ≤ length bytes.now → number (slice_range bytes.now 0 2) < 2 ^ 14 → result ≡ Ok (number (slice_range bytes.now 0 2)) }
+        ensures short { length bytes.now < 2
+            → result ≡ Err (StunParseError.Truncated 2 (length bytes.now)) }
+        ensures foreign { 2 ≤ length bytes.now → 2 ^ 14 ≤ number (slice_range bytes.now 0 2)
+            → result ≡ Err StunParseError.NotStun }
+        ensures ok { 2 ≤ length bytes.now → number (slice_range bytes.now 0 2) < 2 ^ 14
+            → result ≡ Ok (number (slice_range bytes.now 0 2)) }
     {
         if bytes.len() < 2 {
             return Err(StunParseError::Truncated {

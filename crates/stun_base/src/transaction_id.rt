@@ -1,11 +1,17 @@
+ghost use Rattle.std.specs.Prelude.{◌≡◌};
+ghost use Rattle.stun_base.specs.Drawing.{drawn_id};
+
+use rand_core::Rng;
 use std::fmt;
 use std::marker::Model;
 
-/// The number that tells STUN from other protocols: bytes 4 to 8 of each header, big-endian
-/// (RFC 8489, section 5).
+/// The magic cookie, which sets STUN apart from other protocols: four bytes at offset 4 of each
+/// header, big-endian (RFC 8489, section 5).
 pub const MAGIC_COOKIE: u32 = 0x2112_A442;
 
-/// The number by which an answer goes with its request: 96 bits (RFC 8489, section 5).
+/// A transaction ID, by which a response is matched with its request: 96 bits (RFC 8489, section
+/// 5).
+///
 /// It prints in hexadecimal without leading zeros: `0x3e8`.
 #[derive(Clone, Copy, Debug, PartialEq, Eq, PartialOrd, Ord, Hash)]
 pub struct TransactionId {
@@ -24,12 +30,38 @@ impl Model for TransactionId {
     ghost inverse = { λ number. record { id = number } };
 }
 
+impl TransactionId {
+    ghost use Rattle.std.specs.Prelude.{◌^◌, ◌<◌};
+
+    /// A transaction ID drawn from a random number generator: two words of 64 bits, the low half
+    /// first, of which the low 96 bits are kept. It takes no memory.
+    ///
+    /// An ID that others can't guess needs a generator that is cryptographically secure (RFC 8489,
+    /// section 5).
+    pub fn generate<R: Rng>(rng: &mut R) -> TransactionId
+        ensures id { result ≡ (drawn_id (R.stream rng.old)).0 }
+        ensures left { R.stream rng.new ≡ (drawn_id (R.stream rng.old)).1 }
+    {
+        let low = u128::from(rng.next_u64());
+        let high = u128::from(rng.next_u64());
+        TransactionId::from((high << 64) + low)
+    }
+
+    /// The number, of 96 bits.
+    pub fn value(&self) -> u128
+        ensures number { result ≡ self.now }
+        ensures bits { result < 2 ^ 96 }
+    {
+        self.id
+    }
+}
+
 impl From<u128> for TransactionId {
     ghost use Rattle.std.specs.Prelude.{◌≡◌, ◌%◌, ◌^◌};
 
     ghost from_gives = { λ number transaction. transaction ≡ number % 2 ^ 96 };
 
-    /// The id of the low 96 bits.
+    /// The transaction ID of the low 96 bits.
     fn from(id: u128) -> Self {
         TransactionId { id: id % (1 << 96) }
     }
@@ -51,7 +83,7 @@ impl fmt::Display for TransactionId {
 
     ghost output = { λ id. Some (id_text id) };
 
-    #[tactic(auto, using(crate::proofs::HexLaws::digits_in_halves))]
+    #[tactic(auto, using(crate::proofs::HexLemmas::digits_in_halves))]
     fn fmt<W: fmt::Write>(&self, f: &mut fmt::Formatter<W>) -> fmt::Result {
         let high = (self.id >> 64) as u64;
         let low = (self.id % (1 << 64)) as u64;

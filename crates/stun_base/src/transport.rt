@@ -1,10 +1,10 @@
-//! What carries a message, and the families of addresses.
+//! The transports that carry messages, and the families of addresses.
 
 use std::net::{IpAddr, Ipv4Addr, Ipv6Addr, SocketAddr, SocketAddrV4, SocketAddrV6};
 use std::str::FromStr;
 use thiserror::Error;
 
-/// What carries a message.
+/// The transport that carries a message.
 #[derive(Clone, Copy, Debug, PartialEq, Eq)]
 pub enum TransportType {
     /// UDP.
@@ -13,16 +13,19 @@ pub enum TransportType {
     Tcp,
 }
 
-/// Why a text names no transport.
+/// Why a text is not the name of a transport.
 #[derive(Debug, Drop, Error)]
 pub enum ParseTransportTypeError {
-    /// It is neither `udp` nor `tcp`.
+    /// The text is neither `udp` nor `tcp`, in any case of its letters.
     #[error("Unknown transport value was provided")]
     UnknownTransport,
 }
 
-/// The transport of the name `udp` or `tcp`, in which the case of letters makes no difference; else
-/// `UnknownTransport`.
+/// Reads the name `udp` or `tcp`, in any case of its letters.
+///
+/// # Errors
+///
+/// `UnknownTransport` for every other text.
 impl FromStr for TransportType {
     ghost use Rattle.stun_base.specs.Transports.{NamesTransport};
 

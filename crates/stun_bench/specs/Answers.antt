@@ -1,22 +1,23 @@
--- What the driver adds up.
+-- What the measured functions return.
 use Rattle.std.specs.Prelude.{ℕ, ◌+◌, ◌*◌, ◌%◌, ◌^◌, ◌-◌, List, [], ◌∷◌, length, Result, Ok, Err}
 use Rattle.stun_grammar.specs.declared.error.ValidateError.{ValidateError}
 use Rattle.stun_grammar.specs.declared.error.ValidateError.TheVariants.{Parse, IntegrityFailed}
 use Rattle.stun_grammar.specs.declared.integrity_algorithm.IntegrityAlgorithm.{IntegrityAlgorithm}
 use Rattle.stun_grammar.specs.declared.integrity_algorithm.IntegrityAlgorithm.TheVariants.{Sha1, Sha256}
-use Rattle.stun_grammar.specs.Attributes.{Shown}
+use Rattle.stun_grammar.specs.Chains.{Shown}
 
--- the first byte, and 0 where there is none
+-- the first byte, or 0 where there is none
 abbrev pub first_byte : List ℕ → ℕ
 first_byte [] = 0
 first_byte (byte ∷ bytes) = byte
 
--- what was made of the attributes before, and one more, in 64 bits
+-- what was made of the attributes before, mixed with one more, in 64 bits
 abbrev pub mixed : ℕ → Shown → ℕ
 mixed sum attribute =
-    (sum * 31 + attribute.offset + attribute.type * 2 ^ 20 + length attribute.value * 2 ^ 40 + first_byte attribute.value) % 2 ^ 64
+    (sum * 31 + attribute.offset + attribute.type * 2 ^ 20
+    + length attribute.value * 2 ^ 40 + first_byte attribute.value) % 2 ^ 64
 
--- the answer of a workload that can't be run
+-- what a workload returns that can't be run
 abbrev pub none : ℕ
 none = 2 ^ 64 - 1
 

@@ -1,8 +1,8 @@
-//! Keys, and validating with one.
+//! Making keys, and validating with one.
 
 ghost use Rattle.std.specs.Prelude.{◌≡◌, ◌*◌, ◌%◌, ◌^◌, true, ◌⊎◌, None, IfOk, IfSome, string_bytes};
 ghost use Rattle.stun_grammar.specs.declared.integrity_algorithm.IntegrityAlgorithm.{IntegrityAlgorithm};
-ghost use Rattle.stun_grammar.specs.Integrity.{is_wanted, verdict};
+ghost use Rattle.stun_grammar.specs.Verdicts.{is_wanted, verdict};
 ghost use Rattle.stun_keys.specs.Keys.{IsKey, credentials_key, credentials_algorithm};
 ghost use Rattle.stun_bench.specs.Answers.{none, verdict_number};
 
@@ -13,10 +13,10 @@ use stun_types::message::keys::{
 };
 use stun_types::message::{Message, StunWriteError, ValidateError};
 
-/// The answer of a workload that can't be run.
+/// What a workload returns that can't be run.
 pub const NONE: u64 = u64::MAX;
 
-/// A text out of bytes.
+/// Bytes as a string, or `None` where they aren't UTF-8 or an allocation failed.
 fn text(alloc: Global, bytes: &[u8]) -> Option<String>
     ensures { IfSome result (λ made. string_bytes made ≡ bytes.now) }
 {
@@ -31,10 +31,12 @@ pub fn algorithm_of(number: u32) -> IntegrityAlgorithm {
     }
 }
 
-/// The credentials of a password.
+/// The short-term credentials of a password.
 fn short_term(alloc: Global, password: &[u8]) -> Option<MessageIntegrityCredentials>
-    ensures key { IfSome result (λ made. (a : IntegrityAlgorithm) → credentials_key made a ≡ password.now) }
-    ensures free { IfSome result (λ made. (a : IntegrityAlgorithm) → credentials_algorithm made a ≡ None) }
+    ensures key { IfSome result
+        (λ made. (a : IntegrityAlgorithm) → credentials_key made a ≡ password.now) }
+    ensures free { IfSome result
+        (λ made. (a : IntegrityAlgorithm) → credentials_algorithm made a ≡ None) }
 {
     let short = ShortTermCredentials::new(text(alloc, password)?);
     Some(MessageIntegrityCredentials::from(short))
@@ -49,7 +51,7 @@ pub fn short_key(alloc: Global, password: &[u8]) -> Option<IntegrityKey>
         .ok()
 }
 
-/// Whether credentials give the same key twice.
+/// Makes the key of credentials twice, and returns whether both are the same.
 fn same_twice(
     alloc: Global,
     credentials: &MessageIntegrityCredentials,
@@ -62,7 +64,7 @@ fn same_twice(
     Ok(first == second)
 }
 
-/// 1 where the keys are the same.
+/// 1 where the keys are the same, and `NONE` where an allocation failed.
 fn answer_of(same: Result<bool, StunWriteError>) -> u64
     requires { IfOk same (λ same. same ≡ true) }
     ensures { (result ≡ 1) ⊎ (result ≡ none) }
@@ -73,7 +75,7 @@ fn answer_of(same: Result<bool, StunWriteError>) -> u64
     }
 }
 
-/// The short-term key of a password, made twice.
+/// Makes the short-term key of a password twice: 1 where both are the same.
 #[unsafe(no_mangle)]
 pub extern "C" fn stun_bench_short_key(alloc: Global, password: &[u8]) -> u64
     ensures { (result ≡ 1) ⊎ (result ≡ none) }
@@ -84,7 +86,7 @@ pub extern "C" fn stun_bench_short_key(alloc: Global, password: &[u8]) -> u64
     }
 }
 
-/// The credentials of a username and a password in a realm.
+/// The long-term credentials of a username, a realm and a password.
 fn long_term(
     alloc: Global,
     user: &[u8],
@@ -98,7 +100,7 @@ fn long_term(
     Some(MessageIntegrityCredentials::from(long))
 }
 
-/// The long-term key of a username, a realm and a password, made twice.
+/// Makes the long-term key of a username, a realm and a password twice: 1 where both are the same.
 #[unsafe(no_mangle)]
 pub extern "C" fn stun_bench_long_key(
     alloc: Global,
@@ -115,7 +117,7 @@ pub extern "C" fn stun_bench_long_key(
     }
 }
 
-/// The number of a verdict.
+/// The number of a verdict: 1 for SHA-1, 2 for SHA-256, 3 for a wrong HMAC, 4 for the other errors.
 fn verdict_of(answer: Result<IntegrityAlgorithm, ValidateError>) -> u64
     ensures { result ≡ verdict_number answer }
 {
@@ -127,7 +129,8 @@ fn verdict_of(answer: Result<IntegrityAlgorithm, ValidateError>) -> u64
     }
 }
 
-/// Parses a message and makes the short-term key of a password, and then validates so often.
+/// Parses a message, makes the short-term key of a password, validates the message with it `rounds`
+/// times, and returns the sum of the verdicts' numbers.
 #[unsafe(no_mangle)]
 pub extern "C" fn stun_bench_validate(
     alloc: Global,
@@ -135,7 +138,9 @@ pub extern "C" fn stun_bench_validate(
     password: &[u8],
     rounds: u64,
 ) -> u64
-    ensures { (result ≡ none) ⊎ (result ≡ (rounds * verdict_number (verdict (is_wanted None) (λ _. password.now) message.now)) % 2 ^ 64) }
+    ensures { (result ≡ none) ⊎ (result
+        ≡ (rounds * verdict_number (verdict (is_wanted None) (λ _. password.now) message.now))
+        % 2 ^ 64) }
 {
     let Ok(parsed) = Message::from_bytes(message) else {
         return NONE;

@@ -1,5 +1,5 @@
-//! The functions of `bench/stun_bench.h`, which the driver of `bench/` measures, over what
-//! `stun_types` offers to everybody.
+//! The functions of `bench/stun_bench.h`, which the driver of `bench/` measures. They use the
+//! public items of `stun_types`, and the CRC-32 of `stun_keys`.
 #![tactic(auto)]
 
 mod keys;

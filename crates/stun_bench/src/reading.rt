@@ -1,8 +1,9 @@
-//! Reading a message, and the checksum of bytes.
+//! Parsing a message, iterating over its attributes, and the checksum of bytes.
 
 ghost use Rattle.std.specs.Prelude.{◌≡◌, ◌+◌, ◌^◌, ◌≤◌, MatchOption, fold, length, take};
 ghost use Rattle.stun_grammar.specs.Checksums.{crc};
-ghost use Rattle.stun_grammar.specs.Messages.{parse_fault, shown};
+ghost use Rattle.stun_grammar.specs.Parsing.{parse_fault};
+ghost use Rattle.stun_grammar.specs.Showing.{shown};
 ghost use Rattle.stun_grammar.specs.Numbers.{number};
 ghost use Rattle.stun_attrs.specs.Raw.{raw_type, raw_value};
 ghost use Rattle.stun_bench.specs.Answers.{mixed};
@@ -11,8 +12,9 @@ use stun_keys::digest::crc32;
 use stun_types::attribute::RawAttribute;
 use stun_types::message::{Message, MessageAttributesIter};
 
-/// The first four bytes of a message, which are its type and its length field.
-fn front(bytes: &[u8]) -> u32
+/// The first four bytes of a message, its type and its length field, as one number; 0 where there
+/// are fewer.
+fn prefix(bytes: &[u8]) -> u32
     ensures { 4 ≤ length bytes.now → result ≡ number (take 4 bytes.now) }
 {
     match bytes {
@@ -23,21 +25,27 @@ fn front(bytes: &[u8]) -> u32
     }
 }
 
-/// Parses: 0 where the bytes are refused.
-#[tactic(auto, using(crate::proofs::Fronts::parsed_front))]
+/// Parses a message: 2^40 plus the number of its first four bytes, or 0 where the bytes are
+/// refused.
+#[tactic(auto, using(crate::proofs::PrefixesLemmas::parsed_prefix))]
 #[unsafe(no_mangle)]
 pub extern "C" fn stun_bench_parse(message: &[u8]) -> u64
-    ensures { MatchOption (parse_fault message.now) (result ≡ 2 ^ 40 + number (take 4 message.now)) (λ _. result ≡ 0) }
+    ensures { MatchOption (parse_fault message.now)
+        (result ≡ 2 ^ 40 + number (take 4 message.now)) (λ _. result ≡ 0) }
 {
     match Message::from_bytes(message) {
-        Ok(parsed) => (1 << 40) + u64::from(front(parsed.as_bytes())),
+        Ok(parsed) => (1 << 40) + u64::from(prefix(parsed.as_bytes())),
         Err(_) => 0,
     }
 }
 
-/// What was made of the attributes before, and one more.
+/// Mixes one more attribute into what was made of those before.
 fn mix(sum: u64, offset: usize, attribute: &RawAttribute<'_>) -> u64
-    ensures { result ≡ mixed sum (record { offset = offset; type = raw_type attribute.now; value = raw_value attribute.now }) }
+    ensures { result ≡ mixed sum (record {
+      offset = offset;
+      type = raw_type attribute.now;
+      value = raw_value attribute.now;
+    }) }
 {
     let value = attribute.value().as_bytes();
     let first = value.first().copied().unwrap_or(0);
@@ -49,7 +57,7 @@ fn mix(sum: u64, offset: usize, attribute: &RawAttribute<'_>) -> u64
         .wrapping_add(u64::from(first))
 }
 
-/// Goes over the attributes that are shown.
+/// Iterates over the attributes that are shown, and mixes them into one number.
 #[unsafe(no_mangle)]
 pub extern "C" fn stun_bench_iterate(message: &[u8]) -> u64
     ensures { result ≡ fold mixed 0 (shown message.now) }
@@ -61,7 +69,7 @@ pub extern "C" fn stun_bench_iterate(message: &[u8]) -> u64
     sum
 }
 
-/// CRC-32 of bytes.
+/// The CRC-32 of bytes.
 #[unsafe(no_mangle)]
 pub extern "C" fn stun_bench_crc(bytes: &[u8]) -> u64
     ensures { result ≡ crc bytes.now }

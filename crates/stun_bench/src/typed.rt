@@ -1,4 +1,4 @@
-//! Attributes that are read out of their values.
+//! Reading typed attributes.
 
 use std::alloc::Global;
 use std::net::SocketAddr;
@@ -6,7 +6,8 @@ use stun_types::attribute::{AttributeType, ErrorCode, RawAttribute, Software, Xo
 use stun_types::message::{StunParseError, TransactionId};
 use stun_types::prelude::*;
 
-/// The port and the IPv4 address of an XOR-MAPPED-ADDRESS in a check.
+/// The port (above the low 32 bits) and the IPv4 address of an XOR-MAPPED-ADDRESS in a check, or 0
+/// for an IPv6 address.
 fn address_answer(alloc: Global, raw: &RawAttribute<'_>) -> Result<u64, StunParseError> {
     let mapped = XorMappedAddress::from_raw_ref(alloc, raw)?;
     let id = TransactionId::from(0x0102_0304_0506_0708_090A_0B0C);
@@ -20,7 +21,7 @@ fn address_answer(alloc: Global, raw: &RawAttribute<'_>) -> Result<u64, StunPars
     }
 }
 
-/// The length of a SOFTWARE, and its first and its last byte added.
+/// The length of a SOFTWARE (above the low 32 bits), and the sum of its first and its last byte.
 fn software_answer(alloc: Global, raw: &RawAttribute<'_>) -> Result<u64, StunParseError> {
     let software = Software::from_raw_ref(alloc, raw)?;
     let text = software.software().as_bytes();
@@ -29,13 +30,14 @@ fn software_answer(alloc: Global, raw: &RawAttribute<'_>) -> Result<u64, StunPar
     Ok(((text.len() as u64) << 32) | (first + last))
 }
 
-/// The code of an ERROR-CODE, and the length of its reason.
+/// The code of an ERROR-CODE (above the low 32 bits), and the length of its reason.
 fn error_answer(alloc: Global, raw: &RawAttribute<'_>) -> Result<u64, StunParseError> {
     let error = ErrorCode::from_raw_ref(alloc, raw)?;
     Ok((u64::from(error.code()) << 32) | (error.reason().len() as u64))
 }
 
-/// Reads an attribute of this type and value, and asks it: 0 where it is refused.
+/// Reads an attribute of this type and value, and returns what it holds as a number: 0 where it is
+/// refused.
 #[unsafe(no_mangle)]
 pub extern "C" fn stun_bench_typed(alloc: Global, atype: u32, value: &[u8]) -> u64 {
     let Ok(number) = u16::try_from(atype) else {

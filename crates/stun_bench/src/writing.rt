@@ -2,7 +2,8 @@
 
 ghost use Rattle.std.specs.Prelude.{◌≡◌, ◌≤◌, [], length};
 ghost use Rattle.stun_attrs.specs.Raw.{raw_type};
-ghost use Rattle.stun_types.specs.Writing.{Fits, IsOrdinary};
+ghost use Rattle.stun_grammar.specs.Adding.{Fits};
+ghost use Rattle.stun_grammar.specs.AttributeTypes.{IsOrdinary};
 
 use crate::keys::{NONE, algorithm_of, short_key};
 use std::alloc::Global;
@@ -13,10 +14,10 @@ use stun_types::message::{
 };
 use stun_types::prelude::*;
 
-/// PRIORITY.
+/// The value of PRIORITY.
 const PRIORITY: [u8; 4] = [0x6E, 0x00, 0x01, 0xFF];
 
-/// ICE-CONTROLLED.
+/// The value of ICE-CONTROLLED.
 const CONTROLLED: [u8; 8] = [0x93, 0x2F, 0xF9, 0xB1, 0x51, 0x26, 0x3B, 0x36];
 
 /// Adds an attribute of an ordinary type.
@@ -26,23 +27,19 @@ fn add<B: MessageWrite>(message: &mut B, attribute: &RawAttribute<'_>) -> Result
     message.add_attribute(attribute)
 }
 
-/// Adds an attribute of type 0x0024.
+/// Adds a PRIORITY (0x0024).
 fn add_priority<B: MessageWrite>(message: &mut B) -> Result<(), StunWriteError> {
-    let priority = RawAttribute::new(AttributeType(0x0024), &PRIORITY).map_err(
-        |_| StunWriteError::OutOfMemory,
-    )?;
+    let priority = RawAttribute::new(AttributeType(0x0024), &PRIORITY)?;
     add(message, &priority)
 }
 
-/// Adds an attribute of type 0x8029.
+/// Adds an ICE-CONTROLLED (0x8029).
 fn add_controlled<B: MessageWrite>(message: &mut B) -> Result<(), StunWriteError> {
-    let controlled = RawAttribute::new(AttributeType(0x8029), &CONTROLLED).map_err(
-        |_| StunWriteError::OutOfMemory,
-    )?;
+    let controlled = RawAttribute::new(AttributeType(0x8029), &CONTROLLED)?;
     add(message, &controlled)
 }
 
-/// Adds the attributes of a check that any sender may write.
+/// Adds the attributes of a check without integrity.
 fn add_plain<B: MessageWrite>(message: &mut B, username: &Username) -> Result<(), StunWriteError> {
     message.add_attribute(username)?;
     add_priority(message)?;
@@ -61,17 +58,17 @@ fn add_signed<B: MessageWrite>(
     message.add_fingerprint()
 }
 
-/// A binding request.
+/// The type of a binding request.
 fn binding() -> MessageType {
     MessageType::from_class_method(MessageClass::Request, BINDING)
 }
 
-/// The transaction id of a check.
+/// The transaction ID of a check.
 fn id() -> TransactionId {
     TransactionId::from(0x0102_0304_0506_0708_090A_0B0C)
 }
 
-/// The number of bytes and the last four of them.
+/// The number of bytes (above the low 32 bits), and the last four of them.
 fn answer_of(message: &[u8]) -> u64 {
     let last = match message {
         [.., first, second, third, fourth] => {
@@ -82,12 +79,12 @@ fn answer_of(message: &[u8]) -> u64 {
     ((message.len() as u64) << 32) | u64::from(last)
 }
 
-/// The username of a text.
+/// A USERNAME, or `None` where the bytes can't be one or an allocation failed.
 fn username_of(alloc: Global, user: &[u8]) -> Option<Username> {
     Username::new(alloc, str::from_utf8(user).ok()?).ok()
 }
 
-/// A signed check in a vector.
+/// Writes a signed check into a vector.
 fn signed_vector(
     alloc: Global,
     username: &Username,
@@ -100,7 +97,7 @@ fn signed_vector(
     Ok(message.finish())
 }
 
-/// A check without integrity in a vector.
+/// Writes a check without integrity into a vector.
 fn plain_vector(alloc: Global, username: &Username) -> Result<Vec<u8>, StunWriteError> {
     let write = MessageWriteVec::with_capacity(alloc, 128)?;
     let mut message = Message::builder(binding(), id(), write)?;
@@ -108,7 +105,7 @@ fn plain_vector(alloc: Global, username: &Username) -> Result<Vec<u8>, StunWrite
     Ok(message.finish())
 }
 
-/// A signed check in a slice.
+/// Writes a signed check into a slice, and returns its length.
 fn signed_slice(
     alloc: Global,
     username: &Username,
@@ -124,7 +121,7 @@ fn signed_slice(
     Ok(message.finish())
 }
 
-/// A check without integrity in a slice.
+/// Writes a check without integrity into a slice, and returns its length.
 fn plain_slice(
     alloc: Global,
     username: &Username,
@@ -138,7 +135,7 @@ fn plain_slice(
     Ok(message.finish())
 }
 
-/// What a signed check in a vector answers.
+/// The number of a signed check that is written into a vector, or `NONE`.
 fn signed_vector_answer(alloc: Global, user: &[u8], key: &IntegrityKey, algorithm: u32) -> u64 {
     let Some(username) = username_of(alloc, user) else {
         return NONE;
@@ -149,7 +146,7 @@ fn signed_vector_answer(alloc: Global, user: &[u8], key: &IntegrityKey, algorith
     }
 }
 
-/// What a signed check in a slice answers.
+/// The number of a signed check that is written into a slice, or `NONE`.
 fn signed_slice_answer(
     alloc: Global,
     user: &[u8],
@@ -167,7 +164,7 @@ fn signed_slice_answer(
     slice_answer(destination, written)
 }
 
-/// What a written slice answers.
+/// The number of the message written into a slice, or `NONE`.
 fn slice_answer(destination: &[u8], written: Result<usize, StunWriteError>) -> u64 {
     match written.map(|count| destination.get(..count)) {
         Ok(Some(message)) => answer_of(message),
@@ -175,7 +172,7 @@ fn slice_answer(destination: &[u8], written: Result<usize, StunWriteError>) -> u
     }
 }
 
-/// A check without integrity, in a vector that has room for 128 bytes.
+/// Writes a check without integrity into a vector with 128 bytes ready, and returns its number.
 #[unsafe(no_mangle)]
 pub extern "C" fn stun_bench_write_plain_vec(alloc: Global, user: &[u8]) -> u64 {
     let Some(username) = username_of(alloc, user) else {
@@ -187,7 +184,7 @@ pub extern "C" fn stun_bench_write_plain_vec(alloc: Global, user: &[u8]) -> u64 
     }
 }
 
-/// A check without integrity, in a lent slice.
+/// Writes a check without integrity into the slice `destination`, and returns its number.
 #[unsafe(no_mangle)]
 pub extern "C" fn stun_bench_write_plain_slice(
     alloc: Global,
@@ -204,8 +201,8 @@ pub extern "C" fn stun_bench_write_plain_slice(
     slice_answer(destination, written)
 }
 
-/// Makes the short-term key of a password, and then a signed check so often, each time in a new
-/// vector that has room for 128 bytes.
+/// Makes the short-term key of a password, writes a signed check `rounds` times, each time into a
+/// new vector with 128 bytes ready, and returns the sum of their numbers.
 #[unsafe(no_mangle)]
 pub extern "C" fn stun_bench_write_vec(
     alloc: Global,
@@ -224,7 +221,7 @@ pub extern "C" fn stun_bench_write_vec(
     sum
 }
 
-/// The same in a lent slice.
+/// As [`stun_bench_write_vec`], into the slice `destination` each time.
 #[unsafe(no_mangle)]
 pub extern "C" fn stun_bench_write_slice(
     alloc: Global,

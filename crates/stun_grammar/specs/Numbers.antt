@@ -1,4 +1,5 @@
--- Numbers as bytes, the most significant byte first, and the boundary of four bytes (RFC 8489, sections 5 and 14).
+-- Numbers in network byte order, the most significant byte first, and the padding to multiples of
+-- four bytes (RFC 8489, sections 5 and 14).
 use Rattle.std.specs.Prelude.{ℕ, ◌+◌, ◌*◌, ◌/◌, ◌<◌, List, fold}
 use Rattle.std.specs.Int.{w16, w32, to_be_bytes, bytes_high_first}
 use Rattle.std.specs.List.{AllByRecursion}
@@ -15,14 +16,14 @@ be32 = to_be_bytes w32
 abbrev pub be96 : ℕ → List ℕ
 be96 = bytes_high_first 12
 
--- the number that bytes spell
+-- the number that bytes encode
 abbrev pub number : List ℕ → ℕ
 number = fold (λ high byte. 256 * high + byte) 0
 
--- the least multiple of 4 that isn't below n
+-- the least multiple of 4 that is at least n
 abbrev pub padded_length : ℕ → ℕ
 padded_length n = 4 * ((n + 3) / 4)
 
--- each member of the list is a byte
+-- each number of the list is a byte
 abbrev pub IsBytes : List ℕ → Type 0
 IsBytes = AllByRecursion (λ byte. byte < 256)

@@ -1,6 +1,7 @@
 ghost use Rattle.std.specs.Prelude.{◌≡◌, ◌↔◌, ◌<◌, IsTrue};
 ghost use Rattle.stun_grammar.specs.Names.{attribute_name};
 
+use crate::attribute_types;
 use std::fmt;
 
 /// The type of an attribute: 16 bits (RFC 8489, section 14).
@@ -10,46 +11,47 @@ use std::fmt;
 pub struct AttributeType(pub u16);
 
 impl AttributeType {
-    /// The type of this number.
+    /// The attribute type with this number.
     pub fn new(val: u16) -> Self
         ensures { result.0 ≡ val }
     {
         AttributeType(val)
     }
 
-    /// The number of this type.
+    /// The number.
     pub fn value(&self) -> u16
         ensures { result ≡ self.now.0 }
     {
         self.0
     }
 
-    /// The name that RFC 8489, section 18.3, gives this type, and `unknown` for every other.
+    /// The name of this type (RFC 8489, section 18.3), and `unknown` for a type that has none
+    /// there. The name of 0x8002 is spelled `PASSWORD_ALGORITHMS`.
     pub fn name(self) -> &'static str
         ensures { result.now ≡ attribute_name self.0 }
     {
         match self.0 {
-            0x0001 => "MAPPED-ADDRESS",
-            0x0006 => "USERNAME",
-            0x0008 => "MESSAGE-INTEGRITY",
-            0x0009 => "ERROR-CODE",
-            0x000A => "UNKNOWN-ATTRIBUTES",
-            0x0014 => "REALM",
-            0x0015 => "NONCE",
-            0x001C => "MESSAGE-INTEGRITY-SHA256",
-            0x001D => "PASSWORD-ALGORITHM",
-            0x001E => "USERHASH",
-            0x0020 => "XOR-MAPPED-ADDRESS",
-            0x8002 => "PASSWORD_ALGORITHMS",
-            0x8003 => "ALTERNATE-DOMAIN",
-            0x8022 => "SOFTWARE",
-            0x8023 => "ALTERNATE-SERVER",
-            0x8028 => "FINGERPRINT",
+            attribute_types::MAPPED_ADDRESS => "MAPPED-ADDRESS",
+            attribute_types::USERNAME => "USERNAME",
+            attribute_types::MESSAGE_INTEGRITY => "MESSAGE-INTEGRITY",
+            attribute_types::ERROR_CODE => "ERROR-CODE",
+            attribute_types::UNKNOWN_ATTRIBUTES => "UNKNOWN-ATTRIBUTES",
+            attribute_types::REALM => "REALM",
+            attribute_types::NONCE => "NONCE",
+            attribute_types::MESSAGE_INTEGRITY_SHA256 => "MESSAGE-INTEGRITY-SHA256",
+            attribute_types::PASSWORD_ALGORITHM => "PASSWORD-ALGORITHM",
+            attribute_types::USERHASH => "USERHASH",
+            attribute_types::XOR_MAPPED_ADDRESS => "XOR-MAPPED-ADDRESS",
+            attribute_types::PASSWORD_ALGORITHMS => "PASSWORD_ALGORITHMS",
+            attribute_types::ALTERNATE_DOMAIN => "ALTERNATE-DOMAIN",
+            attribute_types::SOFTWARE => "SOFTWARE",
+            attribute_types::ALTERNATE_SERVER => "ALTERNATE-SERVER",
+            attribute_types::FINGERPRINT => "FINGERPRINT",
             _ => "unknown",
         }
     }
 
-    /// Whoever reads a message must understand attributes of this type: it is below 0x8000
+    /// Whether attributes of this type are comprehension-required: the number is below 0x8000
     /// (RFC 8489, section 14).
     pub fn comprehension_required(self) -> bool
         ensures { IsTrue result ↔ (self.0 < 0x8000) }

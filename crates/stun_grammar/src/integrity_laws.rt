@@ -1,116 +1,164 @@
-//! The laws of what an integrity attribute authenticates, and of messages that are signed. Each
-//! function does nothing: its contract is the law.
+//! The laws of what an integrity attribute authenticates, and of signed messages. Each function
+//! does nothing: its contract is the law.
 //!
-//! `Validates made_for key d c algorithm` says that a validation of the bytes `d` answers `algorithm`,
-//! and that `c` is the text that was covered. `key` gives each algorithm its key, and `made_for` is the
-//! algorithm that the key was made for, if it was made for one.
+//! `Validates made_for key d c algorithm` says that validation of the bytes `d` returns
+//! `algorithm`, and that the attribute that was checked covers the bytes `c`. `key` gives each
+//! algorithm its key, and `made_for` is the algorithm that the key was made for, if it was made for
+//! one.
 
 ghost use Rattle.std.specs.Prelude.{◌≡◌, ℕ, ◌+◌, ◌^◌, ◌<◌, ◌↔◌, ◌⊎◌, Bool, true, false, ◌==◌, List, [], ◌∷◌, ◌++◌, length, find, Option, Some, None, IfSome, Ok};
 ghost use Rattle.std.specs.List.{AllByRecursion, list_any};
 ghost use Rattle.stun_grammar.specs.Numbers.{padded_length, IsBytes};
-ghost use Rattle.stun_grammar.specs.Attributes.{Attribute, placed, types};
-ghost use Rattle.stun_grammar.specs.Shapes.{FINGERPRINT};
-ghost use Rattle.stun_grammar.specs.Messages.{parse_fault, shown, first_fingerprint_fault};
-ghost use Rattle.stun_grammar.specs.Integrity.{type_of_algorithm, is_wanted, last_shown, verdict, Validates, IsLocal, content, content_through, shows_fingerprint, authentic, authentic_fingerprint, authentic_shown, Carries, CarriesFront};
-ghost use Rattle.stun_grammar.specs.Writing.{message_text, IsWritable};
-ghost use Rattle.stun_grammar.specs.Steps.{Step, sign, with_step, Sent, body, sent_text, IsLawful, IsOrdinary, value_length, MayFollow, IsLawfulSent, IsAccepted, is_signing};
+ghost use Rattle.stun_grammar.specs.Attributes.{Attribute, types};
+ghost use Rattle.stun_grammar.specs.Chains.{placed};
+ghost use Rattle.stun_grammar.specs.AttributeTypes.{FINGERPRINT};
+ghost use Rattle.stun_grammar.specs.Parsing.{parse_fault};
+ghost use Rattle.stun_grammar.specs.Showing.{shown};
+ghost use Rattle.stun_grammar.specs.Fingerprints.{first_fingerprint_fault};
+ghost use Rattle.stun_grammar.specs.Verdicts.{type_of_algorithm, is_wanted, last_shown, verdict, Validates};
+ghost use Rattle.stun_grammar.specs.Authentic.{IsLocal, content, content_through, shows_fingerprint, authentic, authentic_fingerprint, authentic_shown};
+ghost use Rattle.stun_grammar.specs.Carrying.{Carries, CarriesPrefix};
+ghost use Rattle.stun_grammar.specs.Writing.{message_encoding, IsWritable};
+ghost use Rattle.stun_grammar.specs.Steps.{Step, sign, with_step, IsLawful, IsOrdinaryStep, value_length, is_signing};
+ghost use Rattle.stun_grammar.specs.Sending.{Sent, body, sent_encoding, MayFollow, IsLawfulSent, IsAccepted};
 ghost use Rattle.stun_grammar.specs.Origin.{Signature, signed, told, IsUnsigned, ComesFrom};
 ghost use Rattle.stun_grammar.specs.declared.integrity_algorithm.IntegrityAlgorithm.{IntegrityAlgorithm};
 
-/// What a message tells that validates is told by covered text, key and algorithm: its type, its id
-/// and all that is shown, but for the presence of a FINGERPRINT.
+/// The content of a message that validates is determined by the covered bytes, the key and the
+/// algorithm: its type, its transaction ID and all attributes shown, except whether a FINGERPRINT
+/// is among them.
 pub fn integrity_is_local()
-    // type, id and all that is shown but a FINGERPRINT
-    ensures told { (key : IntegrityAlgorithm → List ℕ) (d c : List ℕ) (a : IntegrityAlgorithm) → IsBytes d
-        → Validates None key d c a → content d ≡ authentic c (key a) a }
-    // the same, said of the verdict alone: where it is Ok, a text was covered
-    ensures verdict { (key : IntegrityAlgorithm → List ℕ) (d : List ℕ) (a : IntegrityAlgorithm) → IsBytes d
-        → verdict (is_wanted None) key d ≡ Ok a → IsLocal d (key a) a }
+    // type, transaction ID and all attributes shown but a FINGERPRINT
+    ensures told { (key : IntegrityAlgorithm → List ℕ) (d c : List ℕ) (a : IntegrityAlgorithm)
+        → IsBytes d → Validates None key d c a → content d ≡ authentic c (key a) a }
+    // the same from the verdict alone: where it is Ok, some bytes were covered
+    ensures verdict { (key : IntegrityAlgorithm → List ℕ) (d : List ℕ) (a : IntegrityAlgorithm)
+        → IsBytes d → verdict (is_wanted None) key d ≡ Ok a → IsLocal d (key a) a }
     // a FINGERPRINT that is shown
-    ensures fingerprint { (key : IntegrityAlgorithm → List ℕ) (d c : List ℕ) (a : IntegrityAlgorithm) → IsBytes d → parse_fault d ≡ None
-        → Validates None key d c a → IfSome (find (λ x. x.type == FINGERPRINT) (shown d)) (λ x. x ≡ authentic_fingerprint c (key a) a) }
-    // all that is shown, but for a FINGERPRINT's presence
-    ensures whole { (key : IntegrityAlgorithm → List ℕ) (d c : List ℕ) (a : IntegrityAlgorithm) → IsBytes d → parse_fault d ≡ None
-        → Validates None key d c a → shown d ≡ authentic_shown c (key a) a (shows_fingerprint d) }
-    // so two messages in which one text was covered tell the same
-    ensures same { (key : IntegrityAlgorithm → List ℕ) (d e c : List ℕ) (a : IntegrityAlgorithm) → IsBytes d → IsBytes e
+    ensures fingerprint { (key : IntegrityAlgorithm → List ℕ) (d c : List ℕ)
+        (a : IntegrityAlgorithm)
+        → IsBytes d → parse_fault d ≡ None → Validates None key d c a
+        → IfSome (find (λ x. x.type == FINGERPRINT) (shown d))
+        (λ x. x ≡ authentic_fingerprint c (key a) a) }
+    // all attributes shown, given whether a FINGERPRINT is among them
+    ensures whole { (key : IntegrityAlgorithm → List ℕ) (d c : List ℕ) (a : IntegrityAlgorithm)
+        → IsBytes d → parse_fault d ≡ None → Validates None key d c a
+        → shown d ≡ authentic_shown c (key a) a (shows_fingerprint d) }
+    // so two messages with the same covered bytes have the same content
+    ensures same { (key : IntegrityAlgorithm → List ℕ) (d e c : List ℕ) (a : IntegrityAlgorithm)
+        → IsBytes d → IsBytes e
         → Validates None key d c a → Validates None key e c a → content d ≡ content e }
-    ensures same_shown { (key : IntegrityAlgorithm → List ℕ) (d e c : List ℕ) (a : IntegrityAlgorithm) → IsBytes d → IsBytes e → parse_fault d ≡ None → parse_fault e ≡ None
-        → Validates None key d c a → Validates None key e c a → shows_fingerprint d ≡ shows_fingerprint e → shown d ≡ shown e }
+    ensures same_shown { (key : IntegrityAlgorithm → List ℕ) (d e c : List ℕ)
+        (a : IntegrityAlgorithm)
+        → IsBytes d → IsBytes e → parse_fault d ≡ None → parse_fault e ≡ None
+        → Validates None key d c a → Validates None key e c a
+        → shows_fingerprint d ≡ shows_fingerprint e → shown d ≡ shown e }
 {}
 
-/// A message that is parsed validates with a covered text exactly if it carries that text and its
-/// HMAC. Only the two bytes of its length field, and what stands behind the integrity attribute that
-/// was checked, are free.
+/// A message that parses validates with given covered bytes exactly if it carries those bytes and
+/// their HMAC. Only the two bytes of its length field, and whatever follows the integrity attribute
+/// that was checked, are free.
 pub fn integrity_is_exact()
-    ensures { (key : IntegrityAlgorithm → List ℕ) (d c : List ℕ) (a : IntegrityAlgorithm) → IsBytes d → parse_fault d ≡ None
+    ensures { (key : IntegrityAlgorithm → List ℕ) (d c : List ℕ) (a : IntegrityAlgorithm)
+        → IsBytes d → parse_fault d ≡ None
         → Validates None key d c a ↔ Carries d c (key a) a }
 {}
 
-/// The same after a validation with a key, of the front of what is shown that ends with the attribute
-/// that was checked. With a key that was made for no algorithm that is the last integrity attribute.
+/// The same for validation with a key, of the attributes shown up to and including the one that was
+/// checked. With a key that was made for no one algorithm that is the last integrity attribute.
 pub fn integrity_is_local_with_key()
-    // type, id and what is shown through the attribute that was checked
-    ensures told { (made_for : Option IntegrityAlgorithm) (key : IntegrityAlgorithm → List ℕ) (d c : List ℕ) (a : IntegrityAlgorithm) → IsBytes d
-        → Validates made_for key d c a → content_through (is_wanted made_for) d ≡ authentic c (key a) a }
-    // a FINGERPRINT, where no integrity attribute is shown behind the one that was checked
-    ensures fingerprint { (made_for : Option IntegrityAlgorithm) (key : IntegrityAlgorithm → List ℕ) (d c : List ℕ) (a : IntegrityAlgorithm) → IsBytes d → parse_fault d ≡ None
+    // type, transaction ID and the attributes shown through the one that was checked
+    ensures told { (made_for : Option IntegrityAlgorithm) (key : IntegrityAlgorithm → List ℕ)
+        (d c : List ℕ) (a : IntegrityAlgorithm)
+        → IsBytes d → Validates made_for key d c a
+        → content_through (is_wanted made_for) d ≡ authentic c (key a) a }
+    // a FINGERPRINT, where no integrity attribute is shown after the one that was checked
+    ensures fingerprint { (made_for : Option IntegrityAlgorithm) (key : IntegrityAlgorithm → List ℕ)
+        (d c : List ℕ) (a : IntegrityAlgorithm)
+        → IsBytes d → parse_fault d ≡ None
         → last_shown (is_wanted None) d ≡ last_shown (is_wanted made_for) d
-        → Validates made_for key d c a → IfSome (find (λ x. x.type == FINGERPRINT) (shown d)) (λ x. x ≡ authentic_fingerprint c (key a) a) }
-    // so two messages in which one text was covered tell the same
-    ensures same { (made_for : Option IntegrityAlgorithm) (key : IntegrityAlgorithm → List ℕ) (d e c : List ℕ) (a : IntegrityAlgorithm) → IsBytes d → IsBytes e
-        → Validates made_for key d c a → Validates made_for key e c a → content_through (is_wanted made_for) d ≡ content_through (is_wanted made_for) e }
+        → Validates made_for key d c a
+        → IfSome (find (λ x. x.type == FINGERPRINT) (shown d))
+        (λ x. x ≡ authentic_fingerprint c (key a) a) }
+    // so two messages with the same covered bytes have the same content
+    ensures same { (made_for : Option IntegrityAlgorithm) (key : IntegrityAlgorithm → List ℕ)
+        (d e c : List ℕ) (a : IntegrityAlgorithm)
+        → IsBytes d → IsBytes e
+        → Validates made_for key d c a → Validates made_for key e c a
+        → content_through (is_wanted made_for) d ≡ content_through (is_wanted made_for) e }
 {}
 
-/// A key that was made for an algorithm validates as of that one alone, and exactly the messages that
-/// carry a covered text and its HMAC, whatever follows.
+/// A key that was made for one algorithm validates with that algorithm only, and validates exactly
+/// the messages that carry covered bytes and their HMAC, whatever follows.
 pub fn integrity_is_exact_with_key()
-    ensures own { (made_for a : IntegrityAlgorithm) (key : IntegrityAlgorithm → List ℕ) (d c : List ℕ) → IsBytes d
-        → Validates (Some made_for) key d c a → a ≡ made_for }
-    ensures exact { (key : IntegrityAlgorithm → List ℕ) (d c : List ℕ) (a : IntegrityAlgorithm) → IsBytes d → parse_fault d ≡ None
-        → Validates (Some a) key d c a ↔ CarriesFront d c (key a) a }
+    ensures own { (made_for a : IntegrityAlgorithm) (key : IntegrityAlgorithm → List ℕ)
+        (d c : List ℕ)
+        → IsBytes d → Validates (Some made_for) key d c a → a ≡ made_for }
+    ensures exact { (key : IntegrityAlgorithm → List ℕ) (d c : List ℕ) (a : IntegrityAlgorithm)
+        → IsBytes d → parse_fault d ≡ None
+        → Validates (Some a) key d c a ↔ CarriesPrefix d c (key a) a }
 {}
 
-/// Of whatever messages were sent: no sender signed the text that was covered with that key and
-/// algorithm, or what is told is what one of the messages tells through an integrity attribute that
-/// signs it. Nothing here says that nobody but a sender can sign.
+/// Whatever messages were sent: either no sender signed the covered bytes with that key and
+/// algorithm, or the content is that of one of the messages, through an integrity attribute that
+/// signs those bytes. That nobody but a sender can sign is not claimed.
 pub fn integrity_has_origin()
-    ensures origin { (key : IntegrityAlgorithm → List ℕ) (d c : List ℕ) (a : IntegrityAlgorithm) (sent : List Sent) → IsBytes d → AllByRecursion IsLawfulSent sent
-        → Validates None key d c a → IsUnsigned sent (key a) a c ⊎ ComesFrom sent (key a) a c (content d) }
-    // after a validation with a key, of what is shown through the attribute that was checked
-    ensures with_key { (made_for : Option IntegrityAlgorithm) (key : IntegrityAlgorithm → List ℕ) (d c : List ℕ) (a : IntegrityAlgorithm) (sent : List Sent) → IsBytes d → AllByRecursion IsLawfulSent sent
-        → Validates made_for key d c a → IsUnsigned sent (key a) a c ⊎ ComesFrom sent (key a) a c (content_through (is_wanted made_for) d) }
-    // whoever signs the text tells this
-    ensures each { (key : IntegrityAlgorithm → List ℕ) (d c : List ℕ) (a : IntegrityAlgorithm) (sender : Sent) → IsBytes d → IsLawfulSent sender
-        → Validates None key d c a → AllByRecursion (λ s. s.covered ≡ c → content d ≡ told sender s.through) (signed sender (key a) a) }
+    ensures origin { (key : IntegrityAlgorithm → List ℕ) (d c : List ℕ) (a : IntegrityAlgorithm)
+        (sent : List Sent)
+        → IsBytes d → AllByRecursion IsLawfulSent sent → Validates None key d c a
+        → IsUnsigned sent (key a) a c ⊎ ComesFrom sent (key a) a c (content d) }
+    // after validation with a key: the content through the attribute that was checked
+    ensures with_key { (made_for : Option IntegrityAlgorithm) (key : IntegrityAlgorithm → List ℕ)
+        (d c : List ℕ) (a : IntegrityAlgorithm) (sent : List Sent)
+        → IsBytes d → AllByRecursion IsLawfulSent sent → Validates made_for key d c a
+        → IsUnsigned sent (key a) a c
+        ⊎ ComesFrom sent (key a) a c (content_through (is_wanted made_for) d) }
+    // every signature over the covered bytes gives this content
+    ensures each { (key : IntegrityAlgorithm → List ℕ) (d c : List ℕ) (a : IntegrityAlgorithm)
+        (sender : Sent)
+        → IsBytes d → IsLawfulSent sender → Validates None key d c a
+        → AllByRecursion (λ s. s.covered ≡ c → content d ≡ told sender s.through)
+        (signed sender (key a) a) }
 {}
 
-/// A header alone may be written, and one more accepted step leaves a message that may be written: it
-/// is parsed, and shown as it was written.
+/// A header alone is a message that may be written, and so is such a message with one more accepted
+/// step: it parses, and it is shown as it was written.
 pub fn step_is_written()
     ensures header { (type id : ℕ) → type < 2 ^ 14 → id < 2 ^ 96 → IsWritable type id [] }
-    ensures step { (type id : ℕ) (before : List Attribute) (step : Step) → IsLawful step → IsOrdinary step
-        → IsWritable type id before → MayFollow type id before step → IsWritable type id (with_step type id before step) }
+    ensures step { (type id : ℕ) (before : List Attribute) (step : Step)
+        → IsLawful step → IsOrdinaryStep step
+        → IsWritable type id before → MayFollow type id before step
+        → IsWritable type id (with_step type id before step) }
     ensures size { (type id : ℕ) (before : List Attribute) (step : Step) → IsLawful step
-        → length (message_text type id (with_step type id before step)) ≡ length (message_text type id before) + (4 + padded_length (value_length step)) }
-    // where a step signed, and no integrity attribute that is wanted stands behind it, the message validates
-    ensures signed { (type id : ℕ) (before behind : List Attribute) (a : IntegrityAlgorithm) (key : IntegrityAlgorithm → List ℕ) (wanted : ℕ → Bool) → let message = with_step type id before (sign a (key a)) ++ behind in
-        IsWritable type id message → wanted (type_of_algorithm a) ≡ true → list_any wanted (types behind) ≡ false
-        → verdict wanted key (message_text type id message) ≡ Ok a }
+        → length (message_encoding type id (with_step type id before step))
+        ≡ length (message_encoding type id before) + (4 + padded_length (value_length step)) }
+    // a message that a step signed validates where no wanted integrity attribute follows the
+    // signature
+    ensures signed { (type id : ℕ) (before behind : List Attribute) (a : IntegrityAlgorithm)
+        (key : IntegrityAlgorithm → List ℕ) (wanted : ℕ → Bool)
+        → let message = with_step type id before (sign a (key a)) ++ behind in
+        IsWritable type id message → wanted (type_of_algorithm a) ≡ true
+        → list_any wanted (types behind) ≡ false
+        → verdict wanted key (message_encoding type id message) ≡ Ok a }
 {}
 
-/// What accepted steps write is parsed, shown as it was written, and validates.
+/// What accepted steps write parses, is shown as it was written, and validates.
 pub fn steps_are_read_back()
     ensures writable { (sent : Sent) → IsAccepted sent → IsWritable sent.type sent.id (body sent) }
-    ensures parses { (sent : Sent) → IsAccepted sent → parse_fault (sent_text sent) ≡ None }
-    ensures shows { (sent : Sent) → IsAccepted sent → shown (sent_text sent) ≡ placed 20 (body sent) }
-    ensures fingerprint { (sent : Sent) → IsAccepted sent → first_fingerprint_fault (sent_text sent) (placed 20 (body sent)) ≡ None }
+    ensures parses { (sent : Sent) → IsAccepted sent → parse_fault (sent_encoding sent) ≡ None }
+    ensures shows { (sent : Sent) → IsAccepted sent
+        → shown (sent_encoding sent) ≡ placed 20 (body sent) }
+    ensures fingerprint { (sent : Sent) → IsAccepted sent
+        → first_fingerprint_fault (sent_encoding sent) (placed 20 (body sent)) ≡ None }
     // with the key of the last step that signs
-    ensures last { (sent : Sent) (before behind : List Step) (a : IntegrityAlgorithm) (key : IntegrityAlgorithm → List ℕ) → IsAccepted sent
-        → sent.steps ≡ before ++ sign a (key a) ∷ behind → list_any is_signing behind ≡ false
-        → verdict (is_wanted None) key (sent_text sent) ≡ Ok a }
+    ensures last { (sent : Sent) (before behind : List Step) (a : IntegrityAlgorithm)
+        (key : IntegrityAlgorithm → List ℕ)
+        → IsAccepted sent → sent.steps ≡ before ++ sign a (key a) ∷ behind
+        → list_any is_signing behind ≡ false
+        → verdict (is_wanted None) key (sent_encoding sent) ≡ Ok a }
     // with a key that was made for the algorithm of any step that signs
-    ensures own { (sent : Sent) (before behind : List Step) (a : IntegrityAlgorithm) (key : IntegrityAlgorithm → List ℕ) → IsAccepted sent
-        → sent.steps ≡ before ++ sign a (key a) ∷ behind
-        → verdict (is_wanted (Some a)) key (sent_text sent) ≡ Ok a }
+    ensures own { (sent : Sent) (before behind : List Step) (a : IntegrityAlgorithm)
+        (key : IntegrityAlgorithm → List ℕ)
+        → IsAccepted sent → sent.steps ≡ before ++ sign a (key a) ∷ behind
+        → verdict (is_wanted (Some a)) key (sent_encoding sent) ≡ Ok a }
 {}

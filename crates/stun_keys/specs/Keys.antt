@@ -1,4 +1,4 @@
--- Credentials, and the keys that they give an HMAC (RFC 8489, sections 9.1.1, 9.2.2 and 18.5.1).
+-- Credentials, and the keys of HMACs that they give (RFC 8489, sections 9.1.1, 9.2.2 and 18.5.1).
 use Rattle.std.specs.Prelude.{◌≡◌, ℕ, List, ◌∷◌, ◌++◌, Bool, true, false, Option, Some, None}
 use Rattle.std.specs.Box.{boxed_slice_items}
 use Rattle.std.specs.String.{string_bytes}
@@ -13,7 +13,7 @@ use Rattle.stun_keys.specs.declared.keys.short_term.ShortTermCredentials.{ShortT
 use Rattle.stun_keys.specs.declared.keys.credentials.MessageIntegrityCredentials.{MessageIntegrityCredentials}
 use Rattle.stun_keys.specs.declared.keys.credentials.MessageIntegrityCredentials.TheVariants.{ShortTerm, LongTerm}
 
--- ---- the texts of credentials, as bytes
+-- ---- The texts of credentials, as bytes
 
 abbrev pub login_username : LongTermCredentials → List ℕ
 login_username credentials = string_bytes credentials.username
@@ -33,7 +33,7 @@ long_term_realm credentials = string_bytes credentials.realm
 abbrev pub short_term_password : ShortTermCredentials → List ℕ
 short_term_password credentials = string_bytes credentials.password
 
--- the same texts
+-- copies of credentials: the same texts
 pub record SameLogin (copy credentials : LongTermCredentials) : Type 0 where
   pub username_is : login_username copy ≡ login_username credentials
   pub password_is : login_password copy ≡ login_password credentials
@@ -44,26 +44,30 @@ pub record SameLongTerm (copy credentials : LongTermKeyCredentials) : Type 0 whe
   pub realm_is : long_term_realm copy ≡ long_term_realm credentials
 
 abbrev pub SameCredentials : (copy credentials : MessageIntegrityCredentials) → Type 0
-SameCredentials (ShortTerm copy) (ShortTerm credentials) = short_term_password copy ≡ short_term_password credentials
+SameCredentials (ShortTerm copy) (ShortTerm credentials) =
+    short_term_password copy ≡ short_term_password credentials
 SameCredentials (LongTerm copy) (LongTerm credentials) = SameLongTerm copy credentials
 SameCredentials (ShortTerm copy) (LongTerm credentials) = ⊥
 SameCredentials (LongTerm copy) (ShortTerm credentials) = ⊥
 
--- ---- keys
+-- ---- Keys
 
--- the bytes of a key, and the algorithm that it was made for, if it was made for one
+-- the bytes of a key
 abbrev pub key_bytes : IntegrityKey → List ℕ
 key_bytes key = boxed_slice_items key.bytes
 
+-- the algorithm that a key was made for, if it was made for one
 abbrev pub key_algorithm : IntegrityKey → Option IntegrityAlgorithm
 key_algorithm key = key.algorithm
 
--- a key of this algorithm and of these bytes
-pub record IsKey (algorithm : Option IntegrityAlgorithm) (bytes : List ℕ) (key : IntegrityKey) : Type 0 where
+-- a key that was made for this algorithm, or for none, with these bytes
+pub record IsKey (algorithm : Option IntegrityAlgorithm) (bytes : List ℕ)
+    (key : IntegrityKey) : Type 0 where
   pub algorithm_is : key_algorithm key ≡ algorithm
   pub bytes_are : key_bytes key ≡ bytes
 
--- whether a key of this algorithm serves another: one that was made for none serves both
+-- whether a key that was made for one algorithm serves another: a key that was made for none serves
+-- both
 abbrev pub serves : Option IntegrityAlgorithm → IntegrityAlgorithm → Bool
 serves None algorithm = true
 serves (Some Sha1) Sha1 = true
@@ -71,7 +75,7 @@ serves (Some Sha1) Sha256 = false
 serves (Some Sha256) Sha1 = false
 serves (Some Sha256) Sha256 = true
 
--- username, realm and password, with colons between
+-- username, realm and password, separated by colons
 abbrev pub long_term_text : (username realm password : List ℕ) → List ℕ
 long_term_text username realm password = username ++ (0x3A ∷ realm) ++ (0x3A ∷ password)
 
@@ -80,13 +84,15 @@ abbrev pub long_term_key : IntegrityAlgorithm → (username realm password : Lis
 long_term_key Sha1 username realm password = md5 (long_term_text username realm password)
 long_term_key Sha256 username realm password = sha256 (long_term_text username realm password)
 
--- the bytes of the key that credentials give an algorithm: a short-term key is the password
+-- the bytes of the key that credentials give for an algorithm: a short-term key is the password
 abbrev pub credentials_key : MessageIntegrityCredentials → IntegrityAlgorithm → List ℕ
 credentials_key (ShortTerm credentials) algorithm = short_term_password credentials
 credentials_key (LongTerm credentials) algorithm =
-    long_term_key algorithm (long_term_username credentials) (long_term_realm credentials) (long_term_password credentials)
+    long_term_key algorithm (long_term_username credentials) (long_term_realm credentials)
+    (long_term_password credentials)
 
 -- the algorithm that this key is made for: a short-term key is made for none
-abbrev pub credentials_algorithm : MessageIntegrityCredentials → IntegrityAlgorithm → Option IntegrityAlgorithm
+abbrev pub credentials_algorithm : MessageIntegrityCredentials → IntegrityAlgorithm
+    → Option IntegrityAlgorithm
 credentials_algorithm (ShortTerm credentials) algorithm = None
 credentials_algorithm (LongTerm credentials) algorithm = Some algorithm

@@ -1,4 +1,5 @@
-//! CRC-32, as ISO-HDLC defines it, and HMAC, as RFC 2104 defines it. Both take a text in pieces.
+//! CRC-32, as ISO-HDLC defines it, and HMAC, as RFC 2104 defines it. Both take their bytes in
+//! pieces.
 
 ghost use Rattle.std.specs.Prelude.{◌≡◌, map};
 ghost use Rattle.std.specs.List.{concat};
@@ -8,7 +9,7 @@ mod hmac;
 
 pub use hmac::{hmac_sha1, hmac_sha256};
 
-/// The register after one bit has left it at its low end.
+/// The register after its lowest bit is shifted out.
 fn shift(register: u32) -> u32
     ensures { result ≡ shifted register }
 {
@@ -32,7 +33,8 @@ fn after(register: u32, byte: u8) -> u32
 
 /// The CRC-32 of the pieces, joined: that of `123456789` is 0xCBF43926.
 ///
-/// It takes no memory, and the pieces are not copied. Where one text is cut doesn't matter.
+/// It takes no memory, and the pieces are not copied. Only the joined bytes matter, not where they
+/// are cut.
 #[tactic(auto, unfolding(stun_grammar::specs::Checksums::crc))]
 pub fn crc32(pieces: &[&[u8]]) -> u32
     ensures { result ≡ crc (concat (map (λ piece. piece.now) pieces.now)) }

@@ -1,6 +1,7 @@
-//! Credentials, and the keys that they give the integrity attributes (RFC 8489, section 9).
+//! Credentials, and the keys that they give for the integrity attributes (RFC 8489, section 9).
 //!
-//! Texts are taken as they are: no call prepares them (RFC 8265).
+//! Usernames, passwords and realms are used as they are: no function applies the OpaqueString
+//! profile (RFC 8265) to them.
 
 mod copied;
 mod credentials;

@@ -1,4 +1,4 @@
-//! The checksum of a FINGERPRINT, the digests of the integrity attributes, and their keys.
+//! The checksum of a FINGERPRINT, the HMACs of the integrity attributes, and their keys.
 #![tactic(auto)]
 
 pub mod digest;

@@ -1,2 +1,3 @@
-mod KnownBytes
-mod Reports
+mod KnownBytesLemmas
+mod ReportLemmas
+mod ProgramLemmas

@@ -1,3 +1,5 @@
+//! A run of the program, over any reader and writer.
+
 ghost use Rattle.std.specs.Prelude.{◌≡◌, MatchResult};
 ghost use Rattle.std.specs.Option.{option_map};
 ghost use Rattle.std.specs.Io.KnownBytes.{Appends};
@@ -12,24 +14,25 @@ use std::io::{ErrorKind, Read, Write};
 pub enum RunEnd {
     /// The message was shown.
     Shown,
-    /// The bytes were refused, and why was told.
+    /// The report says why the bytes were refused, or that the password doesn't validate the
+    /// message.
     Refused,
-    /// The arguments were not understood.
+    /// There were too many arguments, or they couldn't be read.
     Usage,
-    /// More was to be read than may be.
+    /// The input is longer than may be read.
     TooLong,
     /// A read failed.
     ReadFailed,
-    /// A write failed, or took no byte.
+    /// A write failed, or took no bytes.
     WriteFailed,
-    /// A growth was refused.
+    /// An allocation failed.
     NoMemory,
 }
 
-/// The most that is read: 128 KiB.
+/// The most bytes that are read: 128 KiB.
 const LONGEST_INPUT: usize = 131_072;
 
-/// Reads all that is left, at most `LONGEST_INPUT` bytes.
+/// Reads to the end of `reader`, at most `LONGEST_INPUT` bytes.
 fn read_all<R: Read>(alloc: Global, reader: &mut R) -> Result<Vec<u8>, RunEnd>
     ensures { MatchResult result
         (λ input. ReadsAll (R.remaining reader.old) (R.remaining reader.new) input.items)
@@ -58,11 +61,12 @@ fn read_all<R: Read>(alloc: Global, reader: &mut R) -> Result<Vec<u8>, RunEnd>
     Err(RunEnd::ReadFailed)
 }
 
-/// Writes all of the bytes; where that fails, a beginning of them.
+/// Writes all of the bytes, or, where a write fails or takes none, a prefix of them.
 fn write_all<W: Write>(bytes: &[u8], writer: &mut W) -> Result<(), RunEnd>
     ensures { MatchResult result
         (λ _. Appends (W.contents writer.old) (W.contents writer.new) bytes.now)
-        (λ end. (end ≡ RunEnd.WriteFailed) × WritesPart (W.contents writer.old) (W.contents writer.new) bytes.now) }
+        (λ end. (end ≡ RunEnd.WriteFailed)
+        × WritesPart (W.contents writer.old) (W.contents writer.new) bytes.now) }
 {
     let mut written = 0;
     for _turn in 0..u64::MAX {
@@ -85,25 +89,28 @@ fn write_all<W: Write>(bytes: &[u8], writer: &mut W) -> Result<(), RunEnd>
     Ok(())
 }
 
-/// Reads a message to the end of `reader`, and writes its report.
+/// Reads a message, up to the end of `reader`, and writes its report.
 ///
-/// It reads at most 131072 bytes, makes the report in memory, and then writes it; nothing is
-/// written before all is read and the report is made. Beside the input, the report and a key it takes
-/// no memory. With a password the message's integrity is checked with it as a short-term key, and the
-/// report ends with what was answered.
+/// It reads at most 131072 bytes, makes the report in memory that `alloc` gives, and only then
+/// writes it. It takes memory for the input, the report and a key alone. With a password, the
+/// message's integrity is checked with it as a short-term key, and the result is the last line of
+/// the report.
 ///
-/// It ends with `Shown` or `Refused` where the whole report was written: `Refused` where the
-/// message was refused, or isn't valid with the password. `WriteFailed`: a beginning of the report was written, and then a write
-/// failed or took no byte. With every other end nothing was written: `TooLong` where more than
-/// 131072 bytes were to be read, `ReadFailed` where a read failed, `NoMemory` where a growth was
-/// refused. It never ends with `Usage`.
+/// The run ends with `Shown` or `Refused` where the whole report was written: with `Refused` where
+/// the bytes were refused, or the message isn't valid with the password. It ends with `WriteFailed`
+/// where a prefix of the report was written, and then a write failed or took no bytes. With every
+/// other end nothing was written: `TooLong` where there are more than 131072 bytes to read,
+/// `ReadFailed` where a read failed, `NoMemory` where an allocation failed. It never ends with
+/// `Usage`.
 pub fn run<R: Read, W: Write>(
     alloc: Global,
     reader: &mut R,
     password: Option<&str>,
     writer: &mut W,
 ) -> RunEnd
-    ensures { Ends (option_map (λ given. given.now) password.entry) result (R.remaining reader.old) (R.remaining reader.new) (W.contents writer.old) (W.contents writer.new) }
+    ensures { Ends (option_map (λ given. given.now) password.entry) result
+        (R.remaining reader.old) (R.remaining reader.new)
+        (W.contents writer.old) (W.contents writer.new) }
 {
     let input = match read_all(alloc, reader) {
         Ok(input) => input,

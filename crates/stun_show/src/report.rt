@@ -1,7 +1,8 @@
 //! The report of a message.
 
 ghost use Rattle.std.specs.Prelude.{◌≡◌, ◌++◌, OnOk, IfOk, MatchResult, None, Some, string_bytes};
-ghost use Rattle.stun_grammar.specs.Messages.{parse_fault, shown};
+ghost use Rattle.stun_grammar.specs.Parsing.{parse_fault};
+ghost use Rattle.stun_grammar.specs.Showing.{shown};
 ghost use Rattle.std.specs.List.{flat_map};
 ghost use Rattle.stun_base.specs.Types.{header_of};
 ghost use Rattle.stun_attrs.specs.Raw.{raw_type, raw_value};
@@ -15,7 +16,7 @@ use stun_types::attribute::RawAttribute;
 use stun_types::message::keys::{IntegrityAlgorithm, ShortTermCredentials};
 use stun_types::message::{Message, MessageClass, MessageHeader, StunParseError, ValidateError};
 
-/// Writes a byte in two hexadecimal digits.
+/// Writes a byte as two hexadecimal digits.
 #[tactic(auto, using(std::proofs::lemmas::Fmt::hex_byte))]
 fn write_byte(text: &mut String, byte: u8) -> Result<(), AllocError>
     ensures { OnOk result (string_bytes text.new ≡ string_bytes text.old ++ hex_byte byte) }
@@ -47,7 +48,8 @@ fn name_of(class: MessageClass) -> &'static str
 
 /// Writes the line of a header.
 fn write_header(text: &mut String, header: &MessageHeader) -> Result<(), AllocError>
-    ensures { OnOk result (string_bytes text.new ≡ string_bytes text.old ++ header_line header.now) }
+    ensures { OnOk result
+        (string_bytes text.new ≡ string_bytes text.old ++ header_line header.now) }
 {
     let class = name_of(header.get_type().class());
     let method = header.get_type().method().value();
@@ -56,7 +58,7 @@ fn write_header(text: &mut String, header: &MessageHeader) -> Result<(), AllocEr
     write!(text, "{class} method={method} id={id} length={length}\n")
 }
 
-/// Writes a value in hexadecimal, and a dash for none.
+/// Writes a value in hexadecimal, or a dash where it is empty.
 fn write_value(text: &mut String, value: &[u8]) -> Result<(), AllocError>
     ensures { OnOk result (string_bytes text.new ≡ string_bytes text.old ++ value_text value.now) }
 {
@@ -72,7 +74,12 @@ fn write_attribute(
     offset: usize,
     attribute: &RawAttribute<'_>,
 ) -> Result<(), AllocError>
-    ensures { OnOk result (string_bytes text.new ≡ string_bytes text.old ++ attribute_line (record { offset = offset; type = raw_type attribute.now; value = raw_value attribute.now })) }
+    ensures { OnOk result (string_bytes text.new ≡ string_bytes text.old ++ attribute_line
+        (record {
+          offset = offset;
+          type = raw_type attribute.now;
+          value = raw_value attribute.now;
+        })) }
 {
     let header = attribute.header();
     let length = header.length();
@@ -85,7 +92,8 @@ fn write_attribute(
 
 /// Writes the line of each attribute that is shown.
 fn write_attributes(text: &mut String, message: &Message<'_>) -> Result<(), AllocError>
-    ensures { OnOk result (string_bytes text.new ≡ string_bytes text.old ++ flat_map attribute_line (shown (message_bytes message.now))) }
+    ensures { OnOk result (string_bytes text.new ≡ string_bytes text.old ++ flat_map attribute_line
+        (shown (message_bytes message.now))) }
 {
     for (offset, attribute) in message.iter_attributes() {
         write_attribute(text, offset, &attribute)?;
@@ -93,7 +101,7 @@ fn write_attributes(text: &mut String, message: &Message<'_>) -> Result<(), Allo
     Ok(())
 }
 
-/// Writes why bytes are refused.
+/// Writes the line that says why bytes are refused.
 fn write_refusal(text: &mut String, refusal: StunParseError) -> Result<(), AllocError>
     ensures { OnOk result (string_bytes text.new ≡ string_bytes text.old ++ refusal_line refusal) }
 {
@@ -110,24 +118,25 @@ fn write_refusal(text: &mut String, refusal: StunParseError) -> Result<(), Alloc
     }
 }
 
-/// The header of bytes, and the message that they are.
+/// Parses bytes, and returns the header and the message.
 fn parsed(bytes: &[u8]) -> Result<(MessageHeader, Message<'_>), StunParseError>
     ensures { MatchResult result
-        (λ found. (parse_fault bytes.now ≡ None) × (found.0 ≡ header_of bytes.now) × (message_bytes found.1 ≡ bytes.now))
+        (λ found. (parse_fault bytes.now ≡ None) × (found.0 ≡ header_of bytes.now)
+        × (message_bytes found.1 ≡ bytes.now))
         (λ e. parse_fault bytes.now ≡ Some e) }
 {
-    let header = MessageHeader::from_bytes(bytes)?;
     let message = Message::from_bytes(bytes)?;
-    Ok((header, message))
+    Ok((message.header(), message))
 }
 
-/// What is answered of a message's integrity with a password.
+/// Checks a message's integrity with a password as a short-term key.
 fn verdict_of(
     alloc: Global,
     message: &Message<'_>,
     password: &str,
 ) -> Result<Result<IntegrityAlgorithm, ValidateError>, AllocError>
-    ensures { IfOk result (λ answer. answer ≡ password_verdict (message_bytes message.now) password.now) }
+    ensures { IfOk result
+        (λ answer. answer ≡ password_verdict (message_bytes message.now) password.now) }
 {
     let password = String::from_str(alloc, password)?;
     let Ok(key) = ShortTermCredentials::new(password).make_key(alloc) else {
@@ -136,7 +145,7 @@ fn verdict_of(
     Ok(message.validate_integrity_with_key(&key))
 }
 
-/// The line for what is answered of a message's integrity.
+/// The line that states the result of checking a message's integrity.
 fn line_of(answer: Result<IntegrityAlgorithm, ValidateError>) -> &'static str
     ensures { result.now ≡ integrity_line answer }
 {
@@ -149,7 +158,7 @@ fn line_of(answer: Result<IntegrityAlgorithm, ValidateError>) -> &'static str
     }
 }
 
-/// How a run ends that has shown a message with this verdict.
+/// How a run ends that has shown a message with this result.
 fn end_with(answer: Result<IntegrityAlgorithm, ValidateError>) -> RunEnd
     ensures { result ≡ end_of_verdict answer }
 {
@@ -159,15 +168,18 @@ fn end_with(answer: Result<IntegrityAlgorithm, ValidateError>) -> RunEnd
     }
 }
 
-/// Writes the line of a message's integrity, where a password is given, and answers how the run ends.
+/// Writes the line on a message's integrity, where a password is given, and returns how the run
+/// ends.
 fn write_integrity(
     alloc: Global,
     text: &mut String,
     message: &Message<'_>,
     password: Option<&str>,
 ) -> Result<RunEnd, AllocError>
-    ensures text { OnOk result (string_bytes text.new ≡ string_bytes text.old ++ integrity_lines (message_bytes message.now) (option_map (λ given. given.now) password.entry)) }
-    ensures end { IfOk result (λ end. end ≡ end_of_message (message_bytes message.now) (option_map (λ given. given.now) password.entry)) }
+    ensures text { OnOk result (string_bytes text.new ≡ string_bytes text.old ++ integrity_lines
+        (message_bytes message.now) (option_map (λ given. given.now) password.entry)) }
+    ensures end { IfOk result (λ end. end ≡ end_of_message (message_bytes message.now)
+        (option_map (λ given. given.now) password.entry)) }
 {
     let Some(password) = password else {
         return Ok(RunEnd::Shown);
@@ -177,13 +189,16 @@ fn write_integrity(
     Ok(end_with(answer))
 }
 
-/// The report of bytes, and how a run ends that has written it.
+/// The report of bytes, and how a run ends that has written it; the error says that an allocation
+/// failed.
 pub fn report(
     alloc: Global,
     bytes: &[u8],
     password: Option<&str>,
 ) -> Result<(String, RunEnd), AllocError>
-    ensures { IfOk result (λ made. (string_bytes made.0 ≡ report bytes.now (option_map (λ given. given.now) password.entry)) × (made.1 ≡ end_of bytes.now (option_map (λ given. given.now) password.entry))) }
+    ensures { IfOk result (λ made.
+        (string_bytes made.0 ≡ report bytes.now (option_map (λ given. given.now) password.entry))
+        × (made.1 ≡ end_of bytes.now (option_map (λ given. given.now) password.entry))) }
 {
     let mut text = String::new(alloc);
     match parsed(bytes) {

@@ -4,10 +4,11 @@ ghost use Rattle.stun_texts.specs.Texts.{text_bytes};
 use crate::TextAttribute;
 use std::fmt;
 use stun_attrs::Attribute;
+use stun_grammar::attribute_types;
 
-/// ALTERNATE-DOMAIN: the domain name of the server in an ALTERNATE-SERVER, of as many bytes as a
-/// value may have (RFC 8489, section 14.16).
-pub type AlternateDomain = TextAttribute<0x8003, 65535>;
+/// ALTERNATE-DOMAIN: the domain name of the server in an ALTERNATE-SERVER, of at most 65535 bytes,
+/// as many as a value may have (RFC 8489, section 14.16).
+pub type AlternateDomain = TextAttribute<{ attribute_types::ALTERNATE_DOMAIN }, 65535>;
 
 impl AlternateDomain {
     /// The text.
@@ -20,9 +21,10 @@ impl AlternateDomain {
 
 impl fmt::Display for AlternateDomain {
     ghost use Rattle.std.specs.Prelude.{Some};
+    ghost use Rattle.stun_grammar.specs.AttributeTypes.{ALTERNATE_DOMAIN};
     ghost use Rattle.stun_texts.specs.Texts.{plain_text};
 
-    ghost output = { λ attribute. Some (plain_text 0x8003 (text_bytes attribute)) };
+    ghost output = { λ attribute. Some (plain_text ALTERNATE_DOMAIN (text_bytes attribute)) };
 
     fn fmt<W: fmt::Write>(&self, f: &mut fmt::Formatter<W>) -> fmt::Result {
         let atype = self.get_type();

@@ -6,16 +6,17 @@ use std::ops::Bound;
 use stun_attrs::RawAttribute;
 use stun_base::{AttributeType, StunParseError};
 
-/// The one rule for reading a text: the raw attribute has the wanted type, its value has at most so
-/// many bytes, and they are UTF-8. What isn't so is told, in this order.
-#[tactic(auto, using(crate::proofs::Reading::refused, crate::proofs::Reading::not_utf8, crate::proofs::Reading::is_text))]
+/// The one rule for reading a text: the raw attribute has the wanted type, its value has at most
+/// `most` bytes, and they are UTF-8. It reports the first violation, in this order.
+#[tactic(auto, using(crate::proofs::TextsLemmas::refused, crate::proofs::TextsLemmas::not_utf8, crate::proofs::TextsLemmas::is_text))]
 pub(crate) fn checked_text<'r>(
     raw: &'r RawAttribute<'_>,
     wanted: AttributeType,
     most: u16,
 ) -> Result<&'r str, StunParseError>
     ensures { MatchResult result
-        (λ text. (text_fault wanted.0 most (raw_type raw.now) (raw_value raw.now) ≡ None) × (text.now ≡ raw_value raw.now))
+        (λ text. (text_fault wanted.0 most (raw_type raw.now) (raw_value raw.now) ≡ None)
+        × (text.now ≡ raw_value raw.now))
         (λ e. text_fault wanted.0 most (raw_type raw.now) (raw_value raw.now) ≡ Some e) }
 {
     raw.check_type_and_len(wanted, Bound::Unbounded, Bound::Included(most as usize))?;

@@ -4,9 +4,10 @@ ghost use Rattle.stun_texts.specs.Texts.{text_bytes};
 use crate::TextAttribute;
 use std::fmt;
 use stun_attrs::Attribute;
+use stun_grammar::attribute_types;
 
-/// NONCE: what a server has a client repeat, of at most 763 bytes (RFC 8489, section 14.10).
-pub type Nonce = TextAttribute<0x0015, 763>;
+/// NONCE: a text that a server has a client repeat, of at most 763 bytes (RFC 8489, section 14.10).
+pub type Nonce = TextAttribute<{ attribute_types::NONCE }, 763>;
 
 impl Nonce {
     /// The text.
@@ -19,9 +20,10 @@ impl Nonce {
 
 impl fmt::Display for Nonce {
     ghost use Rattle.std.specs.Prelude.{Some};
+    ghost use Rattle.stun_grammar.specs.AttributeTypes.{NONCE};
     ghost use Rattle.stun_texts.specs.Texts.{plain_text};
 
-    ghost output = { λ attribute. Some (plain_text 0x0015 (text_bytes attribute)) };
+    ghost output = { λ attribute. Some (plain_text NONCE (text_bytes attribute)) };
 
     fn fmt<W: fmt::Write>(&self, f: &mut fmt::Formatter<W>) -> fmt::Result {
         let atype = self.get_type();

@@ -4,9 +4,10 @@ ghost use Rattle.stun_texts.specs.Texts.{text_bytes};
 use crate::TextAttribute;
 use std::fmt;
 use stun_attrs::Attribute;
+use stun_grammar::attribute_types;
 
-/// REALM: where a long-term credential holds, of at most 763 bytes (RFC 8489, section 14.9).
-pub type Realm = TextAttribute<0x0014, 763>;
+/// REALM: the realm of a long-term credential, of at most 763 bytes (RFC 8489, section 14.9).
+pub type Realm = TextAttribute<{ attribute_types::REALM }, 763>;
 
 impl Realm {
     /// The text.
@@ -19,9 +20,10 @@ impl Realm {
 
 impl fmt::Display for Realm {
     ghost use Rattle.std.specs.Prelude.{Some};
+    ghost use Rattle.stun_grammar.specs.AttributeTypes.{REALM};
     ghost use Rattle.stun_texts.specs.Texts.{plain_text};
 
-    ghost output = { λ attribute. Some (plain_text 0x0014 (text_bytes attribute)) };
+    ghost output = { λ attribute. Some (plain_text REALM (text_bytes attribute)) };
 
     fn fmt<W: fmt::Write>(&self, f: &mut fmt::Formatter<W>) -> fmt::Result {
         let atype = self.get_type();

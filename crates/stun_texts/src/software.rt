@@ -4,9 +4,11 @@ ghost use Rattle.stun_texts.specs.Texts.{text_bytes};
 use crate::TextAttribute;
 use std::fmt;
 use stun_attrs::Attribute;
+use stun_grammar::attribute_types;
 
-/// SOFTWARE: what made the message, in words, of at most 763 bytes (RFC 8489, section 14.14).
-pub type Software = TextAttribute<0x8022, 763>;
+/// SOFTWARE: a description of the software that sent the message, of at most 763 bytes (RFC 8489,
+/// section 14.14).
+pub type Software = TextAttribute<{ attribute_types::SOFTWARE }, 763>;
 
 impl Software {
     /// The text.
@@ -19,9 +21,10 @@ impl Software {
 
 impl fmt::Display for Software {
     ghost use Rattle.std.specs.Prelude.{Some};
+    ghost use Rattle.stun_grammar.specs.AttributeTypes.{SOFTWARE};
     ghost use Rattle.stun_texts.specs.Texts.{quoted_text};
 
-    ghost output = { λ attribute. Some (quoted_text 0x8022 (text_bytes attribute)) };
+    ghost output = { λ attribute. Some (quoted_text SOFTWARE (text_bytes attribute)) };
 
     fn fmt<W: fmt::Write>(&self, f: &mut fmt::Formatter<W>) -> fmt::Result {
         let atype = self.get_type();

@@ -4,9 +4,10 @@ ghost use Rattle.stun_texts.specs.Texts.{text_bytes};
 use crate::TextAttribute;
 use std::fmt;
 use stun_attrs::Attribute;
+use stun_grammar::attribute_types;
 
-/// USERNAME: with whom a credential is shared, of at most 513 bytes (RFC 8489, section 14.3).
-pub type Username = TextAttribute<0x0006, 513>;
+/// USERNAME: the name of the user of a credential, of at most 513 bytes (RFC 8489, section 14.3).
+pub type Username = TextAttribute<{ attribute_types::USERNAME }, 513>;
 
 impl Username {
     /// The text.
@@ -19,9 +20,10 @@ impl Username {
 
 impl fmt::Display for Username {
     ghost use Rattle.std.specs.Prelude.{Some};
+    ghost use Rattle.stun_grammar.specs.AttributeTypes.{USERNAME};
     ghost use Rattle.stun_texts.specs.Texts.{quoted_text};
 
-    ghost output = { λ attribute. Some (quoted_text 0x0006 (text_bytes attribute)) };
+    ghost output = { λ attribute. Some (quoted_text USERNAME (text_bytes attribute)) };
 
     fn fmt<W: fmt::Write>(&self, f: &mut fmt::Formatter<W>) -> fmt::Result {
         let atype = self.get_type();

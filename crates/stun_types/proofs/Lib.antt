@@ -1,10 +1,2 @@
-mod Steps
-mod SeenTypes
-mod Scanning
-mod Appended
-mod WrittenTypes
-mod Barred
-mod Covered
-mod Validating
-mod Runs
-pub mod Items
+mod RepliesLemmas
+mod ShownTypesLemmas

@@ -1,4 +1,4 @@
-//! Attributes: a type and a value.
+//! Attributes, each a type and a value, and the traits that read and write them.
 
 pub mod typed;
 

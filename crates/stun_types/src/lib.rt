@@ -1,17 +1,20 @@
-//! STUN messages, parsed and written (RFC 8489).
+//! Reading and writing STUN messages (RFC 8489).
 //!
-//! [`message::Message::from_bytes`] reads a message, and
-//! [`message::Message::iter_attributes`] shows its attributes. Reading borrows the bytes, takes no
-//! memory and goes over them once. [`message::Message::validate_integrity`] checks what a message's
-//! integrity attribute holds. [`message::Message::builder`] begins a message, and
+//! [`message::Message::from_bytes`] parses a message, and [`message::Message::iter_attributes`]
+//! iterates over its attributes. Reading a message borrows its bytes, takes no memory and goes over
+//! the attributes once; for a FINGERPRINT the bytes before it are read again.
+//! [`message::Message::validate_integrity`] checks the HMAC of a message, for which it goes over
+//! what is shown, and then over the bytes that the HMAC covers.
+//! [`message::Message::builder`] begins a message, and
 //! [`message::write::MessageWriteExt::add_attribute`] adds to it.
 #![tactic(auto)]
 
 pub mod attribute;
 pub mod data;
-mod laws;
 pub mod message;
 pub mod prelude;
 
-pub use laws::message_grows;
+pub use stun_addresses::xor_twice;
 pub use stun_base::{AddressFamily, ParseTransportTypeError, TransportType};
+pub use stun_grammar::message_grows;
+pub use stun_read::{found_has_its_type, shown_is_found};

@@ -1,27 +1,25 @@
-//! Messages: a header, and attributes behind it.
+//! Messages: a header, and the attributes that follow it.
 
 mod build;
-mod covered;
-mod ending;
-mod fingerprint;
-mod frame;
-mod iterate;
 pub mod keys;
-mod parse;
+mod look_up;
+mod read;
+mod reply;
 pub mod types;
 mod validate;
 pub mod write;
 
-pub use iterate::MessageAttributesIter;
 pub use keys::{
     IntegrityAlgorithm, IntegrityKey, LongTermCredentials, LongTermKeyCredentials,
     MessageIntegrityCredentials, ShortTermCredentials,
 };
-pub use parse::Message;
+pub use read::Message;
+pub use reply::response_answers;
 pub use stun_base::{
     BINDING, MAGIC_COOKIE, MessageClass, MessageHeader, MessageType, Method, StunParseError,
     StunWriteError, TransactionId, ValidateError,
 };
+pub use stun_read::MessageAttributesIter;
 pub use write::{
     MessageWrite, MessageWriteExt, MessageWriteMutSlice, MessageWriteVec, Step, write_steps,
     write_steps_into,

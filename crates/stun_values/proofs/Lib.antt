@@ -1,7 +1,4 @@
-mod Octets
-mod XorLaws
-mod AddressLaws
-mod AlgorithmLaws
-mod ErrorLaws
-mod Lists
-mod ReadBack
+mod AlgorithmsLemmas
+mod ErrorsLemmas
+mod ListsLemmas
+mod ReadBackLemmas

@@ -6,26 +6,27 @@ use Rattle.stun_grammar.specs.declared.error.StunParseError.{StunParseError}
 use Rattle.stun_grammar.specs.declared.error.StunParseError.TheVariants.{Truncated, TooLarge, InvalidAttributeData}
 use Rattle.stun_grammar.specs.declared.integrity_algorithm.IntegrityAlgorithm.{IntegrityAlgorithm}
 use Rattle.stun_grammar.specs.declared.integrity_algorithm.IntegrityAlgorithm.TheVariants.{Sha1, Sha256}
+use Rattle.stun_grammar.specs.AttributeTypes.{PASSWORD_ALGORITHM, PASSWORD_ALGORITHMS}
 use Rattle.stun_grammar.specs.Numbers.{be16, number}
 use Rattle.stun_values.specs.declared.algorithm.PasswordAlgorithmValue.{PasswordAlgorithmValue}
 use Rattle.stun_values.specs.declared.algorithm.PasswordAlgorithmValue.TheVariants.{MD5, SHA256}
-use Rattle.stun_values.specs.Reading.{typed_fault, Reads, ReadsInMemory}
+use Rattle.stun_attrs.specs.Reading.{typed_fault, Reads, ReadsInMemory}
 
 -- the number of an algorithm
 abbrev pub algorithm_number : PasswordAlgorithmValue → ℕ
 algorithm_number MD5 = 1
 algorithm_number SHA256 = 2
 
--- an algorithm in four bytes: its number, and that it has no parameters
-abbrev pub algorithm_text : PasswordAlgorithmValue → List ℕ
-algorithm_text algorithm = be16 (algorithm_number algorithm) ++ be16 0
+-- an algorithm in four bytes: its number, and 0 for the length of its parameters
+abbrev pub algorithm_encoding : PasswordAlgorithmValue → List ℕ
+algorithm_encoding algorithm = be16 (algorithm_number algorithm) ++ be16 0
 
 -- the algorithm by which messages are then signed
 abbrev pub integrity_of : PasswordAlgorithmValue → IntegrityAlgorithm
 integrity_of MD5 = Sha1
 integrity_of SHA256 = Sha256
 
--- why the four bytes that a value begins with aren't an algorithm: they tell parameters, or another number
+-- why the four bytes at the start of a value aren't an algorithm: it has parameters, or another number
 abbrev pub algorithm_fault : List ℕ → Option StunParseError
 algorithm_fault value =
     let kind = number (slice_range value 0 2) in
@@ -35,35 +36,35 @@ algorithm_fault value =
     if kind == 2 then None else Some InvalidAttributeData))
     else Some (TooLarge 4 (4 + parameters))
 
--- why a value of so many bytes isn't made of fours
-abbrev pub fours_fault : ℕ → Option StunParseError → Option StunParseError
-fours_fault n otherwise =
+-- why a value of n bytes isn't made of entries of four bytes
+abbrev pub entries_fault : ℕ → Option StunParseError → Option StunParseError
+entries_fault n otherwise =
     if nat_lt n 4 then Some (Truncated 4 n) else (
     if n % 4 == 0 then otherwise else Some InvalidAttributeData)
 
--- why a value isn't an algorithm; what follows its first four bytes isn't looked at
+-- why a value isn't an algorithm; what follows its first four bytes is ignored
 abbrev pub one_algorithm_fault : List ℕ → Option StunParseError
-one_algorithm_fault value = fours_fault (length value) (algorithm_fault value)
+one_algorithm_fault value = entries_fault (length value) (algorithm_fault value)
 
--- the first fault among so many fours
+-- the first fault among so many entries
 unfoldable pub fault_within : ℕ → List ℕ → Option StunParseError
 fault_within zero value = None
 fault_within (suc more) value = option_or (algorithm_fault value) (fault_within more (drop 4 value))
 
--- why a value isn't a list of algorithms: the first of its fours that isn't one
+-- why a value isn't a list of algorithms: the first of its entries that isn't one
 abbrev pub algorithms_fault : List ℕ → Option StunParseError
-algorithms_fault value = fours_fault (length value) (fault_within (length value / 4) value)
+algorithms_fault value = entries_fault (length value) (fault_within (length value / 4) value)
 
--- the algorithms, one behind the other
-abbrev pub algorithms_text : List PasswordAlgorithmValue → List ℕ
-algorithms_text = flat_map algorithm_text
+-- the algorithms, one after the other
+abbrev pub algorithms_encoding : List PasswordAlgorithmValue → List ℕ
+algorithms_encoding = flat_map algorithm_encoding
 
 -- ---- What reading answers
 
 -- the type and the value of a PASSWORD-ALGORITHM
 abbrev pub ReadsAlgorithm : {T : Type 0} → (T → PasswordAlgorithmValue) → ℕ → List ℕ → Result T StunParseError → Type 0
-ReadsAlgorithm algorithm_in type value result = Reads (typed_fault 0x001D one_algorithm_fault type value) (λ read. algorithm_text (algorithm_in read) ≡ take 4 value) result
+ReadsAlgorithm algorithm_in type value result = Reads (typed_fault PASSWORD_ALGORITHM one_algorithm_fault type value) (λ read. algorithm_encoding (algorithm_in read) ≡ take 4 value) result
 
 -- the type and the value of a PASSWORD-ALGORITHMS
 abbrev pub ReadsAlgorithms : {T : Type 0} → (T → List PasswordAlgorithmValue) → ℕ → List ℕ → Result T StunParseError → Type 0
-ReadsAlgorithms algorithms_in type value result = ReadsInMemory (typed_fault 0x8002 algorithms_fault type value) (λ read. algorithms_text (algorithms_in read) ≡ value) result
+ReadsAlgorithms algorithms_in type value result = ReadsInMemory (typed_fault PASSWORD_ALGORITHMS algorithms_fault type value) (λ read. algorithms_encoding (algorithms_in read) ≡ value) result

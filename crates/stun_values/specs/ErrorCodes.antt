@@ -1,11 +1,12 @@
--- What an ERROR-CODE and its builder hold, and how one is read and made.
+-- What an ERROR-CODE and its builder hold, and how an ERROR-CODE is read and made.
 use Rattle.std.specs.Prelude.{◌≡◌, ℕ, List, Result, Err, MatchOption, MatchResult, drop}
 use Rattle.std.specs.String.{string_bytes}
 use Rattle.std.specs.Option.{option_map_or}
 use Rattle.stun_grammar.specs.declared.error.StunParseError.{StunParseError}
 use Rattle.stun_grammar.specs.declared.error.StunWriteError.{StunWriteError}
 use Rattle.stun_grammar.specs.declared.error.StunWriteError.TheVariants.{OutOfMemory}
-use Rattle.stun_values.specs.Reading.{typed_fault, ReadsInMemory}
+use Rattle.stun_grammar.specs.AttributeTypes.{ERROR_CODE}
+use Rattle.stun_attrs.specs.Reading.{typed_fault, ReadsInMemory}
 use Rattle.stun_values.specs.Errors.{told_code, error_fault, making_fault, default_reason}
 use Rattle.stun_values.specs.declared.error_code.ErrorCode.{ErrorCode}
 use Rattle.stun_values.specs.declared.error_code.ErrorCodeBuilder.{ErrorCodeBuilder}
@@ -28,7 +29,7 @@ pub record IsError (code : ℕ) (reason : List ℕ) (attribute : ErrorCode) : Ty
   pub code_is : error_code attribute ≡ code
   pub reason_is : error_reason attribute ≡ reason
 
--- what making one answers: the fault, and where there is none the attribute, or want of memory
+-- what making one answers: the fault, and where there is none the attribute, unless out of memory
 abbrev pub MakesError : ℕ → List ℕ → Result ErrorCode StunWriteError → Type 0
 MakesError code reason result =
     MatchOption (making_fault code reason)
@@ -37,4 +38,4 @@ MakesError code reason result =
 
 -- what reading a type and a value answers
 abbrev pub ReadsError : ℕ → List ℕ → Result ErrorCode StunParseError → Type 0
-ReadsError type value result = ReadsInMemory (typed_fault 0x0009 error_fault type value) (IsError (told_code value) (drop 4 value)) result
+ReadsError type value result = ReadsInMemory (typed_fault ERROR_CODE error_fault type value) (IsError (told_code value) (drop 4 value)) result

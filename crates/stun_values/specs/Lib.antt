@@ -1,9 +1,6 @@
-pub mod Addresses
-pub mod AddressTypes
 pub mod Algorithms
 pub mod ErrorCodes
 pub mod Errors
 pub mod Passwords
-pub mod Reading
 pub mod Types
 pub mod Unknown

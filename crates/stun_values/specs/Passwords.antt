@@ -1,4 +1,4 @@
--- The algorithms that attributes hold.
+-- The algorithms in attributes.
 use Rattle.std.specs.Prelude.{List}
 use Rattle.stun_values.specs.declared.algorithm.PasswordAlgorithmValue.{PasswordAlgorithmValue}
 use Rattle.stun_values.specs.declared.password_algorithm.PasswordAlgorithm.{PasswordAlgorithm}

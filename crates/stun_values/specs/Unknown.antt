@@ -1,4 +1,4 @@
--- The types that an UNKNOWN-ATTRIBUTES holds.
+-- The types in an UNKNOWN-ATTRIBUTES.
 use Rattle.std.specs.Prelude.{List}
 use Rattle.stun_grammar.specs.declared.attribute_type.AttributeType.{AttributeType}
 use Rattle.stun_values.specs.declared.unknown_attributes.UnknownAttributes.{UnknownAttributes}

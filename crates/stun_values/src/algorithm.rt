@@ -1,7 +1,7 @@
-//! An algorithm in four bytes, both ways (RFC 8489, section 14.11).
+//! An algorithm in four bytes, read and written (RFC 8489, section 14.11).
 
 ghost use Rattle.std.specs.Prelude.{◌≡◌, ◌+◌, ◌*◌, ◌%◌, ◌/◌, ◌≤◌, ◌++◌, Some, None, MatchResult, length, take, drop};
-ghost use Rattle.stun_values.specs.Algorithms.{algorithm_text, algorithms_text, algorithm_fault, integrity_of, one_algorithm_fault, algorithms_fault, fault_within};
+ghost use Rattle.stun_values.specs.Algorithms.{algorithm_encoding, algorithms_encoding, algorithm_fault, integrity_of, one_algorithm_fault, algorithms_fault, fault_within};
 
 use byteorder::{BigEndian, ByteOrder};
 use stun_base::{StunParseError, number_at};
@@ -29,11 +29,11 @@ impl PasswordAlgorithmValue {
     }
 }
 
-/// Writes the four bytes of an algorithm over the front of `dest`: its number, and that it has no
-/// parameters.
+/// Writes the four bytes of an algorithm at the start of `dest`: its number, and 0 for the length
+/// of its parameters.
 pub(crate) fn write_algorithm(algorithm: PasswordAlgorithmValue, dest: &mut [u8])
     requires { 4 ≤ length dest.old }
-    ensures { dest.new ≡ algorithm_text algorithm ++ drop 4 dest.old }
+    ensures { dest.new ≡ algorithm_encoding algorithm ++ drop 4 dest.old }
 {
     let number = match algorithm {
         PasswordAlgorithmValue::MD5 => 1,
@@ -43,23 +43,25 @@ pub(crate) fn write_algorithm(algorithm: PasswordAlgorithmValue, dest: &mut [u8]
     BigEndian::write_u16(&mut dest[2..], 0);
 }
 
-/// Writes four bytes for each algorithm over the front of `dest`, in order.
+/// Writes four bytes for each algorithm at the start of `dest`, in order.
 pub(crate) fn write_algorithms(algorithms: &[PasswordAlgorithmValue], dest: &mut [u8])
     requires { 4 * length algorithms.now ≤ length dest.old }
-    ensures { dest.new ≡ algorithms_text algorithms.now ++ drop (4 * length algorithms.now) dest.old }
+    ensures { dest.new ≡ algorithms_encoding algorithms.now
+        ++ drop (4 * length algorithms.now) dest.old }
 {
     for i in 0..algorithms.len() {
         write_algorithm(algorithms[i], &mut dest[4 * i..]);
     }
 }
 
-/// The one rule for reading an algorithm, at the front of four bytes or more: it has no parameters,
-/// and one of the two numbers. What isn't so is told, in this order.
-#[tactic(auto, using(crate::proofs::AlgorithmLaws::spelled))]
+/// The one rule for reading an algorithm, at the start of four bytes or more: it has no parameters,
+/// and its number is 1 or 2. It reports the first violation, in this order.
+#[tactic(auto, using(crate::proofs::AlgorithmsLemmas::spelled))]
 pub(crate) fn read_algorithm(value: &[u8]) -> Result<PasswordAlgorithmValue, StunParseError>
     requires { 4 ≤ length value.now }
     ensures { MatchResult result
-        (λ algorithm. (algorithm_fault value.now ≡ None) × (algorithm_text algorithm ≡ take 4 value.now))
+        (λ algorithm. (algorithm_fault value.now ≡ None)
+        × (algorithm_encoding algorithm ≡ take 4 value.now))
         (λ e. algorithm_fault value.now ≡ Some e) }
 {
     let parameters = number_at(value, 2) as usize;
@@ -76,8 +78,8 @@ pub(crate) fn read_algorithm(value: &[u8]) -> Result<PasswordAlgorithmValue, Stu
     }
 }
 
-/// A value is made of fours: it has four bytes or more, and a multiple of 4.
-fn check_fours(value: &[u8]) -> Result<(), StunParseError>
+/// Checks that a value is made of entries of four bytes, and isn't empty.
+fn check_entries(value: &[u8]) -> Result<(), StunParseError>
     ensures { MatchResult result
         (λ _. (4 ≤ length value.now) × (length value.now % 4 ≡ 0))
         (λ e. (one_algorithm_fault value.now ≡ Some e) × (algorithms_fault value.now ≡ Some e)) }
@@ -94,18 +96,19 @@ fn check_fours(value: &[u8]) -> Result<(), StunParseError>
     Ok(())
 }
 
-/// Reads a value whose first four bytes are an algorithm. What follows them isn't looked at.
-#[tactic(auto, using(crate::proofs::AlgorithmLaws::one_fault))]
+/// Reads a value whose first four bytes are an algorithm. What follows them is ignored.
+#[tactic(auto, using(crate::proofs::AlgorithmsLemmas::one_fault))]
 pub(crate) fn read_one(value: &[u8]) -> Result<PasswordAlgorithmValue, StunParseError>
     ensures { MatchResult result
-        (λ algorithm. (one_algorithm_fault value.now ≡ None) × (algorithm_text algorithm ≡ take 4 value.now))
+        (λ algorithm. (one_algorithm_fault value.now ≡ None)
+        × (algorithm_encoding algorithm ≡ take 4 value.now))
         (λ e. one_algorithm_fault value.now ≡ Some e) }
 {
-    check_fours(value)?;
+    check_entries(value)?;
     read_algorithm(value)
 }
 
-/// Each of a value's fours is an algorithm.
+/// Checks that each entry of a value is an algorithm.
 fn check_each(value: &[u8]) -> Result<(), StunParseError>
     requires { length value.now % 4 ≡ 0 }
     ensures { MatchResult result
@@ -118,13 +121,14 @@ fn check_each(value: &[u8]) -> Result<(), StunParseError>
     Ok(())
 }
 
-/// A value is a list of algorithms.
-#[tactic(auto, using(crate::proofs::AlgorithmLaws::list_fault))]
+/// Checks that a value is a list of algorithms.
+#[tactic(auto, using(crate::proofs::AlgorithmsLemmas::list_fault))]
 pub(crate) fn check_algorithms(value: &[u8]) -> Result<(), StunParseError>
     ensures { MatchResult result
-        (λ _. (algorithms_fault value.now ≡ None) × (length value.now % 4 ≡ 0) × (fault_within (length value.now / 4) value.now ≡ None))
+        (λ _. (algorithms_fault value.now ≡ None) × (length value.now % 4 ≡ 0)
+        × (fault_within (length value.now / 4) value.now ≡ None))
         (λ e. algorithms_fault value.now ≡ Some e) }
 {
-    check_fours(value)?;
+    check_entries(value)?;
     check_each(value)
 }

@@ -1,18 +1,20 @@
 ghost use Rattle.std.specs.Prelude.{◌≡◌, ◌≤◌, length};
 ghost use Rattle.std.specs.String.{string_bytes};
 
-use crate::check::check_type;
 use crate::error_value::{check_making, read_error, write_error};
-use crate::value::{MakeValue, raw_made, write_made};
 use std::alloc::Global;
-use stun_attrs::{Attribute, AttributeFromRaw, AttributeStaticType, AttributeWrite, RawAttribute};
+use stun_attrs::{
+    Attribute, AttributeFromRaw, AttributeStaticType, AttributeWrite, MakeValue, RawAttribute,
+    check_type, raw_made, write_made,
+};
 use stun_base::{AttributeType, StunParseError, StunWriteError};
+use stun_grammar::attribute_types;
 
 /// ERROR-CODE: why a request failed, as a code of 300 to 699 and a reason of at most 763 bytes of
 /// UTF-8 (RFC 8489, section 14.8).
 ///
-/// Its value has two zeros, the hundreds of the code in a byte, the rest of it, 0 to 99, in a byte,
-/// and the reason.
+/// Its value has two zeros, the class of the code (its hundreds) in a byte, its number (0 to 99) in
+/// a byte, and the reason.
 #[derive(Debug, PartialEq, Eq, Drop)]
 pub struct ErrorCode {
     code: u16,
@@ -22,7 +24,7 @@ pub struct ErrorCode {
     ghost short: { length (string_bytes reason) ≤ 763 },
 }
 
-/// What an [`ErrorCode`] is to be made of.
+/// The code and the reason that an [`ErrorCode`] is to be made of.
 #[derive(Debug, Drop)]
 pub struct ErrorCodeBuilder<'reason> {
     code: u16,
@@ -32,7 +34,7 @@ pub struct ErrorCodeBuilder<'reason> {
 impl<'reason> ErrorCodeBuilder<'reason> {
     ghost use Rattle.stun_values.specs.ErrorCodes.{builder_code, builder_reason, MakesError};
 
-    /// With this reason.
+    /// Sets the reason.
     pub fn reason(self, reason: &'reason str) -> Self
         ensures code { builder_code result ≡ builder_code self.entry }
         ensures reason { builder_reason result ≡ reason.now }
@@ -43,8 +45,8 @@ impl<'reason> ErrorCodeBuilder<'reason> {
         }
     }
 
-    /// The attribute; where no reason was given, with the one that goes with the code. The reason is
-    /// copied into memory that `alloc` gives.
+    /// The attribute; if no reason was given, with the default reason of the code. The reason is
+    /// copied into memory from `alloc`.
     ///
     /// # Errors
     ///
@@ -68,7 +70,7 @@ impl ErrorCode {
     ghost use Rattle.stun_values.specs.Errors.{default_reason};
     ghost use Rattle.stun_values.specs.ErrorCodes.{error_code, error_reason, builder_code, builder_reason, IsError, MakesError, ReadsError};
 
-    /// Another server is to be asked.
+    /// The client is to try another server.
     pub const TRY_ALTERNATE: u16 = 300;
     /// The request was malformed.
     pub const BAD_REQUEST: u16 = 400;
@@ -76,7 +78,7 @@ impl ErrorCode {
     pub const UNAUTHORIZED: u16 = 401;
     /// The request is not allowed (RFC 8656).
     pub const FORBIDDEN: u16 = 403;
-    /// The request has an attribute that has to be understood and isn't.
+    /// The request has a comprehension-required attribute that the server did not understand.
     pub const UNKNOWN_ATTRIBUTE: u16 = 420;
     /// There is an allocation already, or none (RFC 8656).
     pub const ALLOCATION_MISMATCH: u16 = 437;
@@ -103,7 +105,7 @@ impl ErrorCode {
     /// The server has no capacity left (RFC 8656).
     pub const INSUFFICIENT_CAPACITY: u16 = 508;
 
-    /// What is to be made of this code, so far without a reason.
+    /// A builder of an attribute with this code, so far without a reason.
     pub fn builder<'reason>(code: u16) -> ErrorCodeBuilder<'reason>
         ensures code { builder_code result ≡ code }
         ensures reason { builder_reason result ≡ default_reason code }
@@ -111,13 +113,13 @@ impl ErrorCode {
         ErrorCodeBuilder { code, reason: None }
     }
 
-    /// The attribute of this code and reason, which is copied into memory that `alloc` gives.
+    /// The attribute of this code and reason, which is copied into memory from `alloc`.
     ///
     /// # Errors
     ///
-    /// `OutOfRange { value, min: 300, max: 699 }` where the code is below 300 or above 699, then
-    /// `TooLarge { expected: 763, actual }` where the reason has more than 763 bytes. Else
-    /// `OutOfMemory` alone.
+    /// `OutOfRange { value, min: 300, max: 699 }` if the code is below 300 or above 699, then
+    /// `TooLarge { expected: 763, actual }` if the reason has more than 763 bytes, and
+    /// `OutOfMemory` if an allocation failed.
     pub fn new(alloc: Global, code: u16, reason: &str) -> Result<Self, StunWriteError>
         ensures { MakesError code reason.now result }
     {
@@ -126,11 +128,11 @@ impl ErrorCode {
         Ok(ErrorCode { code, reason })
     }
 
-    /// The same attribute, its reason copied into memory that `alloc` gives.
+    /// The same attribute, its reason copied into memory from `alloc`.
     ///
     /// # Errors
     ///
-    /// `OutOfMemory` alone.
+    /// `OutOfMemory` if an allocation failed.
     pub fn clone(&self, alloc: Global) -> Result<Self, StunWriteError>
         ensures same { IfOk result (IsError (error_code self.now) (error_reason self.now)) }
         ensures err { IfErr result (λ e. e ≡ StunWriteError.OutOfMemory) }
@@ -161,8 +163,7 @@ impl ErrorCode {
         self.reason.as_str()
     }
 
-    /// The reason that goes with a code: for each constant its own, and `Unknown` for every other
-    /// code.
+    /// The default reason of a code: each constant has its own, and every other code has `Unknown`.
     pub fn default_reason_for_code(code: u16) -> &'static str
         ensures { result.now ≡ default_reason code }
     {
@@ -188,7 +189,7 @@ impl ErrorCode {
         }
     }
 
-    /// Reads a raw attribute: its type is tested, and then its value, of which the reason is copied.
+    /// Reads a raw attribute: checks its type, and then its value, from which the reason is copied.
     fn read(alloc: Global, raw: &RawAttribute<'_>) -> Result<Self, StunParseError>
         ensures { ReadsError (raw_type raw.now) (raw_value raw.now) result }
     {
@@ -200,9 +201,14 @@ impl ErrorCode {
 }
 
 impl AttributeStaticType for ErrorCode {
-    ghost TYPE = { record { 0 = 0x0009 } };
+    ghost use Rattle.std.specs.Prelude.{refl};
+    ghost use Rattle.stun_grammar.specs.AttributeTypes.{ERROR_CODE};
 
-    const TYPE: AttributeType = AttributeType(0x0009);
+    ghost TYPE = { record { 0 = ERROR_CODE } };
+
+    ghost tells = { λ _. refl };
+
+    const TYPE: AttributeType = AttributeType(attribute_types::ERROR_CODE);
 }
 
 impl MakeValue for ErrorCode {
@@ -221,10 +227,11 @@ impl MakeValue for ErrorCode {
 }
 
 impl Attribute for ErrorCode {
+    ghost use Rattle.stun_grammar.specs.AttributeTypes.{ERROR_CODE};
     ghost use Rattle.stun_values.specs.Errors.{error_value};
     ghost use Rattle.stun_values.specs.ErrorCodes.{error_code, error_reason};
 
-    ghost atype = { λ _. 0x0009 };
+    ghost atype = { λ _. ERROR_CODE };
 
     ghost value = { λ attribute. error_value (error_code attribute) (error_reason attribute) };
 
@@ -240,23 +247,24 @@ impl Attribute for ErrorCode {
 impl AttributeWrite for ErrorCode {
     ghost use Rattle.std.specs.Prelude.{false};
 
-    ghost lends = { λ _. false };
+    ghost to_raw_borrows = { λ _. false };
 
     fn write_into_unchecked(&self, dest: &mut [u8]) {
         write_made(Self::TYPE, self, dest);
     }
 
-    /// The value is owned, in memory that `alloc` gives.
+    /// The value is owned, in memory from `alloc`.
     fn to_raw(&self, alloc: Global) -> Result<RawAttribute<'_>, StunWriteError> {
         raw_made(alloc, Self::TYPE, self)
     }
 }
 
-/// Reading refuses, in this order: another type by `WrongAttributeImplementation`; fewer than four
-/// bytes by `Truncated { expected: 4, actual }`; more than 767 by `TooLarge { expected: 767, actual }`;
-/// hundreds other than 3 to 6, a rest above 99, or a reason that isn't UTF-8 by
-/// `InvalidAttributeData`; and at last `OutOfMemory`, since the reason is kept in memory that `alloc`
-/// gives. The first two bytes and the high five bits of the third aren't looked at.
+/// Reading reports the first of these: another type as `WrongAttributeImplementation`; fewer than
+/// four bytes as `Truncated { expected: 4, actual }`; more than 767 as
+/// `TooLarge { expected: 767, actual }`; a class other than 3 to 6, a number above 99, or a reason
+/// that isn't UTF-8 as `InvalidAttributeData`; and a failed allocation as `OutOfMemory`, since the
+/// reason is kept in memory from `alloc`. The first two bytes and the high five bits of the third
+/// are ignored.
 impl AttributeFromRaw<'_> for ErrorCode {
     ghost use Rattle.stun_values.specs.ErrorCodes.{ReadsError};
 

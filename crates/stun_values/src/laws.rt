@@ -1,129 +1,52 @@
-//! Laws of the values.
+//! Laws of the values. Each function does nothing: its contract is the law. The type and the value
+//! of an attribute, which are those that `to_raw` has, are read as the same attribute.
 
-ghost use Rattle.std.specs.Prelude.{◌≡◌, ◌<◌, MatchResult, length};
+ghost use Rattle.std.specs.Prelude.{◌≡◌, ◌<◌, Result, IsOkAnd, MatchResult, length};
+ghost use Rattle.stun_grammar.specs.declared.error.StunParseError.{StunParseError};
 ghost use Rattle.stun_grammar.specs.declared.error.StunParseError.TheVariants.{OutOfMemory};
-ghost use Rattle.std.specs.declared.net.socket_addr.SocketAddr.{SocketAddr};
-ghost use Rattle.stun_values.specs.Addresses.{IsPlain, IsXored};
-ghost use Rattle.stun_values.specs.AddressTypes.{server_addr, written_mapped_addr};
-ghost use Rattle.stun_values.specs.ErrorCodes.{error_code, error_reason, IsError};
-ghost use Rattle.stun_values.specs.Unknown.{listed};
+ghost use Rattle.stun_grammar.specs.AttributeTypes.{ERROR_CODE, UNKNOWN_ATTRIBUTES, PASSWORD_ALGORITHM, PASSWORD_ALGORITHMS};
+ghost use Rattle.stun_values.specs.declared.error_code.ErrorCode.{ErrorCode};
+ghost use Rattle.stun_values.specs.declared.unknown_attributes.UnknownAttributes.{UnknownAttributes};
+ghost use Rattle.stun_values.specs.declared.password_algorithm.PasswordAlgorithm.{PasswordAlgorithm};
+ghost use Rattle.stun_values.specs.declared.password_algorithms.PasswordAlgorithms.{PasswordAlgorithms};
+ghost use Rattle.stun_values.specs.Algorithms.{algorithm_encoding, algorithms_encoding, ReadsAlgorithm, ReadsAlgorithms};
+ghost use Rattle.stun_values.specs.ErrorCodes.{error_code, error_reason, IsError, ReadsError};
+ghost use Rattle.stun_values.specs.Errors.{error_value};
 ghost use Rattle.stun_values.specs.Passwords.{held_algorithm, held_algorithms};
+ghost use Rattle.stun_values.specs.Types.{types_encoding, AreTypes, ReadsTypes};
+ghost use Rattle.stun_values.specs.Unknown.{listed};
 
-use crate::socket_value::known_address;
-use crate::{
-    AlternateServer, ErrorCode, PasswordAlgorithm, PasswordAlgorithms, UnknownAttributes,
-    XorMappedAddress, XorSocketAddr,
-};
-use std::alloc::Global;
-use std::net::SocketAddr;
-use stun_attrs::{AttributeFromRaw, AttributeWrite};
-use stun_base::{StunParseError, TransactionId};
+/// An ERROR-CODE is read back, unless out of memory.
+pub fn error_code_is_read_back()
+    ensures { (attribute : ErrorCode) (result : Result ErrorCode StunParseError)
+        → ReadsError ERROR_CODE (error_value (error_code attribute) (error_reason attribute)) result
+        → MatchResult result (IsError (error_code attribute) (error_reason attribute))
+        (λ e. e ≡ OutOfMemory) }
+{}
 
-/// An address without flow info and scope id that is XORed twice under one transaction id is as it
-/// was.
-pub fn xor_twice(addr: SocketAddr, transaction: TransactionId) -> SocketAddr
-    requires { IsPlain addr }
-    ensures back { result ≡ addr }
-    ensures law { (x y : SocketAddr) → IsXored transaction addr x → IsXored transaction x y → y ≡ addr }
-{
-    let xored = XorSocketAddr::xor_addr(addr, transaction);
-    XorSocketAddr::xor_addr(xored, transaction)
-}
+/// An UNKNOWN-ATTRIBUTES is read back, unless out of memory.
+pub fn unknown_attributes_is_read_back()
+    ensures { (attribute : UnknownAttributes) (result : Result UnknownAttributes StunParseError)
+        → AreTypes (listed attribute)
+        → ReadsTypes listed UNKNOWN_ATTRIBUTES (types_encoding (listed attribute)) result
+        → MatchResult result (λ read. AreTypes (listed read) → listed read ≡ listed attribute)
+        (λ e. e ≡ OutOfMemory) }
+{}
 
-/// What `to_raw` makes of an ALTERNATE-SERVER without flow info and scope id is read as the same one,
-/// memory aside.
-pub fn alternate_server_is_read_back(
-    alloc: Global,
-    server: &AlternateServer,
-) -> Result<AlternateServer, StunParseError>
-    requires { IsPlain (server_addr server.now) }
-    ensures { MatchResult result (λ read. server_addr read ≡ server_addr server.now) (λ e. e ≡ OutOfMemory) }
-{
-    known_address(&server.server());
-    let Ok(raw) = server.to_raw(alloc) else {
-        return Err(StunParseError::OutOfMemory);
-    };
-    let read = AlternateServer::from_raw_ref(alloc, &raw)?;
-    known_address(&read.server());
-    Ok(read)
-}
+/// A PASSWORD-ALGORITHM is read back.
+pub fn password_algorithm_is_read_back()
+    ensures { (attribute : PasswordAlgorithm) (result : Result PasswordAlgorithm StunParseError)
+        → ReadsAlgorithm held_algorithm PASSWORD_ALGORITHM
+        (algorithm_encoding (held_algorithm attribute)) result
+        → IsOkAnd result (λ read. held_algorithm read ≡ held_algorithm attribute) }
+{}
 
-/// What `to_raw` makes of an XOR-MAPPED-ADDRESS is read as the same one, memory aside.
-pub fn xor_mapped_address_is_read_back(
-    alloc: Global,
-    mapped: &XorMappedAddress,
-) -> Result<XorMappedAddress, StunParseError>
-    ensures { MatchResult result (λ read. written_mapped_addr read ≡ written_mapped_addr mapped.now) (λ e. e ≡ OutOfMemory) }
-{
-    known_address(&mapped.written());
-    let Ok(raw) = mapped.to_raw(alloc) else {
-        return Err(StunParseError::OutOfMemory);
-    };
-    let read = XorMappedAddress::from_raw_ref(alloc, &raw)?;
-    known_address(&read.written());
-    Ok(read)
-}
-
-/// What `to_raw` makes of a PASSWORD-ALGORITHM is read as the same one, memory aside.
-#[tactic(auto, using(crate::proofs::ReadBack::algorithm_back))]
-pub fn password_algorithm_is_read_back(
-    alloc: Global,
-    attribute: &PasswordAlgorithm,
-) -> Result<PasswordAlgorithm, StunParseError>
-    ensures { MatchResult result (λ read. held_algorithm read ≡ held_algorithm attribute.now) (λ e. e ≡ OutOfMemory) }
-{
-    match attribute.to_raw(alloc) {
-        Ok(raw) => PasswordAlgorithm::from_raw_ref(alloc, &raw),
-        Err(_) => Err(StunParseError::OutOfMemory),
-    }
-}
-
-/// What `to_raw` makes of a PASSWORD-ALGORITHMS that isn't empty is read as the same one, memory
-/// aside.
-pub fn password_algorithms_is_read_back(
-    alloc: Global,
-    attribute: &PasswordAlgorithms,
-) -> Result<PasswordAlgorithms, StunParseError>
-    requires { 0 < length (held_algorithms attribute.now) }
-    ensures { MatchResult result (λ read. held_algorithms read ≡ held_algorithms attribute.now) (λ e. e ≡ OutOfMemory) }
-{
-    match attribute.to_raw(alloc) {
-        Ok(raw) => PasswordAlgorithms::from_raw_ref(alloc, &raw),
-        Err(_) => Err(StunParseError::OutOfMemory),
-    }
-}
-
-/// What `to_raw` makes of an ERROR-CODE is read as the same one, memory aside.
-#[tactic(auto, using(crate::proofs::ReadBack::error_back))]
-pub fn error_code_is_read_back(
-    alloc: Global,
-    attribute: &ErrorCode,
-) -> Result<ErrorCode, StunParseError>
-    ensures { MatchResult result (IsError (error_code attribute.now) (error_reason attribute.now)) (λ e. e ≡ OutOfMemory) }
-{
-    match attribute.to_raw(alloc) {
-        Ok(raw) => ErrorCode::from_raw_ref(alloc, &raw),
-        Err(_) => Err(StunParseError::OutOfMemory),
-    }
-}
-
-/// What `to_raw` makes of an UNKNOWN-ATTRIBUTES is read as the same one, memory aside.
-#[tactic(auto, using(crate::proofs::ReadBack::types_back, crate::proofs::ReadBack::types_refused))]
-pub fn unknown_attributes_is_read_back(
-    alloc: Global,
-    attribute: &UnknownAttributes,
-) -> Result<UnknownAttributes, StunParseError>
-    ensures { MatchResult result (λ read. listed read ≡ listed attribute.now) (λ e. e ≡ OutOfMemory) }
-{
-    attribute.known_types();
-    let Ok(raw) = attribute.to_raw(alloc) else {
-        return Err(StunParseError::OutOfMemory);
-    };
-    match UnknownAttributes::from_raw_ref(alloc, &raw) {
-        Ok(read) => {
-            read.known_types();
-            Ok(read)
-        }
-        Err(told) => Err(told),
-    }
-}
+/// A PASSWORD-ALGORITHMS that isn't empty is read back, unless out of memory.
+pub fn password_algorithms_is_read_back()
+    ensures { (attribute : PasswordAlgorithms) (result : Result PasswordAlgorithms StunParseError)
+        → 0 < length (held_algorithms attribute)
+        → ReadsAlgorithms held_algorithms PASSWORD_ALGORITHMS
+        (algorithms_encoding (held_algorithms attribute)) result
+        → MatchResult result (λ read. held_algorithms read ≡ held_algorithms attribute)
+        (λ e. e ≡ OutOfMemory) }
+{}

@@ -3,15 +3,18 @@ ghost use Rattle.stun_values.specs.Passwords.{held_algorithm};
 
 use crate::PasswordAlgorithmValue;
 use crate::algorithm::{read_one, write_algorithm};
-use crate::check::check_type;
-use crate::value::{MakeValue, raw_made, write_made};
 use std::alloc::Global;
-use stun_attrs::{Attribute, AttributeFromRaw, AttributeStaticType, AttributeWrite, RawAttribute};
+use stun_attrs::{
+    Attribute, AttributeFromRaw, AttributeStaticType, AttributeWrite, MakeValue, RawAttribute,
+    check_type, raw_made, write_made,
+};
 use stun_base::{AttributeType, StunParseError, StunWriteError};
+use stun_grammar::attribute_types;
 
-/// PASSWORD-ALGORITHM: the algorithm that a client chose for its password (RFC 8489, section 14.12).
+/// PASSWORD-ALGORITHM: the algorithm that a client chose for its password (RFC 8489, section
+/// 14.12).
 ///
-/// Its value has the algorithm's number in two bytes, big-endian, and two zeros.
+/// Its value is the number of the algorithm in two bytes, big-endian, and two zeros.
 #[derive(Debug, Clone, PartialEq, Eq, Drop)]
 pub struct PasswordAlgorithm {
     algorithm: PasswordAlgorithmValue,
@@ -35,7 +38,7 @@ impl PasswordAlgorithm {
         self.algorithm
     }
 
-    /// Reads a raw attribute: its type is tested, and then its value.
+    /// Reads a raw attribute: checks its type, and then its value.
     fn read(raw: &RawAttribute<'_>) -> Result<Self, StunParseError>
         ensures { ReadsAlgorithm held_algorithm (raw_type raw.now) (raw_value raw.now) result }
     {
@@ -46,15 +49,20 @@ impl PasswordAlgorithm {
 }
 
 impl AttributeStaticType for PasswordAlgorithm {
-    ghost TYPE = { record { 0 = 0x001D } };
+    ghost use Rattle.std.specs.Prelude.{refl};
+    ghost use Rattle.stun_grammar.specs.AttributeTypes.{PASSWORD_ALGORITHM};
 
-    const TYPE: AttributeType = AttributeType(0x001D);
+    ghost TYPE = { record { 0 = PASSWORD_ALGORITHM } };
+
+    ghost tells = { λ _. refl };
+
+    const TYPE: AttributeType = AttributeType(attribute_types::PASSWORD_ALGORITHM);
 }
 
 impl MakeValue for PasswordAlgorithm {
-    ghost use Rattle.stun_values.specs.Algorithms.{algorithm_text};
+    ghost use Rattle.stun_values.specs.Algorithms.{algorithm_encoding};
 
-    ghost bytes = { λ attribute. algorithm_text (held_algorithm attribute) };
+    ghost bytes = { λ attribute. algorithm_encoding (held_algorithm attribute) };
 
     fn size(&self) -> u16 {
         4
@@ -66,11 +74,12 @@ impl MakeValue for PasswordAlgorithm {
 }
 
 impl Attribute for PasswordAlgorithm {
-    ghost use Rattle.stun_values.specs.Algorithms.{algorithm_text};
+    ghost use Rattle.stun_grammar.specs.AttributeTypes.{PASSWORD_ALGORITHM};
+    ghost use Rattle.stun_values.specs.Algorithms.{algorithm_encoding};
 
-    ghost atype = { λ _. 0x001D };
+    ghost atype = { λ _. PASSWORD_ALGORITHM };
 
-    ghost value = { λ attribute. algorithm_text (held_algorithm attribute) };
+    ghost value = { λ attribute. algorithm_encoding (held_algorithm attribute) };
 
     fn get_type(&self) -> AttributeType {
         Self::TYPE
@@ -84,23 +93,23 @@ impl Attribute for PasswordAlgorithm {
 impl AttributeWrite for PasswordAlgorithm {
     ghost use Rattle.std.specs.Prelude.{false};
 
-    ghost lends = { λ _. false };
+    ghost to_raw_borrows = { λ _. false };
 
     fn write_into_unchecked(&self, dest: &mut [u8]) {
         write_made(Self::TYPE, self, dest);
     }
 
-    /// The value is owned, in memory that `alloc` gives.
+    /// The value is owned, in memory from `alloc`.
     fn to_raw(&self, alloc: Global) -> Result<RawAttribute<'_>, StunWriteError> {
         raw_made(alloc, Self::TYPE, self)
     }
 }
 
-/// No memory is taken. Reading refuses, in this order: another type by
-/// `WrongAttributeImplementation`; fewer than four bytes by `Truncated { expected: 4, actual }`; a
-/// length that is no multiple of 4 by `InvalidAttributeData`; parameters of p bytes by
-/// `TooLarge { expected: 4, actual: 4 + p }`; another number by `InvalidAttributeData`. What follows
-/// the first four bytes isn't looked at.
+/// No memory is allocated. Reading reports the first of these: another type as
+/// `WrongAttributeImplementation`; fewer than four bytes as `Truncated { expected: 4, actual }`; a
+/// length that is no multiple of 4 as `InvalidAttributeData`; parameters of p bytes as
+/// `TooLarge { expected: 4, actual: 4 + p }`; another number as `InvalidAttributeData`. What
+/// follows the first four bytes is ignored.
 impl AttributeFromRaw<'_> for PasswordAlgorithm {
     ghost use Rattle.stun_values.specs.Algorithms.{ReadsAlgorithm};
 

@@ -2,16 +2,18 @@ ghost use Rattle.std.specs.Prelude.{◌≡◌, ◌≤◌, length};
 
 use crate::PasswordAlgorithmValue;
 use crate::algorithm::{check_algorithms, read_algorithm, write_algorithms};
-use crate::check::check_type;
-use crate::value::{MakeValue, raw_made, write_made};
 use std::alloc::Global;
-use stun_attrs::{Attribute, AttributeFromRaw, AttributeStaticType, AttributeWrite, RawAttribute};
+use stun_attrs::{
+    Attribute, AttributeFromRaw, AttributeStaticType, AttributeWrite, MakeValue, RawAttribute,
+    check_type, raw_made, write_made,
+};
 use stun_base::{AttributeType, StunParseError, StunWriteError};
+use stun_grammar::attribute_types;
 
-/// PASSWORD-ALGORITHMS: the algorithms that a server takes for passwords, the preferred one first
-/// (RFC 8489, section 14.11).
+/// PASSWORD-ALGORITHMS: the algorithms that a server supports for passwords, the preferred one
+/// first (RFC 8489, section 14.11).
 ///
-/// Its value has four bytes for each, in order: the number in two, big-endian, and two zeros.
+/// Its value has four bytes for each, in order: the number in two bytes, big-endian, and two zeros.
 #[derive(Debug, PartialEq, Eq, Drop)]
 pub struct PasswordAlgorithms {
     algorithms: Vec<PasswordAlgorithmValue>,
@@ -21,20 +23,22 @@ pub struct PasswordAlgorithms {
 impl PasswordAlgorithms {
     ghost use Rattle.std.specs.Prelude.{◌<◌, ◌*◌, ◌/◌, ◌%◌, Err, None, IfOk, IfErr, MatchResult};
     ghost use Rattle.stun_attrs.specs.Raw.{raw_type, raw_value};
-    ghost use Rattle.stun_values.specs.Algorithms.{ReadsAlgorithms, algorithms_text, fault_within};
+    ghost use Rattle.stun_values.specs.Algorithms.{ReadsAlgorithms, algorithms_encoding, fault_within};
     ghost use Rattle.stun_values.specs.Passwords.{held_algorithms};
 
-    /// The attribute of these algorithms, copied into memory that `alloc` gives. An empty list is
-    /// taken, though reading refuses its value.
+    /// The attribute of these algorithms, copied into memory from `alloc`. An empty list is
+    /// accepted, though reading refuses its value.
     ///
     /// # Errors
     ///
-    /// `TooLarge { expected: 16383, actual }` where there are more than 16383. Else `OutOfMemory`
-    /// alone.
+    /// `TooLarge { expected: 16383, actual }`, which counts algorithms and not bytes, if there are
+    /// more than 16383 algorithms, and `OutOfMemory` if an allocation failed.
     pub fn new(alloc: Global, algorithms: &[PasswordAlgorithmValue]) -> Result<Self, StunWriteError>
         ensures ok { IfOk result (λ made. held_algorithms made ≡ algorithms.now) }
-        ensures large { 16383 < length algorithms.now → result ≡ Err (StunWriteError.TooLarge 16383 (length algorithms.now)) }
-        ensures err { length algorithms.now ≤ 16383 → IfErr result (λ e. e ≡ StunWriteError.OutOfMemory) }
+        ensures large { 16383 < length algorithms.now
+            → result ≡ Err (StunWriteError.TooLarge 16383 (length algorithms.now)) }
+        ensures err { length algorithms.now ≤ 16383
+            → IfErr result (λ e. e ≡ StunWriteError.OutOfMemory) }
     {
         if algorithms.len() > 16383 {
             return Err(StunWriteError::TooLarge {
@@ -48,11 +52,11 @@ impl PasswordAlgorithms {
         Ok(PasswordAlgorithms { algorithms })
     }
 
-    /// The same attribute, its list copied into memory that `alloc` gives.
+    /// The same attribute, its list copied into memory from `alloc`.
     ///
     /// # Errors
     ///
-    /// `OutOfMemory` alone.
+    /// `OutOfMemory` if an allocation failed.
     pub fn clone(&self, alloc: Global) -> Result<Self, StunWriteError>
         ensures same { IfOk result (λ copy. held_algorithms copy ≡ held_algorithms self.now) }
         ensures err { IfErr result (λ e. e ≡ StunWriteError.OutOfMemory) }
@@ -68,12 +72,13 @@ impl PasswordAlgorithms {
         &self.algorithms
     }
 
-    /// The list of a value whose fours are algorithms.
+    /// The algorithms in a value whose entries of four bytes are algorithms.
     fn list_of(alloc: Global, value: &[u8]) -> Result<Vec<PasswordAlgorithmValue>, StunParseError>
-        requires fours { length value.now % 4 ≡ 0 }
+        requires entries { length value.now % 4 ≡ 0 }
         requires each { fault_within (length value.now / 4) value.now ≡ None }
         ensures { MatchResult result
-            (λ list. (algorithms_text list.items ≡ value.now) × (length value.now ≡ 4 * length list.items))
+            (λ list. (algorithms_encoding list.items ≡ value.now)
+            × (length value.now ≡ 4 * length list.items))
             (λ e. e ≡ StunParseError.OutOfMemory) }
     {
         let mut list = Vec::new(alloc);
@@ -86,11 +91,12 @@ impl PasswordAlgorithms {
         Ok(list)
     }
 
-    /// Reads a raw attribute: its type is tested, and then its value, of which the list is copied.
+    /// Reads a raw attribute: checks its type, and then its value, from which the list is copied.
     fn read(alloc: Global, raw: &RawAttribute<'_>) -> Result<Self, StunParseError>
         ensures { ReadsAlgorithms held_algorithms (raw_type raw.now) (raw_value raw.now) result }
     {
         check_type(raw, Self::TYPE)?;
+        // For the prover: the value has at most 65535 bytes, and so at most 16383 algorithms.
         let _length = raw.length();
         let value = raw.value().as_bytes();
         check_algorithms(value)?;
@@ -100,35 +106,41 @@ impl PasswordAlgorithms {
 }
 
 impl AttributeStaticType for PasswordAlgorithms {
-    ghost TYPE = { record { 0 = 0x8002 } };
+    ghost use Rattle.std.specs.Prelude.{refl};
+    ghost use Rattle.stun_grammar.specs.AttributeTypes.{PASSWORD_ALGORITHMS};
 
-    const TYPE: AttributeType = AttributeType(0x8002);
+    ghost TYPE = { record { 0 = PASSWORD_ALGORITHMS } };
+
+    ghost tells = { λ _. refl };
+
+    const TYPE: AttributeType = AttributeType(attribute_types::PASSWORD_ALGORITHMS);
 }
 
 impl MakeValue for PasswordAlgorithms {
-    ghost use Rattle.stun_values.specs.Algorithms.{algorithms_text};
+    ghost use Rattle.stun_values.specs.Algorithms.{algorithms_encoding};
     ghost use Rattle.stun_values.specs.Passwords.{held_algorithms};
 
-    ghost bytes = { λ attribute. algorithms_text (held_algorithms attribute) };
+    ghost bytes = { λ attribute. algorithms_encoding (held_algorithms attribute) };
 
-    #[tactic(auto, using(crate::proofs::Lists::length_of_fours))]
+    #[tactic(auto, using(crate::proofs::ListsLemmas::length_of_entries))]
     fn size(&self) -> u16 {
         4 * self.algorithms().len() as u16
     }
 
-    #[tactic(auto, using(crate::proofs::Lists::length_of_fours))]
+    #[tactic(auto, using(crate::proofs::ListsLemmas::length_of_entries))]
     fn write_value(&self, dest: &mut [u8]) {
         write_algorithms(self.algorithms(), dest);
     }
 }
 
 impl Attribute for PasswordAlgorithms {
-    ghost use Rattle.stun_values.specs.Algorithms.{algorithms_text};
+    ghost use Rattle.stun_grammar.specs.AttributeTypes.{PASSWORD_ALGORITHMS};
+    ghost use Rattle.stun_values.specs.Algorithms.{algorithms_encoding};
     ghost use Rattle.stun_values.specs.Passwords.{held_algorithms};
 
-    ghost atype = { λ _. 0x8002 };
+    ghost atype = { λ _. PASSWORD_ALGORITHMS };
 
-    ghost value = { λ attribute. algorithms_text (held_algorithms attribute) };
+    ghost value = { λ attribute. algorithms_encoding (held_algorithms attribute) };
 
     fn get_type(&self) -> AttributeType {
         Self::TYPE
@@ -142,23 +154,24 @@ impl Attribute for PasswordAlgorithms {
 impl AttributeWrite for PasswordAlgorithms {
     ghost use Rattle.std.specs.Prelude.{false};
 
-    ghost lends = { λ _. false };
+    ghost to_raw_borrows = { λ _. false };
 
     fn write_into_unchecked(&self, dest: &mut [u8]) {
         write_made(Self::TYPE, self, dest);
     }
 
-    /// The value is owned, in memory that `alloc` gives.
+    /// The value is owned, in memory from `alloc`.
     fn to_raw(&self, alloc: Global) -> Result<RawAttribute<'_>, StunWriteError> {
         raw_made(alloc, Self::TYPE, self)
     }
 }
 
-/// Reading refuses, in this order: another type by `WrongAttributeImplementation`; fewer than four
-/// bytes by `Truncated { expected: 4, actual }`; a length that is no multiple of 4 by
-/// `InvalidAttributeData`; the first four bytes that tell parameters of p bytes by
-/// `TooLarge { expected: 4, actual: 4 + p }` or another number by `InvalidAttributeData`; and at last
-/// `OutOfMemory`, since the list is kept in memory that `alloc` gives.
+/// Reading reports the first of these: another type as `WrongAttributeImplementation`; fewer than
+/// four bytes as `Truncated { expected: 4, actual }`; a length that is no multiple of 4 as
+/// `InvalidAttributeData`; the first entry that isn't an algorithm, as
+/// `TooLarge { expected: 4, actual: 4 + p }` if it has parameters of p bytes, and as
+/// `InvalidAttributeData` if it has another number; and a failed allocation as `OutOfMemory`, since
+/// the list is kept in memory from `alloc`.
 impl AttributeFromRaw<'_> for PasswordAlgorithms {
     ghost use Rattle.stun_values.specs.Algorithms.{ReadsAlgorithms};
     ghost use Rattle.stun_values.specs.Passwords.{held_algorithms};

@@ -1,34 +1,26 @@
-ghost use Rattle.std.specs.Prelude.{◌≡◌, ◌*◌, ◌^◌, ◌<◌, ◌≤◌, ◌++◌, length, drop};
-ghost use Rattle.std.specs.List.{AllByRecursion};
-ghost use Rattle.stun_values.specs.Types.{types_text};
+ghost use Rattle.std.specs.Prelude.{◌≡◌, ◌*◌, ◌≤◌, ◌++◌, length, drop};
+ghost use Rattle.stun_values.specs.Types.{types_encoding};
 
-use crate::check::check_type;
-use crate::value::{MakeValue, raw_made, write_made};
 use byteorder::{BigEndian, ByteOrder};
 use std::alloc::Global;
-use stun_attrs::{Attribute, AttributeFromRaw, AttributeStaticType, AttributeWrite, RawAttribute};
+use stun_attrs::{
+    Attribute, AttributeFromRaw, AttributeStaticType, AttributeWrite, MakeValue, RawAttribute,
+    check_type, raw_made, write_made,
+};
 use stun_base::{AttributeType, StunParseError, StunWriteError, number_at};
+use stun_grammar::attribute_types;
 
-/// Each type has sixteen bits.
-fn fit(types: &[AttributeType])
-    ensures { AllByRecursion (λ t. t.0 < 2 ^ 16) types.now }
-{
-    for i in 0..types.len() {
-        let _type = types[i].value();
-    }
-}
-
-/// Writes two bytes for each type over the front of `dest`, in order.
+/// Writes two bytes for each type at the start of `dest`, which has room for them, in order.
 fn write_types(types: &[AttributeType], dest: &mut [u8])
     requires { 2 * length types.now ≤ length dest.old }
-    ensures { dest.new ≡ types_text types.now ++ drop (2 * length types.now) dest.old }
+    ensures { dest.new ≡ types_encoding types.now ++ drop (2 * length types.now) dest.old }
 {
     for i in 0..types.len() {
         BigEndian::write_u16(&mut dest[2 * i..], types[i].value());
     }
 }
 
-/// UNKNOWN-ATTRIBUTES: the types that were not understood (RFC 8489, section 14.13).
+/// UNKNOWN-ATTRIBUTES: the types that the server did not understand (RFC 8489, section 14.13).
 ///
 /// Its value has two bytes for each type, big-endian, in order.
 #[derive(Debug, PartialEq, Eq, Drop)]
@@ -38,29 +30,23 @@ pub struct UnknownAttributes {
 }
 
 impl UnknownAttributes {
-    ghost use Rattle.std.specs.Prelude.{◌^◌, ◌<◌, ◌↔◌, [], ◌∷◌, ◌/◌, ◌%◌, Err, Ok, IfOk, IfErr, OnOk, OnErr, IsTrue, Contains, MatchResult};
+    ghost use Rattle.std.specs.Prelude.{◌<◌, ◌↔◌, [], ◌∷◌, ◌%◌, Err, Ok, IfOk, IfErr, OnOk, OnErr, IsTrue, Contains, MatchResult};
     ghost use Rattle.stun_attrs.specs.Raw.{raw_type, raw_value};
     ghost use Rattle.stun_values.specs.Types.{ReadsTypes};
-    ghost use Rattle.std.specs.List.{AllByRecursion};
     ghost use Rattle.stun_values.specs.Unknown.{listed};
 
-    /// Each of its types has sixteen bits.
-    pub(crate) fn known_types(&self)
-        ensures { AllByRecursion (λ t. t.0 < 2 ^ 16) (listed self.now) }
-    {
-        fit(&self.types);
-    }
-
-    /// The attribute of these types, copied with their repeats into memory that `alloc` gives.
+    /// The attribute of these types, in order and with repeats, copied into memory from `alloc`.
     ///
     /// # Errors
     ///
-    /// `TooLarge { expected: 32767, actual }` where there are more than 32767. Else `OutOfMemory`
-    /// alone.
+    /// `TooLarge { expected: 32767, actual }`, which counts types and not bytes, if there are more
+    /// than 32767 types, and `OutOfMemory` if an allocation failed.
     pub fn new(alloc: Global, attrs: &[AttributeType]) -> Result<Self, StunWriteError>
         ensures ok { IfOk result (λ made. listed made ≡ attrs.now) }
-        ensures large { 32767 < length attrs.now → result ≡ Err (StunWriteError.TooLarge 32767 (length attrs.now)) }
-        ensures err { length attrs.now ≤ 32767 → IfErr result (λ e. e ≡ StunWriteError.OutOfMemory) }
+        ensures large { 32767 < length attrs.now
+            → result ≡ Err (StunWriteError.TooLarge 32767 (length attrs.now)) }
+        ensures err { length attrs.now ≤ 32767
+            → IfErr result (λ e. e ≡ StunWriteError.OutOfMemory) }
     {
         if attrs.len() > 32767 {
             return Err(StunWriteError::TooLarge {
@@ -72,45 +58,52 @@ impl UnknownAttributes {
         Ok(UnknownAttributes { types })
     }
 
-    /// The same attribute, its list copied into memory that `alloc` gives.
+    /// The same attribute, its list copied into memory from `alloc`.
     ///
     /// # Errors
     ///
-    /// `OutOfMemory` alone.
+    /// `OutOfMemory` if an allocation failed.
     pub fn clone(&self, alloc: Global) -> Result<Self, StunWriteError>
         ensures same { IfOk result (λ copy. listed copy ≡ listed self.now) }
         ensures err { IfErr result (λ e. e ≡ StunWriteError.OutOfMemory) }
     {
-        Self::new(alloc, self.types())
+        Self::new(alloc, self.attributes())
     }
 
-    /// The types, in order.
-    fn types(&self) -> &[AttributeType]
+    /// The types, in order and with repeats.
+    pub fn attributes(&self) -> &[AttributeType]
         ensures types { result.now ≡ listed self.now }
         ensures few { length result.now ≤ 32767 }
     {
         &self.types
     }
 
-    /// The list has this type.
+    /// Whether the list, of at most 32767 types, has this one.
     pub fn has_attribute(&self, attr: AttributeType) -> bool
-        ensures { IsTrue result ↔ Contains (listed self.now) attr }
+        ensures has { IsTrue result ↔ Contains (listed self.now) attr }
+        ensures few { length (listed self.now) ≤ 32767 }
     {
-        self.types.contains(&attr)
+        self.attributes().contains(&attr)
     }
 
-    /// Adds a type at the end of the list, where it isn't there yet; else the list stays. The list
-    /// grows in the memory of which it was made.
+    /// Adds a type at the end of the list, unless the list has it already. The list grows by the
+    /// allocator that it was made with.
     ///
     /// # Errors
     ///
-    /// `TooLarge { expected: 32767, actual: 32768 }` for a new type where there are 32767. Else
-    /// `OutOfMemory` alone. The list then stays.
+    /// `TooLarge { expected: 32767, actual: 32768 }`, which counts types and not bytes, for a new
+    /// type if there are 32767 already, and `OutOfMemory` if an allocation failed. The list is then
+    /// unchanged.
     pub fn add_attribute(&mut self, attr: AttributeType) -> Result<(), StunWriteError>
-        ensures there { Contains (listed self.old) attr → (result ≡ Ok tt) × (listed self.new ≡ listed self.old) }
-        ensures added { ¬ (Contains (listed self.old) attr) → OnOk result (listed self.new ≡ listed self.old ++ attr ∷ []) }
-        ensures large { ¬ (Contains (listed self.old) attr) → length (listed self.old) ≡ 32767 → result ≡ Err (StunWriteError.TooLarge 32767 32768) }
-        ensures err { length (listed self.old) < 32767 → IfErr result (λ e. e ≡ StunWriteError.OutOfMemory) }
+        ensures few { length (listed self.old) ≤ 32767 × length (listed self.new) ≤ 32767 }
+        ensures there { Contains (listed self.old) attr
+            → (result ≡ Ok tt) × (listed self.new ≡ listed self.old) }
+        ensures added { ¬ (Contains (listed self.old) attr)
+            → OnOk result (listed self.new ≡ listed self.old ++ attr ∷ []) }
+        ensures large { ¬ (Contains (listed self.old) attr) → length (listed self.old) ≡ 32767
+            → result ≡ Err (StunWriteError.TooLarge 32767 32768) }
+        ensures err { length (listed self.old) < 32767
+            → IfErr result (λ e. e ≡ StunWriteError.OutOfMemory) }
         ensures refused { OnErr result (listed self.new ≡ listed self.old) }
     {
         if self.has_attribute(attr) {
@@ -127,11 +120,12 @@ impl UnknownAttributes {
             .map_err(|_| StunWriteError::OutOfMemory)
     }
 
-    /// The list of a value of an even number of bytes.
+    /// The types in a value of an even number of bytes.
     fn list_of(alloc: Global, value: &[u8]) -> Result<Vec<AttributeType>, StunParseError>
         requires { length value.now % 2 ≡ 0 }
         ensures { MatchResult result
-            (λ list. (types_text list.items ≡ value.now) × (length value.now ≡ 2 * length list.items))
+            (λ list. (types_encoding list.items ≡ value.now)
+            × (length value.now ≡ 2 * length list.items))
             (λ e. e ≡ StunParseError.OutOfMemory) }
     {
         let mut list = Vec::new(alloc);
@@ -144,58 +138,68 @@ impl UnknownAttributes {
         Ok(list)
     }
 
-    /// Reads a raw attribute: its type is tested, and then its value, of which the list is copied.
+    /// Reads a raw attribute: checks its type, and then its value, from which the list is copied.
     fn read(alloc: Global, raw: &RawAttribute<'_>) -> Result<Self, StunParseError>
         ensures { ReadsTypes listed (raw_type raw.now) (raw_value raw.now) result }
     {
         check_type(raw, Self::TYPE)?;
-        let _length = raw.length();
-        let value = raw.value().as_bytes();
-        if value.len() % 2 != 0 {
+        let length = raw.length() as usize;
+        if length % 2 != 0 {
             return Err(StunParseError::Truncated {
-                expected: value.len() + 1,
-                actual: value.len(),
+                expected: length + 1,
+                actual: length,
             });
         }
-        let types = Self::list_of(alloc, value)?;
+        let types = Self::list_of(alloc, raw.value().as_bytes())?;
         Ok(UnknownAttributes { types })
     }
 }
 
 impl AttributeStaticType for UnknownAttributes {
-    ghost TYPE = { record { 0 = 0x000A } };
+    ghost use Rattle.std.specs.Prelude.{refl};
+    ghost use Rattle.stun_grammar.specs.AttributeTypes.{UNKNOWN_ATTRIBUTES};
 
-    const TYPE: AttributeType = AttributeType(0x000A);
+    ghost TYPE = { record { 0 = UNKNOWN_ATTRIBUTES } };
+
+    ghost tells = { λ _. refl };
+
+    const TYPE: AttributeType = AttributeType(attribute_types::UNKNOWN_ATTRIBUTES);
 }
 
 impl MakeValue for UnknownAttributes {
     ghost use Rattle.stun_values.specs.Unknown.{listed};
 
-    ghost bytes = { λ attribute. types_text (listed attribute) };
+    ghost bytes = { λ attribute. types_encoding (listed attribute) };
 
-    #[tactic(auto, using(crate::proofs::Lists::length_of_twos))]
+    #[tactic(auto, using(crate::proofs::ListsLemmas::length_of_twos))]
     fn size(&self) -> u16 {
-        2 * self.types().len() as u16
+        2 * self.attributes().len() as u16
     }
 
-    #[tactic(auto, using(crate::proofs::Lists::length_of_twos))]
+    #[tactic(auto, using(crate::proofs::ListsLemmas::length_of_twos))]
     fn write_value(&self, dest: &mut [u8]) {
-        write_types(self.types(), dest);
+        write_types(self.attributes(), dest);
     }
 }
 
 impl Attribute for UnknownAttributes {
+    ghost use Rattle.stun_grammar.specs.AttributeTypes.{UNKNOWN_ATTRIBUTES};
     ghost use Rattle.stun_values.specs.Unknown.{listed};
 
-    ghost atype = { λ _. 0x000A };
+    ghost atype = { λ _. UNKNOWN_ATTRIBUTES };
 
-    ghost value = { λ attribute. types_text (listed attribute) };
+    ghost value = { λ attribute. types_encoding (listed attribute) };
 
     fn get_type(&self) -> AttributeType {
         Self::TYPE
     }
 
-    fn length(&self) -> u16 {
+    /// Two bytes for each type.
+    #[tactic(auto, using(crate::proofs::ListsLemmas::length_of_twos))]
+    fn length(&self) -> u16
+        ensures value { result ≡ length (types_encoding (listed self.now)) }
+        ensures twos { result ≡ 2 * length (listed self.now) }
+    {
         self.size()
     }
 }
@@ -203,21 +207,21 @@ impl Attribute for UnknownAttributes {
 impl AttributeWrite for UnknownAttributes {
     ghost use Rattle.std.specs.Prelude.{false};
 
-    ghost lends = { λ _. false };
+    ghost to_raw_borrows = { λ _. false };
 
     fn write_into_unchecked(&self, dest: &mut [u8]) {
         write_made(Self::TYPE, self, dest);
     }
 
-    /// The value is owned, in memory that `alloc` gives.
+    /// The value is owned, in memory from `alloc`.
     fn to_raw(&self, alloc: Global) -> Result<RawAttribute<'_>, StunWriteError> {
         raw_made(alloc, Self::TYPE, self)
     }
 }
 
-/// Reading refuses, in this order: another type by `WrongAttributeImplementation`; an odd number n of
-/// bytes by `Truncated { expected: n + 1, actual: n }`; and at last `OutOfMemory`, since the list is
-/// kept in memory that `alloc` gives.
+/// Reading reports the first of these: another type as `WrongAttributeImplementation`; an odd
+/// number n of bytes as `Truncated { expected: n + 1, actual: n }`; and a failed allocation as
+/// `OutOfMemory`, since the list is kept in memory from `alloc`.
 impl AttributeFromRaw<'_> for UnknownAttributes {
     ghost use Rattle.stun_values.specs.Types.{ReadsTypes};
     ghost use Rattle.stun_values.specs.Unknown.{listed};

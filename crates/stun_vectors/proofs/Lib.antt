@@ -1,4 +1,5 @@
-mod Adds
-mod InSlices
-mod Requests
-mod Numbers
+mod AddsLemmas
+mod InSlicesLemmas
+mod RequestsLemmas
+mod NumbersLemmas
+mod WhoseLemmas

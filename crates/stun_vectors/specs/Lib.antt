@@ -1,1 +1,2 @@
 pub mod MyValue
+pub mod Whose

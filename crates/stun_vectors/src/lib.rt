@@ -1,18 +1,24 @@
-//! Worked examples of STUN messages (RFC 8489), byte by byte, and what is proved of a message that is
-//! written and read back through what `stun_types` offers to everybody.
+//! Attributes and functions as a user of `stun_types` writes them, and what is proved of the
+//! messages that they write and read.
 //!
-//! The tests read and write the bytes of messages, attributes and their parts, and each expected
-//! value is written out.
+//! The tests run the examples of the README, and compare what these functions write with bytes that
+//! are spelled out.
 #![tactic(auto)]
 
+mod header;
+mod in_slice;
 mod lent;
 mod my_attribute;
 mod request;
 mod room;
 #[cfg(test)]
 mod tests;
+mod whose;
 
-pub use lent::software_in_slice;
+pub use header::header_behind_adds;
+pub use in_slice::software_in_slice;
+pub use lent::overwrite;
 pub use my_attribute::{MyAttribute, my_attribute_is_read_back};
 pub use request::software_message;
 pub use room::{UseCandidate, nominate_sixteen};
+pub use whose::validates_own;

@@ -1,4 +1,4 @@
-//! An attribute of a user's own, over what `stun_types` offers to everybody.
+//! An attribute of a user's own, over the public items of `stun_types`.
 
 ghost use Rattle.std.specs.Prelude.{◌≡◌, ◌<◌, ◌^◌, Result, Ok};
 ghost use Rattle.stun_grammar.specs.declared.error.StunParseError.{StunParseError};
@@ -14,7 +14,7 @@ use stun_types::attribute::{AttributeType, RawAttribute};
 use stun_types::message::{StunParseError, StunWriteError};
 use stun_types::prelude::*;
 
-/// A number of 32 bits, in four bytes, big-endian.
+/// An attribute of type 0x8851 that holds a number of 32 bits: four bytes, big-endian.
 #[derive(Clone, Copy, Debug, PartialEq, Eq)]
 pub struct MyAttribute {
     /// The number.
@@ -22,7 +22,11 @@ pub struct MyAttribute {
 }
 
 impl AttributeStaticType for MyAttribute {
+    ghost use Rattle.std.specs.Prelude.{refl};
+
     ghost TYPE = { record { 0 = 0x8851 } };
+
+    ghost tells = { λ _. refl };
 
     const TYPE: AttributeType = AttributeType(0x8851);
 }
@@ -46,21 +50,18 @@ impl Attribute for MyAttribute {
 impl AttributeWrite for MyAttribute {
     ghost use Rattle.std.specs.Prelude.{false};
 
-    ghost lends = { λ _. false };
+    ghost to_raw_borrows = { λ _. false };
 
-    #[tactic(auto, unfolding(stun_grammar::specs::Attributes::text))]
+    #[tactic(auto, unfolding(stun_grammar::specs::Attributes::encoding))]
     fn write_into_unchecked(&self, dest: &mut [u8]) {
         self.write_header_unchecked(dest);
         BigEndian::write_u32(&mut dest[4..], self.value);
     }
 
-    /// The value is owned.
+    /// The value of the raw attribute is owned, in memory that `alloc` gives.
     fn to_raw(&self, alloc: Global) -> Result<RawAttribute<'_>, StunWriteError> {
         let value = self.value.to_be_bytes();
-        let Ok(raw) = RawAttribute::new(Self::TYPE, &value) else {
-            unreachable!()
-        };
-        raw.into_owned(alloc)
+        RawAttribute::new(Self::TYPE, &value)?.into_owned(alloc)
     }
 }
 
@@ -80,7 +81,7 @@ impl AttributeFromRaw<'_> for MyAttribute {
     }
 }
 
-/// Reads it: the type, exactly four bytes, and the number that they spell.
+/// Checks the type and that the value has exactly four bytes, and reads the number from them.
 fn read(raw: &RawAttribute<'_>) -> Result<MyAttribute, StunParseError>
     ensures { ReadsNumber (raw_type raw.now) (raw_value raw.now) result }
 {
@@ -90,7 +91,9 @@ fn read(raw: &RawAttribute<'_>) -> Result<MyAttribute, StunParseError>
     Ok(MyAttribute { value })
 }
 
-/// The type and the value of a number are read as that number.
+/// What is written of a number reads back as that number: its postcondition is the theorem.
 pub fn my_attribute_is_read_back()
-    ensures { (attribute : MyAttribute) (result : Result MyAttribute StunParseError) → attribute.value < 2 ^ 32 → ReadsNumber 0x8851 (be32 attribute.value) result → result ≡ Ok attribute }
+    ensures { (attribute : MyAttribute) (result : Result MyAttribute StunParseError)
+        → attribute.value < 2 ^ 32 → ReadsNumber 0x8851 (be32 attribute.value) result
+        → result ≡ Ok attribute }
 {}

@@ -1,8 +1,9 @@
-//! Attributes that are added without taking memory.
+//! Adding attributes without taking memory.
 
 ghost use Rattle.std.specs.Prelude.{◌≡◌, ◌+◌, ◌<◌, ◌≤◌, ◌⊎◌, [], ◌∷◌, ◌++◌, None, IsOk, OnOk, length};
 ghost use Rattle.stun_grammar.specs.Steps.{add};
-ghost use Rattle.stun_types.specs.Writing.{order_refusal, whole, add_refusal, IsAddAnswer};
+ghost use Rattle.stun_grammar.specs.Adding.{order_refusal, add_refusal, IsAddAnswer};
+ghost use Rattle.stun_write.specs.Writers.{Allocates, Adds};
 
 use std::alloc::Global;
 use stun_base::binding_request;
@@ -10,13 +11,17 @@ use stun_types::attribute::{AttributeType, RawAttribute};
 use stun_types::message::{Message, StunWriteError, TransactionId};
 use stun_types::prelude::*;
 
-/// USE-CANDIDATE, by which a controlling ICE agent nominates a pair: its value is empty (RFC 8445,
-/// section 7.1.2).
+/// USE-CANDIDATE (0x0025), by which a controlling ICE agent nominates a candidate pair. Its value
+/// is empty (RFC 8445, section 7.1.2).
 #[derive(Clone, Copy, Debug, PartialEq, Eq)]
 pub struct UseCandidate;
 
 impl AttributeStaticType for UseCandidate {
+    ghost use Rattle.std.specs.Prelude.{refl};
+
     ghost TYPE = { record { 0 = 0x0025 } };
+
+    ghost tells = { λ _. refl };
 
     const TYPE: AttributeType = AttributeType(0x0025);
 }
@@ -40,61 +45,61 @@ impl Attribute for UseCandidate {
 impl AttributeWrite for UseCandidate {
     ghost use Rattle.std.specs.Prelude.{true};
 
-    ghost lends = { λ _. true };
+    ghost to_raw_borrows = { λ _. true };
 
-    #[tactic(auto, unfolding(stun_grammar::specs::Attributes::text))]
+    #[tactic(auto, unfolding(stun_grammar::specs::Attributes::encoding))]
     fn write_into_unchecked(&self, dest: &mut [u8]) {
         self.write_header_unchecked(dest);
     }
 
     fn to_raw(&self, _alloc: Global) -> Result<RawAttribute<'_>, StunWriteError> {
-        RawAttribute::new(Self::TYPE, &[]).map_err(|_| StunWriteError::OutOfMemory)
+        Ok(RawAttribute::new(Self::TYPE, &[])?)
     }
 }
 
 /// Adds a USE-CANDIDATE.
 fn add_use_candidate<B: MessageWrite>(message: &mut B) -> Result<(), StunWriteError>
-    ensures answer { IsAddAnswer (add_refusal (add 0x0025 []) (B.types message.old) (length (B.bytes message.old)) (B.greatest message.old)) (B.ready_bytes message.old < 4 ⊎ B.ready_types message.old < 1) result }
-    ensures length { OnOk result (length (B.bytes message.new) ≡ length (B.bytes message.old) + 4) }
-    ensures types { OnOk result (B.types message.new ≡ B.types message.old ++ 0x0025 ∷ []) }
-    ensures greatest { B.greatest message.new ≡ B.greatest message.old }
-    ensures bytes_left { B.ready_bytes message.old ≤ B.ready_bytes message.new + 4 }
-    ensures types_left { B.ready_types message.old ≤ B.ready_types message.new + 1 }
+    ensures answer { IsAddAnswer
+        (add_refusal (add 0x0025 [])
+        (B.state message.old).types (length (B.state message.old).bytes)
+        (B.state message.old).greatest)
+        (Allocates (B.state message.old) 0) result }
+    ensures adds { Adds result (B.state message.old) (B.state message.new) 0x0025 [] }
 {
     message.add_attribute(&UseCandidate)
 }
 
-/// Adds a USE-CANDIDATE for which there is room; nothing hinders the next one.
+/// Adds a USE-CANDIDATE for which there is room. It succeeds, and no attribute bars the next one.
 fn add_within_room<B: MessageWrite>(message: &mut B) -> Result<(), StunWriteError>
-    requires order { order_refusal (add 0x0025 []) (B.types message.old) ≡ None }
-    requires header { 20 ≤ length (B.bytes message.old) }
-    requires short { length (B.bytes message.old) ≤ 80 }
-    requires unbounded { B.greatest message.old ≡ None }
-    requires ready_bytes { 4 ≤ B.ready_bytes message.old }
-    requires ready_types { 1 ≤ B.ready_types message.old }
+    requires order { order_refusal (add 0x0025 []) (B.state message.old).types ≡ None }
+    requires header { 20 ≤ length (B.state message.old).bytes }
+    requires short { length (B.state message.old).bytes ≤ 80 }
+    requires unbounded { (B.state message.old).greatest ≡ None }
+    requires ready_bytes { 4 ≤ (B.state message.old).ready_bytes }
+    requires ready_types { 1 ≤ (B.state message.old).ready_types }
     ensures added { IsOk result }
-    ensures length { length (B.bytes message.new) ≡ length (B.bytes message.old) + 4 }
-    ensures order { order_refusal (add 0x0025 []) (B.types message.new) ≡ None }
-    ensures unbounded { B.greatest message.new ≡ None }
-    ensures bytes_left { B.ready_bytes message.old ≤ B.ready_bytes message.new + 4 }
-    ensures types_left { B.ready_types message.old ≤ B.ready_types message.new + 1 }
+    ensures length { length (B.state message.new).bytes ≡ length (B.state message.old).bytes + 4 }
+    ensures order { order_refusal (add 0x0025 []) (B.state message.new).types ≡ None }
+    ensures unbounded { (B.state message.new).greatest ≡ None }
+    ensures bytes_left { (B.state message.old).ready_bytes ≤ (B.state message.new).ready_bytes + 4 }
+    ensures types_left { (B.state message.old).ready_types ≤ (B.state message.new).ready_types + 1 }
 {
     add_use_candidate(message)
 }
 
-/// Begins a binding request and adds sixteen USE-CANDIDATE. Where 84 bytes and sixteen attributes
-/// are ready, it takes no memory, and so succeeds.
-#[tactic(auto, using(crate::proofs::Adds::nothing_before))]
+/// Begins a binding request and adds sixteen USE-CANDIDATE attributes. The writer is empty, without
+/// a bound, and has 84 bytes and sixteen attributes ready; so this takes no memory, and succeeds.
+#[tactic(auto, using(crate::proofs::AddsLemmas::nothing_before))]
 pub fn nominate_sixteen<B: MessageWrite>(
     id: TransactionId,
     message: &mut B,
 ) -> Result<(), StunWriteError>
-    requires empty { B.bytes message.old ≡ [] }
-    requires unbounded { B.greatest message.old ≡ None }
-    requires ready_bytes { 84 ≤ B.ready_bytes message.old }
-    requires ready_types { 16 ≤ B.ready_types message.old }
+    requires empty { (B.state message.old).bytes ≡ [] }
+    requires unbounded { (B.state message.old).greatest ≡ None }
+    requires ready_bytes { 84 ≤ (B.state message.old).ready_bytes }
+    requires ready_types { 16 ≤ (B.state message.old).ready_types }
     ensures added { IsOk result }
-    ensures length { length (B.bytes message.new) ≡ 84 }
+    ensures length { length (B.state message.new).bytes ≡ 84 }
 {
     Message::builder_into(binding_request(), id, message)?;
     let mut left = 16u8;

@@ -13,13 +13,13 @@ use stun_grammar::IntegrityAlgorithm;
 /// How many bytes a block of either digest has.
 const BLOCK: usize = 64;
 
-/// What the key's bytes are XORed with before the text is digested.
+/// What each byte of the key's block is XORed with for the inner digest.
 const INNER_PAD: u8 = 0x36;
 
-/// What the key's bytes are XORed with before the inner digest is digested.
+/// What each byte of the key's block is XORed with for the outer digest.
 const OUTER_PAD: u8 = 0x5C;
 
-/// A key of at most a block, filled up with zeros.
+/// A key of at most one block, filled up with zeros.
 fn in_block(key: &[u8]) -> [u8; 64]
     requires { length key.now ≤ 64 }
     ensures { result ≡ key.now ++ replicate (64 - length key.now) 0 }
@@ -40,7 +40,7 @@ fn padded(block: &[u8; 64], pad: u8) -> [u8; 64]
     bytes
 }
 
-/// The block of a key for SHA-1.
+/// The block of a key for SHA-1: a key longer than a block is digested first.
 fn sha1_block(key: &[u8]) -> [u8; 64]
     ensures { result ≡ block_of_key sha1 key.now }
 {
@@ -51,7 +51,7 @@ fn sha1_block(key: &[u8]) -> [u8; 64]
     }
 }
 
-/// The block of a key for SHA-256.
+/// The block of a key for SHA-256: a key longer than a block is digested first.
 fn sha256_block(key: &[u8]) -> [u8; 64]
     ensures { result ≡ block_of_key sha256 key.now }
 {
@@ -62,7 +62,7 @@ fn sha256_block(key: &[u8]) -> [u8; 64]
     }
 }
 
-/// The SHA-1 of a block and the pieces behind it, joined.
+/// The SHA-1 of a block and the pieces after it, joined.
 fn sha1_behind(block: &[u8; 64], pieces: &[&[u8]]) -> [u8; 20]
     ensures { result ≡ sha1 (block.now ++ concat (map (λ piece. piece.now) pieces.now)) }
 {
@@ -74,7 +74,7 @@ fn sha1_behind(block: &[u8; 64], pieces: &[&[u8]]) -> [u8; 20]
     hasher.finalize()
 }
 
-/// The SHA-256 of a block and the pieces behind it, joined.
+/// The SHA-256 of a block and the pieces after it, joined.
 fn sha256_behind(block: &[u8; 64], pieces: &[&[u8]]) -> [u8; 32]
     ensures { result ≡ sha256 (block.now ++ concat (map (λ piece. piece.now) pieces.now)) }
 {
@@ -88,10 +88,12 @@ fn sha256_behind(block: &[u8; 64], pieces: &[&[u8]]) -> [u8; 32]
 
 /// HMAC-SHA1 of the pieces, joined, under a key of any length: 20 bytes.
 ///
-/// It takes no memory, and the pieces are not copied. Where one text is cut doesn't matter.
+/// It takes no memory, and the pieces are not copied. Only the joined bytes matter, not where they
+/// are cut.
 #[tactic(auto, unfolding(stun_grammar::specs::Hmac::hmac, stun_grammar::specs::Hmac::hmac_over))]
 pub fn hmac_sha1(key: &[u8], pieces: &[&[u8]]) -> [u8; 20]
-    ensures { result ≡ hmac IntegrityAlgorithm.Sha1 key.now (concat (map (λ piece. piece.now) pieces.now)) }
+    ensures { result
+        ≡ hmac IntegrityAlgorithm.Sha1 key.now (concat (map (λ piece. piece.now) pieces.now)) }
 {
     let block = sha1_block(key);
     let inner = sha1_behind(&padded(&block, INNER_PAD), pieces);
@@ -100,10 +102,12 @@ pub fn hmac_sha1(key: &[u8], pieces: &[&[u8]]) -> [u8; 20]
 
 /// HMAC-SHA256 of the pieces, joined, under a key of any length: 32 bytes.
 ///
-/// It takes no memory, and the pieces are not copied. Where one text is cut doesn't matter.
+/// It takes no memory, and the pieces are not copied. Only the joined bytes matter, not where they
+/// are cut.
 #[tactic(auto, unfolding(stun_grammar::specs::Hmac::hmac, stun_grammar::specs::Hmac::hmac_over))]
 pub fn hmac_sha256(key: &[u8], pieces: &[&[u8]]) -> [u8; 32]
-    ensures { result ≡ hmac IntegrityAlgorithm.Sha256 key.now (concat (map (λ piece. piece.now) pieces.now)) }
+    ensures { result
+        ≡ hmac IntegrityAlgorithm.Sha256 key.now (concat (map (λ piece. piece.now) pieces.now)) }
 {
     let block = sha256_block(key);
     let inner = sha256_behind(&padded(&block, INNER_PAD), pieces);

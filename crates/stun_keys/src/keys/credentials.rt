@@ -5,12 +5,12 @@ use crate::keys::{IntegrityKey, LongTermKeyCredentials, ShortTermCredentials};
 use std::alloc::Global;
 use stun_grammar::{IntegrityAlgorithm, StunWriteError};
 
-/// What a message is signed and checked with (RFC 8489, section 9).
+/// The credentials with which a message is signed and validated (RFC 8489, section 9).
 #[derive(Debug, PartialEq, Eq, Drop)]
 pub enum MessageIntegrityCredentials {
-    /// A password that is good for a short time.
+    /// Short-term credentials: a password.
     ShortTerm(ShortTermCredentials),
-    /// A username and a password in a realm.
+    /// Long-term credentials: a username and a password in a realm.
     LongTerm(LongTermKeyCredentials),
 }
 
@@ -45,7 +45,8 @@ impl MessageIntegrityCredentials {
         alloc: Global,
         algorithm: IntegrityAlgorithm,
     ) -> Result<IntegrityKey, StunWriteError>
-        ensures ok { IfOk result (IsKey (credentials_algorithm self.now algorithm) (credentials_key self.now algorithm)) }
+        ensures ok { IfOk result (IsKey (credentials_algorithm self.now algorithm)
+            (credentials_key self.now algorithm)) }
         ensures err { IfErr result (λ e. e ≡ StunWriteError.OutOfMemory) }
     {
         match self {

@@ -9,10 +9,10 @@ use std::alloc::Global;
 use std::boxed::BoxedSlice;
 use stun_grammar::{IntegrityAlgorithm, StunWriteError};
 
-/// The key of an HMAC: its bytes, of any number, and the algorithm that it was made for, if it was
-/// made for one. A key that was made for none serves both.
+/// The key of an HMAC: any number of bytes, and the algorithm that it was made for, if it was made
+/// for one. A key that was made for none serves both.
 ///
-/// Two keys are equal where their bytes are, whatever they were made for.
+/// Two keys are equal where their bytes are equal, whatever they were made for.
 #[derive(Debug, Drop)]
 pub struct IntegrityKey {
     algorithm: Option<IntegrityAlgorithm>,
@@ -20,7 +20,7 @@ pub struct IntegrityKey {
 }
 
 impl IntegrityKey {
-    /// The key of these bytes, which are copied into memory that `alloc` gives.
+    /// The key with these bytes, which are copied into memory that `alloc` gives.
     pub(crate) fn new(
         alloc: Global,
         algorithm: Option<IntegrityAlgorithm>,
@@ -33,7 +33,7 @@ impl IntegrityKey {
         Ok(IntegrityKey { algorithm, bytes })
     }
 
-    /// The same key, its bytes copied into memory that `alloc` gives.
+    /// The same key, with its bytes copied into memory that `alloc` gives.
     ///
     /// # Errors
     ///
@@ -52,7 +52,7 @@ impl IntegrityKey {
         &self.bytes
     }
 
-    /// The algorithm that the key was made for, and `None` where it was made for none.
+    /// The algorithm that the key was made for, or `None` where it was made for none.
     pub fn algorithm(&self) -> Option<IntegrityAlgorithm>
         ensures { result ≡ key_algorithm self.now }
     {
@@ -71,18 +71,20 @@ impl IntegrityKey {
         }
     }
 
-    /// HMAC-SHA1 of the pieces, joined, under the key: 20 bytes (RFC 2104). What the key was made for
-    /// isn't looked at, and it takes no memory.
+    /// HMAC-SHA1 of the pieces, joined, under the key: 20 bytes (RFC 2104). The algorithm that the
+    /// key was made for does not matter. It takes no memory.
     pub fn hmac_sha1(&self, pieces: &[&[u8]]) -> [u8; 20]
-        ensures { result ≡ hmac IntegrityAlgorithm.Sha1 (key_bytes self.now) (concat (map (λ piece. piece.now) pieces.now)) }
+        ensures { result ≡ hmac IntegrityAlgorithm.Sha1 (key_bytes self.now)
+            (concat (map (λ piece. piece.now) pieces.now)) }
     {
         hmac_sha1(&self.bytes, pieces)
     }
 
-    /// HMAC-SHA256 of the pieces, joined, under the key: 32 bytes (RFC 2104). What the key was made
-    /// for isn't looked at, and it takes no memory.
+    /// HMAC-SHA256 of the pieces, joined, under the key: 32 bytes (RFC 2104). The algorithm that
+    /// the key was made for does not matter. It takes no memory.
     pub fn hmac_sha256(&self, pieces: &[&[u8]]) -> [u8; 32]
-        ensures { result ≡ hmac IntegrityAlgorithm.Sha256 (key_bytes self.now) (concat (map (λ piece. piece.now) pieces.now)) }
+        ensures { result ≡ hmac IntegrityAlgorithm.Sha256 (key_bytes self.now)
+            (concat (map (λ piece. piece.now) pieces.now)) }
     {
         hmac_sha256(&self.bytes, pieces)
     }

@@ -7,8 +7,8 @@ use crate::keys::copied::copied;
 use std::alloc::Global;
 use stun_grammar::StunWriteError;
 
-/// A username and a password that are good for many requests, as yet without the realm that a server
-/// tells (RFC 8489, section 9.2).
+/// Long-term credentials without a realm, which a server has yet to send: a username and a password
+/// (RFC 8489, section 9.2).
 #[derive(Debug, PartialEq, Eq, Drop)]
 pub struct LongTermCredentials {
     username: String,
@@ -16,7 +16,7 @@ pub struct LongTermCredentials {
 }
 
 impl LongTermCredentials {
-    /// Credentials of these texts, which are kept.
+    /// The credentials of a username and a password, which they own.
     pub fn new(username: String, password: String) -> Self
         ensures username { login_username result ≡ string_bytes username }
         ensures password { login_password result ≡ string_bytes password }
@@ -52,8 +52,8 @@ impl LongTermCredentials {
         self.password.as_str()
     }
 
-    /// These credentials in a realm, which is kept: username and password are copied into memory that
-    /// `alloc` gives.
+    /// These credentials in a realm, which the result owns. Username and password are copied into
+    /// memory that `alloc` gives.
     ///
     /// # Errors
     ///

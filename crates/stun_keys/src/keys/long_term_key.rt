@@ -9,7 +9,7 @@ use crate::keys::sha256_key::sha256_key;
 use std::alloc::Global;
 use stun_grammar::{IntegrityAlgorithm, StunWriteError};
 
-/// A username and a password in a realm, which make a key (RFC 8489, section 9.2.2).
+/// A username and a password in a realm, which give a key (RFC 8489, section 9.2.2).
 #[derive(Debug, PartialEq, Eq, Drop)]
 pub struct LongTermKeyCredentials {
     username: String,
@@ -18,7 +18,7 @@ pub struct LongTermKeyCredentials {
 }
 
 impl LongTermKeyCredentials {
-    /// Credentials of these texts, which are kept.
+    /// The credentials of a username, a password and a realm, which they own.
     pub fn new(username: String, password: String, realm: String) -> Self
         ensures username { long_term_username result ≡ string_bytes username }
         ensures password { long_term_password result ≡ string_bytes password }
@@ -71,9 +71,9 @@ impl LongTermKeyCredentials {
         self.realm.as_str()
     }
 
-    /// The key for an algorithm, in memory that `alloc` gives: of `username:realm:password` the MD5,
-    /// 16 bytes, for `Sha1`, and the SHA-256, 32 bytes, for `Sha256` (RFC 8489, sections 9.2.2 and
-    /// 18.5.1). The texts themselves are not joined.
+    /// The key for an algorithm, in memory that `alloc` gives: for `Sha1` the MD5 of
+    /// `username:realm:password`, 16 bytes, and for `Sha256` its SHA-256, 32 bytes (RFC 8489,
+    /// sections 9.2.2 and 18.5.1). The three texts are not copied.
     ///
     /// # Errors
     ///
@@ -83,7 +83,9 @@ impl LongTermKeyCredentials {
         alloc: Global,
         algorithm: IntegrityAlgorithm,
     ) -> Result<IntegrityKey, StunWriteError>
-        ensures ok { IfOk result (IsKey (Some algorithm) (long_term_key algorithm (long_term_username self.now) (long_term_realm self.now) (long_term_password self.now))) }
+        ensures ok { IfOk result (IsKey (Some algorithm)
+            (long_term_key algorithm (long_term_username self.now) (long_term_realm self.now)
+            (long_term_password self.now))) }
         ensures err { IfErr result (λ e. e ≡ StunWriteError.OutOfMemory) }
     {
         let (username, realm, password) = (self.username(), self.realm(), self.password());

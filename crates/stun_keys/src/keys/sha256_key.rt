@@ -4,7 +4,7 @@ ghost use Rattle.stun_keys.specs.Keys.{long_term_text};
 
 use sha2::{Digest, Sha256};
 
-/// The SHA-256 of `username:realm:password`, which are not joined.
+/// The SHA-256 of `username:realm:password`; the three texts are not copied.
 pub(crate) fn sha256_key(username: &str, realm: &str, password: &str) -> [u8; 32]
     ensures { result ≡ sha256 (long_term_text username.now realm.now password.now) }
 {

@@ -7,14 +7,14 @@ use crate::keys::copied::copied;
 use std::alloc::Global;
 use stun_grammar::StunWriteError;
 
-/// A password that is good for a short time (RFC 8489, section 9.1).
+/// Short-term credentials: a password that is valid for a limited time (RFC 8489, section 9.1).
 #[derive(Debug, PartialEq, Eq, Drop)]
 pub struct ShortTermCredentials {
     password: String,
 }
 
 impl ShortTermCredentials {
-    /// Credentials of this text, which is kept.
+    /// The credentials of a password, which they own.
     pub fn new(password: String) -> Self
         ensures { short_term_password result ≡ string_bytes password }
     {
@@ -27,7 +27,8 @@ impl ShortTermCredentials {
     ///
     /// `OutOfMemory` alone.
     pub fn clone(&self, alloc: Global) -> Result<Self, StunWriteError>
-        ensures same { IfOk result (λ copy. short_term_password copy ≡ short_term_password self.now) }
+        ensures same { IfOk result
+            (λ copy. short_term_password copy ≡ short_term_password self.now) }
         ensures err { IfErr result (λ e. e ≡ StunWriteError.OutOfMemory) }
     {
         let password = copied(alloc, &self.password)?;
@@ -41,8 +42,8 @@ impl ShortTermCredentials {
         self.password.as_str()
     }
 
-    /// The key, in memory that `alloc` gives: the bytes of the password, made for no one algorithm
-    /// (RFC 8489, section 9.1.1).
+    /// The key, in memory that `alloc` gives: the bytes of the password. It is made for no one
+    /// algorithm, and so serves both (RFC 8489, section 9.1.1).
     ///
     /// # Errors
     ///

@@ -1,97 +1,163 @@
-//! The beginning of a message that is written.
+//! Beginning a message.
 
-ghost use Rattle.std.specs.Prelude.{◌≡◌, ◌^◌, ◌<◌, []};
-ghost use Rattle.stun_grammar.specs.Writing.{message_text};
+ghost use Rattle.std.specs.Prelude.{◌≡◌, ◌≤◌, [], IfOk, IfErr, IsOk, OnOk, OnErr};
+ghost use Rattle.stun_grammar.specs.Adding.{Fits};
+ghost use Rattle.stun_base.specs.Types.{type_of};
+ghost use Rattle.stun_base.specs.declared.message_type.MessageClass.TheVariants.{Request, Indication};
+ghost use Rattle.stun_base.specs.Drawing.{drawn_id};
+ghost use Rattle.stun_write.specs.Writers.{IsBegun, IsUnchanged, Keeps};
 
-use super::parse::Message;
-use super::write::MessageWrite;
-use byteorder::{BigEndian, ByteOrder};
-use stun_base::{MAGIC_COOKIE, MessageType, StunWriteError, TransactionId};
-
-/// The header of a message that nothing follows.
-#[tactic(auto, unfolding(stun_grammar::specs::Writing::message_text))]
-fn header_bytes(mtype: MessageType, transaction_id: TransactionId) -> [u8; 20]
-    ensures text { result ≡ message_text mtype transaction_id [] }
-    ensures type_fits { mtype < 2 ^ 14 }
-    ensures id_fits { transaction_id < 2 ^ 96 }
-{
-    let mut header = [0; 20];
-    mtype.write_into(&mut header);
-    BigEndian::write_u32(&mut header[4..], MAGIC_COOKIE);
-    let id = u128::from(transaction_id).to_be_bytes();
-    header[8..].copy_from_slice(&id[4..]);
-    header
-}
+use super::Message;
+use rand_core::Rng;
+use stun_base::{MessageClass, MessageType, Method, StunWriteError, TransactionId};
+use stun_write::{MessageWrite, begin_message, begin_message_into};
 
 impl Message<'_> {
-    ghost use Rattle.std.specs.Prelude.{◌≡◌, ◌+◌, ◌^◌, ◌<◌, ◌≤◌, true, [], IfOk, IfErr, IsOk, OnOk, OnErr, length, drop};
-    ghost use Rattle.stun_grammar.specs.Headers.{is_header};
-    ghost use Rattle.stun_grammar.specs.Writing.{message_text};
-    ghost use Rattle.stun_types.specs.Writing.{Fits};
-
-    /// Begins a message of this type and transaction id: writes the twenty bytes of its header, with
-    /// the length 0, into `write`, which is empty and has room for them, and hands it back
-    /// (RFC 8489, section 5).
+    /// Begins a message of this type and transaction ID: writes the twenty bytes of its header,
+    /// with the length 0, into `write`, which is empty and takes at least twenty bytes, and returns
+    /// the writer (RFC 8489, section 5).
+    ///
+    /// ```
+    /// let mtype = MessageType::from_class_method(MessageClass::Request, BINDING);
+    /// let mut message = Message::builder(mtype, id, MessageWriteVec::new(alloc))?;
+    /// message.add_attribute(&Software::new(alloc, "my client")?)?;
+    /// ```
     ///
     /// # Errors
     ///
-    /// `OutOfMemory` alone, and only where fewer than twenty bytes are ready; the writer is dropped
+    /// Only `OutOfMemory`, and only where fewer than twenty bytes are ready; the writer is dropped
     /// then.
     pub fn builder<B: MessageWrite + Drop>(
         mtype: MessageType,
         transaction_id: TransactionId,
-        mut write: B,
+        write: B,
     ) -> Result<B, StunWriteError>
-        requires empty { B.bytes write ≡ [] }
-        requires room { Fits (B.greatest write) 20 }
-        ensures bytes { IfOk result (λ w. B.bytes w ≡ message_text mtype transaction_id []) }
-        ensures length { IfOk result (λ w. length (B.bytes w) ≡ 20) }
-        ensures header { IfOk result (λ w. is_header (B.bytes w) ≡ true) }
-        ensures types { IfOk result (λ w. B.types w ≡ []) }
-        ensures rest { IfOk result (λ w. B.rest w ≡ drop 20 (B.rest write)) }
-        ensures greatest { IfOk result (λ w. B.greatest w ≡ B.greatest write) }
-        ensures place { IfOk result (λ w. B.place w ≡ B.place write) }
+        requires empty { (B.state write).bytes ≡ [] }
+        requires room { Fits (B.state write).greatest 20 }
+        ensures begun { IfOk result
+            (λ w. IsBegun (B.state write) (B.state w) mtype transaction_id) }
         ensures err { IfErr result (λ e. e ≡ StunWriteError.OutOfMemory) }
-        ensures succeeds { 20 ≤ B.ready_bytes write → IsOk result }
-        ensures ready { IfOk result (λ w. B.ready_bytes write ≤ B.ready_bytes w + 20) }
-        ensures ready_types { IfOk result (λ w. B.ready_types write ≤ B.ready_types w) }
-        ensures type_fits { mtype < 2 ^ 14 }
-        ensures id_fits { transaction_id < 2 ^ 96 }
+        ensures succeeds { 20 ≤ (B.state write).ready_bytes → IsOk result }
     {
-        Self::builder_into(mtype, transaction_id, &mut write)?;
-        Ok(write)
+        begin_message(mtype, transaction_id, write)
     }
 
-    /// The same with a writer that stays with the caller.
+    /// As [`Message::builder`], but borrows the writer.
     ///
     /// # Errors
     ///
-    /// `OutOfMemory` alone, and only where fewer than twenty bytes are ready; nothing is written then.
-    #[tactic(auto, using(crate::proofs::Appended::text_begins))]
+    /// Only `OutOfMemory`, and only where fewer than twenty bytes are ready; nothing is written
+    /// then.
     pub fn builder_into<B: MessageWrite>(
         mtype: MessageType,
         transaction_id: TransactionId,
         write: &mut B,
     ) -> Result<(), StunWriteError>
-        requires empty { B.bytes write.old ≡ [] }
-        requires room { Fits (B.greatest write.old) 20 }
-        ensures bytes { OnOk result (B.bytes write.new ≡ message_text mtype transaction_id []) }
-        ensures length { OnOk result (length (B.bytes write.new) ≡ 20) }
-        ensures header { OnOk result (is_header (B.bytes write.new) ≡ true) }
-        ensures types { B.types write.new ≡ [] }
-        ensures rest { OnOk result (B.rest write.new ≡ drop 20 (B.rest write.old)) }
-        ensures greatest { B.greatest write.new ≡ B.greatest write.old }
-        ensures place { B.place write.new ≡ B.place write.old }
+        requires empty { (B.state write.old).bytes ≡ [] }
+        requires room { Fits (B.state write.old).greatest 20 }
+        ensures begun { OnOk result
+            (IsBegun (B.state write.old) (B.state write.new) mtype transaction_id) }
+        ensures same { OnErr result (IsUnchanged (B.state write.old) (B.state write.new)) }
+        ensures keeps { Keeps (B.state write.old) (B.state write.new) 20 0 }
         ensures err { IfErr result (λ e. e ≡ StunWriteError.OutOfMemory) }
-        ensures same { OnErr result (B.bytes write.new ≡ []) }
-        ensures same_rest { OnErr result (B.rest write.new ≡ B.rest write.old) }
-        ensures succeeds { 20 ≤ B.ready_bytes write.old → IsOk result }
-        ensures ready { B.ready_bytes write.old ≤ B.ready_bytes write.new + 20 }
-        ensures ready_types { B.ready_types write.old ≤ B.ready_types write.new }
-        ensures type_fits { mtype < 2 ^ 14 }
-        ensures id_fits { transaction_id < 2 ^ 96 }
+        ensures succeeds { 20 ≤ (B.state write.old).ready_bytes → IsOk result }
     {
-        let _empty = write.data();
-        write.push_data(&header_bytes(mtype, transaction_id))
+        begin_message_into(mtype, transaction_id, write)
+    }
+
+    /// Begins a request of this method, with a transaction ID that is drawn from `rng` as
+    /// [`TransactionId::generate`] does (RFC 8489, section 6.1). The writer is as for
+    /// [`Message::builder`].
+    ///
+    /// # Errors
+    ///
+    /// As for [`Message::builder`]; the ID is drawn all the same.
+    pub fn builder_request<R: Rng, B: MessageWrite + Drop>(
+        method: Method,
+        rng: &mut R,
+        mut write: B,
+    ) -> Result<B, StunWriteError>
+        requires empty { (B.state write).bytes ≡ [] }
+        requires room { Fits (B.state write).greatest 20 }
+        ensures begun { IfOk result
+            (λ w. IsBegun (B.state write) (B.state w) (type_of Request method)
+            (drawn_id (R.stream rng.old)).0) }
+        ensures left { R.stream rng.new ≡ (drawn_id (R.stream rng.old)).1 }
+        ensures err { IfErr result (λ e. e ≡ StunWriteError.OutOfMemory) }
+        ensures succeeds { 20 ≤ (B.state write).ready_bytes → IsOk result }
+    {
+        Self::builder_request_into(method, rng, &mut write)?;
+        Ok(write)
+    }
+
+    /// As [`Message::builder_request`], but borrows the writer.
+    ///
+    /// # Errors
+    ///
+    /// As for [`Message::builder_into`]; the ID is drawn all the same.
+    pub fn builder_request_into<R: Rng, B: MessageWrite>(
+        method: Method,
+        rng: &mut R,
+        write: &mut B,
+    ) -> Result<(), StunWriteError>
+        requires empty { (B.state write.old).bytes ≡ [] }
+        requires room { Fits (B.state write.old).greatest 20 }
+        ensures begun { OnOk result (IsBegun (B.state write.old) (B.state write.new)
+            (type_of Request method) (drawn_id (R.stream rng.old)).0) }
+        ensures left { R.stream rng.new ≡ (drawn_id (R.stream rng.old)).1 }
+        ensures same { OnErr result (IsUnchanged (B.state write.old) (B.state write.new)) }
+        ensures keeps { Keeps (B.state write.old) (B.state write.new) 20 0 }
+        ensures err { IfErr result (λ e. e ≡ StunWriteError.OutOfMemory) }
+        ensures succeeds { 20 ≤ (B.state write.old).ready_bytes → IsOk result }
+    {
+        let mtype = MessageType::from_class_method(MessageClass::Request, method);
+        Self::builder_into(mtype, TransactionId::generate(rng), write)
+    }
+
+    /// As [`Message::builder_request`], but begins an indication, which expects no response.
+    ///
+    /// # Errors
+    ///
+    /// As for [`Message::builder_request`].
+    pub fn builder_indication<R: Rng, B: MessageWrite + Drop>(
+        method: Method,
+        rng: &mut R,
+        mut write: B,
+    ) -> Result<B, StunWriteError>
+        requires empty { (B.state write).bytes ≡ [] }
+        requires room { Fits (B.state write).greatest 20 }
+        ensures begun { IfOk result
+            (λ w. IsBegun (B.state write) (B.state w) (type_of Indication method)
+            (drawn_id (R.stream rng.old)).0) }
+        ensures left { R.stream rng.new ≡ (drawn_id (R.stream rng.old)).1 }
+        ensures err { IfErr result (λ e. e ≡ StunWriteError.OutOfMemory) }
+        ensures succeeds { 20 ≤ (B.state write).ready_bytes → IsOk result }
+    {
+        Self::builder_indication_into(method, rng, &mut write)?;
+        Ok(write)
+    }
+
+    /// As [`Message::builder_indication`], but borrows the writer.
+    ///
+    /// # Errors
+    ///
+    /// As for [`Message::builder_request_into`].
+    pub fn builder_indication_into<R: Rng, B: MessageWrite>(
+        method: Method,
+        rng: &mut R,
+        write: &mut B,
+    ) -> Result<(), StunWriteError>
+        requires empty { (B.state write.old).bytes ≡ [] }
+        requires room { Fits (B.state write.old).greatest 20 }
+        ensures begun { OnOk result (IsBegun (B.state write.old) (B.state write.new)
+            (type_of Indication method) (drawn_id (R.stream rng.old)).0) }
+        ensures left { R.stream rng.new ≡ (drawn_id (R.stream rng.old)).1 }
+        ensures same { OnErr result (IsUnchanged (B.state write.old) (B.state write.new)) }
+        ensures keeps { Keeps (B.state write.old) (B.state write.new) 20 0 }
+        ensures err { IfErr result (λ e. e ≡ StunWriteError.OutOfMemory) }
+        ensures succeeds { 20 ≤ (B.state write.old).ready_bytes → IsOk result }
+    {
+        let mtype = MessageType::from_class_method(MessageClass::Indication, method);
+        Self::builder_into(mtype, TransactionId::generate(rng), write)
     }
 }

@@ -1,4 +1,4 @@
-//! Credentials, and the keys that they give the integrity attributes.
+//! Credentials, and the keys that they give for the integrity attributes.
 
 pub use stun_keys::keys::{
     IntegrityAlgorithm, IntegrityKey, LongTermCredentials, LongTermKeyCredentials,

@@ -1,4 +1,5 @@
-//! The header of a message: its type, its transaction id and how many bytes follow it.
+//! The header of a message: its type, the number of bytes that follow the header, and the
+//! transaction ID.
 
 pub use stun_base::{
     BINDING, MAGIC_COOKIE, MessageClass, MessageHeader, MessageType, Method, TransactionId,

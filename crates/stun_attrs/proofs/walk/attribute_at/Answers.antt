@@ -2,8 +2,8 @@ use Rattle.std.proofs.Common.{◌≡◌, ℕ, ◌+◌, ◌-◌, List, length, ta
 use Rattle.std.proofs.lemmas.List.{take_rest, length-drop}
 use Rattle.stun_grammar.specs.declared.error.StunParseError.TheVariants.{Truncated}
 use Rattle.stun_grammar.specs.Numbers.{number, padded_length}
-use Rattle.stun_grammar.specs.Attributes.{stated_length}
-use Rattle.stun_grammar.proofs.Faults.{at_the_end, no_header, no_value, no_padding, whole_attribute}
+use Rattle.stun_grammar.specs.Chains.{stated_length}
+use Rattle.stun_grammar.proofs.ChainsLemmas.{at_the_end, no_header, no_value, no_padding, whole_attribute}
 use Rattle.stun_base.specs.declared.attribute_header.AttributeHeader.{AttributeHeader}
 use Rattle.stun_attrs.proofs.walk.attribute_at.Goals as goal
 

@@ -2,7 +2,7 @@ use Rattle.std.proofs.Common.{take, drop, refl, ap, ◌∙◌}
 use Rattle.std.specs.Prelude.{nat_eq}
 use Rattle.std.specs.Cmp.Lexicographic.{pointwise}
 use Rattle.std.proofs.lemmas.Bool.{lt-ltb, le-ltb}
-use Rattle.stun_grammar.proofs.HeaderLaws.{is_header-long}
+use Rattle.stun_grammar.proofs.HeadersLemmas.{is_header-long}
 use Rattle.stun_base.proofs.header.begins_with_header.Goals as goal
 
 pub returns-then-bytes-lt64 : goal.returns-then-bytes-lt64

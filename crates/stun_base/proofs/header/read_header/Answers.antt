@@ -1,6 +1,6 @@
 use Rattle.std.proofs.Common.{take, ◌∙◌, arith}
 use Rattle.std.proofs.lemmas.List.{length-take, get_or-take}
-use Rattle.stun_grammar.proofs.NumberLaws.{number-two}
+use Rattle.stun_grammar.proofs.NumbersLemmas.{number-two}
 use Rattle.stun_base.proofs.header.read_header.Goals as goal
 
 pub of_number-requires : goal.of_number-requires

@@ -1,6 +1,6 @@
 use Rattle.std.proofs.Common.{ℕ, ◌%◌, ◌^◌, List, ap, ◌∙◌}
 use Rattle.byteorder.specs.Endian.{big_number}
-use Rattle.stun_base.proofs.IdLaws.{id_is}
+use Rattle.stun_base.proofs.IdLemmas.{id_is}
 use Rattle.stun_base.proofs.header.read_id.Goals as goal
 
 pub returns : goal.returns

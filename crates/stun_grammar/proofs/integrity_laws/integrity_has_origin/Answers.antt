@@ -1,4 +1,4 @@
-use Rattle.stun_grammar.proofs.Origin.{origin, origin_through, origin_each}
+use Rattle.stun_grammar.proofs.OriginLemmas.{origin, origin_through, origin_each}
 use Rattle.stun_grammar.proofs.integrity_laws.integrity_has_origin.Goals as goal
 
 pub returns-clause-origin : goal.returns-clause-origin

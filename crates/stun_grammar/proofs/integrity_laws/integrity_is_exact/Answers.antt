@@ -1,6 +1,6 @@
-use Rattle.stun_grammar.proofs.Scans.{parsed_frame}
-use Rattle.stun_grammar.proofs.Carried.{carries}
-use Rattle.stun_grammar.proofs.Exactness.{carried}
+use Rattle.stun_grammar.proofs.ParsingLemmas.{parsed_frame}
+use Rattle.stun_grammar.proofs.CarryingLemmas.{carries}
+use Rattle.stun_grammar.proofs.CarryingExactLemmas.{carried}
 use Rattle.stun_grammar.proofs.integrity_laws.integrity_is_exact.Goals as goal
 
 pub returns : goal.returns

@@ -1,4 +1,4 @@
-use Rattle.stun_grammar.proofs.Told.{local, verdict_local, fingerprint_told, all_told, same_told, same_shown}
+use Rattle.stun_grammar.proofs.AuthenticContentLemmas.{local, verdict_local, fingerprint_told, all_told, same_told, same_shown}
 use Rattle.stun_grammar.proofs.integrity_laws.integrity_is_local.Goals as goal
 
 pub returns-clause-told : goal.returns-clause-told

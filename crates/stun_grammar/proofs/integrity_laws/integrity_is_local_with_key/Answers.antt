@@ -1,5 +1,5 @@
 use Rattle.std.proofs.Common.{sym, ◌∙◌}
-use Rattle.stun_grammar.proofs.Told.{local_through, fingerprint_told, as_both}
+use Rattle.stun_grammar.proofs.AuthenticContentLemmas.{local_through, fingerprint_told, as_both}
 use Rattle.stun_grammar.proofs.integrity_laws.integrity_is_local_with_key.Goals as goal
 
 pub returns-clause-told : goal.returns-clause-told

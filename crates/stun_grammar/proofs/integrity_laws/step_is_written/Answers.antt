@@ -1,10 +1,10 @@
 use Rattle.std.proofs.Common.{List, [], ◌∷◌, subst, append_assoc, ap, ◌∙◌}
 use Rattle.stun_grammar.specs.Attributes.{Attribute}
-use Rattle.stun_grammar.specs.Integrity.{verdict}
-use Rattle.stun_grammar.specs.Writing.{message_text, IsWritable}
+use Rattle.stun_grammar.specs.Verdicts.{verdict}
+use Rattle.stun_grammar.specs.Writing.{message_encoding, IsWritable}
 use Rattle.stun_grammar.specs.Steps.{sign, appended_by}
-use Rattle.stun_grammar.proofs.Stepped.{none_writable, step_writable, length-with_step}
-use Rattle.stun_grammar.proofs.Signed.{signed_validates}
+use Rattle.stun_grammar.proofs.StepsLemmas.{none_writable, step_writable, length-with_step}
+use Rattle.stun_grammar.proofs.StepsSignedLemmas.{signed_validates}
 use Rattle.stun_grammar.proofs.integrity_laws.step_is_written.Goals as goal
 
 pub returns-clause-header : goal.returns-clause-header
@@ -18,7 +18,7 @@ returns-clause-size c = length-with_step
 
 pub returns-clause-signed : goal.returns-clause-signed
 returns-clause-signed c = λ type id before behind a key wanted w asked none.
-    let one = appended_by (sign a (key a)) (message_text type id before) in
+    let one = appended_by (sign a (key a)) (message_encoding type id before) in
     let joined = append_assoc before (one ∷ []) behind in
-    ap (λ (xs : List Attribute). verdict wanted key (message_text type id xs)) joined
+    ap (λ (xs : List Attribute). verdict wanted key (message_encoding type id xs)) joined
     ∙ signed_validates type id before behind a key wanted (subst (IsWritable type id) joined w) asked none

@@ -1,4 +1,4 @@
-use Rattle.stun_grammar.proofs.Stepped.{is_writable, sent_parses, sent_shows, last_validates, each_validates}
+use Rattle.stun_grammar.proofs.StepsLemmas.{is_writable, sent_parses, sent_shows, last_validates, each_validates}
 use Rattle.stun_grammar.proofs.integrity_laws.steps_are_read_back.Goals as goal
 
 pub returns-clause-writable : goal.returns-clause-writable

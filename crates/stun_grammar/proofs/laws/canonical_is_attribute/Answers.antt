@@ -1,4 +1,4 @@
-use Rattle.stun_grammar.proofs.Written.{canonical_is, length-canonical}
+use Rattle.stun_grammar.proofs.WritingLemmas.{canonical_is, length-canonical}
 use Rattle.stun_grammar.proofs.laws.canonical_is_attribute.Goals as goal
 
 pub returns-clause-attribute : goal.returns-clause-attribute

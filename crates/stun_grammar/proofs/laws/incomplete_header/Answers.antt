@@ -1,4 +1,4 @@
-use Rattle.stun_grammar.proofs.BeginsLaw.{begins_some, begins_from}
+use Rattle.stun_grammar.proofs.HeadersLemmas.{begins_some, begins_from}
 use Rattle.stun_grammar.proofs.laws.incomplete_header.Goals as goal
 
 pub returns : goal.returns

@@ -1,4 +1,4 @@
-use Rattle.stun_grammar.proofs.OrderLaw.{any_ordered-is, in_any_order-cut}
+use Rattle.stun_grammar.proofs.ShownOrderCutLemmas.{any_ordered-is, in_any_order-cut}
 use Rattle.stun_grammar.proofs.laws.one_any_order.Goals as goal
 
 pub returns : goal.returns

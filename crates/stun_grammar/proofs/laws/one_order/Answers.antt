@@ -1,4 +1,4 @@
-use Rattle.stun_grammar.proofs.OrderLaw.{ordered-is, in_order-from}
+use Rattle.stun_grammar.proofs.ShownOrderCutLemmas.{ordered-is, in_order-from}
 use Rattle.stun_grammar.proofs.laws.one_order.Goals as goal
 
 pub returns : goal.returns

@@ -1,4 +1,4 @@
-use Rattle.stun_grammar.proofs.Written.{right_where_computed}
+use Rattle.stun_grammar.proofs.WritingLemmas.{right_where_computed}
 use Rattle.stun_grammar.proofs.laws.right_fingerprint.Goals as goal
 
 pub returns : goal.returns

@@ -1,5 +1,5 @@
 use Rattle.std.proofs.Common.{arith}
-use Rattle.stun_grammar.proofs.Written.{parse-message, shown-message, type-message, field-message, id-message, length-message}
+use Rattle.stun_grammar.proofs.WritingLemmas.{parse-message, shown-message, type-message, field-message, id-message, length-message}
 use Rattle.stun_grammar.proofs.laws.written_is_read_back.Goals as goal
 
 pub returns-clause-parses : goal.returns-clause-parses

@@ -1,6 +1,6 @@
 use Rattle.std.proofs.Common.{◌-◌, ◌+◌, sym, ap, ◌∙◌, arith}
 use Rattle.stun_grammar.specs.Checksums.{shifted_by}
-use Rattle.stun_grammar.proofs.ChecksumLaws.{shifted_more, shifted_all}
+use Rattle.stun_grammar.proofs.ChecksumsLemmas.{shifted_more, shifted_all}
 use Rattle.stun_keys.proofs.digest.after.Goals as goal
 
 pub loop-step-preserved : goal.loop-step-preserved

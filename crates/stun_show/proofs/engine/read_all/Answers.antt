@@ -1,6 +1,6 @@
 use Rattle.std.proofs.Common.{◌++◌, take, arith}
 use Rattle.std.proofs.lemmas.List.{length-append}
-use Rattle.stun_show.proofs.KnownBytes.{Consumes-append}
+use Rattle.stun_show.proofs.KnownBytesLemmas.{Consumes-append}
 use Rattle.stun_show.proofs.engine.read_all.Goals as goal
 
 pub returns-then-count-len : goal.returns-then-count-len

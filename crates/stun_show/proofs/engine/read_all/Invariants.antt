@@ -2,7 +2,7 @@ use Rattle.std.proofs.Common.{◌≤◌, vec_len}
 use Rattle.std.specs.Io.KnownBytes.{Consumes}
 use Rattle.stun_show.proofs.engine.read_all.Given as goal
 
--- what was read so far is kept, and it is no longer than may be
+-- `input` is what was read so far, and no longer than may be read
 abbrev pub invariant-loop-turn : goal.invariant-loop-turn
 invariant-loop-turn g l = record {
   read : Consumes (g.R.Read.remaining l.fn.reader) (g.R.Read.remaining l.reader) l.input.items;

@@ -2,7 +2,7 @@ use Rattle.std.proofs.Common.{ℕ, List, ap, subst, ◌∙◌}
 use Rattle.std.specs.Option.{option_map}
 use Rattle.std.specs.Io.KnownBytes.{Appends}
 use Rattle.stun_show.specs.Report.{report, end_of}
-use Rattle.stun_show.proofs.Reports.{ends_so}
+use Rattle.stun_show.proofs.ReportLemmas.{ends_so}
 use Rattle.stun_show.proofs.engine.run.Goals as goal
 
 pub returns-in-Ok-write_all : goal.returns-in-Ok-write_all

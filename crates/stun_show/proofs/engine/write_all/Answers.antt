@@ -1,6 +1,6 @@
 use Rattle.std.proofs.Common.{take, length, ap, arith}
 use Rattle.std.proofs.lemmas.List.{take_rest, length-drop}
-use Rattle.stun_show.proofs.KnownBytes.{Appends-keep, Appends-more}
+use Rattle.stun_show.proofs.KnownBytesLemmas.{Appends-keep, Appends-more}
 use Rattle.stun_show.proofs.engine.write_all.Goals as goal
 use Rattle.stun_show.proofs.engine.write_all.Goals.{in-Ok, in-Err+else-ne}
 

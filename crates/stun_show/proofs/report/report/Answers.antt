@@ -2,7 +2,7 @@ use Rattle.std.proofs.Common.{ℕ, List, ◌++◌, string_bytes, sym, ap, ◌∙
 use Rattle.std.specs.Option.{option_map}
 use Rattle.stun_types.specs.Message.{message_bytes}
 use Rattle.stun_show.specs.Report.{refusal_line, end_of_message}
-use Rattle.stun_show.proofs.Reports.{made_report, report-refusal, end_of-message, end_of-refusal}
+use Rattle.stun_show.proofs.ReportLemmas.{made_report, report-refusal, end_of-message, end_of-refusal}
 use Rattle.stun_show.proofs.report.report.Goals as goal
 
 pub returns-in_ok-end-in-Ok : goal.returns-in_ok-end-in-Ok

@@ -1,11 +1,11 @@
 use Rattle.std.proofs.Common.{◌++◌, List, string_bytes, ap, ◌∙◌}
 use Rattle.std.specs.List.{flat_map}
 use Rattle.std.proofs.lemmas.Iterator.Consumers.{YieldsList-from_first, YieldsList-end}
-use Rattle.stun_grammar.specs.Attributes.{Shown}
-use Rattle.stun_grammar.specs.Messages.{shown}
+use Rattle.stun_grammar.specs.Chains.{Shown}
+use Rattle.stun_grammar.specs.Showing.{shown}
 use Rattle.stun_types.specs.Message.{message_bytes}
-use Rattle.stun_types.specs.Iterate.{items_left, item_view, borrowed}
-use Rattle.stun_types.proofs.Items.{shown_items}
+use Rattle.stun_read.specs.Iterating.{items_left, item_view, borrowed}
+use Rattle.stun_read.proofs.ItemsLemmas.{shown_items}
 use Rattle.stun_show.specs.Report.{attribute_line}
 use Rattle.stun_show.proofs.report.write_attributes.Goals as goal
 

@@ -1,7 +1,7 @@
 use Rattle.std.proofs.Common.{length, ◌*◌, ◌/◌}
 use Rattle.std.proofs.lemmas.List.{take_rest}
 use Rattle.std.proofs.lemmas.Result.{err_from_is_err_and}
-use Rattle.stun_values.proofs.AlgorithmLaws.{each_next, each_fault, each_done}
+use Rattle.stun_values.proofs.AlgorithmsLemmas.{each_next, each_fault, each_done}
 use Rattle.stun_values.proofs.algorithm.check_each.Goals as goal
 
 pub returns-in_err-read_algorithm : goal.returns-in_err-read_algorithm

@@ -1,6 +1,6 @@
 use Rattle.std.proofs.Common.{◌≡◌, ◌*◌, ◌++◌, take, drop}
-use Rattle.stun_values.specs.Types.{types_text}
+use Rattle.stun_values.specs.Types.{types_encoding}
 use Rattle.stun_values.proofs.unknown_attributes.write_types.Given as goal
 
 abbrev pub invariant-loop-i : goal.invariant-loop-i
-invariant-loop-i l = l.dest ≡ types_text (take l.i l.types) ++ drop (2 * l.i) l.initial.dest
+invariant-loop-i l = l.dest ≡ types_encoding (take l.i l.types) ++ drop (2 * l.i) l.initial.dest

@@ -1,7 +1,7 @@
 use Rattle.std.proofs.Common.{Some, sym, ap, ◌∙◌}
 use Rattle.std.proofs.lemmas.Result.{err_from_is_err_and}
 use Rattle.stun_base.specs.declared.attribute_header.AttributeHeader.{AttributeHeader}
-use Rattle.stun_attrs.proofs.RawFaults.{no_header, no_value, all_there}
+use Rattle.stun_attrs.proofs.RawLemmas.{no_header, no_value, all_there}
 use Rattle.stun_attrs.proofs.raw.RawAttribute.from_bytes.Goals as goal
 
 pub returns-in_err-header : goal.returns-in_err-header

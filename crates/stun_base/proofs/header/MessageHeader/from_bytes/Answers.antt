@@ -1,5 +1,5 @@
 use Rattle.std.proofs.Common.{sym, ◌∙◌}
-use Rattle.stun_grammar.proofs.HeaderLaws.{not_begun, begun, not_header, header, first_low}
+use Rattle.stun_grammar.proofs.HeadersLemmas.{not_begun, begun, not_header, header, first_low}
 use Rattle.stun_base.proofs.header.MessageHeader.from_bytes.Goals as goal
 
 pub returns-then-not-may_begin : goal.returns-then-not-may_begin

@@ -1,9 +1,9 @@
 use Rattle.std.proofs.Common.{◌+◌, ◌*◌, ◌/◌, ◌≡◌, ℕ, length, take, ◌∙◌, ap, arith}
 use Rattle.std.proofs.lemmas.List.{take_rest}
 use Rattle.std.specs.List.{flat_map}
-use Rattle.stun_values.specs.Algorithms.{algorithm_text}
-use Rattle.stun_values.proofs.AlgorithmLaws.{each_none}
-use Rattle.stun_values.proofs.Lists.{read_next}
+use Rattle.stun_values.specs.Algorithms.{algorithm_encoding}
+use Rattle.stun_values.proofs.AlgorithmsLemmas.{each_none}
+use Rattle.stun_values.proofs.ListsLemmas.{read_next}
 use Rattle.stun_values.proofs.password_algorithms.PasswordAlgorithms.list_of.Goals as goal
 
 pub returns-in_err-algorithm : goal.returns-in_err-algorithm
@@ -18,7 +18,7 @@ loop-i-preserved c =
     let value = c.args.value.now in
     let place : 4 * i + 4 ≡ 4 * (i + 1) = omega arith in
     let told = rw (take_rest value (4 * i)) at c.in_ok-algorithm.ensures.1 in (
-      ap (flat_map algorithm_text) c.in-Ok.ensures.items
-          ∙ read_next algorithm_text c.loop-i.list.items c.in_ok-algorithm.algorithm value (4 * i) 4 c.loop-i.invariant.0 told ∙ ap (λ (k : ℕ). take k value) place,
+      ap (flat_map algorithm_encoding) c.in-Ok.ensures.items
+          ∙ read_next algorithm_encoding c.loop-i.list.items c.in_ok-algorithm.algorithm value (4 * i) 4 c.loop-i.invariant.0 told ∙ ap (λ (k : ℕ). take k value) place,
       omega (arith, c.in-Ok.ensures.len, c.loop-i.invariant.1),
     )

@@ -1,7 +1,7 @@
 use Rattle.std.proofs.Common.{◌+◌, ◌*◌, ◌≡◌, ℕ, take, ◌∙◌, ap, arith}
 use Rattle.std.specs.List.{flat_map}
-use Rattle.stun_values.specs.Types.{type_text}
-use Rattle.stun_values.proofs.Lists.{read_next, two_at}
+use Rattle.stun_values.specs.Types.{type_encoding}
+use Rattle.stun_values.proofs.ListsLemmas.{read_next, two_at}
 use Rattle.stun_values.proofs.unknown_attributes.UnknownAttributes.list_of.Goals as goal
 
 pub loop-i-preserved : goal.loop-i-preserved
@@ -10,7 +10,7 @@ loop-i-preserved c =
     let value = c.args.value.now in
     let place : 2 * i + 2 ≡ 2 * (i + 1) = omega arith in
     let told = two_at value (2 * i) c.number_at.result (omega (arith, c.loop-i-test.true)) (λ k. omega (arith, c.type_inv.value k)) c.number_at.ensures in (
-      ap (flat_map type_text) c.in-Ok.ensures.items
-          ∙ read_next type_text c.loop-i.list.items (record { 0 = c.number_at.result }) value (2 * i) 2 c.loop-i.invariant.0 told ∙ ap (λ (k : ℕ). take k value) place,
+      ap (flat_map type_encoding) c.in-Ok.ensures.items
+          ∙ read_next type_encoding c.loop-i.list.items (record { 0 = c.number_at.result }) value (2 * i) 2 c.loop-i.invariant.0 told ∙ ap (λ (k : ℕ). take k value) place,
       omega (arith, c.in-Ok.ensures.len, c.loop-i.invariant.1),
     )

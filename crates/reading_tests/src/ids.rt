@@ -1,0 +1,85 @@
+//! Transaction IDs that are drawn from a random number generator.
+
+ghost use Rattle.std.specs.Prelude.{ℕ, ◌+◌, ◌%◌, ◌^◌};
+ghost use Rattle.rand_core.specs.Steps.{stream_of, steps_u64_low};
+
+use rand_core::utils::NextWord;
+use rand_core::{Rng, utils};
+use std::marker::Model;
+use std::test::Fail;
+use stun_types::message::{BINDING, Message, MessageWriteVec, TransactionId};
+use stun_types::prelude::*;
+
+/// A generator whose words are its number, and then each time 0x1010101010101010 more.
+#[derive(Drop)]
+struct Counting(u64);
+
+impl Model for Counting {
+    ghost Value = { ℕ };
+
+    ghost view = { λ generator. generator.0 };
+}
+
+impl NextWord<u64> for Counting {
+    ghost step = { λ word. (word, (word + 0x1010101010101010) % 2 ^ 64) };
+
+    fn next_word(&mut self) -> u64 {
+        let word = self.0;
+        self.0 = word.wrapping_add(0x1010_1010_1010_1010);
+        word
+    }
+}
+
+impl Rng for Counting {
+    ghost stream = { stream_of
+        (steps_u64_low (λ word. (word, (word + 0x1010101010101010) % 2 ^ 64))) };
+
+    fn next_u32(&mut self) -> u32 {
+        (self.next_word() % (1 << 32)) as u32
+    }
+
+    fn next_u64(&mut self) -> u64 {
+        self.next_word()
+    }
+
+    fn fill_bytes(&mut self, dst: &mut [u8]) {
+        utils::fill_bytes_via_u64(self, dst)
+    }
+}
+
+#[test]
+fn draws_an_id(rt: HostRuntime) {
+    let mut words = Counting(0x0102_0304_0506_0708);
+    let id = TransactionId::generate(&mut words);
+    assert_eq!(rt; u128::from(id), 0x1516_1718_0102_0304_0506_0708);
+    assert_eq!(rt; words.next_u64(), 0x2122_2324_2526_2728);
+}
+
+/// A request (an indication) with the ID of the words 0x0102030405060708 and 0x1112131415161718.
+#[rattlefmt::skip]
+const BEGUN: [(&str, [u8; 20]); 2] = [
+    ("a request", [0x00, 0x01, 0x00, 0x00, 0x21, 0x12, 0xA4, 0x42,
+        0x15, 0x16, 0x17, 0x18, 0x01, 0x02, 0x03, 0x04, 0x05, 0x06, 0x07, 0x08]),
+    ("an indication", [0x00, 0x11, 0x00, 0x00, 0x21, 0x12, 0xA4, 0x42,
+        0x15, 0x16, 0x17, 0x18, 0x01, 0x02, 0x03, 0x04, 0x05, 0x06, 0x07, 0x08]),
+];
+
+#[test]
+fn begins_messages_with_an_id_of_its_own(rt: HostRuntime) -> Result<(), Fail> {
+    let mut words = Counting(0x0102_0304_0506_0708);
+    let request = Message::builder_request(
+        BINDING,
+        &mut words,
+        MessageWriteVec::new(rt.alloc()),
+    )?.finish();
+    let mut words = Counting(0x0102_0304_0506_0708);
+    let indication = Message::builder_indication(
+        BINDING,
+        &mut words,
+        MessageWriteVec::new(rt.alloc()),
+    )?.finish();
+    for ((case, expected), begun) in BEGUN.iter().zip([&request, &indication]) {
+        assert_eq!(rt; begun.as_slice(), expected.as_slice(), "{case}");
+    }
+    Ok(())
+}

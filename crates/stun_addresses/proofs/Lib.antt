@@ -1,0 +1,3 @@
+mod OctetsLemmas
+mod XorLemmas
+mod AddressesLemmas

@@ -1,0 +1,102 @@
+ghost use Rattle.std.specs.Prelude.{◌≡◌, ◌≤◌, ◌++◌, false, length, drop, IfOk, IfErr};
+ghost use Rattle.stun_base.specs.Data.{is_borrowed};
+ghost use Rattle.stun_attrs.specs.Raw.{raw_data, raw_value, IsRawOf};
+ghost use Rattle.stun_addresses.specs.Addresses.{address_value, address_fault, Spells};
+ghost use Rattle.stun_addresses.specs.AddressAttributes.{mapped_addr};
+ghost use Rattle.stun_attrs.specs.Reading.{Reads};
+
+use crate::socket_value::{address_length, read_address, write_address};
+use std::alloc::Global;
+use std::net::SocketAddr;
+use stun_attrs::{MakeValue, RawAttribute, raw_made};
+use stun_base::{AttributeType, StunParseError, StunWriteError};
+
+/// An address as it stands in the value of an attribute (RFC 8489, section 14.1): a zero byte, the
+/// family in a byte (1 for IPv4, 2 for IPv6), the port in two bytes, and the address in four or
+/// sixteen bytes, all big-endian.
+#[derive(Debug, Clone, PartialEq, Eq, Drop)]
+pub struct MappedSocketAddr {
+    addr: SocketAddr,
+}
+
+impl MappedSocketAddr {
+    /// The value of this address.
+    pub fn new(addr: SocketAddr) -> Self
+        ensures { mapped_addr result ≡ addr }
+    {
+        MappedSocketAddr { addr }
+    }
+
+    /// The address.
+    pub fn addr(&self) -> SocketAddr
+        ensures { result ≡ mapped_addr self.now }
+    {
+        self.addr
+    }
+
+    /// The length of the value: 8 bytes for IPv4, 20 for IPv6.
+    pub fn length(&self) -> u16
+        ensures { result ≡ length (address_value (mapped_addr self.now)) }
+    {
+        address_length(&self.addr)
+    }
+
+    /// Writes the value, without a header, at the start of `dest`, which has
+    /// [`MappedSocketAddr::length`] bytes or more. The bytes after it are unchanged.
+    pub fn write_into_unchecked(&self, dest: &mut [u8])
+        requires { length (address_value (mapped_addr self.now)) ≤ length dest.old }
+        ensures { dest.new ≡ address_value (mapped_addr self.now)
+            ++ drop (length (address_value (mapped_addr self.now))) dest.old }
+    {
+        write_address(&self.addr, dest);
+    }
+
+    /// The raw attribute of this type with the address as its value, which it owns in memory from
+    /// `alloc`.
+    ///
+    /// # Errors
+    ///
+    /// `OutOfMemory` if an allocation failed.
+    pub fn to_raw(
+        &self,
+        alloc: Global,
+        atype: AttributeType,
+    ) -> Result<RawAttribute<'_>, StunWriteError>
+        ensures ok { IfOk result (IsRawOf atype.0 (address_value (mapped_addr self.now))) }
+        ensures owned { IfOk result (λ raw. is_borrowed (raw_data raw) ≡ false) }
+        ensures err { IfErr result (λ e. e ≡ StunWriteError.OutOfMemory) }
+    {
+        raw_made(alloc, atype, self)
+    }
+
+    /// Reads the value of a raw attribute, whatever its type. The first byte is ignored, and an
+    /// IPv6 address has flow info and scope ID 0. No memory is allocated.
+    ///
+    /// # Errors
+    ///
+    /// The first of these that applies:
+    ///
+    /// - `Truncated { expected: 4, actual }` if there are fewer than four bytes;
+    /// - `InvalidAttributeData` if the family is neither 1 nor 2;
+    /// - `Truncated { expected, actual }` if the value is shorter than its family needs, and
+    ///   `TooLarge { expected, actual }` if it is longer; `expected` is 8 for IPv4 and 20 for IPv6.
+    pub fn from_raw(raw: &RawAttribute<'_>) -> Result<Self, StunParseError>
+        ensures { Reads (address_fault (raw_value raw.now))
+            (λ mapped. Spells (raw_value raw.now) (mapped_addr mapped)) result }
+    {
+        let addr = read_address(raw.value().as_bytes())?;
+        Ok(MappedSocketAddr { addr })
+    }
+}
+
+impl MakeValue for MappedSocketAddr {
+    ghost bytes = { λ mapped. address_value (mapped_addr mapped) };
+
+    fn size(&self) -> u16 {
+        self.length()
+    }
+
+    fn write_value(&self, dest: &mut [u8]) {
+        self.write_into_unchecked(dest);
+    }
+}

@@ -1,0 +1,21 @@
+-- What reading an attribute from a raw one returns.
+use Rattle.std.specs.Prelude.{◌≡◌, ℕ, List, Option, Some, Result, Err, IsOkAnd, MatchOption, MatchResult, ◌==◌, if◌then◌else◌}
+use Rattle.stun_grammar.specs.declared.error.StunParseError.{StunParseError}
+use Rattle.stun_grammar.specs.declared.error.StunParseError.TheVariants.{WrongAttributeImplementation, OutOfMemory}
+
+-- why a type and a value are not of the wanted type with a value that has no fault: the type comes
+-- first
+abbrev pub typed_fault : ℕ → (List ℕ → Option StunParseError) → ℕ → List ℕ → Option StunParseError
+typed_fault wanted value_fault type value =
+    if type == wanted then value_fault value else Some WrongAttributeImplementation
+
+-- the result is the fault; where there is none it is Ok of what is wanted
+abbrev pub Reads : {T : Type 0} → Option StunParseError → (T → Type 0)
+    → Result T StunParseError → Type 0
+Reads fault Wanted result = MatchOption fault (IsOkAnd result Wanted) (λ e. result ≡ Err e)
+
+-- the result is the fault; where there is none it is Ok of what is wanted, or `OutOfMemory`
+abbrev pub ReadsInMemory : {T : Type 0} → Option StunParseError → (T → Type 0)
+    → Result T StunParseError → Type 0
+ReadsInMemory fault Wanted result =
+    MatchOption fault (MatchResult result Wanted (λ e. e ≡ OutOfMemory)) (λ e. result ≡ Err e)

@@ -1,0 +1,124 @@
+//! The encoding of an attribute: header, value and padding, written from a type and a value.
+
+ghost use Rattle.std.specs.Prelude.{◌≡◌, ℕ, List, ◌+◌, ◌-◌, ◌≤◌, ◌++◌, false, IfOk, IfErr, length, take, drop, replicate};
+ghost use Rattle.stun_grammar.specs.Numbers.{padded_length};
+ghost use Rattle.stun_grammar.specs.Attributes.{attribute_encoding, attribute_length};
+ghost use Rattle.stun_base.specs.Data.{is_borrowed};
+ghost use Rattle.stun_attrs.specs.Raw.{raw_data, IsRawOf};
+
+use crate::{RawAttribute, owned_attribute};
+use std::alloc::Global;
+use stun_base::{AttributeHeader, AttributeType, StunWriteError, pad_attribute_len};
+
+/// Something that can write the value of an attribute.
+///
+/// An attribute that does not hold its value as bytes implements it, writes itself with
+/// [`write_made`] and makes its raw attribute with [`raw_made`]. In contracts `bytes` is the value.
+pub trait MakeValue {
+    ghost bytes: { Self → List ℕ };
+
+    /// How many bytes the value has.
+    fn size(&self) -> u16
+        ensures { result ≡ length (bytes self.now) };
+
+    /// Writes the value at the start of `dest`, which is long enough. What follows is unchanged.
+    fn write_value(&self, dest: &mut [u8])
+        requires { length (bytes self.now) ≤ length dest.old }
+        ensures { dest.new ≡ bytes self.now ++ drop (length (bytes self.now)) dest.old };
+}
+
+/// A value that is held as bytes, at most 65535 of them.
+#[derive(Drop)]
+struct Bytes<'a> {
+    bytes: &'a [u8],
+    ghost short: { length bytes.now ≤ 65535 },
+}
+
+impl MakeValue for Bytes<'_> {
+    ghost bytes = { λ value. value.bytes.now };
+
+    fn size(&self) -> u16 {
+        self.bytes.len() as u16
+    }
+
+    fn write_value(&self, dest: &mut [u8]) {
+        copy_to_start(self.bytes, dest);
+    }
+}
+
+/// Writes bytes at the start of `dest`, which is long enough. What follows is unchanged.
+pub fn copy_to_start(bytes: &[u8], dest: &mut [u8])
+    requires { length bytes.now ≤ length dest.old }
+    ensures { dest.new ≡ bytes.now ++ drop (length bytes.now) dest.old }
+{
+    dest[..bytes.len()].copy_from_slice(bytes);
+}
+
+/// Writes `count` zeros at the start of `dest`, which is long enough.
+fn clear_start(count: usize, dest: &mut [u8])
+    requires { count ≤ length dest.old }
+    ensures { dest.new ≡ replicate count 0 ++ drop count dest.old }
+{
+    dest[..count].fill(0);
+}
+
+/// Writes a value at the start of `dest`, and then zeros up to a multiple of 4.
+fn write_padded<V: MakeValue>(value: &V, dest: &mut [u8])
+    requires { padded_length (length (V.bytes value.now)) ≤ length dest.old }
+    ensures { dest.new ≡ V.bytes value.now
+        ++ (replicate (padded_length (length (V.bytes value.now)) - length (V.bytes value.now)) 0
+        ++ drop (padded_length (length (V.bytes value.now))) dest.old) }
+{
+    let end = value.size() as usize;
+    clear_start(pad_attribute_len(end) - end, &mut dest[end..]);
+    value.write_value(dest);
+}
+
+/// Writes the attribute of this type and value at the start of `dest`, which is long enough: the
+/// type and the length of the value in two bytes each, big-endian, the value, and zeros up to a
+/// multiple of 4 (RFC 8489, section 14). What follows is unchanged.
+#[tactic(auto, unfolding(stun_grammar::specs::Attributes::encoding))]
+pub fn write_made<V: MakeValue>(atype: AttributeType, value: &V, dest: &mut [u8])
+    requires { attribute_length (length (V.bytes value.now)) ≤ length dest.old }
+    ensures { dest.new ≡ attribute_encoding atype.0 (V.bytes value.now)
+        ++ drop (attribute_length (length (V.bytes value.now))) dest.old }
+{
+    let header = AttributeHeader {
+        atype,
+        length: value.size(),
+    };
+    header.write_into(dest);
+    write_padded(value, &mut dest[4..]);
+}
+
+/// As [`write_made`], for a value of at most 65535 bytes.
+pub fn write_attribute(atype: AttributeType, value: &[u8], dest: &mut [u8])
+    requires value { length value.now ≤ 65535 }
+    requires room { attribute_length (length value.now) ≤ length dest.old }
+    ensures { dest.new ≡ attribute_encoding atype.0 value.now
+        ++ drop (attribute_length (length value.now)) dest.old }
+{
+    write_made(atype, &Bytes { bytes: value }, dest);
+}
+
+/// The raw attribute of this type and value, which it owns in memory that `alloc` gives.
+///
+/// # Errors
+///
+/// `OutOfMemory` alone.
+pub fn raw_made<'a, V: MakeValue>(
+    alloc: Global,
+    atype: AttributeType,
+    value: &V,
+) -> Result<RawAttribute<'a>, StunWriteError>
+    ensures ok { IfOk result (IsRawOf atype.0 (V.bytes value.now)) }
+    ensures owned { IfOk result (λ raw. is_borrowed (raw_data raw) ≡ false) }
+    ensures err { IfErr result (λ e. e ≡ StunWriteError.OutOfMemory) }
+{
+    let mut bytes = Vec::new(alloc);
+    bytes
+        .resize(value.size() as usize, 0)
+        .map_err(|_| StunWriteError::OutOfMemory)?;
+    value.write_value(&mut bytes);
+    Ok(owned_attribute(atype, bytes.into_boxed_slice()))
+}

@@ -1,0 +1,2 @@
+mod CoveredLemmas
+mod IntegrityLemmas

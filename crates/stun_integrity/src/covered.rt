@@ -1,0 +1,77 @@
+//! The bytes of a message that its HMACs and its FINGERPRINT cover (RFC 8489, sections 14.5 to
+//! 14.7). They are passed to the digests in three pieces, of which two are parts of the message:
+//! nothing is copied.
+
+ghost use Rattle.std.specs.Prelude.{◌≡◌, ℕ, ◌+◌, ◌-◌, ◌%◌, ◌^◌, ◌<◌, ◌≤◌, length, map};
+ghost use Rattle.std.specs.List.{concat};
+ghost use Rattle.stun_grammar.specs.Numbers.{be16, padded_length};
+ghost use Rattle.stun_grammar.specs.Fingerprints.{message_before, fingerprint_value};
+ghost use Rattle.stun_grammar.specs.Hmac.{hmac};
+ghost use Rattle.stun_grammar.specs.Verdicts.{covered_bytes};
+ghost use Rattle.stun_keys.specs.Keys.{key_bytes};
+
+use crate::fingerprint::masked;
+use stun_base::pad_attribute_len;
+use stun_grammar::IntegrityAlgorithm;
+use stun_keys::digest::crc32;
+use stun_keys::keys::IntegrityKey;
+
+/// The length field of a message that ends with an attribute of `size` bytes at `offset`: the low
+/// sixteen bits of the number of bytes that follow the header, big-endian.
+fn length_field(offset: usize, size: usize) -> [u8; 2]
+    requires header { 20 ≤ offset }
+    requires within { offset < 2 ^ 63 }
+    requires short { size ≤ 65540 }
+    ensures { result ≡ be16 ((offset + size - 20) % 2 ^ 16) }
+{
+    let counted = (offset + size - 20) % 65536;
+    (counted as u16).to_be_bytes()
+}
+
+/// The message before `offset` with another length field, in three pieces.
+fn pieces_before<'a>(bytes: &'a [u8], offset: usize, field: &'a [u8; 2]) -> [&'a [u8]; 3]
+    requires header { 20 ≤ offset }
+    requires within { offset ≤ length bytes.now }
+    ensures { (size : ℕ) → field.now ≡ be16 ((offset + size - 20) % 2 ^ 16)
+        → concat (map (λ piece. piece.now) result) ≡ message_before bytes.now offset size }
+{
+    [&bytes[..2], field, &bytes[4..offset]]
+}
+
+/// The HMAC-SHA1 of the bytes that a MESSAGE-INTEGRITY at `offset` covers whose value has `count`
+/// bytes.
+pub fn hmac_sha1_at(key: &IntegrityKey, bytes: &[u8], offset: usize, count: usize) -> [u8; 20]
+    requires header { 20 ≤ offset }
+    requires within { offset ≤ length bytes.now }
+    requires short { count ≤ 65535 }
+    ensures { result ≡ hmac IntegrityAlgorithm.Sha1 (key_bytes key.now)
+        (covered_bytes bytes.now offset count) }
+{
+    let field = length_field(offset, 4 + pad_attribute_len(count));
+    key.hmac_sha1(&pieces_before(bytes, offset, &field))
+}
+
+/// The HMAC-SHA256 of the bytes that a MESSAGE-INTEGRITY-SHA256 at `offset` covers whose value has
+/// `count` bytes.
+pub fn hmac_sha256_at(key: &IntegrityKey, bytes: &[u8], offset: usize, count: usize) -> [u8; 32]
+    requires header { 20 ≤ offset }
+    requires within { offset ≤ length bytes.now }
+    requires short { count ≤ 65535 }
+    ensures { result ≡ hmac IntegrityAlgorithm.Sha256 (key_bytes key.now)
+        (covered_bytes bytes.now offset count) }
+{
+    let field = length_field(offset, 4 + pad_attribute_len(count));
+    key.hmac_sha256(&pieces_before(bytes, offset, &field))
+}
+
+/// The value of a FINGERPRINT at `offset`: the CRC-32 of the message before it, with a length field
+/// that counts the FINGERPRINT in, XORed with 53 54 55 4E; four bytes, big-endian.
+#[tactic(auto, unfolding(stun_grammar::specs::Fingerprints::fingerprint_value))]
+pub fn fingerprint_at(bytes: &[u8], offset: usize) -> [u8; 4]
+    requires header { 20 ≤ offset }
+    requires within { offset ≤ length bytes.now }
+    ensures { result ≡ fingerprint_value bytes.now offset }
+{
+    let field = length_field(offset, 8);
+    masked(crc32(&pieces_before(bytes, offset, &field)))
+}

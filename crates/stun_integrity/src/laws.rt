@@ -1,0 +1,48 @@
+//! Laws of the attributes that protect a message, and of USERHASH. Each function does nothing: its
+//! contract is the law. The type and the value of an attribute, which are those of its raw
+//! attribute, are read as the same attribute.
+
+ghost use Rattle.std.specs.Prelude.{◌≡◌, ◌≤◌, ◌%◌, Result, IsOkAnd, length};
+ghost use Rattle.stun_grammar.specs.declared.error.StunParseError.{StunParseError};
+ghost use Rattle.stun_grammar.specs.AttributeTypes.{MESSAGE_INTEGRITY, MESSAGE_INTEGRITY_SHA256, FINGERPRINT, USERHASH};
+ghost use Rattle.stun_grammar.specs.Numbers.{IsBytes};
+ghost use Rattle.stun_integrity.specs.declared.fingerprint.Fingerprint.{Fingerprint};
+ghost use Rattle.stun_integrity.specs.declared.message_integrity.MessageIntegrity.{MessageIntegrity};
+ghost use Rattle.stun_integrity.specs.declared.message_integrity_sha256.MessageIntegritySha256.{MessageIntegritySha256};
+ghost use Rattle.stun_integrity.specs.declared.userhash.Userhash.{Userhash};
+ghost use Rattle.stun_integrity.specs.Integrity.{checksum_bytes, masked_bytes, sha1_hmac, sha256_hmac, ReadsFingerprint, ReadsIntegrity, ReadsIntegritySha256};
+ghost use Rattle.stun_integrity.specs.Userhash.{hash_bytes, ReadsUserhash};
+
+/// A MESSAGE-INTEGRITY, of 20 bytes, is read back.
+pub fn integrity_is_read_back()
+    ensures { (attribute : MessageIntegrity) (result : Result MessageIntegrity StunParseError)
+        → length (sha1_hmac attribute) ≡ 20
+        → ReadsIntegrity MESSAGE_INTEGRITY (sha1_hmac attribute) result
+        → IsOkAnd result (λ read. sha1_hmac read ≡ sha1_hmac attribute) }
+{}
+
+/// A MESSAGE-INTEGRITY-SHA256, of 16 to 32 bytes, a multiple of 4, is read back.
+pub fn integrity_sha256_is_read_back()
+    ensures { (attribute : MessageIntegritySha256)
+        (result : Result MessageIntegritySha256 StunParseError)
+        → 16 ≤ length (sha256_hmac attribute) → length (sha256_hmac attribute) ≤ 32
+        → length (sha256_hmac attribute) % 4 ≡ 0
+        → ReadsIntegritySha256 MESSAGE_INTEGRITY_SHA256 (sha256_hmac attribute) result
+        → IsOkAnd result (λ read. sha256_hmac read ≡ sha256_hmac attribute) }
+{}
+
+/// A FINGERPRINT, of four bytes, is read back: the two XORs cancel out.
+pub fn fingerprint_is_read_back()
+    ensures { (attribute : Fingerprint) (result : Result Fingerprint StunParseError)
+        → length (checksum_bytes attribute) ≡ 4 → IsBytes (checksum_bytes attribute)
+        → ReadsFingerprint FINGERPRINT (masked_bytes (checksum_bytes attribute)) result
+        → IsOkAnd result (λ read. checksum_bytes read ≡ checksum_bytes attribute) }
+{}
+
+/// A USERHASH, of 32 bytes, is read back.
+pub fn userhash_is_read_back()
+    ensures { (attribute : Userhash) (result : Result Userhash StunParseError)
+        → length (hash_bytes attribute) ≡ 32
+        → ReadsUserhash USERHASH (hash_bytes attribute) result
+        → IsOkAnd result (λ read. hash_bytes read ≡ hash_bytes attribute) }
+{}

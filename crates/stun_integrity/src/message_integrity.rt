@@ -1,0 +1,140 @@
+use std::alloc::Global;
+use stun_attrs::{
+    Attribute, AttributeFromRaw, AttributeStaticType, AttributeWrite, RawAttribute,
+    borrowed_attribute, check_length, check_type, write_attribute,
+};
+use stun_base::{AttributeType, StunParseError, StunWriteError};
+use stun_grammar::attribute_types;
+use stun_keys::keys::{IntegrityAlgorithm, IntegrityKey};
+
+/// MESSAGE-INTEGRITY: the HMAC-SHA1 of the message before it, 20 bytes (RFC 8489, section 14.5).
+#[derive(Debug, Clone, PartialEq, Eq, Drop)]
+pub struct MessageIntegrity {
+    hmac: [u8; 20],
+}
+
+impl MessageIntegrity {
+    ghost use Rattle.std.specs.Prelude.{◌≡◌, ◌↔◌, IsTrue, true, Ok, map};
+    ghost use Rattle.std.specs.List.{concat};
+    ghost use Rattle.stun_grammar.specs.Hmac.{hmac};
+    ghost use Rattle.stun_keys.specs.Keys.{key_bytes, key_algorithm, serves};
+    ghost use Rattle.stun_attrs.specs.Raw.{raw_type, raw_value};
+    ghost use Rattle.stun_integrity.specs.Integrity.{sha1_hmac, ReadsIntegrity};
+
+    /// The attribute of this HMAC.
+    pub fn new(hmac: [u8; 20]) -> Self
+        ensures { sha1_hmac result ≡ hmac }
+    {
+        MessageIntegrity { hmac }
+    }
+
+    /// The HMAC.
+    pub fn hmac(&self) -> &[u8; 20]
+        ensures { result.now ≡ sha1_hmac self.now }
+    {
+        &self.hmac
+    }
+
+    /// HMAC-SHA1 of the pieces, joined, under a key. The algorithm that the key was made for does
+    /// not matter.
+    ///
+    /// It takes no memory, and always returns `Ok`.
+    pub fn compute(pieces: &[&[u8]], key: &IntegrityKey) -> Result<[u8; 20], StunWriteError>
+        ensures { result ≡ Ok (hmac IntegrityAlgorithm.Sha1 (key_bytes key.now)
+            (concat (map (λ piece. piece.now) pieces.now))) }
+    {
+        Ok(key.hmac_sha1(pieces))
+    }
+
+    /// Whether `expected` is the HMAC-SHA1 of the pieces, joined, under a key that was made for
+    /// `Sha1` or for no one algorithm. With a key that was made for `Sha256` the result is `false`.
+    ///
+    /// It takes no memory. The comparison does not take constant time.
+    pub fn verify(pieces: &[&[u8]], key: &IntegrityKey, expected: &[u8; 20]) -> bool
+        ensures { IsTrue result
+            ↔ (serves (key_algorithm key.now) IntegrityAlgorithm.Sha1 ≡ true)
+            × (expected.now ≡ hmac IntegrityAlgorithm.Sha1 (key_bytes key.now)
+            (concat (map (λ piece. piece.now) pieces.now))) }
+    {
+        key.serves(IntegrityAlgorithm::Sha1) && *expected == key.hmac_sha1(pieces)
+    }
+
+    /// Reads a raw attribute. The value is copied into the result, which takes no memory.
+    #[tactic(auto, unfolding(stun_grammar::specs::Verdicts::hmac_fault))]
+    fn read(raw: &RawAttribute<'_>) -> Result<Self, StunParseError>
+        ensures { ReadsIntegrity (raw_type raw.now) (raw_value raw.now) result }
+    {
+        check_type(raw, Self::TYPE)?;
+        let value = raw.value().as_bytes();
+        check_length(value, 20)?;
+        let mut hmac = [0; 20];
+        hmac.copy_from_slice(value);
+        Ok(MessageIntegrity { hmac })
+    }
+}
+
+impl AttributeStaticType for MessageIntegrity {
+    ghost use Rattle.std.specs.Prelude.{refl};
+    ghost use Rattle.stun_grammar.specs.AttributeTypes.{MESSAGE_INTEGRITY};
+
+    ghost TYPE = { record { 0 = MESSAGE_INTEGRITY } };
+
+    ghost tells = { λ _. refl };
+
+    const TYPE: AttributeType = AttributeType(attribute_types::MESSAGE_INTEGRITY);
+}
+
+impl Attribute for MessageIntegrity {
+    ghost use Rattle.stun_grammar.specs.AttributeTypes.{MESSAGE_INTEGRITY};
+    ghost use Rattle.stun_integrity.specs.Integrity.{sha1_hmac};
+
+    ghost atype = { λ _. MESSAGE_INTEGRITY };
+
+    ghost value = { sha1_hmac };
+
+    fn get_type(&self) -> AttributeType {
+        Self::TYPE
+    }
+
+    fn length(&self) -> u16 {
+        20
+    }
+}
+
+impl AttributeWrite for MessageIntegrity {
+    ghost use Rattle.std.specs.Prelude.{true};
+
+    ghost to_raw_borrows = { λ _. true };
+
+    fn write_into_unchecked(&self, dest: &mut [u8]) {
+        write_attribute(Self::TYPE, &self.hmac, dest);
+    }
+
+    /// The result borrows the HMAC, which takes no memory.
+    fn to_raw(&self, _alloc: Global) -> Result<RawAttribute<'_>, StunWriteError> {
+        Ok(borrowed_attribute(Self::TYPE, &self.hmac))
+    }
+}
+
+/// Reading takes no memory.
+///
+/// # Errors
+///
+/// `WrongAttributeImplementation` where the type is another one. Otherwise
+/// `Truncated { expected: 20, actual }` where the value has fewer than 20 bytes, and
+/// `TooLarge { expected: 20, actual }` where it has more.
+impl AttributeFromRaw<'_> for MessageIntegrity {
+    ghost use Rattle.stun_integrity.specs.Integrity.{ReadsIntegrity};
+
+    ghost reads_ref = { ReadsIntegrity };
+
+    ghost reads = { ReadsIntegrity };
+
+    fn from_raw_ref(_alloc: Global, raw: &RawAttribute<'_>) -> Result<Self, StunParseError> {
+        Self::read(raw)
+    }
+
+    fn from_raw(_alloc: Global, raw: RawAttribute<'_>) -> Result<Self, StunParseError> {
+        Self::read(&raw)
+    }
+}

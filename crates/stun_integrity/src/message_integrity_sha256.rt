@@ -1,0 +1,224 @@
+ghost use Rattle.std.specs.Prelude.{◌≡◌, ◌↔◌, ◌<◌, ◌≤◌, ◌%◌, IsTrue, length, take};
+
+use crate::lengths::check_sha256_length;
+use std::alloc::{AllocError, Global};
+use stun_attrs::{
+    Attribute, AttributeFromRaw, AttributeStaticType, AttributeWrite, RawAttribute,
+    borrowed_attribute, check_type, write_attribute,
+};
+use stun_base::{AttributeType, StunParseError, StunWriteError};
+use stun_grammar::attribute_types;
+use stun_keys::keys::{IntegrityAlgorithm, IntegrityKey};
+
+/// Whether the bytes are a nonempty prefix of an HMAC.
+fn is_prefix(prefix: &[u8], whole: &[u8; 32]) -> bool
+    ensures { IsTrue result
+        ↔ (0 < length prefix.now) × (prefix.now ≡ take (length prefix.now) whole.now) }
+{
+    if prefix.is_empty() || prefix.len() > whole.len() {
+        return false;
+    }
+    prefix == &whole[..prefix.len()]
+}
+
+/// MESSAGE-INTEGRITY-SHA256: the HMAC-SHA256 of the message before it, or a prefix of it. The value
+/// has 16 to 32 bytes, a multiple of 4 (RFC 8489, section 14.6).
+///
+/// Two attributes are equal where their values are.
+#[derive(Debug, Drop)]
+pub struct MessageIntegritySha256 {
+    bytes: [u8; 32],
+    count: usize,
+    ghost least: { 16 ≤ count },
+    ghost most: { count ≤ 32 },
+    ghost four: { count % 4 ≡ 0 },
+}
+
+impl MessageIntegritySha256 {
+    ghost use Rattle.std.specs.Prelude.{◌≡◌, ◌≢◌, ◌↔◌, ◌<◌, ◌≤◌, ◌%◌, IsTrue, true, Ok, Err, IsOkAnd, length, map};
+    ghost use Rattle.std.specs.List.{concat};
+    ghost use Rattle.stun_grammar.specs.Hmac.{hmac};
+    ghost use Rattle.stun_keys.specs.Keys.{key_bytes, key_algorithm, serves};
+    ghost use Rattle.stun_attrs.specs.Raw.{raw_type, raw_value};
+    ghost use Rattle.stun_integrity.specs.Integrity.{sha256_hmac, IsPrefixOf, MakesSha256, ReadsIntegritySha256};
+
+    /// The attribute of these bytes, whose number is allowed.
+    fn kept(hmac: &[u8]) -> Self
+        requires least { 16 ≤ length hmac.now }
+        requires most { length hmac.now ≤ 32 }
+        requires four { length hmac.now % 4 ≡ 0 }
+        ensures { sha256_hmac result ≡ hmac.now }
+    {
+        let count = hmac.len();
+        let mut bytes = [0; 32];
+        bytes[..count].copy_from_slice(hmac);
+        MessageIntegritySha256 { bytes, count }
+    }
+
+    /// The attribute of an HMAC, or of a prefix of one. It takes no memory.
+    ///
+    /// # Errors
+    ///
+    /// `TooSmall { expected: 16, actual }` for fewer than 16 bytes, and
+    /// `TooLarge { expected: 32, actual }` for more than 32. Otherwise `IntegrityFailed` where the
+    /// number of bytes is not a multiple of 4.
+    pub fn new(hmac: &[u8]) -> Result<Self, StunWriteError>
+        ensures { MakesSha256 hmac.now result }
+    {
+        check_sha256_length(hmac.len())?;
+        Ok(Self::kept(hmac))
+    }
+
+    /// The HMAC, or the prefix of it that the attribute holds.
+    pub fn hmac(&self) -> &[u8]
+        ensures bytes { result.now ≡ sha256_hmac self.now }
+        ensures least { 16 ≤ length result.now }
+        ensures most { length result.now ≤ 32 }
+        ensures four { length result.now % 4 ≡ 0 }
+    {
+        &self.bytes[..self.count]
+    }
+
+    /// HMAC-SHA256 of the pieces, joined, under a key: all of its 32 bytes. The algorithm that the
+    /// key was made for does not matter.
+    ///
+    /// It takes no memory, and always returns `Ok`.
+    pub fn compute(pieces: &[&[u8]], key: &IntegrityKey) -> Result<[u8; 32], StunWriteError>
+        ensures { result ≡ Ok (hmac IntegrityAlgorithm.Sha256 (key_bytes key.now)
+            (concat (map (λ piece. piece.now) pieces.now))) }
+    {
+        Ok(key.hmac_sha256(pieces))
+    }
+
+    /// Whether `expected` is the HMAC-SHA256 of the pieces, joined, or a nonempty prefix of it,
+    /// under a key that was made for `Sha256` or for no one algorithm. With a key that was made for
+    /// `Sha1` the result is `false`.
+    ///
+    /// A prefix of any length is accepted, a single byte too: the lengths that the attribute may
+    /// have are tested by [`MessageIntegritySha256::new`] and by reading. It takes no memory. The
+    /// comparison does not take constant time.
+    pub fn verify(pieces: &[&[u8]], key: &IntegrityKey, expected: &[u8]) -> bool
+        ensures { IsTrue result
+            ↔ (serves (key_algorithm key.now) IntegrityAlgorithm.Sha256 ≡ true)
+            × IsPrefixOf expected.now (hmac IntegrityAlgorithm.Sha256 (key_bytes key.now)
+            (concat (map (λ piece. piece.now) pieces.now))) }
+    {
+        key.serves(IntegrityAlgorithm::Sha256) && is_prefix(expected, &key.hmac_sha256(pieces))
+    }
+
+    /// Reads a raw attribute. The value is copied into the result, which takes no memory.
+    fn read(raw: &RawAttribute<'_>) -> Result<Self, StunParseError>
+        ensures { ReadsIntegritySha256 (raw_type raw.now) (raw_value raw.now) result }
+    {
+        check_type(raw, Self::TYPE)?;
+        let value = raw.value().as_bytes();
+        check_sha256_length(value.len())?;
+        Ok(Self::kept(value))
+    }
+}
+
+/// A copy takes no memory.
+impl Clone for MessageIntegritySha256 {
+    ghost use Rattle.std.specs.Prelude.{◌≡◌, ⊤};
+
+    ghost is_clone = { λ attribute copy. copy ≡ attribute };
+
+    ghost is_infallible = { λ _. ⊤ };
+
+    fn clone(&self) -> Result<Self, AllocError> {
+        Ok(MessageIntegritySha256 {
+            bytes: self.bytes,
+            count: self.count,
+        })
+    }
+}
+
+impl PartialEq for MessageIntegritySha256 {
+    ghost use Rattle.std.specs.Prelude.{nat_eq};
+    ghost use Rattle.std.specs.Cmp.{on_per, partial_equiv_from_equiv};
+    ghost use Rattle.std.specs.Cmp.Lexicographic.{nat_list_eq_equiv, pointwise};
+    ghost use Rattle.stun_integrity.specs.Integrity.{sha256_hmac};
+
+    ghost eq = { λ a b. pointwise nat_eq (sha256_hmac a) (sha256_hmac b) };
+
+    ghost laws = { on_per sha256_hmac (partial_equiv_from_equiv nat_list_eq_equiv) };
+
+    fn eq(&self, other: &Self) -> bool {
+        self.hmac() == other.hmac()
+    }
+}
+
+impl Eq for MessageIntegritySha256 {
+    ghost use Rattle.std.specs.Cmp.{on_equiv};
+    ghost use Rattle.std.specs.Cmp.Lexicographic.{nat_list_eq_equiv};
+    ghost use Rattle.stun_integrity.specs.Integrity.{sha256_hmac};
+
+    ghost laws = { on_equiv sha256_hmac nat_list_eq_equiv };
+}
+
+impl AttributeStaticType for MessageIntegritySha256 {
+    ghost use Rattle.std.specs.Prelude.{refl};
+    ghost use Rattle.stun_grammar.specs.AttributeTypes.{MESSAGE_INTEGRITY_SHA256};
+
+    ghost TYPE = { record { 0 = MESSAGE_INTEGRITY_SHA256 } };
+
+    ghost tells = { λ _. refl };
+
+    const TYPE: AttributeType = AttributeType(attribute_types::MESSAGE_INTEGRITY_SHA256);
+}
+
+impl Attribute for MessageIntegritySha256 {
+    ghost use Rattle.stun_grammar.specs.AttributeTypes.{MESSAGE_INTEGRITY_SHA256};
+    ghost use Rattle.stun_integrity.specs.Integrity.{sha256_hmac};
+
+    ghost atype = { λ _. MESSAGE_INTEGRITY_SHA256 };
+
+    ghost value = { sha256_hmac };
+
+    fn get_type(&self) -> AttributeType {
+        Self::TYPE
+    }
+
+    fn length(&self) -> u16 {
+        self.hmac().len() as u16
+    }
+}
+
+impl AttributeWrite for MessageIntegritySha256 {
+    ghost use Rattle.std.specs.Prelude.{true};
+
+    ghost to_raw_borrows = { λ _. true };
+
+    fn write_into_unchecked(&self, dest: &mut [u8]) {
+        write_attribute(Self::TYPE, self.hmac(), dest);
+    }
+
+    /// The result borrows the HMAC, which takes no memory.
+    fn to_raw(&self, _alloc: Global) -> Result<RawAttribute<'_>, StunWriteError> {
+        Ok(borrowed_attribute(Self::TYPE, self.hmac()))
+    }
+}
+
+/// Reading takes no memory.
+///
+/// # Errors
+///
+/// `WrongAttributeImplementation` where the type is another one. Otherwise
+/// `Truncated { expected: 16, actual }` where the value has fewer than 16 bytes, and
+/// `TooLarge { expected: 32, actual }` where it has more than 32. Otherwise `InvalidAttributeData`
+/// where its length is not a multiple of 4.
+impl AttributeFromRaw<'_> for MessageIntegritySha256 {
+    ghost use Rattle.stun_integrity.specs.Integrity.{ReadsIntegritySha256};
+
+    ghost reads_ref = { ReadsIntegritySha256 };
+
+    ghost reads = { ReadsIntegritySha256 };
+
+    fn from_raw_ref(_alloc: Global, raw: &RawAttribute<'_>) -> Result<Self, StunParseError> {
+        Self::read(raw)
+    }
+
+    fn from_raw(_alloc: Global, raw: RawAttribute<'_>) -> Result<Self, StunParseError> {
+        Self::read(&raw)
+    }
+}

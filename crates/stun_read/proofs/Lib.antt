@@ -1,0 +1,7 @@
+mod EndingsLemmas
+mod ScanningLemmas
+mod IteratingLemmas
+pub mod ItemsLemmas
+mod ValidatingLemmas
+mod LookingUpLemmas
+mod FindingLemmas

@@ -1,0 +1,73 @@
+-- The scan of a message: the invariant of its loop.
+use Rattle.std.proofs.Common.{◌≡◌, ℕ, ◌+◌, ◌≤◌, Bool, true, false, List, [], ◌∷◌, ◌++◌, drop, Option, Some, None, sym, ap, subst, ◌∙◌, arith, inl, inr}
+use Rattle.std.proofs.lemmas.Bool.{cases_eq}
+use Rattle.std.proofs.lemmas.List.{map-append}
+use Rattle.stun_grammar.specs.declared.error.StunParseError.{StunParseError}
+use Rattle.stun_grammar.specs.Attributes.{Attribute, types}
+use Rattle.stun_grammar.specs.Chains.{first_attribute, fault}
+use Rattle.stun_grammar.specs.ScannedOrder.{in_any_order}
+use Rattle.stun_grammar.specs.AttributeTypes.{FINGERPRINT}
+use Rattle.stun_grammar.specs.Parsing.{body_fault}
+use Rattle.stun_grammar.specs.Fingerprints.{fingerprint_fault}
+use Rattle.stun_grammar.proofs.AttributesLemmas.{length-encoding}
+use Rattle.stun_grammar.proofs.ParsingLemmas.{ScannedTo, scan_starts, ends_at, stops_at, goes_on, goes_on_checked, refuses_at}
+use Rattle.stun_attrs.specs.declared.raw.RawAttribute.{RawAttribute}
+use Rattle.stun_attrs.specs.Raw.{Finds, raw_type, raw_value}
+use Rattle.stun_read.specs.declared.endings.Seen.{Seen}
+use Rattle.stun_read.specs.Endings.{Tracks}
+
+-- the attributes before an offset were scanned, and `seen` has the ending types among them
+pub record Scanned (seen : Seen) (d : List ℕ) (offset : ℕ) : Type 0 where
+  pub taken : List Attribute
+  pub to : ScannedTo d offset taken
+  pub tracks : Tracks seen (types taken)
+
+pub starts : (seen : Seen) (d : List ℕ) → Tracks seen [] → Scanned seen d 20
+starts seen d tracks = record { taken = []; to = scan_starts d; tracks = tracks }
+
+-- what `Seen::admits` ensures of one more type
+abbrev pub Admits : Seen → ℕ → Bool → Seen → Type 0
+Admits seen type answer after = (types : List ℕ) → Tracks seen types → in_any_order types ≡ true → (answer ≡ in_any_order (types ++ type ∷ [])) × Tracks after (types ++ type ∷ [])
+
+module _ (seen : Seen) (d : List ℕ) (offset : ℕ) (scanned : Scanned seen d offset) where
+  pub ends : (told : Option StunParseError) → first_attribute (drop offset d) ≡ None → fault offset (drop offset d) ≡ told → body_fault d ≡ told
+  ends told = ends_at d offset scanned.taken told scanned.to
+
+  module _ (x : RawAttribute) (behind : ℕ) (found : Finds x behind offset d) (type : ℕ) (type-is : type ≡ raw_type x) (answer : Bool) (after : Seen) (admits : Admits seen type answer after) where
+    same_type : type ≡ found.attribute.type
+    same_type = type-is ∙ found.raw_is.raw_is.type_is
+
+    answer_is : answer ≡ in_any_order (types scanned.taken ++ found.attribute.type ∷ [])
+    answer_is = (admits (types scanned.taken) scanned.tracks scanned.to.fits).0 ∙ ap (λ (k : ℕ). in_any_order (types scanned.taken ++ k ∷ [])) same_type
+
+    tracks_on : Tracks after (types (scanned.taken ++ found.attribute ∷ []))
+    tracks_on =
+        let same : types scanned.taken ++ type ∷ [] ≡ types (scanned.taken ++ found.attribute ∷ []) =
+        ap (λ (k : ℕ). types scanned.taken ++ k ∷ []) same_type ∙ sym (map-append (λ a. a.type) scanned.taken (found.attribute ∷ [])) in
+        subst (Tracks after) same (admits (types scanned.taken) scanned.tracks scanned.to.fits).1
+
+    fault_is : fingerprint_fault d offset found.attribute.value ≡ fingerprint_fault d offset (raw_value x)
+    fault_is = ap (fingerprint_fault d offset) (sym found.raw_is.raw_is.value_is)
+
+    -- the attribute breaks the order, and the scan ends
+    pub stops : answer ≡ false → body_fault d ≡ None
+    stops e = stops_at d offset scanned.taken found.attribute scanned.to found.first_is (sym answer_is ∙ e)
+
+    -- it keeps the order, is right if it is a FINGERPRINT, and the scan goes on
+    pub on : answer ≡ true → (raw_type x ≡ FINGERPRINT → fingerprint_fault d offset (raw_value x) ≡ None) → Scanned after d behind
+    on e right = record {
+      taken = scanned.taken ++ found.attribute ∷ [];
+      to = subst (λ (o : ℕ). ScannedTo d o (scanned.taken ++ found.attribute ∷ [])) (sym found.behind_is) (elim (cases_eq (raw_type x) FINGERPRINT) [
+        | inl is ↦ goes_on_checked d offset scanned.taken found.attribute scanned.to found.first_is (sym answer_is ∙ e) (sym found.raw_is.raw_is.type_is ∙ is) (fault_is ∙ right is)
+        | inr differs ↦ goes_on d offset scanned.taken found.attribute scanned.to found.first_is (sym answer_is ∙ e) (λ is. differs (found.raw_is.raw_is.type_is ∙ is))
+      ]);
+      tracks = tracks_on;
+    }
+
+    -- it keeps the order, and is a FINGERPRINT that is wrong
+    pub refuses : (told : StunParseError) → answer ≡ true → raw_type x ≡ FINGERPRINT → fingerprint_fault d offset (raw_value x) ≡ Some told → body_fault d ≡ Some told
+    refuses told e is refused =
+        refuses_at d offset scanned.taken found.attribute told scanned.to found.first_is (sym answer_is ∙ e) (sym found.raw_is.raw_is.type_is ∙ is) (fault_is ∙ refused)
+
+pub behind_more_than : (x : RawAttribute) (behind offset : ℕ) (d : List ℕ) → Finds x behind offset d → offset + 4 ≤ behind
+behind_more_than x behind offset d found = omega (arith, found.behind_is, length-encoding found.attribute)

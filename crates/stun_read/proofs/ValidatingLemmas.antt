@@ -1,0 +1,121 @@
+-- Lemmas on validating a message.
+use Rattle.std.proofs.Common.{◌≡◌, ℕ, suc, ◌+◌, ◌-◌, ◌*◌, ◌/◌, ◌%◌, ◌<◌, ◌≤◌, Bool, true, false, cond, eqb, ltb, List, [], ◌∷◌, ◌++◌, length, get_or, take, drop, Option, Some, None, Ok, Err, refl, sym, ap, ◌∙◌, arith, ◌⊎◌, inl, inr}
+use Rattle.std.specs.Prelude.{MatchOption, nat_eq}
+use Rattle.std.specs.Option.{option_map, option_or}
+use Rattle.std.specs.Cmp.Lexicographic.{pointwise}
+use Rattle.std.proofs.lemmas.List.{append-nil}
+use Rattle.stun_grammar.specs.Numbers.{be16, IsBytes}
+use Rattle.stun_grammar.specs.Chains.{Shown}
+use Rattle.stun_grammar.specs.Fingerprints.{message_before}
+use Rattle.stun_grammar.specs.declared.attribute_type.AttributeType.{AttributeType}
+use Rattle.stun_grammar.specs.declared.error.StunParseError.{StunParseError}
+use Rattle.stun_grammar.specs.declared.error.StunParseError.TheVariants.{Truncated, TooLarge, MissingAttribute, InvalidAttributeData, OutOfMemory}
+use Rattle.stun_grammar.specs.declared.error.ValidateError.TheVariants.{Parse, IntegrityFailed}
+use Rattle.stun_grammar.specs.declared.integrity_algorithm.IntegrityAlgorithm.{IntegrityAlgorithm}
+use Rattle.stun_grammar.specs.declared.integrity_algorithm.IntegrityAlgorithm.TheVariants.{Sha1, Sha256}
+use Rattle.stun_grammar.specs.Hmac.{hmac, digest_length}
+use Rattle.stun_grammar.specs.Verdicts.{algorithm_of, hmac_fault, covered_bytes, verdict_on, verdict, last_shown, is_wanted}
+use Rattle.stun_grammar.specs.Lengths.{range_fault}
+use Rattle.stun_grammar.proofs.VerdictsLemmas.{lawful, stands, verdict_missing, verdict_unlawful}
+use Rattle.stun_attrs.specs.declared.raw.RawAttribute.{RawAttribute}
+use Rattle.stun_read.specs.Validating.{shown_at, IsChecked}
+
+-- ---- The attribute that is checked
+
+-- the last item that was found, as an attribute that is shown
+pub last_of : (last : Option (ℕ × RawAttribute)) (x : Option Shown) → option_map (λ (found : ℕ × RawAttribute). shown_at found.0 found.1) last ≡ x → MatchOption last (x ≡ None) (λ found. x ≡ Some (shown_at found.0 found.1))
+last_of None x e = sym e
+last_of (Some found) x e = sym e
+
+-- each number in a slice is a byte
+pub all_bytes : (d : List ℕ) → ((i : ℕ) → get_or d i 0 < 256) → IsBytes d
+all_bytes [] each = tt
+all_bytes (x ∷ d) each = (each 0, all_bytes d (λ i. each (suc i)))
+
+-- the attribute's header is after the message's header, and within the message
+pub past_header : (m : Option IntegrityAlgorithm) (d : List ℕ) (x : Shown) → ((i : ℕ) → get_or d i 0 < 256) → IsChecked m d x → 20 ≤ x.offset
+past_header m d x each checked = (stands (is_wanted m) d x (all_bytes d each) checked.last_is).header
+
+pub before_end : (m : Option IntegrityAlgorithm) (d : List ℕ) (x : Shown) → ((i : ℕ) → get_or d i 0 < 256) → IsChecked m d x → x.offset ≤ length d
+before_end m d x each checked = omega (arith, (stands (is_wanted m) d x (all_bytes d each) checked.last_is).within)
+
+-- ---- The covered bytes
+
+pub covered_is : (d stated : List ℕ) (offset n : ℕ) → 20 ≤ offset → stated ≡ be16 ((offset - 16 + (n + 3) / 4 * 4) % 65536)
+    → take 2 d ++ (stated ++ (take (offset - 4) (drop 4 d) ++ [])) ≡ covered_bytes d offset n
+unfolding message_before
+covered_is d stated offset n header e =
+    let counted : offset - 16 + (n + 3) / 4 * 4 ≡ offset + (4 + 4 * ((n + 3) / 4)) - 20 = omega arith in
+    rw (e, counted, append-nil (take (offset - 4) (drop 4 d))) refl
+
+-- ---- Lengths
+
+told_if : (b : Bool) (told : StunParseError) (other : Option StunParseError) → cond b (Some told) other ≡ Some OutOfMemory → (told ≡ OutOfMemory) ⊎ (other ≡ Some OutOfMemory)
+told_if true told other e = inl cc
+told_if false told other e = inr e
+
+told_first : (a b : Option StunParseError) → option_or a b ≡ Some OutOfMemory → (a ≡ Some OutOfMemory) ⊎ (b ≡ Some OutOfMemory)
+told_first None b e = inr e
+told_first (Some told) b e = inl e
+
+range_told : (least greatest n : ℕ) → range_fault least greatest n ≡ Some OutOfMemory → ⊥
+range_told least greatest n e = elim (told_if (ltb n least) (Truncated least n) (cond (ltb greatest n) (Some (TooLarge greatest n)) None) e) [
+  | inl told ↦ absurd (cc told)
+  | inr more ↦ elim (told_if (ltb greatest n) (TooLarge greatest n) None more) [
+    | inl told ↦ absurd (cc told)
+    | inr none ↦ absurd (cc none)
+  ]
+]
+
+entries_told : (b : Bool) → cond b None (Some InvalidAttributeData) ≡ Some OutOfMemory → ⊥
+entries_told true e = absurd cc
+entries_told false e = absurd cc
+
+-- a length is never refused as `OutOfMemory`
+pub never_memory : (algorithm : IntegrityAlgorithm) (n : ℕ) → hmac_fault algorithm n ≡ Some OutOfMemory → ⊥
+unfolding hmac_fault
+never_memory Sha1 n e = range_told 20 20 n e
+never_memory Sha256 n e = elim (told_first (range_fault 16 32 n) (cond (eqb (n % 4) 0) None (Some InvalidAttributeData)) e) [
+  | inl range ↦ range_told 16 32 n range
+  | inr fours ↦ entries_told (eqb (n % 4) 0) fours
+]
+
+-- a value of a lawful length is no longer than the digest
+pub is_short : (value read : List ℕ) (algorithm told : IntegrityAlgorithm) → read ≡ value → told ≡ algorithm → hmac_fault algorithm (length value) ≡ None → length read ≤ digest_length told
+is_short value read algorithm told value-is algorithm-is e = rw (value-is, algorithm-is) (lawful algorithm (length value) e).2
+
+-- ---- The verdict where no HMAC is compared
+
+pub missing : (wanted : ℕ → Bool) (keys : IntegrityAlgorithm → List ℕ) (d : List ℕ) (told : AttributeType) → told.0 ≡ 0x0008 → last_shown wanted d ≡ None → verdict wanted keys d ≡ Err (Parse (MissingAttribute told))
+missing wanted keys d told type-is none = verdict_missing wanted keys d none ∙ ap (λ (n : ℕ). Err (Parse (MissingAttribute (record { 0 = n })))) (sym type-is)
+
+pub unlawful : (wanted : ℕ → Bool) (keys : IntegrityAlgorithm → List ℕ) (d : List ℕ) (x : Shown) (read : List ℕ) (algorithm : IntegrityAlgorithm) (told : StunParseError) → last_shown wanted d ≡ Some x → read ≡ x.value → algorithm ≡ algorithm_of x.type → hmac_fault algorithm (length read) ≡ Some told
+    → verdict wanted keys d ≡ Err (Parse told)
+unlawful wanted keys d x read algorithm told last value-is algorithm-is fault =
+    let at : hmac_fault (algorithm_of x.type) (length x.value) ≡ Some told = rw (value-is, algorithm-is) at fault in
+    verdict_unlawful wanted keys d x told last at
+
+-- ---- The verdict on the attribute that is checked
+
+abbrev pub is_code : IntegrityAlgorithm → List ℕ → List ℕ → ℕ → List ℕ → Bool
+is_code algorithm key d offset value = pointwise nat_eq value (take (length value) (hmac algorithm key (covered_bytes d offset (length value))))
+
+pub on_failed : (key d : List ℕ) (x : Shown) (read : List ℕ) (told : IntegrityAlgorithm) → hmac_fault (algorithm_of x.type) (length x.value) ≡ None → read ≡ x.value → told ≡ algorithm_of x.type → is_code told key d x.offset read ≡ false
+    → verdict_on (λ _. key) d x ≡ Err IntegrityFailed
+unfolding verdict_on
+on_failed key d x read told lawful-is value-is algorithm-is test =
+    let tested : is_code (algorithm_of x.type) key d x.offset x.value ≡ false = rw (value-is, algorithm-is) at test in
+    rw (lawful-is, tested) refl
+
+pub on_ok : (key d : List ℕ) (x : Shown) (read : List ℕ) (told : IntegrityAlgorithm) → hmac_fault (algorithm_of x.type) (length x.value) ≡ None → read ≡ x.value → told ≡ algorithm_of x.type → is_code told key d x.offset read ≡ true
+    → verdict_on (λ _. key) d x ≡ Ok told
+unfolding verdict_on
+on_ok key d x read told lawful-is value-is algorithm-is test =
+    let tested : is_code (algorithm_of x.type) key d x.offset x.value ≡ true = rw (value-is, algorithm-is) at test in
+    rw (lawful-is, tested, algorithm-is) refl
+
+-- the verdict is that on the last attribute of the wanted types, and only the key of its algorithm
+-- matters
+pub verdict_of_last : (wanted : ℕ → Bool) (keys : IntegrityAlgorithm → List ℕ) (key d : List ℕ) (x : Shown) → last_shown wanted d ≡ Some x → key ≡ keys (algorithm_of x.type) → verdict_on (λ _. key) d x ≡ verdict wanted keys d
+unfolding verdict verdict_on
+verdict_of_last wanted keys key d x last key-is = rw (last, key-is) refl

@@ -1,0 +1,16 @@
+use Rattle.std.proofs.Common.{Bool, ◌∙◌, rules, tests}
+use Rattle.std.specs.Prelude.{◌==◌}
+use Rattle.std.proofs.lemmas.Iterator.Consumers.{nth_from_yields_List, YieldsList-from_filter, YieldsList-from_first, YieldsList-at}
+use Rattle.stun_grammar.specs.Chains.{Shown}
+use Rattle.stun_grammar.specs.Showing.{shown}
+use Rattle.stun_read.specs.Iterating.{items_left, item_view, borrowed}
+use Rattle.stun_read.specs.LookingUp.{nth}
+use Rattle.stun_read.proofs.LookingUpLemmas.{found_borrowed, found_item}
+use Rattle.stun_read.proofs.look_up.nth_raw.Goals as goal
+
+pub returns : goal.returns
+returns c =
+    let d = c.args.bytes.now in
+    let start = YieldsList-from_first item_view items_left (borrowed (shown d)) c.iter_framed.ensures.items in
+    found_item (nth d c.args.atype.0 c.args.n) c.nth.result (nth_from_yields_List c.nth.result c.nth.new.self c.args.n c.nth.ensures.ran (YieldsList-from_filter _ (λ (x : Shown × Bool). x.0.type == c.args.atype.0) (YieldsList-at c.filter.ensures.source start) c.filter.ensures.closure (λ x b q k. search (rules, tests)))
+    ∙ found_borrowed c.args.atype.0 c.args.n (shown d))

@@ -1,0 +1,32 @@
+-- The attributes that an iterator has yet to yield.
+use Rattle.std.specs.Prelude.{ℕ, Bool, true, List, ◌∷◌, drop, map}
+use Rattle.stun_grammar.specs.Chains.{Shown, chain, placed}
+use Rattle.stun_grammar.specs.Attributes.{types}
+use Rattle.stun_grammar.specs.ShownOrder.{in_order}
+use Rattle.stun_grammar.specs.Prefixes.{longest_prefix}
+use Rattle.stun_base.specs.Data.{is_borrowed}
+use Rattle.stun_attrs.specs.Raw.{raw_type, raw_data, raw_value}
+use Rattle.stun_attrs.specs.declared.raw.RawAttribute.{RawAttribute}
+use Rattle.stun_read.specs.declared.iterate.MessageAttributesIter.{MessageAttributesIter}
+
+-- an item as an attribute that is shown at its offset, and whether its value is borrowed
+abbrev pub item_view : ℕ × RawAttribute → Shown × Bool
+item_view item = (
+  record { offset = item.0; type = raw_type item.1; value = raw_value item.1 },
+  is_borrowed (raw_data item.1),
+)
+
+-- attributes that are shown, each with a borrowed value
+abbrev pub borrowed : List Shown → List (Shown × Bool)
+borrowed = map (λ attribute. (attribute, true))
+
+-- what d shows from an offset on, after an attribute of type `last`: the longest prefix of the
+-- chain there that keeps the order
+unfoldable pub shown_behind : ℕ → ℕ → List ℕ → List Shown
+shown_behind last offset d =
+    placed offset
+    (longest_prefix (λ prefix. in_order (last ∷ types prefix)) (chain (drop offset d)))
+
+-- what an iterator has yet to yield
+abbrev pub items_left : MessageAttributesIter → List (Shown × Bool)
+items_left iterator = borrowed (shown_behind iterator.last iterator.offset iterator.bytes.now)

@@ -1,0 +1,4 @@
+pub mod Iterating
+pub mod Endings
+pub mod Validating
+pub mod LookingUp

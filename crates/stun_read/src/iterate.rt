@@ -1,0 +1,90 @@
+//! Iterating over the attributes of a message.
+
+ghost use Rattle.std.specs.Prelude.{◌≡◌, ◌≤◌, length};
+ghost use Rattle.stun_grammar.specs.Showing.{shown};
+
+use crate::endings::{follows, type_number};
+use crate::frame::framed;
+use stun_attrs::{RawAttribute, attribute_at};
+use stun_base::MessageHeader;
+use stun_grammar::attribute_types::FINGERPRINT;
+
+/// An iterator over the attributes that a message shows, in order, each with the offset of its
+/// header from the start of the message.
+///
+/// A message shows the longest prefix of its attributes that consists of ordinary ones, followed by
+/// at most one MESSAGE-INTEGRITY, one MESSAGE-INTEGRITY-SHA256 and one FINGERPRINT, in that order
+/// (RFC 8489, sections 14.5 to 14.7). The values borrow the bytes for `'a`. After its first `None`
+/// the iterator returns `None` forever.
+#[derive(Debug, Drop)]
+pub struct MessageAttributesIter<'a> {
+    bytes: &'a [u8],
+    offset: usize,
+    last: u16,
+    ghost within: { offset ≤ length bytes.now },
+}
+
+impl<'a> MessageAttributesIter<'a> {
+    ghost use Rattle.std.specs.Prelude.{◌≡◌, ◌^◌, ◌<◌, None};
+    ghost use Rattle.stun_grammar.specs.Showing.{frame_fault};
+    ghost use Rattle.stun_read.specs.Iterating.{items_left, borrowed};
+
+    /// Iterates over the attributes that `bytes` show, whatever they are. They show none where they
+    /// don't begin with a header, or where fewer bytes follow it than its length field states. A
+    /// FINGERPRINT is shown whether or not its value is right.
+    pub fn new(bytes: &'a [u8]) -> MessageAttributesIter<'a>
+        ensures items { items_left result ≡ borrowed (shown bytes.now) }
+        ensures bound { length (items_left result) < 2 ^ 64 }
+    {
+        let Ok(_header) = framed(bytes) else {
+            return MessageAttributesIter {
+                bytes,
+                offset: bytes.len(),
+                last: FINGERPRINT,
+            };
+        };
+        Self::behind_header(bytes)
+    }
+
+    /// As [`MessageAttributesIter::new`], but without checking the header again: `bytes` begin with
+    /// a header, and at least as many bytes follow it as its length field states.
+    pub(crate) fn behind_header(bytes: &'a [u8]) -> MessageAttributesIter<'a>
+        requires { frame_fault bytes.now ≡ None }
+        ensures items { items_left result ≡ borrowed (shown bytes.now) }
+        ensures bound { length (items_left result) < 2 ^ 64 }
+    {
+        MessageAttributesIter {
+            bytes,
+            offset: MessageHeader::LENGTH,
+            last: 0,
+        }
+    }
+}
+
+impl<'a> Iterator for MessageAttributesIter<'a> {
+    ghost use Rattle.std.specs.Iterator.{YieldsFirstBy, item_count};
+    ghost use Rattle.stun_read.specs.Iterating.{items_left, item_view};
+
+    type Item = (usize, RawAttribute<'a>);
+
+    ghost next_gives = { YieldsFirstBy item_view items_left };
+
+    ghost remaining = { item_count items_left };
+
+    fn next(&mut self) -> Option<(usize, RawAttribute<'a>)> {
+        let offset = self.offset;
+        match attribute_at(self.bytes, offset) {
+            Err(_) => None,
+            Ok(None) => None,
+            Ok(Some((attribute, behind))) => {
+                let atype = type_number(&attribute);
+                if !follows(self.last, atype) {
+                    return None;
+                }
+                self.offset = behind;
+                self.last = atype;
+                Some((offset, attribute))
+            }
+        }
+    }
+}

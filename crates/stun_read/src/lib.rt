@@ -1,0 +1,21 @@
+//! Reading messages: whether bytes are a message, which attributes they show, and whether the
+//! message validates (RFC 8489, sections 6.3, 14 and 14.5 to 14.7). The functions work on the bytes
+//! themselves; the type `Message` of `stun_types` is built on them.
+#![tactic(auto)]
+
+mod endings;
+mod fingerprint;
+mod frame;
+mod framed;
+mod iterate;
+mod laws;
+mod look_up;
+mod parse;
+mod validate;
+
+pub use framed::iter_framed;
+pub use iterate::MessageAttributesIter;
+pub use laws::{found_has_its_type, shown_is_found};
+pub use look_up::nth_raw;
+pub use parse::check_message;
+pub use validate::{validate_bytes, validate_bytes_with_key};

@@ -1,0 +1,73 @@
+//! Comparing an integrity attribute with the HMAC of the bytes that it covers.
+
+ghost use Rattle.std.specs.Cmp.Lexicographic.{pointwise};
+ghost use Rattle.std.specs.Prelude.{◌≡◌, ◌≤◌, None, length, take, nat_eq};
+ghost use Rattle.stun_grammar.specs.Hmac.{hmac, digest_length};
+ghost use Rattle.stun_grammar.specs.Verdicts.{algorithm_of, hmac_fault, covered_bytes, verdict_on};
+ghost use Rattle.stun_keys.specs.Keys.{key_bytes};
+ghost use Rattle.stun_attrs.specs.Raw.{raw_type, raw_value};
+ghost use Rattle.stun_read.specs.Validating.{shown_at};
+
+use crate::endings::type_number;
+use stun_attrs::RawAttribute;
+use stun_base::ValidateError;
+use stun_grammar::IntegrityAlgorithm;
+use stun_grammar::attribute_types::MESSAGE_INTEGRITY;
+use stun_integrity::{hmac_sha1_at, hmac_sha256_at};
+use stun_keys::keys::IntegrityKey;
+
+/// The algorithm of an integrity attribute.
+pub(super) fn algorithm_for(attribute: &RawAttribute<'_>) -> IntegrityAlgorithm
+    ensures { result ≡ algorithm_of (raw_type attribute.now) }
+{
+    if type_number(attribute) == MESSAGE_INTEGRITY {
+        IntegrityAlgorithm::Sha1
+    } else {
+        IntegrityAlgorithm::Sha256
+    }
+}
+
+/// Whether the value of an integrity attribute is a prefix of the HMAC of the bytes that it covers.
+/// The attribute's header is at `offset`.
+fn is_right(
+    bytes: &[u8],
+    offset: usize,
+    value: &[u8],
+    algorithm: IntegrityAlgorithm,
+    key: &IntegrityKey,
+) -> bool
+    requires header { 20 ≤ offset }
+    requires within { offset ≤ length bytes.now }
+    requires short { length value.now ≤ digest_length algorithm }
+    ensures { result ≡ pointwise nat_eq value.now (take (length value.now)
+        (hmac algorithm (key_bytes key.now)
+        (covered_bytes bytes.now offset (length value.now)))) }
+{
+    let count = value.len();
+    match algorithm {
+        IntegrityAlgorithm::Sha1 => value == &hmac_sha1_at(key, bytes, offset, count)[..count],
+        IntegrityAlgorithm::Sha256 => value == &hmac_sha256_at(key, bytes, offset, count)[..count],
+    }
+}
+
+/// Compares the value of an integrity attribute with the HMAC of the bytes that it covers, and
+/// returns its algorithm. The attribute's header is at `offset`.
+pub(super) fn compared(
+    bytes: &[u8],
+    offset: usize,
+    attribute: &RawAttribute<'_>,
+    key: &IntegrityKey,
+) -> Result<IntegrityAlgorithm, ValidateError>
+    requires header { 20 ≤ offset }
+    requires within { offset ≤ length bytes.now }
+    requires lawful { hmac_fault (algorithm_of (raw_type attribute.now))
+        (length (raw_value attribute.now)) ≡ None }
+    ensures { result
+        ≡ verdict_on (λ _. key_bytes key.now) bytes.now (shown_at offset attribute.now) }
+{
+    let algorithm = algorithm_for(attribute);
+    if !is_right(bytes, offset, attribute.value().as_bytes(), algorithm, key) {
+        return Err(ValidateError::IntegrityFailed);
+    }
+    Ok(algorithm)
+}

@@ -1,0 +1,85 @@
+-- The types of the attributes that an iterator over a message has yielded.
+use Rattle.std.proofs.Common.{◌≡◌, ℕ, zero, suc, ◌<◌, ◌||◌, Bool, true, false, cond, List, [], ◌∷◌, ◌++◌, length, get_or, take, drop, map, refl, sym, ap, ◌∙◌, arith}
+use Rattle.std.specs.Prelude.{◌≢◌, ◌==◌, Result, Ok, Err, OnErr}
+use Rattle.std.specs.List.{filter, list_any}
+use Rattle.std.proofs.lemmas.Bool.{or_from, or_parts}
+use Rattle.std.proofs.lemmas.List.{map-append, append-nil}
+use Rattle.std.proofs.lemmas.List.Elements.{filter-append}
+use Rattle.stun_grammar.specs.declared.attribute_type.AttributeType.{AttributeType}
+use Rattle.stun_grammar.specs.Chains.{Shown}
+use Rattle.stun_grammar.specs.Showing.{shown}
+use Rattle.stun_grammar.specs.ScannedOrder.{has}
+use Rattle.stun_grammar.specs.Adding.{numbers}
+use Rattle.stun_attrs.specs.Raw.{raw_type}
+use Rattle.stun_attrs.specs.declared.raw.RawAttribute.{RawAttribute}
+use Rattle.stun_read.specs.Iterating.{item_view, borrowed}
+use Rattle.stun_types.specs.Replies.{shown_types}
+
+-- the type of an item
+abbrev pub item_type : ℕ × RawAttribute → AttributeType
+item_type item = record { 0 = raw_type item.1 }
+
+abbrev view_type : Shown × Bool → AttributeType
+view_type view = record { 0 = view.0.type }
+
+items_types : (items : List (ℕ × RawAttribute)) → map item_type items ≡ map view_type (map item_view items)
+items_types [] = refl
+items_types (item ∷ items) = ap (λ (ts : List AttributeType). item_type item ∷ ts) (items_types items)
+
+views_types : (attributes : List Shown) → map view_type (borrowed attributes) ≡ map (λ (a : Shown). record { 0 = a.type }) attributes
+views_types [] = refl
+views_types (a ∷ attributes) = ap (λ (ts : List AttributeType). record { 0 = a.type } ∷ ts) (views_types attributes)
+
+-- all items are yielded
+pub all_types : (d : List ℕ) (items : List (ℕ × RawAttribute)) → map item_view items ≡ borrowed (shown d) → map item_type items ≡ shown_types d
+all_types d items e = items_types items ∙ ap (map view_type) e ∙ views_types (shown d)
+
+-- the types that are shown: those of the items so far, of the next one, and others
+pub record SoFar (d : List ℕ) (items : List (ℕ × RawAttribute)) (type : AttributeType) : Type 0 where
+  pub others : List AttributeType
+  pub whole : shown_types d ≡ map item_type items ++ type ∷ others
+
+split_at : {A : Type 0} (xs : List A) (n : ℕ) (x : A) → n < length xs → xs ≡ take n xs ++ get_or xs n x ∷ drop (suc n) xs
+split_at [] n x within = absurd (omega (arith, within))
+split_at (y ∷ xs) zero x within = refl
+split_at (y ∷ xs) (suc n) x within = ap (λ (l : List _). y ∷ l) (split_at xs n x (omega (arith, within)))
+
+pub so_far : (d : List ℕ) (items : List (ℕ × RawAttribute)) (item : ℕ × RawAttribute) → map item_view items ≡ take (length items) (borrowed (shown d))
+    → length items < length (borrowed (shown d)) → item_view item ≡ get_or (borrowed (shown d)) (length items) (item_view item) → SoFar d items (item_type item)
+so_far d items item front within is =
+    let all = borrowed (shown d) in
+    let split : all ≡ map item_view items ++ item_view item ∷ drop (suc (length items)) all = split_at all (length items) (item_view item) within ∙ rw (front, ← is) refl in
+    record {
+      others = map view_type (drop (suc (length items)) all);
+      whole = sym (views_types (shown d)) ∙ ap (map view_type) split ∙ map-append view_type (map item_view items) (item_view item ∷ drop (suc (length items)) all) ∙ ap (λ (ts : List AttributeType). ts ++ item_type item ∷ map view_type (drop (suc (length items)) all)) (sym (items_types items));
+    }
+
+-- ---- The types that pass a test
+
+-- one more passes
+pub passes_more : (test : AttributeType → Bool) (items : List (ℕ × RawAttribute)) (item : ℕ × RawAttribute) → test (item_type item) ≡ true
+    → filter test (map item_type (items ++ item ∷ [])) ≡ filter test (map item_type items) ++ item_type item ∷ []
+passes_more test items item e =
+    ap (filter test) (map-append item_type items (item ∷ [])) ∙ filter-append test (map item_type items) (item_type item ∷ []) ∙ ap (λ (b : Bool). filter test (map item_type items) ++ cond b (item_type item ∷ []) []) e
+
+-- one more fails
+pub fails_more : (test : AttributeType → Bool) (items : List (ℕ × RawAttribute)) (item : ℕ × RawAttribute) → test (item_type item) ≡ false
+    → filter test (map item_type (items ++ item ∷ [])) ≡ filter test (map item_type items)
+fails_more test items item e =
+    ap (filter test) (map-append item_type items (item ∷ [])) ∙ filter-append test (map item_type items) (item_type item ∷ []) ∙ ap (λ (b : Bool). filter test (map item_type items) ++ cond b (item_type item ∷ []) []) e ∙ append-nil (filter test (map item_type items))
+
+kept : (x : AttributeType) (ts : List AttributeType) (b : Bool) → (ts ≡ [] → ⊥) → cond b (x ∷ ts) ts ≡ [] → ⊥
+kept x ts true not h = absurd cc
+kept x ts false not h = not h
+
+-- where the next item passes, some type does
+pub some_passes : (test : AttributeType → Bool) (d : List ℕ) (items : List (ℕ × RawAttribute)) (found : AttributeType) → SoFar d items found → test found ≡ true → filter test (shown_types d) ≢ []
+some_passes test d items found so e none = absurd (not_empty (map item_type items) (sym (ap (filter test) so.whole) ∙ none))
+  where
+    not_empty : (xs : List AttributeType) → filter test (xs ++ found ∷ so.others) ≡ [] → ⊥
+    not_empty [] is = absurd (cc (is, e))
+    not_empty (x ∷ xs) is = kept x (filter test (xs ++ found ∷ so.others)) (test x) (not_empty xs) is
+
+pub on_err : {T E : Type 0} (P : Type 0) (r : Result T E) → P → OnErr r P
+on_err P (Ok x) p = tt
+on_err P (Err e) p = p

@@ -1,0 +1,152 @@
+//! Looking up the attributes that a message shows by their types.
+
+ghost use Rattle.std.specs.Prelude.{◌≡◌, is_some};
+ghost use Rattle.stun_read.specs.LookingUp.{nth, IsFound, IsRawFound, IsRead, IsReadAt};
+ghost use Rattle.stun_types.specs.Message.{message_bytes};
+
+use super::Message;
+use std::alloc::Global;
+use stun_attrs::{AttributeFromRaw, AttributeStaticType, RawAttribute};
+use stun_base::{AttributeType, StunParseError};
+use stun_read::nth_raw;
+
+impl<'a> Message<'a> {
+    /// The attribute at place `n`, counted from 0, of the attributes of the type `atype` that the
+    /// message shows, with the offset of its header from the start of the message. `None` where it
+    /// shows no more than `n` of them.
+    ///
+    /// [`Message::iter_attributes`] says which attributes are shown. This goes over them once, up
+    /// to the one that it finds, and takes no memory. The value borrows the bytes of the message
+    /// for `'a`, and may outlive the message.
+    ///
+    /// ```
+    /// let second = message.nth_raw_attribute_and_offset(AttributeType(0x0001), 1);
+    /// ```
+    #[tactic(auto, using(stun_grammar::proofs::ParsingLemmas::parsed_frame))]
+    pub fn nth_raw_attribute_and_offset(
+        &self,
+        atype: AttributeType,
+        n: usize,
+    ) -> Option<(usize, RawAttribute<'a>)>
+        ensures { IsFound (nth (message_bytes self.now) atype.0 n) result }
+    {
+        nth_raw(self.as_bytes(), atype, n)
+    }
+
+    /// As [`Message::nth_raw_attribute_and_offset`], without the offset.
+    pub fn nth_raw_attribute(&self, atype: AttributeType, n: usize) -> Option<RawAttribute<'a>>
+        ensures { IsRawFound (nth (message_bytes self.now) atype.0 n) result }
+    {
+        let (_offset, attribute) = self.nth_raw_attribute_and_offset(atype, n)?;
+        Some(attribute)
+    }
+
+    /// The first attribute of the type `atype` that the message shows, with the offset of its
+    /// header: [`Message::nth_raw_attribute_and_offset`] with 0.
+    pub fn raw_attribute_and_offset(
+        &self,
+        atype: AttributeType,
+    ) -> Option<(usize, RawAttribute<'a>)>
+        ensures { IsFound (nth (message_bytes self.now) atype.0 0) result }
+    {
+        self.nth_raw_attribute_and_offset(atype, 0)
+    }
+
+    /// The first attribute of the type `atype` that the message shows:
+    /// [`Message::nth_raw_attribute`] with 0.
+    pub fn raw_attribute(&self, atype: AttributeType) -> Option<RawAttribute<'a>>
+        ensures { IsRawFound (nth (message_bytes self.now) atype.0 0) result }
+    {
+        self.nth_raw_attribute(atype, 0)
+    }
+
+    /// Whether the message shows an attribute of the type `atype`. It takes no memory.
+    pub fn has_attribute(&self, atype: AttributeType) -> bool
+        ensures { result ≡ is_some (nth (message_bytes self.now) atype.0 0) }
+    {
+        self.raw_attribute(atype).is_some()
+    }
+
+    /// Reads the attribute at place `n`, counted from 0, of the attributes of the type `A::TYPE`
+    /// that the message shows, and returns it with the offset of its header from the start of the
+    /// message.
+    ///
+    /// It goes over the attributes once, up to the one that it finds. It takes memory from `alloc`
+    /// only where `A::from_raw` does, and what that borrows is borrowed from the bytes of the
+    /// message for `'a`.
+    ///
+    /// ```
+    /// let (offset, software) = message.nth_attribute_and_offset::<Software>(alloc, 1)?;
+    /// ```
+    ///
+    /// # Errors
+    ///
+    /// `MissingAttribute(A::TYPE)` where the message shows no more than `n` attributes of the type.
+    /// Otherwise the errors of `A::from_raw`.
+    pub fn nth_attribute_and_offset<A: AttributeFromRaw<'a> + AttributeStaticType>(
+        &self,
+        alloc: Global,
+        n: usize,
+    ) -> Result<(usize, A), StunParseError>
+        ensures { IsReadAt A.TYPE A.reads (nth (message_bytes self.now) A.TYPE.0 n) result }
+    {
+        let Some((offset, raw)) = self.nth_raw_attribute_and_offset(A::TYPE, n) else {
+            return Err(StunParseError::MissingAttribute(A::TYPE));
+        };
+        let attribute = A::from_raw(alloc, raw)?;
+        Ok((offset, attribute))
+    }
+
+    /// As [`Message::nth_attribute_and_offset`], without the offset.
+    ///
+    /// # Errors
+    ///
+    /// `MissingAttribute(A::TYPE)` where the message shows no more than `n` attributes of the type.
+    /// Otherwise the errors of `A::from_raw`.
+    pub fn nth_attribute<A: AttributeFromRaw<'a> + AttributeStaticType>(
+        &self,
+        alloc: Global,
+        n: usize,
+    ) -> Result<A, StunParseError>
+        ensures { IsRead A.TYPE A.reads (nth (message_bytes self.now) A.TYPE.0 n) result }
+    {
+        let (_offset, attribute) = self.nth_attribute_and_offset(alloc, n)?;
+        Ok(attribute)
+    }
+
+    /// Reads the first attribute of the type `A::TYPE` that the message shows, and returns it with
+    /// the offset of its header: [`Message::nth_attribute_and_offset`] with 0.
+    ///
+    /// # Errors
+    ///
+    /// `MissingAttribute(A::TYPE)` where the message shows no attribute of the type. Otherwise the
+    /// errors of `A::from_raw`.
+    pub fn attribute_and_offset<A: AttributeFromRaw<'a> + AttributeStaticType>(
+        &self,
+        alloc: Global,
+    ) -> Result<(usize, A), StunParseError>
+        ensures { IsReadAt A.TYPE A.reads (nth (message_bytes self.now) A.TYPE.0 0) result }
+    {
+        self.nth_attribute_and_offset(alloc, 0)
+    }
+
+    /// Reads the first attribute of the type `A::TYPE` that the message shows:
+    /// [`Message::nth_attribute`] with 0.
+    ///
+    /// ```
+    /// let software = message.attribute::<Software>(alloc)?;
+    /// ```
+    ///
+    /// # Errors
+    ///
+    /// `MissingAttribute(A::TYPE)` where the message shows no attribute of the type. Otherwise the
+    /// errors of `A::from_raw`.
+    pub fn attribute<A: AttributeFromRaw<'a> + AttributeStaticType>(
+        &self,
+        alloc: Global,
+    ) -> Result<A, StunParseError>
+        ensures { IsRead A.TYPE A.reads (nth (message_bytes self.now) A.TYPE.0 0) result }
+    {
+        self.nth_attribute(alloc, 0)
+    }
+}

@@ -1,0 +1,149 @@
+//! Reading messages.
+
+ghost use Rattle.std.specs.Prelude.{◌≡◌, None};
+ghost use Rattle.stun_grammar.specs.Parsing.{parse_fault};
+
+use stun_base::{
+    MessageClass, MessageHeader, MessageType, Method, StunParseError, TransactionId, read_header,
+};
+use stun_read::{MessageAttributesIter, check_message, iter_framed};
+
+/// A message, borrowed from the bytes that [`Message::from_bytes`] parsed.
+///
+/// It is `Copy`. The attributes that it shows borrow the bytes for `'a`, and may outlive it.
+#[derive(Debug, Clone, Copy)]
+pub struct Message<'a> {
+    bytes: &'a [u8],
+    ghost parsed: { parse_fault bytes.now ≡ None },
+}
+
+impl<'a> Message<'a> {
+    ghost use Rattle.std.specs.Prelude.{◌≡◌, ◌↔◌, ◌^◌, ◌<◌, IsTrue, MatchResult, None, Some, length};
+    ghost use Rattle.stun_grammar.specs.Headers.{type_field, id_field};
+    ghost use Rattle.stun_grammar.specs.Parsing.{parse_fault};
+    ghost use Rattle.stun_grammar.specs.Showing.{shown};
+    ghost use Rattle.stun_base.specs.Types.{class_of, method_of, header_of, is_response as responds};
+    ghost use Rattle.stun_types.specs.Message.{message_bytes};
+    ghost use Rattle.stun_read.specs.Iterating.{items_left, borrowed};
+
+    /// Parses a message: a header of twenty bytes, and the attributes that follow it up to the end
+    /// of `bytes` (RFC 8489, sections 5, 6.3 and 14). The message borrows `bytes`. Parsing takes no
+    /// memory and copies nothing.
+    ///
+    /// ```
+    /// let message = Message::from_bytes(packet)?;
+    /// let asks = message.has_class(MessageClass::Request) && message.has_method(BINDING);
+    /// let id = message.transaction_id();
+    /// ```
+    ///
+    /// The scan goes over ordinary attributes, and then over ending ones (MESSAGE-INTEGRITY,
+    /// MESSAGE-INTEGRITY-SHA256 and FINGERPRINT), each at most once and in any order. It stops,
+    /// without an error, at an ordinary attribute after an ending one and at an ending type that it
+    /// has met before; the bytes from there on aren't looked at. A FINGERPRINT that is scanned must
+    /// have the right value.
+    ///
+    /// # Errors
+    ///
+    /// The first of these that applies:
+    ///
+    /// - `NotStun` and `Truncated { expected: 20, actual }` as for [`MessageHeader::from_bytes`];
+    /// - `Truncated { expected, actual }` where fewer bytes follow the header than its length field
+    ///   states: `expected` is 20 more than the field, and `actual` the length of `bytes`;
+    /// - for each attribute in turn, `Truncated` where its header, its value or its padding is cut
+    ///   off: `expected` is the offset where that would end and `actual` the length of `bytes`,
+    ///   both plus 4 where the header is cut off;
+    /// - for a FINGERPRINT, also `Truncated { expected: 4, actual }` or
+    ///   `TooLarge { expected: 4, actual }` where its value doesn't have four bytes, and
+    ///   `FingerprintMismatch` where the value isn't right.
+    pub fn from_bytes(bytes: &'a [u8]) -> Result<Message<'a>, StunParseError>
+        ensures { MatchResult result
+            (λ message. (parse_fault bytes.now ≡ None) × (message_bytes message ≡ bytes.now))
+            (λ e. parse_fault bytes.now ≡ Some e) }
+    {
+        check_message(bytes)?;
+        Ok(Message { bytes })
+    }
+
+    /// The bytes that it was parsed from. [`Message::from_bytes`] accepts them: whoever is handed a
+    /// message need not parse its bytes again.
+    pub fn as_bytes(&self) -> &'a [u8]
+        ensures value { result.now ≡ message_bytes self.now }
+        ensures accepted { parse_fault (message_bytes self.now) ≡ None }
+    {
+        self.bytes
+    }
+
+    /// The header: message type, length field and transaction ID, which the methods below return
+    /// one by one.
+    pub fn header(&self) -> MessageHeader
+        ensures { result ≡ header_of (message_bytes self.now) }
+    {
+        read_header(self.bytes)
+    }
+
+    /// The message type: class and method.
+    pub fn get_type(&self) -> MessageType
+        ensures { result ≡ type_field (message_bytes self.now) }
+    {
+        self.header().get_type()
+    }
+
+    /// The class.
+    pub fn class(&self) -> MessageClass
+        ensures { result ≡ class_of (type_field (message_bytes self.now)) }
+    {
+        self.get_type().class()
+    }
+
+    /// Whether the class is `cls`.
+    pub fn has_class(&self, cls: MessageClass) -> bool
+        ensures { IsTrue result ↔ (class_of (type_field (message_bytes self.now)) ≡ cls) }
+    {
+        self.class() == cls
+    }
+
+    /// Whether the class is success or error.
+    pub fn is_response(&self) -> bool
+        ensures { result ≡ responds (class_of (type_field (message_bytes self.now))) }
+    {
+        self.class().is_response()
+    }
+
+    /// The method.
+    pub fn method(&self) -> Method
+        ensures { result ≡ method_of (type_field (message_bytes self.now)) }
+    {
+        self.get_type().method()
+    }
+
+    /// Whether the method is `method`.
+    pub fn has_method(&self, method: Method) -> bool
+        ensures { IsTrue result ↔ (method_of (type_field (message_bytes self.now)) ≡ method) }
+    {
+        self.method() == method
+    }
+
+    /// The transaction ID.
+    pub fn transaction_id(&self) -> TransactionId
+        ensures { result ≡ id_field (message_bytes self.now) }
+    {
+        self.header().transaction_id()
+    }
+
+    /// Iterates over the attributes that the message shows, each with the offset of its header;
+    /// [`MessageAttributesIter`] says which they are. It takes no memory, and the values borrow the
+    /// bytes of the message.
+    ///
+    /// ```
+    /// for (offset, attribute) in message.iter_attributes() {
+    ///     let (atype, value) = (attribute.header().get_type(), attribute.into_value());
+    /// }
+    /// ```
+    #[tactic(auto, using(stun_grammar::proofs::ParsingLemmas::parsed_frame))]
+    pub fn iter_attributes(&self) -> MessageAttributesIter<'a>
+        ensures items { items_left result ≡ borrowed (shown (message_bytes self.now)) }
+        ensures bound { length (items_left result) < 2 ^ 64 }
+    {
+        iter_framed(self.bytes)
+    }
+}

@@ -1,0 +1,477 @@
+//! Replies to a request.
+
+ghost use Rattle.std.specs.Prelude.{◌≡◌, ◌≢◌, ◌↔◌, ◌^◌, ◌<◌, ◌≤◌, ℕ, List, length, [], None, Some, Ok, true, false, is_some, IsTrue, IsOk, IfOk, IfErr, IfSome, IsSomeAnd, OnOk, OnErr};
+ghost use Rattle.stun_grammar.specs.Attributes.{Attribute, canonical, attribute_length};
+ghost use Rattle.stun_grammar.specs.AttributeTypes.{SOFTWARE, ERROR_CODE, UNKNOWN_ATTRIBUTES};
+ghost use Rattle.stun_grammar.specs.Headers.{is_header, type_field, id_field};
+ghost use Rattle.stun_grammar.specs.Writing.{message_encoding, IsWritable};
+ghost use Rattle.stun_grammar.specs.Steps.{add};
+ghost use Rattle.stun_grammar.specs.Adding.{Fits, add_refusal, IsAddAnswer};
+ghost use Rattle.stun_base.specs.declared.message_type.MessageClass.{MessageClass};
+ghost use Rattle.stun_base.specs.declared.message_type.MessageClass.TheVariants.{Request, Success, Error as ErrorClass};
+ghost use Rattle.stun_base.specs.Types.{class_of, is_response};
+ghost use Rattle.stun_texts.specs.Texts.{text_bytes};
+ghost use Rattle.stun_values.specs.Errors.{error_value, making_fault};
+ghost use Rattle.stun_values.specs.ErrorCodes.{error_code, error_reason};
+ghost use Rattle.stun_values.specs.Types.{types_encoding};
+ghost use Rattle.stun_values.specs.Unknown.{listed};
+ghost use Rattle.stun_write.specs.Writers.{IsBegun, IsUnchanged, Keeps, KeepsHeader, Gains, Adds, Allocates};
+ghost use Rattle.stun_types.specs.Message.{message_bytes};
+ghost use Rattle.stun_types.specs.Replies.{Answers, response_type, own_software, error_attribute, bad_reply, unknown_reply, is_unknown, unknown_types, lacks, check_reply, IsReply, IsReplyAnswer, Replies, AddsMade};
+
+use super::Message;
+use std::alloc::Global;
+use stun_base::{AttributeType, MessageClass, MessageType, StunWriteError};
+use stun_texts::Software;
+use stun_values::{ErrorCode, UnknownAttributes};
+use stun_write::{MessageWrite, MessageWriteExt, is_among};
+
+/// Adds a SOFTWARE.
+fn push_software<B: MessageWrite>(attribute: &Software, write: &mut B) -> Result<(), StunWriteError>
+    ensures answer { IsAddAnswer
+        (add_refusal (add SOFTWARE (text_bytes attribute.now)) (B.state write.old).types
+        (length (B.state write.old).bytes) (B.state write.old).greatest)
+        (Allocates (B.state write.old) (length (text_bytes attribute.now))) result }
+    ensures ok { OnOk result (Gains (B.state write.old) (B.state write.new) SOFTWARE
+        (text_bytes attribute.now)) }
+    ensures same { OnErr result (IsUnchanged (B.state write.old) (B.state write.new)) }
+    ensures keeps { Keeps (B.state write.old) (B.state write.new)
+        (attribute_length (length (text_bytes attribute.now))) 1 }
+    ensures header { KeepsHeader (B.state write.old).bytes (B.state write.new).bytes }
+    ensures fits { length (text_bytes attribute.now) < 2 ^ 16 }
+{
+    write.add_attribute(attribute)
+}
+
+/// Adds an ERROR-CODE.
+fn push_error<B: MessageWrite>(attribute: &ErrorCode, write: &mut B) -> Result<(), StunWriteError>
+    ensures answer { let value = error_value (error_code attribute.now) (error_reason attribute.now)
+        in IsAddAnswer
+        (add_refusal (add ERROR_CODE value) (B.state write.old).types
+        (length (B.state write.old).bytes) (B.state write.old).greatest)
+        (Allocates (B.state write.old) (length value)) result }
+    ensures adds { Adds result (B.state write.old) (B.state write.new) ERROR_CODE
+        (error_value (error_code attribute.now) (error_reason attribute.now)) }
+    ensures fits { let value = error_value (error_code attribute.now) (error_reason attribute.now)
+        in length value < 2 ^ 16 }
+{
+    write.add_attribute(attribute)
+}
+
+/// Adds an UNKNOWN-ATTRIBUTES.
+fn push_types<B: MessageWrite>(
+    attribute: &UnknownAttributes,
+    write: &mut B,
+) -> Result<(), StunWriteError>
+    ensures answer { IsAddAnswer
+        (add_refusal (add UNKNOWN_ATTRIBUTES (types_encoding (listed attribute.now)))
+        (B.state write.old).types (length (B.state write.old).bytes)
+        (B.state write.old).greatest)
+        (Allocates (B.state write.old) (length (types_encoding (listed attribute.now)))) result }
+    ensures adds { Adds result (B.state write.old) (B.state write.new) UNKNOWN_ATTRIBUTES
+        (types_encoding (listed attribute.now)) }
+    ensures fits { length (types_encoding (listed attribute.now)) < 2 ^ 16 }
+{
+    write.add_attribute(attribute)
+}
+
+/// Makes and adds a SOFTWARE with the name of this library.
+fn add_software<B: MessageWrite>(alloc: Global, write: &mut B) -> Result<(), StunWriteError>
+    ensures { AddsMade result (B.state write.old) (B.state write.new) own_software }
+{
+    let software = Software::new(alloc, "stun-types")?;
+    push_software(&software, write)
+}
+
+/// Makes and adds an ERROR-CODE with a code from 300 to 699 and a reason of at most 763 bytes.
+fn add_error<B: MessageWrite>(
+    alloc: Global,
+    code: u16,
+    reason: &str,
+    write: &mut B,
+) -> Result<(), StunWriteError>
+    requires making { making_fault code reason.now ≡ None }
+    ensures { AddsMade result (B.state write.old) (B.state write.new)
+        (error_attribute code reason.now) }
+{
+    let error = ErrorCode::new(alloc, code, reason)?;
+    push_error(&error, write)
+}
+
+/// Makes and adds an UNKNOWN-ATTRIBUTES.
+fn add_types<B: MessageWrite>(
+    alloc: Global,
+    types: &[AttributeType],
+    write: &mut B,
+) -> Result<(), StunWriteError>
+    ensures { AddsMade result (B.state write.old) (B.state write.new)
+        (canonical UNKNOWN_ATTRIBUTES (types_encoding types.now)) }
+{
+    let unknown = UnknownAttributes::new(alloc, types)?;
+    push_types(&unknown, write)
+}
+
+/// Whether an attribute of this type must be understood, and isn't.
+fn must_be_understood(supported: &[AttributeType], atype: AttributeType) -> bool
+    ensures { result ≡ is_unknown supported.now atype }
+{
+    atype.comprehension_required() && !is_among(supported, atype)
+}
+
+/// The unknown types that the message shows.
+#[tactic(auto, using(crate::proofs::ShownTypesLemmas::passes_more, crate::proofs::ShownTypesLemmas::fails_more))]
+fn unknown_types_of(
+    alloc: Global,
+    message: &Message<'_>,
+    supported: &[AttributeType],
+) -> Result<Vec<AttributeType>, StunWriteError>
+    ensures ok { IfOk result
+        (λ found. found.items ≡ unknown_types supported.now (message_bytes message.now)) }
+    ensures err { IfErr result (λ e. e ≡ StunWriteError.OutOfMemory) }
+    ensures some { OnErr result (unknown_types supported.now (message_bytes message.now) ≢ []) }
+{
+    let mut found = Vec::new(alloc);
+    for (_offset, attribute) in message.iter_attributes() {
+        let atype = attribute.header().get_type();
+        if must_be_understood(supported, atype) {
+            found.push(atype).map_err(|_| StunWriteError::OutOfMemory)?;
+        }
+    }
+    Ok(found)
+}
+
+/// Whether the message shows one of the required types not at all.
+fn lacks_one(message: &Message<'_>, required: &[AttributeType]) -> bool
+    ensures { result ≡ lacks required.now (message_bytes message.now) }
+{
+    required.iter().any(|atype| !message.has_attribute(*atype))
+}
+
+/// The law of responses: what may be written with the type of a response to a request and with its
+/// transaction ID is a response that answers the request, whatever its attributes. The function
+/// does nothing: its contract is the law.
+pub fn response_answers()
+    ensures { (class : MessageClass) (r : List ℕ) (attributes : List Attribute)
+        → is_response class ≡ true → IsWritable (response_type class r) (id_field r) attributes
+        → Answers (message_encoding (response_type class r) (id_field r) attributes) r }
+{}
+
+impl Message<'_> {
+    /// Whether this is a response (success or error) with the method and the transaction ID of
+    /// `request` (RFC 8489, section 6.3.1).
+    pub fn answers(&self, request: &Message<'_>) -> bool
+        ensures { IsTrue result ↔ Answers (message_bytes self.now) (message_bytes request.now) }
+    {
+        self.is_response()
+            && self.method() == request.method()
+            && self.transaction_id() == request.transaction_id()
+    }
+
+    /// Begins the success response to a request: writes its header, with the method and the
+    /// transaction ID of the request, into `write`, which is empty and takes at least twenty bytes
+    /// (RFC 8489, section 6.3.1.1).
+    ///
+    /// ```
+    /// let mut response = Message::builder_success(&request, MessageWriteVec::new(alloc))?;
+    /// response.add_attribute(&XorMappedAddress::new(source, request.transaction_id()))?;
+    /// ```
+    ///
+    /// # Errors
+    ///
+    /// As for [`Message::builder`].
+    pub fn builder_success<B: MessageWrite + Drop>(
+        orig: &Message<'_>,
+        mut write: B,
+    ) -> Result<B, StunWriteError>
+        requires request { class_of (type_field (message_bytes orig.now)) ≡ Request }
+        requires empty { (B.state write).bytes ≡ [] }
+        requires room { Fits (B.state write).greatest 20 }
+        ensures begun { let d = message_bytes orig.now in
+            IfOk result (λ w. IsBegun (B.state write) (B.state w)
+            (response_type Success d) (id_field d)) }
+        ensures err { IfErr result (λ e. e ≡ StunWriteError.OutOfMemory) }
+        ensures succeeds { 20 ≤ (B.state write).ready_bytes → IsOk result }
+    {
+        Self::builder_success_into(orig, &mut write)?;
+        Ok(write)
+    }
+
+    /// As [`Message::builder_success`], but borrows the writer.
+    ///
+    /// # Errors
+    ///
+    /// As for [`Message::builder_into`].
+    pub fn builder_success_into<B: MessageWrite>(
+        orig: &Message<'_>,
+        write: &mut B,
+    ) -> Result<(), StunWriteError>
+        requires request { class_of (type_field (message_bytes orig.now)) ≡ Request }
+        requires empty { (B.state write.old).bytes ≡ [] }
+        requires room { Fits (B.state write.old).greatest 20 }
+        ensures begun { let d = message_bytes orig.now in
+            OnOk result (IsBegun (B.state write.old) (B.state write.new)
+            (response_type Success d) (id_field d)) }
+        ensures same { OnErr result (IsUnchanged (B.state write.old) (B.state write.new)) }
+        ensures keeps { Keeps (B.state write.old) (B.state write.new) 20 0 }
+        ensures err { IfErr result (λ e. e ≡ StunWriteError.OutOfMemory) }
+        ensures succeeds { 20 ≤ (B.state write.old).ready_bytes → IsOk result }
+    {
+        let mtype = MessageType::from_class_method(MessageClass::Success, orig.method());
+        Self::builder_into(mtype, orig.transaction_id(), write)
+    }
+
+    /// As [`Message::builder_success`], but begins an error response. It lacks the ERROR-CODE that
+    /// each error response has (RFC 8489, section 6.3.1.1).
+    ///
+    /// # Errors
+    ///
+    /// As for [`Message::builder`].
+    pub fn builder_error<B: MessageWrite + Drop>(
+        orig: &Message<'_>,
+        mut write: B,
+    ) -> Result<B, StunWriteError>
+        requires request { class_of (type_field (message_bytes orig.now)) ≡ Request }
+        requires empty { (B.state write).bytes ≡ [] }
+        requires room { Fits (B.state write).greatest 20 }
+        ensures begun { let d = message_bytes orig.now in
+            IfOk result (λ w. IsBegun (B.state write) (B.state w)
+            (response_type ErrorClass d) (id_field d)) }
+        ensures err { IfErr result (λ e. e ≡ StunWriteError.OutOfMemory) }
+        ensures succeeds { 20 ≤ (B.state write).ready_bytes → IsOk result }
+    {
+        Self::builder_error_into(orig, &mut write)?;
+        Ok(write)
+    }
+
+    /// As [`Message::builder_error`], but borrows the writer.
+    ///
+    /// # Errors
+    ///
+    /// As for [`Message::builder_into`].
+    pub fn builder_error_into<B: MessageWrite>(
+        orig: &Message<'_>,
+        write: &mut B,
+    ) -> Result<(), StunWriteError>
+        requires request { class_of (type_field (message_bytes orig.now)) ≡ Request }
+        requires empty { (B.state write.old).bytes ≡ [] }
+        requires room { Fits (B.state write.old).greatest 20 }
+        ensures begun { let d = message_bytes orig.now in
+            OnOk result (IsBegun (B.state write.old) (B.state write.new)
+            (response_type ErrorClass d) (id_field d)) }
+        ensures same { OnErr result (IsUnchanged (B.state write.old) (B.state write.new)) }
+        ensures keeps { Keeps (B.state write.old) (B.state write.new) 20 0 }
+        ensures err { IfErr result (λ e. e ≡ StunWriteError.OutOfMemory) }
+        ensures succeeds { 20 ≤ (B.state write.old).ready_bytes → IsOk result }
+    {
+        let mtype = MessageType::from_class_method(MessageClass::Error, orig.method());
+        Self::builder_into(mtype, orig.transaction_id(), write)
+    }
+
+    /// The reply to a malformed request: an error response with the SOFTWARE `stun-types` and the
+    /// ERROR-CODE 400 `Bad Request`, 56 bytes (RFC 8489, section 14.8). The writer is empty and
+    /// takes at least twenty bytes. The two attributes are made in memory that `alloc` gives.
+    ///
+    /// # Errors
+    ///
+    /// - `TooSmall { expected, actual }` where the writer has no room for an attribute: the length
+    ///   of the message with it, and [`MessageWrite::max_size`];
+    /// - `OutOfMemory`, where an attribute couldn't be made, or fewer bytes or attributes are ready
+    ///   than are written.
+    ///
+    /// The writer is dropped then.
+    pub fn bad_request<B: MessageWrite + Drop>(
+        alloc: Global,
+        src: &Message<'_>,
+        mut write: B,
+    ) -> Result<B, StunWriteError>
+        requires request { class_of (type_field (message_bytes src.now)) ≡ Request }
+        requires empty { (B.state write).bytes ≡ [] }
+        requires room { Fits (B.state write).greatest 20 }
+        ensures answer { IsReplyAnswer (B.state write).greatest bad_reply result }
+        ensures ok { IfOk result
+            (λ w. IsReply (B.state write) (B.state w) (message_bytes src.now) bad_reply) }
+    {
+        Self::bad_request_into(alloc, src, &mut write)?;
+        Ok(write)
+    }
+
+    /// As [`Message::bad_request`], but borrows the writer.
+    ///
+    /// # Errors
+    ///
+    /// As for [`Message::bad_request`]. The header and the attributes before the refused one are
+    /// written then. Where an allocation failed, fewer may be; but the header is written where
+    /// twenty bytes are ready.
+    pub fn bad_request_into<B: MessageWrite>(
+        alloc: Global,
+        src: &Message<'_>,
+        write: &mut B,
+    ) -> Result<(), StunWriteError>
+        requires request { class_of (type_field (message_bytes src.now)) ≡ Request }
+        requires empty { (B.state write.old).bytes ≡ [] }
+        requires room { Fits (B.state write.old).greatest 20 }
+        ensures replies { Replies result (B.state write.old) (B.state write.new)
+            (message_bytes src.now) bad_reply }
+        ensures header { 20 ≤ (B.state write.old).ready_bytes
+            → is_header (B.state write.new).bytes ≡ true }
+    {
+        Self::builder_error_into(src, write)?;
+        add_software(alloc, write)?;
+        add_error(alloc, ErrorCode::BAD_REQUEST, "Bad Request", write)
+    }
+
+    /// The reply to a request with attributes that weren't understood, whose types are given: an
+    /// error response with the SOFTWARE `stun-types`, the ERROR-CODE 420 `Unknown Attributes`, and
+    /// an UNKNOWN-ATTRIBUTES with the types in order and with repeats, unless there are none
+    /// (RFC 8489, sections 6.3.1, 14.8 and 14.13). The writer is empty and takes at least twenty
+    /// bytes. The attributes are made in memory that `alloc` gives, each just before it is added.
+    ///
+    /// # Errors
+    ///
+    /// The first of these that applies, attribute for attribute:
+    ///
+    /// - `TooLarge { expected: 32767, actual }` where there are more than 32767 types;
+    /// - `TooSmall { expected, actual }` where the writer has no room for the attribute: the length
+    ///   of the message with it, and [`MessageWrite::max_size`];
+    /// - `TooLarge { expected: 65555, actual }` where the message would be longer than a message
+    ///   may be;
+    /// - `OutOfMemory`, where an attribute couldn't be made, or fewer bytes or attributes are ready
+    ///   than are written.
+    ///
+    /// The writer is dropped then.
+    pub fn unknown_attributes<B: MessageWrite + Drop>(
+        alloc: Global,
+        src: &Message<'_>,
+        types: &[AttributeType],
+        mut write: B,
+    ) -> Result<B, StunWriteError>
+        requires request { class_of (type_field (message_bytes src.now)) ≡ Request }
+        requires empty { (B.state write).bytes ≡ [] }
+        requires room { Fits (B.state write).greatest 20 }
+        ensures answer { IsReplyAnswer (B.state write).greatest (unknown_reply types.now) result }
+        ensures ok { IfOk result (λ w. IsReply (B.state write) (B.state w)
+            (message_bytes src.now) (unknown_reply types.now)) }
+    {
+        Self::unknown_attributes_into(alloc, src, types, &mut write)?;
+        Ok(write)
+    }
+
+    /// As [`Message::unknown_attributes`], but borrows the writer.
+    ///
+    /// # Errors
+    ///
+    /// As for [`Message::unknown_attributes`]. The header and the attributes before the refused one
+    /// are written then. Where an allocation failed, fewer may be; but the header is written where
+    /// twenty bytes are ready.
+    pub fn unknown_attributes_into<B: MessageWrite>(
+        alloc: Global,
+        src: &Message<'_>,
+        types: &[AttributeType],
+        write: &mut B,
+    ) -> Result<(), StunWriteError>
+        requires request { class_of (type_field (message_bytes src.now)) ≡ Request }
+        requires empty { (B.state write.old).bytes ≡ [] }
+        requires room { Fits (B.state write.old).greatest 20 }
+        ensures replies { Replies result (B.state write.old) (B.state write.new)
+            (message_bytes src.now) (unknown_reply types.now) }
+        ensures header { 20 ≤ (B.state write.old).ready_bytes
+            → is_header (B.state write.new).bytes ≡ true }
+    {
+        Self::builder_error_into(src, write)?;
+        add_software(alloc, write)?;
+        add_error(
+            alloc,
+            ErrorCode::UNKNOWN_ATTRIBUTE,
+            "Unknown Attributes",
+            write,
+        )?;
+        if types.is_empty() {
+            return Ok(());
+        }
+        add_types(alloc, types, write)
+    }
+
+    /// Checks the attributes of a request, and writes the reply that it deserves, if it does
+    /// (RFC 8489, section 6.3.1).
+    ///
+    /// - Where the request shows attributes that must be understood (their types are below 0x8000)
+    ///   and aren't among `supported`, the reply is that of [`Message::unknown_attributes`], with
+    ///   their types in order and as often as shown. MESSAGE-INTEGRITY and its like are such
+    ///   attributes too.
+    /// - Else, where one of the types in `required` isn't shown, it is that of
+    ///   [`Message::bad_request`].
+    /// - Else there is none: the result is `None`, and nothing is written or allocated.
+    ///
+    /// The writer is empty and takes at least twenty bytes. The list of types and the attributes
+    /// are made in memory that `alloc` gives.
+    ///
+    /// ```
+    /// let supported = [Username::TYPE, MessageIntegrity::TYPE];
+    /// let reply = Message::check_attribute_types(alloc, &request, &supported, &[], write)?;
+    /// ```
+    ///
+    /// # Errors
+    ///
+    /// As for [`Message::unknown_attributes`] and [`Message::bad_request`]. Where there is no reply
+    /// there is no error either.
+    pub fn check_attribute_types<B: MessageWrite + Drop>(
+        alloc: Global,
+        msg: &Message<'_>,
+        supported: &[AttributeType],
+        required: &[AttributeType],
+        mut write: B,
+    ) -> Result<Option<B>, StunWriteError>
+        requires request { class_of (type_field (message_bytes msg.now)) ≡ Request }
+        requires empty { (B.state write).bytes ≡ [] }
+        requires room { Fits (B.state write).greatest 20 }
+        ensures none { check_reply supported.now required.now (message_bytes msg.now) ≡ None
+            → result ≡ Ok None }
+        ensures answer { IfSome (check_reply supported.now required.now (message_bytes msg.now))
+            (λ reply. IsReplyAnswer (B.state write).greatest reply result) }
+        ensures ok { IfSome (check_reply supported.now required.now (message_bytes msg.now))
+            (λ reply. IfOk result (λ answer. IsSomeAnd answer
+            (λ w. IsReply (B.state write) (B.state w) (message_bytes msg.now) reply))) }
+    {
+        if Self::check_attribute_types_into(alloc, msg, supported, required, &mut write)? {
+            Ok(Some(write))
+        } else {
+            Ok(None)
+        }
+    }
+
+    /// As [`Message::check_attribute_types`], but borrows the writer, and returns whether a reply
+    /// was written.
+    ///
+    /// # Errors
+    ///
+    /// As for [`Message::check_attribute_types`]. The header and the attributes before the refused
+    /// one are written then. Where an allocation failed, fewer may be, or nothing.
+    pub fn check_attribute_types_into<B: MessageWrite>(
+        alloc: Global,
+        msg: &Message<'_>,
+        supported: &[AttributeType],
+        required: &[AttributeType],
+        write: &mut B,
+    ) -> Result<bool, StunWriteError>
+        requires request { class_of (type_field (message_bytes msg.now)) ≡ Request }
+        requires empty { (B.state write.old).bytes ≡ [] }
+        requires room { Fits (B.state write.old).greatest 20 }
+        ensures none { check_reply supported.now required.now (message_bytes msg.now) ≡ None
+            → (result ≡ Ok false) × IsUnchanged (B.state write.old) (B.state write.new) }
+        ensures told { IfOk result (λ written. written
+            ≡ is_some (check_reply supported.now required.now (message_bytes msg.now))) }
+        ensures replies { IfSome (check_reply supported.now required.now (message_bytes msg.now))
+            (Replies result (B.state write.old) (B.state write.new) (message_bytes msg.now)) }
+    {
+        let unknown = unknown_types_of(alloc, msg, supported)?;
+        if !unknown.is_empty() {
+            Self::unknown_attributes_into(alloc, msg, &unknown, write)?;
+            return Ok(true);
+        }
+        if lacks_one(msg, required) {
+            Self::bad_request_into(alloc, msg, write)?;
+            return Ok(true);
+        }
+        Ok(false)
+    }
+}

@@ -1,0 +1,38 @@
+//! An attribute of a user's own.
+
+use crate::MyAttribute;
+use std::test::Fail;
+use stun_types::attribute::{AttributeType, RawAttribute};
+use stun_types::data::Data;
+use stun_types::message::StunParseError;
+use stun_types::prelude::*;
+
+#[test]
+fn reads_and_writes_an_attribute_of_ones_own(rt: HostRuntime) -> Result<(), Fail> {
+    let mine = MyAttribute { value: 0x4729 };
+    let mut dest = [0xFF; 8];
+    assert_eq!(rt; mine.write_into(&mut dest), Ok(8));
+    assert_eq!(rt; dest, [0x88, 0x51, 0x00, 0x04, 0x00, 0x00, 0x47, 0x29]);
+    let raw = RawAttribute::from_bytes(&dest)?;
+    assert_eq!(rt; MyAttribute::from_raw(rt.alloc(), raw), Ok(mine));
+    let raw = mine.to_raw(rt.alloc())?;
+    assert!(rt; matches!(raw.value(), Data::Owned(_)));
+    assert_eq!(rt; MyAttribute::from_raw_ref(rt.alloc(), &raw), Ok(mine));
+    Ok(())
+}
+
+/// Values that are none of it, and why.
+#[rattlefmt::skip]
+const REFUSED: [(&[u8], StunParseError); 2] = [
+    (&[0, 0, 0x47], StunParseError::Truncated { expected: 4, actual: 3 }),
+    (&[0, 0, 0x47, 0x29, 0], StunParseError::TooLarge { expected: 4, actual: 5 }),
+];
+
+#[test]
+fn refuses_an_attribute_of_ones_own(rt: HostRuntime) -> Result<(), Fail> {
+    for (value, refused) in REFUSED {
+        let raw = RawAttribute::new(AttributeType(0x8851), value)?;
+        assert_eq!(rt; MyAttribute::from_raw_ref(rt.alloc(), &raw), Err(refused));
+    }
+    Ok(())
+}

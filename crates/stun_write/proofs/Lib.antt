@@ -1,0 +1,3 @@
+mod WrittenTypesLemmas
+mod KeptLemmas
+mod RunsLemmas

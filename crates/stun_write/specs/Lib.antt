@@ -1,0 +1,4 @@
+pub mod Writers
+pub mod Additions
+pub mod Runs
+pub mod Lending

@@ -1,0 +1,312 @@
+//! Adding attributes to a message that is being written, and reading its header.
+
+ghost use Rattle.std.specs.Prelude.{◌≡◌, ◌↔◌, true, IsTrue, None, ◌+◌, ◌^◌, ◌<◌, ◌≤◌, IsOk, IfErr, OnOk, length};
+ghost use Rattle.stun_grammar.specs.Headers.{is_header, type_field, id_field};
+ghost use Rattle.stun_grammar.specs.AttributeTypes.{FINGERPRINT, IsOrdinary};
+ghost use Rattle.stun_grammar.specs.Hmac.{digest_length};
+ghost use Rattle.stun_grammar.specs.Verdicts.{type_of_algorithm};
+ghost use Rattle.stun_grammar.specs.Fingerprints.{fingerprint_value};
+ghost use Rattle.stun_grammar.specs.Steps.{add, sign, finger, integrity_value};
+ghost use Rattle.stun_grammar.specs.Adding.{whole, add_refusal, IsAddAnswer};
+ghost use Rattle.stun_keys.specs.Keys.{key_bytes, credentials_key};
+ghost use Rattle.stun_base.specs.Types.{class_of, method_of, is_response as responds};
+ghost use Rattle.stun_write.specs.Writers.{Allocates, Adds};
+
+use crate::MessageWrite;
+use crate::protect::{push_fingerprint, push_integrity};
+use crate::readers::written_header;
+use crate::refusals::{Addition, check_add};
+use std::alloc::Global;
+use stun_attrs::AttributeWrite;
+use stun_base::{MessageClass, MessageType, Method, StunWriteError, TransactionId};
+use stun_grammar::IntegrityAlgorithm;
+use stun_integrity::hmac_length;
+use stun_keys::keys::{IntegrityKey, MessageIntegrityCredentials};
+
+/// Adds attributes to a message that is being written, and reads its header (RFC 8489, sections 5
+/// and 14). Every [`MessageWrite`] has these methods.
+///
+/// The header may be read where the bytes written begin with one, as they do after
+/// `Message::builder`. Adding attributes changes neither the message type nor the transaction ID.
+///
+/// ```
+/// let mut message = Message::builder(mtype, id, MessageWriteVec::new(alloc))?;
+/// message.add_attribute(&Software::new(alloc, "my client")?)?;
+/// message.add_message_integrity_with_key(&key, IntegrityAlgorithm::Sha256)?;
+/// message.add_fingerprint()?;
+/// let bytes = message.finish();
+/// ```
+pub trait MessageWriteExt: MessageWrite {
+    /// The message type: class and method.
+    fn get_type(&self) -> MessageType
+        requires { is_header (Self.state self.now).bytes ≡ true }
+        ensures { result ≡ type_field (Self.state self.now).bytes };
+
+    /// The class.
+    fn class(&self) -> MessageClass
+        requires { is_header (Self.state self.now).bytes ≡ true }
+        ensures { result ≡ class_of (type_field (Self.state self.now).bytes) };
+
+    /// Whether the class is `cls`.
+    fn has_class(&self, cls: MessageClass) -> bool
+        requires { is_header (Self.state self.now).bytes ≡ true }
+        ensures { IsTrue result ↔ (class_of (type_field (Self.state self.now).bytes) ≡ cls) };
+
+    /// Whether the class is success or error.
+    fn is_response(&self) -> bool
+        requires { is_header (Self.state self.now).bytes ≡ true }
+        ensures { result ≡ responds (class_of (type_field (Self.state self.now).bytes)) };
+
+    /// The method.
+    fn method(&self) -> Method
+        requires { is_header (Self.state self.now).bytes ≡ true }
+        ensures { result ≡ method_of (type_field (Self.state self.now).bytes) };
+
+    /// Whether the method is `method`.
+    fn has_method(&self, method: Method) -> bool
+        requires { is_header (Self.state self.now).bytes ≡ true }
+        ensures { IsTrue result ↔ (method_of (type_field (Self.state self.now).bytes) ≡ method) };
+
+    /// The transaction ID.
+    fn transaction_id(&self) -> TransactionId
+        requires { is_header (Self.state self.now).bytes ≡ true }
+        ensures { result ≡ id_field (Self.state self.now).bytes };
+
+    /// Adds an attribute of an ordinary type: none of MESSAGE-INTEGRITY (0x0008),
+    /// MESSAGE-INTEGRITY-SHA256 (0x001C) and FINGERPRINT (0x8028), which have methods of their own.
+    ///
+    /// Its type, length, value and zero padding are written straight into the message, after what
+    /// is there, and the length field of the header is set to count them (RFC 8489, sections 5
+    /// and 14).
+    ///
+    /// # Errors
+    ///
+    /// The first of these that applies; the bytes and the attributes then stay as they were:
+    ///
+    /// - `MessageIntegrityExists` or `FingerprintExists`, where an attribute of one of those three
+    ///   types is written: the first of them decides which;
+    /// - `TooSmall { expected: 20, actual }` where fewer than 20 bytes are written;
+    /// - `TooSmall { expected, actual }` where the message would be longer than the writer takes:
+    ///   its length with the attribute, and [`MessageWrite::max_size`];
+    /// - `TooLarge { expected: 65555, actual }` where it would be longer than a message may be;
+    /// - `OutOfMemory`, only where the attribute needs more than the ready room.
+    fn add_attribute(&mut self, attribute: &dyn AttributeWrite) -> Result<(), StunWriteError>
+        requires ordinary { IsOrdinary (atype attribute.now) }
+        ensures answer { IsAddAnswer
+            (add_refusal (add (atype attribute.now) (value attribute.now))
+            (Self.state self.old).types (length (Self.state self.old).bytes)
+            (Self.state self.old).greatest)
+            (Allocates (Self.state self.old) (length (value attribute.now))) result }
+        ensures adds { Adds result (Self.state self.old) (Self.state self.new)
+            (atype attribute.now) (value attribute.now) }
+        ensures type_fits { atype attribute.now < 2 ^ 16 }
+        ensures value_fits { length (value attribute.now) < 2 ^ 16 };
+
+    /// Adds the integrity attribute of an algorithm, with the key that the credentials give for it:
+    /// MESSAGE-INTEGRITY (0x0008) with the 20 bytes of the HMAC-SHA1, or MESSAGE-INTEGRITY-SHA256
+    /// (0x001C) with the 32 bytes of the HMAC-SHA256. The HMAC covers the message before the
+    /// attribute, with a length field that counts the attribute (RFC 8489, sections 14.5 and 14.6).
+    ///
+    /// The key is made in memory that `alloc` gives, after all other checks.
+    ///
+    /// # Errors
+    ///
+    /// The first of these that applies; the bytes and the attributes then stay as they were:
+    ///
+    /// - `AttributeExists` with the type of an integrity attribute, or `FingerprintExists`, by the
+    ///   first written attribute that bars the addition: for `Sha1` one of 0x0008, 0x001C and
+    ///   0x8028, for `Sha256` one of 0x001C and 0x8028;
+    /// - `TooSmall` and `TooLarge` as for [`MessageWriteExt::add_attribute`];
+    /// - `OutOfMemory`, where the key couldn't be made, or the attribute needs more than the ready
+    ///   room.
+    fn add_message_integrity(
+        &mut self,
+        alloc: Global,
+        credentials: &MessageIntegrityCredentials,
+        algorithm: IntegrityAlgorithm,
+    ) -> Result<(), StunWriteError>
+        ensures answer { IsAddAnswer
+            (add_refusal (sign algorithm (credentials_key credentials.now algorithm))
+            (Self.state self.old).types (length (Self.state self.old).bytes)
+            (Self.state self.old).greatest)
+            (Unit {0}) result }
+        ensures adds { Adds result (Self.state self.old) (Self.state self.new)
+            (type_of_algorithm algorithm)
+            (integrity_value (Self.state self.old).bytes
+            (credentials_key credentials.now algorithm) algorithm) }
+        ensures size { OnOk result (length (Self.state self.new).bytes
+            ≡ whole (length (Self.state self.old).bytes) (digest_length algorithm)) };
+
+    /// As [`MessageWriteExt::add_message_integrity`], with a key, whichever algorithm the key was
+    /// made for.
+    ///
+    /// # Errors
+    ///
+    /// As for [`MessageWriteExt::add_message_integrity`], but `OutOfMemory` only where the
+    /// attribute needs more than the ready room.
+    fn add_message_integrity_with_key(
+        &mut self,
+        key: &IntegrityKey,
+        algorithm: IntegrityAlgorithm,
+    ) -> Result<(), StunWriteError>
+        ensures answer { IsAddAnswer
+            (add_refusal (sign algorithm (key_bytes key.now))
+            (Self.state self.old).types (length (Self.state self.old).bytes)
+            (Self.state self.old).greatest)
+            (Allocates (Self.state self.old) (digest_length algorithm)) result }
+        ensures adds { Adds result (Self.state self.old) (Self.state self.new)
+            (type_of_algorithm algorithm)
+            (integrity_value (Self.state self.old).bytes (key_bytes key.now) algorithm) }
+        ensures size { OnOk result (length (Self.state self.new).bytes
+            ≡ whole (length (Self.state self.old).bytes) (digest_length algorithm)) };
+
+    /// As [`MessageWriteExt::add_message_integrity_with_key`], without its checks: no attribute
+    /// bars the addition, and there is room for it.
+    ///
+    /// # Errors
+    ///
+    /// Only `OutOfMemory`, and only where the attribute needs more than the ready room; nothing
+    /// changes then.
+    fn add_message_integrity_with_key_unchecked(
+        &mut self,
+        key: &IntegrityKey,
+        algorithm: IntegrityAlgorithm,
+    ) -> Result<(), StunWriteError>
+        requires { add_refusal (sign algorithm (key_bytes key.now))
+            (Self.state self.old).types (length (Self.state self.old).bytes)
+            (Self.state self.old).greatest ≡ None }
+        ensures adds { Adds result (Self.state self.old) (Self.state self.new)
+            (type_of_algorithm algorithm)
+            (integrity_value (Self.state self.old).bytes (key_bytes key.now) algorithm) }
+        ensures size { OnOk result (length (Self.state self.new).bytes
+            ≡ whole (length (Self.state self.old).bytes) (digest_length algorithm)) }
+        ensures err { IfErr result (λ e. e ≡ StunWriteError.OutOfMemory) }
+        ensures succeeds { 4 + digest_length algorithm ≤ (Self.state self.old).ready_bytes
+            → 1 ≤ (Self.state self.old).ready_types → IsOk result };
+
+    /// Adds a FINGERPRINT (0x8028). Its value has four bytes: the CRC-32 of the message before it,
+    /// with a length field that counts the attribute, XORed with 0x5354554E
+    /// (RFC 8489, section 14.7).
+    ///
+    /// # Errors
+    ///
+    /// The first of these that applies; the bytes and the attributes then stay as they were:
+    ///
+    /// - `AttributeExists(0x8028)` where a FINGERPRINT is written;
+    /// - `TooSmall` and `TooLarge` as for [`MessageWriteExt::add_attribute`];
+    /// - `OutOfMemory`, only where the attribute needs more than the ready room.
+    fn add_fingerprint(&mut self) -> Result<(), StunWriteError>
+        ensures answer { IsAddAnswer
+            (add_refusal (finger)
+            (Self.state self.old).types (length (Self.state self.old).bytes)
+            (Self.state self.old).greatest)
+            (Allocates (Self.state self.old) 4) result }
+        ensures adds { Adds result (Self.state self.old) (Self.state self.new) FINGERPRINT
+            (fingerprint_value (Self.state self.old).bytes
+            (length (Self.state self.old).bytes)) }
+        ensures size { OnOk result (length (Self.state self.new).bytes
+            ≡ whole (length (Self.state self.old).bytes) 4) };
+
+    /// As [`MessageWriteExt::add_fingerprint`], without its checks: no FINGERPRINT is written, and
+    /// there is room for one.
+    ///
+    /// # Errors
+    ///
+    /// Only `OutOfMemory`, and only where the attribute needs more than the ready room; nothing
+    /// changes then.
+    fn add_fingerprint_unchecked(&mut self) -> Result<(), StunWriteError>
+        requires { add_refusal finger
+            (Self.state self.old).types (length (Self.state self.old).bytes)
+            (Self.state self.old).greatest ≡ None }
+        ensures adds { Adds result (Self.state self.old) (Self.state self.new) FINGERPRINT
+            (fingerprint_value (Self.state self.old).bytes
+            (length (Self.state self.old).bytes)) }
+        ensures size { OnOk result (length (Self.state self.new).bytes
+            ≡ whole (length (Self.state self.old).bytes) 4) }
+        ensures err { IfErr result (λ e. e ≡ StunWriteError.OutOfMemory) }
+        ensures succeeds { 8 ≤ (Self.state self.old).ready_bytes
+            → 1 ≤ (Self.state self.old).ready_types → IsOk result };
+}
+
+impl<W: MessageWrite> MessageWriteExt for W {
+    fn get_type(&self) -> MessageType {
+        written_header(self).get_type()
+    }
+
+    fn class(&self) -> MessageClass {
+        self.get_type().class()
+    }
+
+    fn has_class(&self, cls: MessageClass) -> bool {
+        self.class() == cls
+    }
+
+    fn is_response(&self) -> bool {
+        self.class().is_response()
+    }
+
+    fn method(&self) -> Method {
+        self.get_type().method()
+    }
+
+    fn has_method(&self, method: Method) -> bool {
+        self.method() == method
+    }
+
+    fn transaction_id(&self) -> TransactionId {
+        written_header(self).transaction_id()
+    }
+
+    #[tactic(auto, using(stun_grammar::proofs::AddingLemmas::appended_length, crate::proofs::KeptLemmas::pushed, stun_grammar::proofs::AddingRefusedLemmas::ordinary_barred))]
+    fn add_attribute(&mut self, attribute: &dyn AttributeWrite) -> Result<(), StunWriteError> {
+        // `get_type` returns the type as a `u16`: so it fits in two bytes
+        let _type_fits = attribute.get_type();
+        // and so does the length of the value
+        let _value_fits = attribute.length();
+        check_add(self, Addition::Ordinary, attribute.padded_len())?;
+        self.push_attribute_unchecked(attribute)
+    }
+
+    #[tactic(auto, using(stun_grammar::proofs::AddingRefusedLemmas::signing_barred, stun_grammar::proofs::AddingLemmas::hmac_padded))]
+    fn add_message_integrity(
+        &mut self,
+        alloc: Global,
+        credentials: &MessageIntegrityCredentials,
+        algorithm: IntegrityAlgorithm,
+    ) -> Result<(), StunWriteError> {
+        let size = 4 + hmac_length(algorithm);
+        check_add(self, Addition::Integrity(algorithm), size)?;
+        let key = credentials.make_key(alloc, algorithm)?;
+        self.add_message_integrity_with_key_unchecked(&key, algorithm)
+    }
+
+    #[tactic(auto, using(stun_grammar::proofs::AddingRefusedLemmas::signing_barred, stun_grammar::proofs::AddingLemmas::hmac_padded))]
+    fn add_message_integrity_with_key(
+        &mut self,
+        key: &IntegrityKey,
+        algorithm: IntegrityAlgorithm,
+    ) -> Result<(), StunWriteError> {
+        let added = 4 + hmac_length(algorithm);
+        check_add(self, Addition::Integrity(algorithm), added)?;
+        self.add_message_integrity_with_key_unchecked(key, algorithm)
+    }
+
+    #[tactic(auto, using(stun_grammar::proofs::AddingRefusedLemmas::no_refusal, crate::proofs::KeptLemmas::pushed))]
+    fn add_message_integrity_with_key_unchecked(
+        &mut self,
+        key: &IntegrityKey,
+        algorithm: IntegrityAlgorithm,
+    ) -> Result<(), StunWriteError> {
+        push_integrity(self, key, algorithm)
+    }
+
+    fn add_fingerprint(&mut self) -> Result<(), StunWriteError> {
+        check_add(self, Addition::Fingerprint, 8)?;
+        self.add_fingerprint_unchecked()
+    }
+
+    #[tactic(auto, using(stun_grammar::proofs::AddingRefusedLemmas::no_refusal, crate::proofs::KeptLemmas::pushed))]
+    fn add_fingerprint_unchecked(&mut self) -> Result<(), StunWriteError> {
+        push_fingerprint(self)
+    }
+}

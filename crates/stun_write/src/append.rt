@@ -1,0 +1,44 @@
+//! Writing the bytes of one more attribute into those of a message.
+
+ghost use Rattle.std.specs.Prelude.{◌≡◌, ◌≤◌, ◌++◌, length, take, drop};
+ghost use Rattle.stun_grammar.specs.Writing.{greatest_length};
+ghost use Rattle.stun_grammar.specs.Adding.{appended, whole};
+
+use byteorder::{BigEndian, ByteOrder};
+use stun_attrs::{AttributeWrite, write_attribute};
+use stun_base::{AttributeType, pad_attribute_len};
+
+/// Writes an attribute after the first `len` bytes of `message`, which hold the message so far, and
+/// sets the length field (its bytes 2 and 3) to count what follows the header. What comes after the
+/// attribute stays. A writer that keeps its bytes in a slice can be built on it.
+///
+/// `len` is at least 20, and `message` has room for the attribute; with it the message has at most
+/// 65555 bytes.
+#[tactic(auto, unfolding(stun_grammar::specs::Adding::appended))]
+pub fn append_attribute(attribute: &dyn AttributeWrite, len: usize, message: &mut [u8])
+    requires header { 20 ≤ len }
+    requires room { whole len (length (value attribute.now)) ≤ length message.old }
+    requires fits { whole len (length (value attribute.now)) ≤ greatest_length }
+    ensures { message.new
+        ≡ appended (take len message.old) (atype attribute.now) (value attribute.now)
+        ++ drop (whole len (length (value attribute.now))) message.old }
+{
+    let field = len + attribute.padded_len() - 20;
+    attribute.write_into_unchecked(&mut message[len..]);
+    BigEndian::write_u16(&mut message[2..4], field as u16);
+}
+
+/// As [`append_attribute`], with a type and a value of at most 65535 bytes.
+#[tactic(auto, unfolding(stun_grammar::specs::Adding::appended))]
+pub fn append_value(atype: AttributeType, value: &[u8], len: usize, message: &mut [u8])
+    requires header { 20 ≤ len }
+    requires value { length value.now ≤ 65535 }
+    requires room { whole len (length value.now) ≤ length message.old }
+    requires fits { whole len (length value.now) ≤ greatest_length }
+    ensures { message.new ≡ appended (take len message.old) atype.0 value.now
+        ++ drop (whole len (length value.now)) message.old }
+{
+    let field = len + 4 + pad_attribute_len(value.len()) - 20;
+    write_attribute(atype, value, &mut message[len..]);
+    BigEndian::write_u16(&mut message[2..4], field as u16);
+}

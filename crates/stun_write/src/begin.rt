@@ -1,0 +1,73 @@
+//! Beginning a message.
+
+ghost use Rattle.std.specs.Prelude.{◌≡◌, ◌^◌, ◌<◌, ◌≤◌, [], IfOk, IfErr, IsOk, OnOk, OnErr};
+ghost use Rattle.stun_grammar.specs.Writing.{message_encoding};
+ghost use Rattle.stun_grammar.specs.Adding.{Fits};
+ghost use Rattle.stun_write.specs.Writers.{IsBegun, IsUnchanged, Keeps};
+
+use crate::MessageWrite;
+use byteorder::{BigEndian, ByteOrder};
+use stun_base::{MAGIC_COOKIE, MessageType, StunWriteError, TransactionId};
+
+/// The header of a message without attributes: the type in two bytes, the length 0 in two, the
+/// magic cookie in four and the transaction ID in twelve.
+#[tactic(auto, unfolding(stun_grammar::specs::Writing::message_encoding))]
+fn header_bytes(mtype: MessageType, transaction_id: TransactionId) -> [u8; 20]
+    ensures encoding { result ≡ message_encoding mtype transaction_id [] }
+    ensures type_fits { mtype < 2 ^ 14 }
+    ensures id_fits { transaction_id < 2 ^ 96 }
+{
+    let mut header = [0; 20];
+    mtype.write_into(&mut header);
+    BigEndian::write_u32(&mut header[4..], MAGIC_COOKIE);
+    let id = u128::from(transaction_id).to_be_bytes();
+    header[8..].copy_from_slice(&id[4..]);
+    header
+}
+
+/// Begins a message: writes the twenty bytes of its header, with the length 0, into `write`, which
+/// is empty and takes at least twenty bytes, and returns the writer (RFC 8489, section 5).
+///
+/// # Errors
+///
+/// Only `OutOfMemory`, and only where fewer than twenty bytes are ready; the writer is dropped
+/// then.
+pub fn begin_message<B: MessageWrite + Drop>(
+    mtype: MessageType,
+    transaction_id: TransactionId,
+    mut write: B,
+) -> Result<B, StunWriteError>
+    requires empty { (B.state write).bytes ≡ [] }
+    requires room { Fits (B.state write).greatest 20 }
+    ensures begun { IfOk result (λ w. IsBegun (B.state write) (B.state w) mtype transaction_id) }
+    ensures err { IfErr result (λ e. e ≡ StunWriteError.OutOfMemory) }
+    ensures succeeds { 20 ≤ (B.state write).ready_bytes → IsOk result }
+{
+    begin_message_into(mtype, transaction_id, &mut write)?;
+    Ok(write)
+}
+
+/// As [`begin_message`], but borrows the writer.
+///
+/// # Errors
+///
+/// Only `OutOfMemory`, and only where fewer than twenty bytes are ready; nothing is written then.
+#[tactic(auto, using(stun_grammar::proofs::AddingLemmas::encoding_begins, crate::proofs::KeptLemmas::encoding_type, crate::proofs::KeptLemmas::encoding_id))]
+pub fn begin_message_into<B: MessageWrite>(
+    mtype: MessageType,
+    transaction_id: TransactionId,
+    write: &mut B,
+) -> Result<(), StunWriteError>
+    requires empty { (B.state write.old).bytes ≡ [] }
+    requires room { Fits (B.state write.old).greatest 20 }
+    ensures begun { OnOk result
+        (IsBegun (B.state write.old) (B.state write.new) mtype transaction_id) }
+    ensures same { OnErr result (IsUnchanged (B.state write.old) (B.state write.new)) }
+    ensures keeps { Keeps (B.state write.old) (B.state write.new) 20 0 }
+    ensures err { IfErr result (λ e. e ≡ StunWriteError.OutOfMemory) }
+    ensures succeeds { 20 ≤ (B.state write.old).ready_bytes → IsOk result }
+{
+    // by the contract of `data`, a writer without bytes has no attributes
+    let _no_types = write.data();
+    write.push_data(&header_bytes(mtype, transaction_id))
+}

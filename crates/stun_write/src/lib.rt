@@ -1,0 +1,25 @@
+//! Writing messages (RFC 8489, sections 5 and 14): where to ([`MessageWrite`], with a vector and a
+//! borrowed slice), how a message is begun ([`begin_message`]), how attributes are added to it
+//! ([`MessageWriteExt`]), and how a list of steps writes a whole message ([`write_steps`]).
+#![tactic(auto)]
+
+mod adds;
+mod among;
+mod append;
+mod begin;
+mod protect;
+mod readers;
+mod refusals;
+mod slice;
+mod steps;
+mod vec;
+mod writer;
+
+pub use adds::MessageWriteExt;
+pub use among::{first_among, is_among};
+pub use append::{append_attribute, append_value};
+pub use begin::{begin_message, begin_message_into};
+pub use slice::MessageWriteMutSlice;
+pub use steps::{Step, write_steps, write_steps_into};
+pub use vec::MessageWriteVec;
+pub use writer::MessageWrite;

@@ -1,0 +1,148 @@
+//! Writing one message by a list of steps.
+
+ghost use Rattle.std.specs.Prelude.{◌≡◌, ◌≤◌, ◌⊎◌, [], All, IfOk, IfErr, IsOk, OnOk, OnErr, length};
+ghost use Rattle.stun_grammar.specs.Steps.{appended_by, IsLawful, value_length};
+ghost use Rattle.stun_grammar.specs.Adding.{Fits, add_refusal, IsAddAnswer};
+ghost use Rattle.stun_write.specs.Writers.{Allocates, Adds, IsUnchanged};
+ghost use Rattle.stun_write.specs.Runs.{plain, AddsOrdinary, MakesKey, Writes};
+
+use crate::{MessageWrite, MessageWriteExt, begin_message_into};
+use std::alloc::Global;
+use stun_attrs::AttributeWrite;
+use stun_base::{MessageType, StunWriteError, TransactionId};
+use stun_grammar::IntegrityAlgorithm;
+use stun_keys::keys::{IntegrityKey, MessageIntegrityCredentials};
+
+/// One step of [`write_steps`]: an attribute to add to the message.
+#[derive(Clone, Copy)]
+pub enum Step<'s, O> {
+    /// An attribute of an ordinary type, as [`MessageWriteExt::add_attribute`] adds it.
+    Add(O),
+    /// The integrity attribute of an algorithm, with the key that the credentials give for it, as
+    /// [`MessageWriteExt::add_message_integrity`] adds it.
+    Sign(&'s MessageIntegrityCredentials, IntegrityAlgorithm),
+    /// The integrity attribute of an algorithm, with a key, as
+    /// [`MessageWriteExt::add_message_integrity_with_key`] adds it.
+    SignKey(&'s IntegrityKey, IntegrityAlgorithm),
+    /// A FINGERPRINT, as [`MessageWriteExt::add_fingerprint`] adds it.
+    Finger,
+}
+
+/// Adds the attribute of one step.
+#[tactic(auto, using(stun_grammar::proofs::AddingLemmas::hmac_padded), unfolding(stun_grammar::specs::Steps::appended_by))]
+fn take_step<B: MessageWrite>(
+    alloc: Global,
+    write: &mut B,
+    step: &Step<'_, &dyn AttributeWrite>,
+) -> Result<(), StunWriteError>
+    requires ordinary { AddsOrdinary (λ o. atype o.now) step.now }
+    ensures answer { let asked = plain (λ o. atype o.now) (λ o. value o.now) step.now in
+        IsAddAnswer
+        (add_refusal asked (B.state write.old).types (length (B.state write.old).bytes)
+        (B.state write.old).greatest)
+        (MakesKey step.now ⊎ Allocates (B.state write.old) (value_length asked)) result }
+    ensures lawful { IsLawful (plain (λ o. atype o.now) (λ o. value o.now) step.now) }
+    ensures adds { let added = appended_by
+        (plain (λ o. atype o.now) (λ o. value o.now) step.now) (B.state write.old).bytes in
+        Adds result (B.state write.old) (B.state write.new) added.type added.value }
+{
+    match step {
+        Step::Add(attribute) => write.add_attribute(*attribute),
+        Step::Sign(credentials, algorithm) => {
+            write.add_message_integrity(alloc, *credentials, *algorithm)
+        }
+        Step::SignKey(key, algorithm) => write.add_message_integrity_with_key(*key, *algorithm),
+        Step::Finger => write.add_fingerprint(),
+    }
+}
+
+/// As [`write_steps`], but borrows the writer.
+///
+/// # Errors
+///
+/// Only `OutOfMemory`, and only where fewer than twenty bytes are ready; nothing is written then,
+/// and the verdicts stay as they were.
+pub fn write_steps_into<B: MessageWrite>(
+    alloc: Global,
+    mtype: MessageType,
+    id: TransactionId,
+    steps: &[Step<'_, &dyn AttributeWrite>],
+    verdicts: &mut [Result<(), StunWriteError>],
+    write: &mut B,
+) -> Result<(), StunWriteError>
+    requires count { length verdicts.old ≡ length steps.now }
+    requires empty { (B.state write.old).bytes ≡ [] }
+    requires room { Fits (B.state write.old).greatest 20 }
+    requires ordinary { All (AddsOrdinary (λ o. atype o.now)) steps.now }
+    ensures writes { OnOk result (Writes (λ o. atype o.now) (λ o. value o.now)
+        (B.state write.old) (B.state write.new) mtype id steps.now verdicts.new) }
+    ensures count { length verdicts.new ≡ length verdicts.old }
+    ensures same { OnErr result (IsUnchanged (B.state write.old) (B.state write.new)) }
+    ensures same_verdicts { OnErr result (verdicts.new ≡ verdicts.old) }
+    ensures err { IfErr result (λ e. e ≡ StunWriteError.OutOfMemory) }
+    ensures succeeds { 20 ≤ (B.state write.old).ready_bytes → IsOk result }
+{
+    begin_message_into(mtype, id, write)?;
+    for i in 0..steps.len() {
+        verdicts[i] = take_step(alloc, write, &steps[i]);
+    }
+    Ok(())
+}
+
+/// Writes a message of this type and transaction ID: its header, and then the attribute of each
+/// step in turn (RFC 8489, sections 5 and 14).
+///
+/// The result of each step is stored in `verdicts`, at the step's own index. A refused step adds
+/// nothing, and the next one goes on from what is written. The writer is empty and takes at least
+/// twenty bytes, the attributes of [`Step::Add`] are of ordinary types, and there are as many
+/// verdicts as steps; there may be none. The keys of [`Step::Sign`] are made in memory that `alloc`
+/// gives.
+///
+/// ```
+/// let mut verdicts = [Ok(()); 3];
+/// let message = write_steps(
+///     alloc,
+///     mtype,
+///     id,
+///     &[Step::Add(&software), Step::SignKey(&key, IntegrityAlgorithm::Sha1), Step::Finger],
+///     &mut verdicts,
+///     MessageWriteVec::new(alloc),
+/// )?;
+/// ```
+///
+/// What is written is the message of the accepted steps. It parses, and shows their attributes in
+/// order, a FINGERPRINT among them with the right value. It validates with the key of the last step
+/// that signs, and with the key of each step that signs, made for the step's algorithm. And it is a
+/// message as the law `integrity_has_origin` wants it in the list of those that were sent, by which
+/// that law tells whose message validates.
+///
+/// # Errors
+///
+/// Only `OutOfMemory`, and only where fewer than twenty bytes are ready; the writer is dropped
+/// then, and the verdicts stay as they were.
+///
+/// Each verdict is the result of the step's method of [`MessageWriteExt`] after the accepted steps
+/// before it. It is `OutOfMemory` only where nothing else refuses the step, and the step makes a
+/// key or needs more room than the writer had ready at the start.
+pub fn write_steps<B: MessageWrite + Drop>(
+    alloc: Global,
+    mtype: MessageType,
+    id: TransactionId,
+    steps: &[Step<'_, &dyn AttributeWrite>],
+    verdicts: &mut [Result<(), StunWriteError>],
+    mut write: B,
+) -> Result<B, StunWriteError>
+    requires count { length verdicts.old ≡ length steps.now }
+    requires empty { (B.state write).bytes ≡ [] }
+    requires room { Fits (B.state write).greatest 20 }
+    requires ordinary { All (AddsOrdinary (λ o. atype o.now)) steps.now }
+    ensures writes { IfOk result (λ w. Writes (λ o. atype o.now) (λ o. value o.now)
+        (B.state write) (B.state w) mtype id steps.now verdicts.new) }
+    ensures count { length verdicts.new ≡ length verdicts.old }
+    ensures same_verdicts { OnErr result (verdicts.new ≡ verdicts.old) }
+    ensures err { IfErr result (λ e. e ≡ StunWriteError.OutOfMemory) }
+    ensures succeeds { 20 ≤ (B.state write).ready_bytes → IsOk result }
+{
+    write_steps_into(alloc, mtype, id, steps, verdicts, &mut write)?;
+    Ok(write)
+}

@@ -1,0 +1,166 @@
+//! A writer into a vector.
+
+ghost use Rattle.std.specs.Prelude.{◌≡◌, []};
+
+use crate::{MessageWrite, append_attribute, append_value, first_among, is_among};
+use smallvec::SmallVec;
+use std::alloc::Global;
+use stun_attrs::AttributeWrite;
+use stun_base::{AttributeType, StunWriteError, pad_attribute_len};
+
+/// Writes a message (RFC 8489, section 5) into a vector, which grows as needed. The types of sixteen
+/// attributes need no memory; those of more are kept in memory of the same allocator. A writer that
+/// is dropped without [`MessageWrite::finish`] drops what was written.
+#[derive(Debug, Drop)]
+pub struct MessageWriteVec {
+    output: Vec<u8>,
+    attributes: SmallVec<AttributeType, 16>,
+    ghost no_types: { output.items ≡ [] → attributes.items ≡ [] },
+}
+
+impl MessageWriteVec {
+    ghost use Rattle.std.specs.Prelude.{◌≡◌, [], IfOk, IfErr};
+
+    /// A writer with nothing written. It takes no memory: sixteen attributes and no bytes are
+    /// ready.
+    pub fn new(alloc: Global) -> Self
+        ensures empty { (⟦<MessageWriteVec as MessageWrite>⟧.state result).bytes ≡ [] }
+        ensures ready_bytes { (⟦<MessageWriteVec as MessageWrite>⟧.state result).ready_bytes ≡ 0 }
+        ensures ready_types { (⟦<MessageWriteVec as MessageWrite>⟧.state result).ready_types ≡ 16 }
+    {
+        MessageWriteVec {
+            output: Vec::new(alloc),
+            attributes: SmallVec::new(alloc),
+        }
+    }
+
+    /// A writer with nothing written, and with `capacity` bytes and sixteen attributes ready. The
+    /// bytes are kept in memory that `alloc` gives.
+    ///
+    /// # Errors
+    ///
+    /// Only `OutOfMemory`.
+    pub fn with_capacity(alloc: Global, capacity: usize) -> Result<Self, StunWriteError>
+        ensures empty { IfOk result
+            (λ write. (⟦<MessageWriteVec as MessageWrite>⟧.state write).bytes ≡ []) }
+        ensures ready_bytes { IfOk result
+            (λ write. (⟦<MessageWriteVec as MessageWrite>⟧.state write).ready_bytes ≡ capacity) }
+        ensures ready_types { IfOk result
+            (λ write. (⟦<MessageWriteVec as MessageWrite>⟧.state write).ready_types ≡ 16) }
+        ensures err { IfErr result (λ e. e ≡ StunWriteError.OutOfMemory) }
+    {
+        let output = Vec::with_capacity(alloc, capacity).map_err(|_| StunWriteError::OutOfMemory)?;
+        Ok(MessageWriteVec {
+            output,
+            attributes: SmallVec::new(alloc),
+        })
+    }
+}
+
+impl MessageWrite for MessageWriteVec {
+    ghost use Rattle.std.specs.Prelude.{◌≡◌, ◌-◌, ℕ, List, [], None, length, vec_len, vec_capacity};
+    ghost use Rattle.std.specs.Borrow.{sem};
+    ghost use Rattle.smallvec.specs.SmallVec.{small_vec_len};
+    ghost use Rattle.stun_write.specs.Writers.{with_bytes};
+    ghost use Rattle.stun_write.specs.Lending.{overwritten, LendsBytes};
+    ghost use Rattle.stun_grammar.specs.Adding.{numbers};
+
+    type Output = Vec<u8>;
+
+    ghost state = { λ write. record {
+      bytes = write.output.items;
+      types = numbers write.attributes.items;
+      greatest = None;
+      rest = [];
+      ready_bytes = vec_capacity write.output - vec_len write.output;
+      ready_types = write.attributes.capacity - small_vec_len write.attributes;
+      place = 0;
+    } };
+
+    ghost gives = { λ write output. output.items ≡ write.output.items };
+
+    /// `None`: the vector grows.
+    fn max_size(&self) -> Option<usize> {
+        None
+    }
+
+    fn data(&self) -> &[u8] {
+        &self.output
+    }
+
+    /// The bytes written, mutable. Afterwards the writer is as it was, but for the bytes, of which
+    /// there are as many.
+    fn mut_data(&mut self) -> &mut [u8]
+        ensures* writes_back { sem 𝓛 (LendsBytes self.entry result) }
+        ensures value { result.now
+            ≡ (⟦<MessageWriteVec as MessageWrite>⟧.state self.old).bytes }
+        ensures stays { (given : List ℕ)
+            → length given ≡ length (⟦<MessageWriteVec as MessageWrite>⟧.state self.old).bytes
+            → ⟦<MessageWriteVec as MessageWrite>⟧.state (overwritten self.old given)
+            ≡ with_bytes (⟦<MessageWriteVec as MessageWrite>⟧.state self.old) given }
+    {
+        self.output.as_mut_slice()
+    }
+
+    fn len(&self) -> usize {
+        self.output.len()
+    }
+
+    fn has_attribute(&self, atype: AttributeType) -> bool {
+        is_among(&self.attributes, atype)
+    }
+
+    fn has_any_attribute(&self, asked: &[AttributeType]) -> Option<AttributeType> {
+        first_among(&self.attributes, asked)
+    }
+
+    fn push_data(&mut self, more: &[u8]) -> Result<(), StunWriteError> {
+        self.output
+            .extend_from_slice(more)
+            .map_err(|_| StunWriteError::OutOfMemory)
+    }
+
+    #[tactic(auto, using(stun_grammar::proofs::AddingLemmas::appended_length))]
+    fn push_attribute_unchecked(
+        &mut self,
+        attribute: &dyn AttributeWrite,
+    ) -> Result<(), StunWriteError> {
+        let len = self.output.len();
+        let whole = len + attribute.padded_len();
+        self.attributes
+            .reserve(1)
+            .map_err(|_| StunWriteError::OutOfMemory)?;
+        self.output
+            .resize(whole, 0)
+            .map_err(|_| StunWriteError::OutOfMemory)?;
+        append_attribute(attribute, len, &mut self.output);
+        self.attributes.push_reserved(attribute.get_type());
+        Ok(())
+    }
+
+    #[tactic(auto, using(stun_grammar::proofs::AddingLemmas::appended_length))]
+    fn push_value_unchecked(
+        &mut self,
+        atype: AttributeType,
+        more: &[u8],
+    ) -> Result<(), StunWriteError> {
+        let len = self.output.len();
+        let whole = len + 4 + pad_attribute_len(more.len());
+        self.attributes
+            .reserve(1)
+            .map_err(|_| StunWriteError::OutOfMemory)?;
+        self.output
+            .resize(whole, 0)
+            .map_err(|_| StunWriteError::OutOfMemory)?;
+        append_value(atype, more, len, &mut self.output);
+        self.attributes.push_reserved(atype);
+        Ok(())
+    }
+
+    /// Returns the bytes written.
+    fn finish(self) -> Vec<u8> {
+        let MessageWriteVec { output, attributes } = self;
+        drop(attributes);
+        output
+    }
+}

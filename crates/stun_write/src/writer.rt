@@ -1,0 +1,130 @@
+//! Where a message is written to.
+
+ghost use Rattle.std.specs.Prelude.{◌≡◌, ◌+◌, ◌^◌, ◌<◌, ◌≤◌, [], IsOk, IfErr, OnOk, OnErr, length};
+ghost use Rattle.std.specs.Option.{option_map};
+ghost use Rattle.stun_grammar.specs.ScannedOrder.{has};
+ghost use Rattle.stun_grammar.specs.Attributes.{attribute_length};
+ghost use Rattle.stun_grammar.specs.Adding.{numbers, first_of, Fits};
+ghost use Rattle.stun_write.specs.Writers.{Writer, HasRoomFor, Extends, Gains, IsUnchanged, Keeps};
+
+use stun_attrs::AttributeWrite;
+use stun_base::{AttributeType, StunWriteError};
+
+/// A writer: where a message, its header and its attributes, is written to (RFC 8489, sections 5
+/// and 14). `MessageWriteVec` writes to a vector,
+/// `MessageWriteMutSlice` to a borrowed slice, and a type of your own may implement it too.
+///
+/// Each push appends all that it is given or, where an allocation failed, leaves the bytes and the
+/// attributes as they were. The ready room is the bytes and the attributes that the writer surely
+/// still takes: a push that needs no more than that succeeds.
+///
+/// In contracts, `state` is what there is to know of a writer:
+///
+/// - `bytes`: the bytes written;
+/// - `types`: the types of the attributes among them, in order;
+/// - `greatest`: the most bytes that the writer takes, where it has such a bound;
+/// - `rest`: the bytes that follow those written, in a slice;
+/// - `ready_bytes` and `ready_types`: the ready room, which may grow even where a push fails;
+/// - `place`: the name of the slice that it borrows, or 0.
+///
+/// `gives` relates a writer to what its [`MessageWrite::finish`] returns.
+pub trait MessageWrite {
+    /// What [`MessageWrite::finish`] returns.
+    type Output;
+
+    ghost state: { Self → Writer };
+
+    ghost gives: { Self → Self.Output → Type 0 };
+
+    /// The most bytes that the writer takes, or `None` where it has no such bound.
+    fn max_size(&self) -> Option<usize>
+        ensures { result ≡ (state self.now).greatest };
+
+    /// The bytes written. Where there are none, there are no attributes either.
+    fn data(&self) -> &[u8]
+        ensures value { result.now ≡ (state self.now).bytes }
+        ensures no_types { (state self.now).bytes ≡ [] → (state self.now).types ≡ [] };
+
+    /// The bytes written, mutable. It is up to the caller that they stay a message. Nothing but
+    /// the bytes may change by it; of `MessageWriteVec` the contract tells so.
+    fn mut_data(&mut self) -> &mut [u8]
+        ensures { result.now ≡ (state self.old).bytes };
+
+    /// The number of bytes written.
+    fn len(&self) -> usize
+        ensures value { result ≡ length (state self.now).bytes }
+        ensures bound { result < 2 ^ 63 };
+
+    /// Whether an attribute of this type is written.
+    fn has_attribute(&self, atype: AttributeType) -> bool
+        ensures { result ≡ has atype.0 (state self.now).types };
+
+    /// The first of the written types that is one of those asked for, or `None`.
+    fn has_any_attribute(&self, asked: &[AttributeType]) -> Option<AttributeType>
+        ensures { option_map (λ found. found.0) result
+            ≡ first_of (numbers asked.now) (state self.now).types };
+
+    /// Appends bytes. There is room for them: with them there are no more than
+    /// [`MessageWrite::max_size`].
+    ///
+    /// # Errors
+    ///
+    /// Only `OutOfMemory`, and only where they are more than the ready room; nothing is appended
+    /// then.
+    fn push_data(&mut self, more: &[u8]) -> Result<(), StunWriteError>
+        requires { Fits (state self.old).greatest
+            (length (state self.old).bytes + length more.now) }
+        ensures ok { OnOk result (Extends (state self.old) (state self.new) more.now) }
+        ensures same { OnErr result (IsUnchanged (state self.old) (state self.new)) }
+        ensures keeps { Keeps (state self.old) (state self.new) (length more.now) 0 }
+        ensures err { IfErr result (λ e. e ≡ StunWriteError.OutOfMemory) }
+        ensures succeeds { length more.now ≤ (state self.old).ready_bytes → IsOk result };
+
+    /// Appends an attribute: its type, length, value and zero padding (RFC 8489, section 14), and
+    /// sets the length field of the header to count them (section 5). At least twenty bytes are written, there is room for the
+    /// attribute, and with it the message has at most 65555 bytes.
+    ///
+    /// # Errors
+    ///
+    /// Only `OutOfMemory`, and only where the attribute needs more than the ready room; the bytes
+    /// and the attributes are as they were then, and the ready room may have grown.
+    fn push_attribute_unchecked(
+        &mut self,
+        attribute: &dyn AttributeWrite,
+    ) -> Result<(), StunWriteError>
+        requires { HasRoomFor (state self.old) (length (value attribute.now)) }
+        ensures ok { OnOk result
+            (Gains (state self.old) (state self.new) (atype attribute.now) (value attribute.now)) }
+        ensures same { OnErr result (IsUnchanged (state self.old) (state self.new)) }
+        ensures keeps { Keeps (state self.old) (state self.new)
+            (attribute_length (length (value attribute.now))) 1 }
+        ensures err { IfErr result (λ e. e ≡ StunWriteError.OutOfMemory) }
+        ensures succeeds { attribute_length (length (value attribute.now))
+            ≤ (state self.old).ready_bytes
+            → 1 ≤ (state self.old).ready_types → IsOk result };
+
+    /// As [`MessageWrite::push_attribute_unchecked`], with a type and a value of at most 65535
+    /// bytes.
+    ///
+    /// # Errors
+    ///
+    /// As for [`MessageWrite::push_attribute_unchecked`].
+    fn push_value_unchecked(
+        &mut self,
+        atype: AttributeType,
+        more: &[u8],
+    ) -> Result<(), StunWriteError>
+        requires value { length more.now ≤ 65535 }
+        requires room { HasRoomFor (state self.old) (length more.now) }
+        ensures ok { OnOk result (Gains (state self.old) (state self.new) atype.0 more.now) }
+        ensures same { OnErr result (IsUnchanged (state self.old) (state self.new)) }
+        ensures keeps { Keeps (state self.old) (state self.new)
+            (attribute_length (length more.now)) 1 }
+        ensures err { IfErr result (λ e. e ≡ StunWriteError.OutOfMemory) }
+        ensures succeeds { attribute_length (length more.now) ≤ (state self.old).ready_bytes
+            → 1 ≤ (state self.old).ready_types → IsOk result };
+
+    /// Ends the writing, and returns what was written or how much.
+    fn finish(self) -> Self::Output
+        ensures { gives self result };
+}

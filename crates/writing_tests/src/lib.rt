@@ -1,0 +1,18 @@
+//! Tests of what is written: attributes, messages in a vector and in a slice, replies,
+//! signatures, and runs of steps.
+#![tactic(auto)]
+
+#[cfg(test)]
+mod adds;
+#[cfg(test)]
+mod lending;
+#[cfg(test)]
+mod replies;
+#[cfg(test)]
+mod signing;
+#[cfg(test)]
+mod slice;
+#[cfg(test)]
+mod steps;
+#[cfg(test)]
+mod vector;

@@ -1,0 +1,213 @@
+//! Messages that are signed: what is added, and what is refused.
+
+use crate::vector::request;
+use std::alloc::Global;
+use std::process::Abort;
+use std::test::Fail;
+use stun_base::binding_request;
+use stun_samples::{Shown, long_term, short_term, shows};
+use stun_types::attribute::{AttributeType, Software};
+use stun_types::message::{
+    IntegrityAlgorithm, IntegrityKey, Message, MessageWriteVec, StunParseError, StunWriteError,
+    TransactionId, ValidateError,
+};
+use stun_types::prelude::*;
+
+/// A BINDING request with the id 1000 that is signed with the password `pass` for SHA-1 and has a
+/// FINGERPRINT, as another implementation makes it.
+#[rattlefmt::skip]
+const SIGNED: [u8; 52] = [
+    0x00, 0x01, 0x00, 0x20, 0x21, 0x12, 0xA4, 0x42, 0x00, 0x00, 0x00, 0x00, 0x00, 0x00, 0x00, 0x00,
+        0x00, 0x00, 0x03, 0xE8,
+    0x00, 0x08, 0x00, 0x14, 0x69, 0x9E, 0x82, 0x4C, 0x1E, 0xE3, 0xA6, 0x75, 0xDB, 0x9E, 0x32, 0x27,
+        0x7F, 0xAD, 0xA7, 0x0F, 0x25, 0x7E, 0x0C, 0x0D,
+    0x80, 0x28, 0x00, 0x04, 0x7E, 0x79, 0xAC, 0x9A,
+];
+
+/// What is shown of it.
+#[rattlefmt::skip]
+const SHOWN: [Shown<'static>; 2] = [
+    (20, 0x0008, &[0x69, 0x9E, 0x82, 0x4C, 0x1E, 0xE3, 0xA6, 0x75, 0xDB, 0x9E, 0x32, 0x27, 0x7F,
+        0xAD, 0xA7, 0x0F, 0x25, 0x7E, 0x0C, 0x0D]),
+    (44, 0x8028, &[0x7E, 0x79, 0xAC, 0x9A]),
+];
+
+/// The key of the password `pass`.
+fn key_of_pass(alloc: Global) -> Result<IntegrityKey, Fail> {
+    Ok(short_term(alloc, "pass")?.make_key(alloc, IntegrityAlgorithm::Sha1)?)
+}
+
+/// A request that is signed with the password `pass` for SHA-1 and has a FINGERPRINT.
+fn signed(alloc: Global) -> Result<Vec<u8>, Fail> {
+    let credentials = short_term(alloc, "pass")?;
+    let mut message = request(alloc)?;
+    message.add_message_integrity(alloc, &credentials, IntegrityAlgorithm::Sha1)?;
+    message.add_fingerprint()?;
+    Ok(message.finish())
+}
+
+#[test]
+fn signs_a_request(rt: HostRuntime) -> Result<(), Fail> {
+    let bytes = signed(rt.alloc())?;
+    assert_eq!(rt; bytes.as_slice(), SIGNED.as_slice());
+    Ok(())
+}
+
+/// A length field of that request, a password, and what is answered.
+const ANSWERS: [(u8, &str, Result<IntegrityAlgorithm, ValidateError>); 3] = [
+    (0x20, "pass", Ok(IntegrityAlgorithm::Sha1)),
+    (0x00, "pass", Ok(IntegrityAlgorithm::Sha1)),
+    (0x00, "past", Err(ValidateError::IntegrityFailed)),
+];
+
+#[test]
+fn length_field_of_a_signed_request_is_free(rt: HostRuntime) -> Result<(), Fail> {
+    for (length, password, answer) in ANSWERS {
+        let mut bytes = SIGNED;
+        bytes[3] = length;
+        let read = Message::from_bytes(&bytes)?;
+        assert!(rt; shows(read.iter_attributes(), &SHOWN));
+        let credentials = short_term(rt.alloc(), password)?;
+        assert_eq!(rt; read.validate_integrity(rt.alloc(), &credentials), answer);
+    }
+    Ok(())
+}
+
+/// A request with a FINGERPRINT alone.
+fn fingered(alloc: Global) -> Result<MessageWriteVec, StunWriteError> {
+    let mut message = request(alloc)?;
+    message.add_fingerprint()?;
+    Ok(message)
+}
+
+#[test]
+fn adds_nothing_behind_a_fingerprint(rt: HostRuntime) -> Result<(), Fail> {
+    let software = Software::new(rt.alloc(), "")?;
+    let mut message = fingered(rt.alloc())?;
+    assert_eq!(rt;
+        message.add_attribute(&software),
+        Err(StunWriteError::FingerprintExists)
+    );
+    let twice = Err(StunWriteError::AttributeExists(AttributeType(0x8028)));
+    assert_eq!(rt; message.add_fingerprint(), twice);
+    assert_eq!(rt; message.len(), 28);
+    Ok(())
+}
+
+#[test]
+fn signs_nothing_behind_a_fingerprint(rt: HostRuntime) -> Result<(), Fail> {
+    let credentials = short_term(rt.alloc(), "pass")?;
+    let mut message = fingered(rt.alloc())?;
+    for algorithm in [IntegrityAlgorithm::Sha1, IntegrityAlgorithm::Sha256] {
+        let added = message.add_message_integrity(rt.alloc(), &credentials, algorithm);
+        assert_eq!(rt; added, Err(StunWriteError::FingerprintExists));
+    }
+    assert_eq!(rt; message.len(), 28);
+    Ok(())
+}
+
+#[test]
+fn signs_nothing_with_a_key_behind_a_fingerprint(rt: HostRuntime) -> Result<(), Fail> {
+    let key = key_of_pass(rt.alloc())?;
+    let mut message = fingered(rt.alloc())?;
+    for algorithm in [IntegrityAlgorithm::Sha1, IntegrityAlgorithm::Sha256] {
+        let added = message.add_message_integrity_with_key(&key, algorithm);
+        assert_eq!(rt; added, Err(StunWriteError::FingerprintExists));
+    }
+    assert_eq!(rt; message.len(), 28);
+    Ok(())
+}
+
+/// The algorithms for which a request is to be signed, in turn, and what each is answered.
+#[rattlefmt::skip]
+const SIGNATURES: [&[(IntegrityAlgorithm, Result<(), StunWriteError>)]; 2] = [
+    &[
+        (IntegrityAlgorithm::Sha256, Ok(())),
+        (IntegrityAlgorithm::Sha1, Err(StunWriteError::AttributeExists(AttributeType(0x001C)))),
+        (IntegrityAlgorithm::Sha256, Err(StunWriteError::AttributeExists(AttributeType(0x001C)))),
+    ],
+    &[
+        (IntegrityAlgorithm::Sha1, Ok(())),
+        (IntegrityAlgorithm::Sha256, Ok(())),
+        (IntegrityAlgorithm::Sha1, Err(StunWriteError::AttributeExists(AttributeType(0x0008)))),
+    ],
+];
+
+/// The signatures are answered so, and the last of them that is written validates.
+fn assert_signs(
+    rt: &impl Abort,
+    alloc: Global,
+    key: &IntegrityKey,
+    signatures: &[(IntegrityAlgorithm, Result<(), StunWriteError>)],
+) -> Result<(), Fail> {
+    let mut message = request(alloc)?;
+    for (algorithm, answer) in signatures {
+        let added = message.add_message_integrity_with_key(key, *algorithm);
+        assert_eq!(rt; added, *answer, "{algorithm:?}");
+    }
+    let bytes = message.finish();
+    let answer = Message::from_bytes(&bytes)?.validate_integrity_with_key(key);
+    assert_eq!(rt; answer, Ok(IntegrityAlgorithm::Sha256));
+    Ok(())
+}
+
+#[test]
+fn signs_once_for_each_algorithm(rt: HostRuntime) -> Result<(), Fail> {
+    let key = key_of_pass(rt.alloc())?;
+    for signatures in SIGNATURES {
+        assert_signs(&rt, rt.alloc(), &key, signatures)?;
+    }
+    Ok(())
+}
+
+#[test]
+fn signs_nothing_without_a_header(rt: HostRuntime) -> Result<(), Fail> {
+    let key = key_of_pass(rt.alloc())?;
+    let mut nothing = MessageWriteVec::new(rt.alloc());
+    let refused = Err(StunWriteError::TooSmall {
+        expected: 20,
+        actual: 0,
+    });
+    assert_eq!(rt; nothing.add_fingerprint(), refused);
+    let added = nothing.add_message_integrity_with_key(&key, IntegrityAlgorithm::Sha1);
+    assert_eq!(rt; added, refused);
+    Ok(())
+}
+
+/// A request that is signed for SHA-1 with a key for SHA-256.
+fn signed_with(alloc: Global, key: &IntegrityKey) -> Result<Vec<u8>, Fail> {
+    let mut message = request(alloc)?;
+    message.add_message_integrity_with_key(key, IntegrityAlgorithm::Sha1)?;
+    Ok(message.finish())
+}
+
+#[test]
+fn signs_with_a_key_of_another_algorithm(rt: HostRuntime) -> Result<(), Fail> {
+    let key = long_term(rt.alloc())?.make_key(rt.alloc(), IntegrityAlgorithm::Sha256)?;
+    let bytes = signed_with(rt.alloc(), &key)?;
+    let missing = ValidateError::Parse(StunParseError::MissingAttribute(AttributeType(0x0008)));
+    let answer = Message::from_bytes(&bytes)?.validate_integrity_with_key(&key);
+    assert_eq!(rt; answer, Err(missing));
+    Ok(())
+}
+
+/// A request that is signed with a key, and has a FINGERPRINT, by the adds that test nothing.
+#[tactic(auto, unfolding(stun_grammar::specs::Adding::order_refusal, stun_grammar::specs::Adding::room_refusal, stun_grammar::specs::Adding::first_of))]
+fn signed_unchecked(alloc: Global, key: &IntegrityKey) -> Result<Vec<u8>, StunWriteError> {
+    let mut message = Message::builder(
+        binding_request(),
+        TransactionId::from(1000),
+        MessageWriteVec::new(alloc),
+    )?;
+    message.add_message_integrity_with_key_unchecked(key, IntegrityAlgorithm::Sha1)?;
+    message.add_fingerprint_unchecked()?;
+    Ok(message.finish())
+}
+
+#[test]
+fn signs_without_testing_again(rt: HostRuntime) -> Result<(), Fail> {
+    let key = key_of_pass(rt.alloc())?;
+    let bytes = signed_unchecked(rt.alloc(), &key)?;
+    assert_eq!(rt; bytes.as_slice(), SIGNED.as_slice());
+    Ok(())
+}
