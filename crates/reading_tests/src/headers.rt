@@ -222,6 +222,44 @@ fn refuses_what_is_no_message_type(rt: HostRuntime) {
     }
 }
 
+/// Methods, their names, and what they print.
+const METHODS: [(u16, &str, &str); 6] = [
+    (0x0000, "unknown", "0(0x0: unknown)"),
+    (0x0001, "BINDING", "1(0x1: BINDING)"),
+    (0x0002, "unknown", "2(0x2: unknown)"),
+    (0x0ABC, "unknown", "2748(0xabc: unknown)"),
+    (0x1001, "unknown", "4097(0x1001: unknown)"),
+    (0xEFFF, "unknown", "61439(0xefff: unknown)"),
+];
+
+#[test]
+fn names_and_prints_methods(rt: HostRuntime) -> Result<(), Fail> {
+    for (number, name, text) in METHODS {
+        let method = Method::new(number);
+        assert_eq!(rt; method.name(), name, "{text}");
+        assert_eq!(rt; method.to_string(rt.alloc())?.as_str(), text);
+    }
+    Ok(())
+}
+
+/// A class, a method, and what the type of both prints.
+#[rattlefmt::skip]
+const PRINTED: [(MessageClass, u16, &str); 4] = [
+    (MessageClass::Request, 0x0001, "MessageType(class: Request, method: 1(0x1: BINDING)"),
+    (MessageClass::Indication, 0x0001, "MessageType(class: Indication, method: 1(0x1: BINDING)"),
+    (MessageClass::Success, 0x0003, "MessageType(class: Success, method: 3(0x3: unknown)"),
+    (MessageClass::Error, 0x0FFF, "MessageType(class: Error, method: 4095(0xfff: unknown)"),
+];
+
+#[test]
+fn prints_message_types(rt: HostRuntime) -> Result<(), Fail> {
+    for (class, method, text) in PRINTED {
+        let mtype = MessageType::from_class_method(class, Method::new(method));
+        assert_eq!(rt; mtype.to_string(rt.alloc())?.as_str(), text);
+    }
+    Ok(())
+}
+
 /// Numbers, what an ID keeps of them, and what it prints.
 #[rattlefmt::skip]
 const IDS: [(u128, u128, &str); 6] = [

@@ -1,3 +1,1 @@
-mod OctetsLemmas
-mod XorLemmas
 mod AddressesLemmas

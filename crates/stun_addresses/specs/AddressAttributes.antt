@@ -1,5 +1,9 @@
 -- The addresses in attributes.
+use Rattle.std.specs.Prelude.{ℕ, List, Result}
 use Rattle.std.specs.declared.net.socket_addr.SocketAddr.{SocketAddr}
+use Rattle.stun_grammar.specs.declared.error.StunParseError.{StunParseError}
+use Rattle.stun_attrs.specs.Reading.{typed_fault, Reads}
+use Rattle.stun_rules.specs.Addresses.{address_fault, Spells}
 use Rattle.stun_addresses.specs.declared.mapped.MappedSocketAddr.{MappedSocketAddr}
 use Rattle.stun_addresses.specs.declared.xored.XorSocketAddr.{XorSocketAddr}
 use Rattle.stun_addresses.specs.declared.alternate_server.AlternateServer.{AlternateServer}
@@ -18,3 +22,9 @@ server_addr server = mapped_addr server.addr
 -- the address as it is written, after the XOR
 abbrev pub written_mapped_addr : XorMappedAddress → SocketAddr
 written_mapped_addr mapped = written_addr mapped.addr
+
+-- ---- What reading answers
+
+-- the type and the value of an attribute of the wanted type that is an address
+abbrev pub ReadsAddress : {T : Type 0} → ℕ → (T → SocketAddr) → ℕ → List ℕ → Result T StunParseError → Type 0
+ReadsAddress wanted addr_of type value result = Reads (typed_fault wanted address_fault type value) (λ read. Spells value (addr_of read)) result

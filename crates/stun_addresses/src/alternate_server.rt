@@ -3,6 +3,7 @@ ghost use Rattle.stun_addresses.specs.AddressAttributes.{server_addr};
 
 use crate::MappedSocketAddr;
 use std::alloc::Global;
+use std::fmt;
 use std::net::SocketAddr;
 use stun_attrs::{
     Attribute, AttributeFromRaw, AttributeStaticType, AttributeWrite, RawAttribute, check_type,
@@ -10,6 +11,7 @@ use stun_attrs::{
 };
 use stun_base::{AttributeType, StunParseError, StunWriteError};
 use stun_grammar::attribute_types;
+use stun_rules::print_address;
 
 /// ALTERNATE-SERVER: the address of another server that the client is to try (RFC 8489, section
 /// 14.15).
@@ -21,7 +23,7 @@ pub struct AlternateServer {
 impl AlternateServer {
     ghost use Rattle.stun_grammar.specs.AttributeTypes.{ALTERNATE_SERVER};
     ghost use Rattle.stun_attrs.specs.Raw.{raw_type, raw_value};
-    ghost use Rattle.stun_addresses.specs.Addresses.{ReadsAddress};
+    ghost use Rattle.stun_addresses.specs.AddressAttributes.{ReadsAddress};
 
     /// The attribute of this address. Flow info and scope ID of an IPv6 address are kept, but not
     /// written.
@@ -64,7 +66,7 @@ impl AttributeStaticType for AlternateServer {
 
 impl Attribute for AlternateServer {
     ghost use Rattle.stun_grammar.specs.AttributeTypes.{ALTERNATE_SERVER};
-    ghost use Rattle.stun_addresses.specs.Addresses.{address_value};
+    ghost use Rattle.stun_rules.specs.Addresses.{address_value};
 
     ghost atype = { λ _. ALTERNATE_SERVER };
 
@@ -102,7 +104,7 @@ impl AttributeWrite for AlternateServer {
 /// The first byte of the value is ignored.
 impl AttributeFromRaw<'_> for AlternateServer {
     ghost use Rattle.stun_grammar.specs.AttributeTypes.{ALTERNATE_SERVER};
-    ghost use Rattle.stun_addresses.specs.Addresses.{ReadsAddress};
+    ghost use Rattle.stun_addresses.specs.AddressAttributes.{ReadsAddress};
 
     ghost reads_ref = { ReadsAddress ALTERNATE_SERVER server_addr };
 
@@ -114,5 +116,20 @@ impl AttributeFromRaw<'_> for AlternateServer {
 
     fn from_raw(_alloc: Global, raw: RawAttribute<'_>) -> Result<Self, StunParseError> {
         Self::read(&raw)
+    }
+}
+
+/// The type and the address: `32803(0x8023: ALTERNATE-SERVER): 192.168.0.1:3178`.
+impl fmt::Display for AlternateServer {
+    ghost use Rattle.std.specs.Prelude.{Some};
+    ghost use Rattle.std.specs.Net.Text.{socket_text};
+    ghost use Rattle.stun_grammar.specs.AttributeTypes.{ALTERNATE_SERVER};
+    ghost use Rattle.stun_grammar.specs.Names.{plain_text};
+
+    ghost output = { λ server.
+        Some (plain_text ALTERNATE_SERVER (socket_text (server_addr server))) };
+
+    fn fmt<W: fmt::Write>(&self, f: &mut fmt::Formatter<W>) -> fmt::Result {
+        print_address(f, Self::TYPE, self.server())
     }
 }

@@ -7,8 +7,8 @@ ghost use Rattle.stun_grammar.specs.declared.error.StunParseError.{StunParseErro
 ghost use Rattle.stun_grammar.specs.AttributeTypes.{ALTERNATE_SERVER, XOR_MAPPED_ADDRESS};
 ghost use Rattle.stun_addresses.specs.declared.alternate_server.AlternateServer.{AlternateServer};
 ghost use Rattle.stun_addresses.specs.declared.xor_mapped_address.XorMappedAddress.{XorMappedAddress};
-ghost use Rattle.stun_addresses.specs.Addresses.{address_value, IsInRange, IsPlain, IsXored, ReadsAddress};
-ghost use Rattle.stun_addresses.specs.AddressAttributes.{server_addr, written_mapped_addr};
+ghost use Rattle.stun_rules.specs.Addresses.{address_value, IsInRange, IsPlain, IsXored};
+ghost use Rattle.stun_addresses.specs.AddressAttributes.{ReadsAddress, server_addr, written_mapped_addr};
 
 /// An address without flow info and scope ID that is XORed twice under one transaction ID is
 /// unchanged.

@@ -5,7 +5,6 @@
 mod alternate_server;
 mod laws;
 mod mapped;
-mod socket_value;
 mod xor_mapped_address;
 mod xored;
 

@@ -1,15 +1,16 @@
 ghost use Rattle.std.specs.Prelude.{◌≡◌, ◌≤◌, ◌++◌, false, length, drop, IfOk, IfErr};
 ghost use Rattle.stun_base.specs.Data.{is_borrowed};
 ghost use Rattle.stun_attrs.specs.Raw.{raw_data, raw_value, IsRawOf};
-ghost use Rattle.stun_addresses.specs.Addresses.{address_value, address_fault, Spells};
+ghost use Rattle.stun_rules.specs.Addresses.{address_value, address_fault, Spells};
 ghost use Rattle.stun_addresses.specs.AddressAttributes.{mapped_addr};
 ghost use Rattle.stun_attrs.specs.Reading.{Reads};
 
-use crate::socket_value::{address_length, read_address, write_address};
 use std::alloc::Global;
+use std::fmt;
 use std::net::SocketAddr;
 use stun_attrs::{MakeValue, RawAttribute, raw_made};
 use stun_base::{AttributeType, StunParseError, StunWriteError};
+use stun_rules::{address_length, read_address, write_address};
 
 /// An address as it stands in the value of an attribute (RFC 8489, section 14.1): a zero byte, the
 /// family in a byte (1 for IPv4, 2 for IPv6), the port in two bytes, and the address in four or
@@ -98,5 +99,18 @@ impl MakeValue for MappedSocketAddr {
 
     fn write_value(&self, dest: &mut [u8]) {
         self.write_into_unchecked(dest);
+    }
+}
+
+/// The address, as `{:?}` and `{}` print it: `192.168.0.1:3178`, `[::1]:1234`.
+impl fmt::Display for MappedSocketAddr {
+    ghost use Rattle.std.specs.Prelude.{Some};
+    ghost use Rattle.std.specs.Net.Text.{socket_text};
+
+    ghost output = { λ mapped. Some (socket_text (mapped_addr mapped)) };
+
+    fn fmt<W: fmt::Write>(&self, f: &mut fmt::Formatter<W>) -> fmt::Result {
+        let addr = self.addr();
+        write!(f, "{addr}")
     }
 }

@@ -1,7 +1,8 @@
-ghost use Rattle.stun_addresses.specs.Addresses.{IsPlain};
+ghost use Rattle.stun_rules.specs.Addresses.{IsPlain};
 
 use crate::{MappedSocketAddr, XorSocketAddr};
 use std::alloc::{AllocError, Global};
+use std::fmt;
 use std::net::SocketAddr;
 use stun_attrs::{
     Attribute, AttributeFromRaw, AttributeStaticType, AttributeWrite, RawAttribute, check_type,
@@ -9,6 +10,7 @@ use stun_attrs::{
 };
 use stun_base::{AttributeType, StunParseError, StunWriteError, TransactionId};
 use stun_grammar::attribute_types;
+use stun_rules::print_xored;
 
 /// XOR-MAPPED-ADDRESS: the address that a request came from, as the server saw it (RFC 8489,
 /// section 14.2).
@@ -22,8 +24,8 @@ impl XorMappedAddress {
     ghost use Rattle.stun_grammar.specs.AttributeTypes.{XOR_MAPPED_ADDRESS};
     ghost use Rattle.std.specs.Prelude.{◌≡◌};
     ghost use Rattle.stun_attrs.specs.Raw.{raw_type, raw_value};
-    ghost use Rattle.stun_addresses.specs.Addresses.{IsXored, ReadsAddress};
-    ghost use Rattle.stun_addresses.specs.AddressAttributes.{written_mapped_addr};
+    ghost use Rattle.stun_rules.specs.Addresses.{IsXored};
+    ghost use Rattle.stun_addresses.specs.AddressAttributes.{ReadsAddress, written_mapped_addr};
 
     /// The attribute of this address in a message with this transaction ID. Flow info and scope ID
     /// of an IPv6 address are dropped.
@@ -92,7 +94,7 @@ impl AttributeStaticType for XorMappedAddress {
 impl Attribute for XorMappedAddress {
     ghost use Rattle.stun_grammar.specs.AttributeTypes.{XOR_MAPPED_ADDRESS};
     ghost use Rattle.stun_addresses.specs.AddressAttributes.{written_mapped_addr};
-    ghost use Rattle.stun_addresses.specs.Addresses.{address_value};
+    ghost use Rattle.stun_rules.specs.Addresses.{address_value};
 
     ghost atype = { λ _. XOR_MAPPED_ADDRESS };
 
@@ -130,8 +132,7 @@ impl AttributeWrite for XorMappedAddress {
 /// The first byte of the value is ignored.
 impl AttributeFromRaw<'_> for XorMappedAddress {
     ghost use Rattle.stun_grammar.specs.AttributeTypes.{XOR_MAPPED_ADDRESS};
-    ghost use Rattle.stun_addresses.specs.AddressAttributes.{written_mapped_addr};
-    ghost use Rattle.stun_addresses.specs.Addresses.{ReadsAddress};
+    ghost use Rattle.stun_addresses.specs.AddressAttributes.{written_mapped_addr, ReadsAddress};
 
     ghost reads_ref = { ReadsAddress XOR_MAPPED_ADDRESS written_mapped_addr };
 
@@ -143,5 +144,23 @@ impl AttributeFromRaw<'_> for XorMappedAddress {
 
     fn from_raw(_alloc: Global, raw: RawAttribute<'_>) -> Result<Self, StunParseError> {
         Self::read(&raw)
+    }
+}
+
+/// The type and the address: `32(0x20: XOR-MAPPED-ADDRESS): 192.168.0.1:3178` for IPv4, as it is
+/// without the XOR, and `32(0x20: XOR-MAPPED-ADDRESS): XOR([2112:a442::5679]:9664)` for IPv6, as it
+/// is written.
+impl fmt::Display for XorMappedAddress {
+    ghost use Rattle.std.specs.Prelude.{Some};
+    ghost use Rattle.stun_grammar.specs.AttributeTypes.{XOR_MAPPED_ADDRESS};
+    ghost use Rattle.stun_grammar.specs.Names.{plain_text};
+    ghost use Rattle.stun_rules.specs.Addresses.{xored_text};
+    ghost use Rattle.stun_addresses.specs.AddressAttributes.{written_mapped_addr};
+
+    ghost output = { λ mapped.
+        Some (plain_text XOR_MAPPED_ADDRESS (xored_text (written_mapped_addr mapped))) };
+
+    fn fmt<W: fmt::Write>(&self, f: &mut fmt::Formatter<W>) -> fmt::Result {
+        print_xored(f, Self::TYPE, self.written())
     }
 }

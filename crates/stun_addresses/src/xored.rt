@@ -1,21 +1,20 @@
 //! An address that is XORed, so that no middlebox rewrites it (RFC 8489, section 14.2).
 
 ghost use Rattle.std.specs.Prelude.{◌≡◌, ◌≤◌, ◌++◌, false, length, drop, IfOk, IfErr};
-ghost use Rattle.std.specs.Net.Addr.{is_ipv6};
 ghost use Rattle.std.specs.Net.Socket.{socket_ip};
 ghost use Rattle.stun_base.specs.Data.{is_borrowed};
 ghost use Rattle.stun_attrs.specs.Raw.{raw_data, raw_value, IsRawOf};
-ghost use Rattle.stun_addresses.specs.Addresses.{address_value, address_fault, octets, mask, xor_bytes, IsXored, Spells};
+ghost use Rattle.stun_rules.specs.Addresses.{address_value, address_fault, octets, IsXored, Spells};
 ghost use Rattle.stun_addresses.specs.AddressAttributes.{written_addr};
 ghost use Rattle.stun_attrs.specs.Reading.{Reads};
 
 use crate::MappedSocketAddr;
-use crate::socket_value::{ipv4_of, ipv6_of};
-use byteorder::{BigEndian, ByteOrder};
 use std::alloc::Global;
-use std::net::{IpAddr, SocketAddr};
+use std::fmt;
+use std::net::SocketAddr;
 use stun_attrs::{MakeValue, RawAttribute};
-use stun_base::{AttributeType, MAGIC_COOKIE, StunParseError, StunWriteError, TransactionId};
+use stun_base::{AttributeType, StunParseError, StunWriteError, TransactionId};
+use stun_rules::{write_xored, xor_addr};
 
 /// An address as it stands in the value of an XOR-MAPPED-ADDRESS (RFC 8489, section 14.2): in the
 /// form of [`MappedSocketAddr`], its port XORed with the high half of the magic cookie, an IPv4
@@ -24,45 +23,6 @@ use stun_base::{AttributeType, MAGIC_COOKIE, StunParseError, StunWriteError, Tra
 pub struct XorSocketAddr {
     /// The address after the XOR, as it is written.
     pub addr: MappedSocketAddr,
-}
-
-/// The magic cookie followed by the transaction ID, in sixteen bytes.
-fn mask_of(transaction: TransactionId) -> [u8; 16]
-    ensures { result ≡ mask transaction }
-{
-    let mut bytes = u128::from(transaction).to_be_bytes();
-    BigEndian::write_u32(&mut bytes, MAGIC_COOKIE);
-    bytes
-}
-
-/// XORs each byte with the byte of the mask at the same index.
-fn xor_with(bytes: &mut [u8], mask: &[u8])
-    requires { length bytes.old ≤ length mask.now }
-    ensures { bytes.new ≡ xor_bytes bytes.old mask.now }
-{
-    for i in 0..bytes.len() {
-        bytes[i] ^= mask[i];
-    }
-}
-
-/// The address of the same family whose bytes are XORed with the mask.
-fn xor_ip(ip: IpAddr, mask: &[u8; 16]) -> IpAddr
-    ensures family { is_ipv6 result ≡ is_ipv6 ip }
-    ensures octets { octets result ≡ xor_bytes (octets ip) mask.now }
-    ensures bound { length (octets ip) ≤ 16 }
-{
-    match ip {
-        IpAddr::V4(ip) => {
-            let mut bytes = ip.octets();
-            xor_with(&mut bytes, mask);
-            IpAddr::V4(ipv4_of(&bytes))
-        }
-        IpAddr::V6(ip) => {
-            let mut bytes = ip.octets();
-            xor_with(&mut bytes, mask);
-            IpAddr::V6(ipv6_of(&bytes))
-        }
-    }
 }
 
 impl XorSocketAddr {
@@ -91,9 +51,7 @@ impl XorSocketAddr {
         ensures xored { IsXored transaction addr result }
         ensures bound { length (octets (socket_ip addr)) ≤ 16 }
     {
-        let mask = mask_of(transaction);
-        let port = addr.port() ^ (MAGIC_COOKIE >> 16) as u16;
-        SocketAddr::new(xor_ip(addr.ip(), &mask), port)
+        xor_addr(addr, transaction)
     }
 
     /// The length of the value: 8 bytes for IPv4, 20 for IPv6.
@@ -155,5 +113,19 @@ impl MakeValue for XorSocketAddr {
 
     fn write_value(&self, dest: &mut [u8]) {
         self.write_into_unchecked(dest);
+    }
+}
+
+/// An IPv4 address as it is without the XOR, since its XOR takes no transaction ID:
+/// `192.168.0.1:3178`. An IPv6 address as it is written, after the XOR:
+/// `XOR([2112:a442::5679]:9664)`.
+impl fmt::Display for XorSocketAddr {
+    ghost use Rattle.std.specs.Prelude.{Some};
+    ghost use Rattle.stun_rules.specs.Addresses.{xored_text};
+
+    ghost output = { λ xored. Some (xored_text (written_addr xored)) };
+
+    fn fmt<W: fmt::Write>(&self, f: &mut fmt::Formatter<W>) -> fmt::Result {
+        write_xored(f, self.addr.addr())
     }
 }

@@ -1,3 +1,4 @@
-pub mod Raw
 pub mod Checks
+pub mod Printed
+pub mod Raw
 pub mod Reading

@@ -1,6 +1,5 @@
-ghost use Rattle.std.specs.Prelude.{◌≡◌, ◌≢◌, ◌<◌, ◌≤◌, MatchResult, None, Some, length};
+ghost use Rattle.std.specs.Prelude.{◌≡◌, ◌≢◌, ◌<◌, ◌≤◌, MatchResult, None, Some};
 ghost use Rattle.stun_grammar.specs.declared.error.StunParseError.TheVariants.{WrongAttributeImplementation};
-ghost use Rattle.stun_grammar.specs.Lengths.{range_fault, exact_fault};
 ghost use Rattle.stun_attrs.specs.Raw.{raw_type, raw_value};
 ghost use Rattle.stun_attrs.specs.Checks.{start_fault, end_fault, check_fault};
 
@@ -25,46 +24,6 @@ pub(crate) fn checked_length(length: usize) -> Result<u16, StunParseError>
         });
     }
     Ok(length as u16)
-}
-
-/// Tests that a length is at least `least` and at most `greatest`.
-///
-/// # Errors
-///
-/// `Truncated { expected: least, actual: length }` where it is less than `least`. Otherwise
-/// `TooLarge { expected: greatest, actual: length }` where it is greater than `greatest`.
-pub fn check_range(length: usize, least: usize, greatest: usize) -> Result<(), StunParseError>
-    ensures { MatchResult result
-        (λ _. (range_fault least greatest length ≡ None) × (least ≤ length) × (length ≤ greatest))
-        (λ e. range_fault least greatest length ≡ Some e) }
-{
-    if length < least {
-        return Err(StunParseError::Truncated {
-            expected: least,
-            actual: length,
-        });
-    }
-    if length > greatest {
-        return Err(StunParseError::TooLarge {
-            expected: greatest,
-            actual: length,
-        });
-    }
-    Ok(())
-}
-
-/// Tests that a value has exactly `wanted` bytes.
-///
-/// # Errors
-///
-/// `Truncated { expected: wanted, actual }` where it has fewer, and
-/// `TooLarge { expected: wanted, actual }` where it has more.
-pub fn check_length(value: &[u8], wanted: usize) -> Result<(), StunParseError>
-    ensures { MatchResult result
-        (λ _. (exact_fault wanted (length value.now) ≡ None) × (length value.now ≡ wanted))
-        (λ e. exact_fault wanted (length value.now) ≡ Some e) }
-{
-    check_range(value.len(), wanted, wanted)
 }
 
 /// Tests that a raw attribute has the wanted type.

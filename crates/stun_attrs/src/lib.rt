@@ -8,13 +8,16 @@ mod borrowed;
 mod check;
 mod encoding;
 mod owned;
+mod printed;
 mod raw;
 mod walk;
 
 pub use attribute::{Attribute, AttributeFromRaw, AttributeStaticType, AttributeWrite};
 pub use borrowed::borrowed_attribute;
-pub use check::{check_length, check_range, check_type};
+pub use check::check_type;
 pub use encoding::{MakeValue, copy_to_start, raw_made, write_attribute, write_made};
 pub use owned::owned_attribute;
+pub use printed::print_malformed;
 pub use raw::RawAttribute;
+pub use stun_rules::{check_length, check_range};
 pub use walk::attribute_at;

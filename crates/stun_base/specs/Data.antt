@@ -1,5 +1,6 @@
--- The bytes of data, and whether they are borrowed.
-use Rattle.std.specs.Prelude.{ℕ, Bool, true, false, List}
+-- The bytes of data, whether they are borrowed, and how `{:?}` prints them.
+use Rattle.std.specs.Prelude.{ℕ, Bool, true, false, List, Option, Some, codes}
+use Rattle.std.specs.Fmt.{decimal, debug_list, debug_variant}
 use Rattle.std.specs.Box.{boxed_slice_items}
 use Rattle.stun_base.specs.declared.data.Data.{Data}
 use Rattle.stun_base.specs.declared.data.Data.TheVariants.{Borrowed, Owned}
@@ -21,3 +22,18 @@ data_bytes (Owned owned) = owned_bytes owned
 abbrev pub is_borrowed : Data → Bool
 is_borrowed (Borrowed slice) = true
 is_borrowed (Owned owned) = false
+
+-- bytes as `{:?}` prints them: each in decimal, in brackets
+abbrev pub bytes_text : List ℕ → Option (List ℕ)
+bytes_text = debug_list (λ byte. Some (decimal byte))
+
+-- borrowed bytes, owned ones, and bytes that the flag tells to be borrowed
+abbrev pub slice_text : List ℕ → Option (List ℕ)
+slice_text bytes = debug_variant (codes "DataSlice") (bytes_text bytes)
+
+abbrev pub owned_text : List ℕ → Option (List ℕ)
+owned_text bytes = debug_variant (codes "DataOwned") (bytes_text bytes)
+
+abbrev pub data_text : Bool → List ℕ → Option (List ℕ)
+data_text true bytes = debug_variant (codes "Borrowed") (slice_text bytes)
+data_text false bytes = debug_variant (codes "Owned") (owned_text bytes)

@@ -22,6 +22,16 @@ pub record NamesTransport (text : List ℕ)
   pub other : lowercase text ≢ codes "udp" → lowercase text ≢ codes "tcp"
       → result ≡ Err UnknownTransport
 
+-- the name of a transport, as it is printed
+abbrev pub transport_name : TransportType → List ℕ
+transport_name Udp = codes "UDP"
+transport_name Tcp = codes "TCP"
+
+-- the name of a family, as it is printed
+abbrev pub family_name : AddressFamily → List ℕ
+family_name IPV4 = codes "IPV4"
+family_name IPV6 = codes "IPV6"
+
 -- the family of an address
 abbrev pub family_of : IpAddr → AddressFamily
 family_of (V4 ip) = IPV4

@@ -1,6 +1,7 @@
 -- The type of a message: its class and its method (RFC 8489, section 5), and what a header holds.
 use Rattle.std.specs.Prelude.{ℕ, ◌+◌, ◌*◌, ◌/◌, ◌%◌, Bool, true, false, List, ◌++◌, ◌==◌, if◌then◌else◌, codes}
 use Rattle.std.specs.Fmt.{digits}
+use Rattle.stun_grammar.specs.Names.{method_text}
 use Rattle.stun_grammar.specs.Headers.{type_field, length_field, id_field}
 use Rattle.stun_base.specs.declared.message_type.MessageClass.{MessageClass}
 use Rattle.stun_base.specs.declared.message_type.MessageClass.TheVariants.{Request, Indication, Success, Error}
@@ -34,6 +35,19 @@ is_response Request = false
 is_response Indication = false
 is_response Success = true
 is_response Error = true
+
+-- the name of a class
+abbrev pub class_name : MessageClass → List ℕ
+class_name Request = codes "Request"
+class_name Indication = codes "Indication"
+class_name Success = codes "Success"
+class_name Error = codes "Error"
+
+-- a type as it is printed: its class and its method, after a parenthesis that is never closed
+abbrev pub message_type_text : ℕ → List ℕ
+message_type_text type =
+    codes "MessageType(class: " ++ class_name (class_of type) ++ codes ", method: "
+    ++ method_text (method_of type)
 
 -- a transaction ID as it is printed: in hexadecimal, without leading zeros
 abbrev pub id_text : ℕ → List ℕ

@@ -2,14 +2,33 @@
 
 ghost use Rattle.std.specs.Prelude.{◌≡◌, true, false, IfOk, IfErr, IsOk};
 ghost use Rattle.std.specs.Box.{boxed_slice_items};
-ghost use Rattle.stun_base.specs.Data.{slice_bytes, owned_bytes, data_bytes, is_borrowed};
+ghost use Rattle.std.specs.Fmt.{DisplaysOnOk, debug_variant};
+ghost use Rattle.stun_base.specs.Data.{slice_bytes, owned_bytes, data_bytes, is_borrowed, slice_text, owned_text};
 
 use std::alloc::Global;
 use std::boxed::BoxedSlice;
+use std::fmt;
 use stun_grammar::StunWriteError;
 
+/// Writes a name, and a value in parentheses behind it, as a derived `Debug` does.
+fn write_variant<T: fmt::Debug, W: fmt::Write>(
+    f: &mut fmt::Formatter<W>,
+    name: &str,
+    value: &T,
+) -> fmt::Result
+    ensures { DisplaysOnOk W.write_str_gives f.old result
+        (debug_variant name.now (T.debug_output value.now)) f.new }
+{
+    if f.alternate() {
+        return f.debug_tuple(name).field(value).finish();
+    }
+    write!(f, "{name}({value:?})")
+}
+
 /// Borrowed bytes.
-#[derive(Clone, Copy, Debug, PartialEq, Eq)]
+///
+/// `{:?}` prints the bytes in decimal: `DataSlice([4, 0])`.
+#[derive(Clone, Copy, PartialEq, Eq)]
 pub struct DataSlice<'a> {
     bytes: &'a [u8],
 }
@@ -53,8 +72,18 @@ impl<'a> From<&'a [u8]> for DataSlice<'a> {
     }
 }
 
+impl fmt::Debug for DataSlice<'_> {
+    ghost debug_output = { λ slice. slice_text (slice_bytes slice) };
+
+    fn fmt<W: fmt::Write>(&self, f: &mut fmt::Formatter<W>) -> fmt::Result {
+        write_variant(f, "DataSlice", &self.bytes)
+    }
+}
+
 /// Owned bytes.
-#[derive(Debug, PartialEq, Eq, Drop)]
+///
+/// `{:?}` prints the bytes in decimal: `DataOwned([4, 0])`.
+#[derive(PartialEq, Eq, Drop)]
 pub struct DataOwned {
     bytes: BoxedSlice<u8>,
 }
@@ -96,10 +125,21 @@ impl From<BoxedSlice<u8>> for DataOwned {
     }
 }
 
+impl fmt::Debug for DataOwned {
+    ghost debug_output = { λ owned. owned_text (owned_bytes owned) };
+
+    fn fmt<W: fmt::Write>(&self, f: &mut fmt::Formatter<W>) -> fmt::Result {
+        write_variant(f, "DataOwned", &self.as_bytes())
+    }
+}
+
 /// Borrowed or owned bytes.
 ///
+/// `{:?}` prints which they are, and the bytes in decimal: `Borrowed(DataSlice([4, 0]))`,
+/// `Owned(DataOwned([4, 0]))`.
+///
 /// Two values are equal where both are borrowed or both are owned, and their bytes are equal.
-#[derive(Debug, PartialEq, Eq, Drop)]
+#[derive(PartialEq, Eq, Drop)]
 pub enum Data<'a> {
     /// Bytes that are borrowed for `'a`.
     Borrowed(DataSlice<'a>),
@@ -175,5 +215,18 @@ impl<'a> From<BoxedSlice<u8>> for Data<'a> {
 
     fn from(bytes: BoxedSlice<u8>) -> Self {
         Data::Owned(DataOwned::from(bytes))
+    }
+}
+
+impl fmt::Debug for Data<'_> {
+    ghost use Rattle.stun_base.specs.Data.{is_borrowed, data_text};
+
+    ghost debug_output = { λ value. data_text (is_borrowed value) (data_bytes value) };
+
+    fn fmt<W: fmt::Write>(&self, f: &mut fmt::Formatter<W>) -> fmt::Result {
+        match self {
+            Data::Borrowed(slice) => write_variant(f, "Borrowed", slice),
+            Data::Owned(owned) => write_variant(f, "Owned", owned),
+        }
     }
 }

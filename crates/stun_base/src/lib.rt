@@ -1,11 +1,12 @@
 //! What attributes and messages are built on: bytes that are borrowed or owned, the header of a
 //! message with its type and transaction ID, the header of an attribute, transports and address
-//! families, and the error types.
+//! families, bytes in hexadecimal, and the error types.
 #![tactic(auto)]
 
 mod attribute_header;
 mod data;
 mod header;
+mod hex;
 mod laws;
 mod message_type;
 mod transaction_id;
@@ -14,6 +15,7 @@ mod transport;
 pub use attribute_header::{AttributeHeader, pad_attribute_len};
 pub use data::{Data, DataOwned, DataSlice};
 pub use header::{MessageHeader, number_at, read_header};
+pub use hex::Hex;
 pub use laws::{binding_request, one_message_type};
 pub use message_type::{BINDING, MessageClass, MessageType, Method};
 pub use stun_grammar::{AttributeType, StunParseError, StunWriteError, ValidateError};

@@ -2,15 +2,19 @@
 
 ghost use Rattle.std.specs.Prelude.{◌≡◌, ◌↔◌, ◌<◌, ◌≤◌, ◌++◌, ◌+◌, ◌^◌, IsTrue, Result, Ok, Err, IfOk, IfErr, length, drop, slice_range};
 ghost use Rattle.stun_grammar.specs.Numbers.{be16, number};
+ghost use Rattle.stun_grammar.specs.Names.{method_name};
 ghost use Rattle.stun_base.specs.Types.{type_of, class_of, method_of, class_bits, is_response as responds};
 
 use byteorder::{BigEndian, ByteOrder};
 use std::alloc::Global;
+use std::fmt;
 use std::marker::Model;
 use stun_grammar::{StunParseError, StunWriteError};
 
 /// The method of a message: a number below 0xf000, of which a message carries the low twelve bits
 /// (RFC 8489, section 5).
+///
+/// It prints as its number and its name: `1(0x1: BINDING)`.
 #[derive(Clone, Copy, Debug, PartialEq, Eq, PartialOrd, Ord, Hash)]
 pub struct Method(u16);
 
@@ -52,10 +56,35 @@ impl Method {
     {
         self.0
     }
+
+    /// The name of this method: `BINDING`, and `unknown` for every other (RFC 8489, section 18.2).
+    pub fn name(self) -> &'static str
+        ensures { result.now ≡ method_name self }
+    {
+        match self {
+            BINDING => "BINDING",
+            _ => "unknown",
+        }
+    }
+}
+
+/// The number in decimal, and in parentheses the number in hexadecimal, in lower case and without
+/// leading zeros, and the name: `1(0x1: BINDING)`, `2748(0xabc: unknown)`.
+impl fmt::Display for Method {
+    ghost use Rattle.std.specs.Prelude.{Some};
+    ghost use Rattle.stun_grammar.specs.Names.{method_text};
+
+    ghost output = { λ method. Some (method_text method) };
+
+    fn fmt<W: fmt::Write>(&self, f: &mut fmt::Formatter<W>) -> fmt::Result {
+        let value = self.0;
+        let name = self.name();
+        write!(f, "{value}(0x{value:x}: {name})")
+    }
 }
 
 /// The class of a message (RFC 8489, section 5).
-#[derive(Clone, Copy, Debug, PartialEq, Eq)]
+#[derive(Clone, Copy, PartialEq, Eq)]
 pub enum MessageClass {
     /// A request, which expects a response.
     Request,
@@ -88,8 +117,27 @@ impl MessageClass {
     }
 }
 
+/// The name of the class: `Request`, `Indication`, `Success` or `Error`.
+impl fmt::Debug for MessageClass {
+    ghost use Rattle.std.specs.Prelude.{Some};
+    ghost use Rattle.stun_base.specs.Types.{class_name};
+
+    ghost debug_output = { λ class. Some (class_name class) };
+
+    fn fmt<W: fmt::Write>(&self, f: &mut fmt::Formatter<W>) -> fmt::Result {
+        match self {
+            MessageClass::Request => f.write_str("Request"),
+            MessageClass::Indication => f.write_str("Indication"),
+            MessageClass::Success => f.write_str("Success"),
+            MessageClass::Error => f.write_str("Error"),
+        }
+    }
+}
+
 /// The type of a message: the first two bytes of its header, big-endian (RFC 8489, section 5). The
 /// two highest bits are zero, bits 4 and 8 are the class, and the other twelve the method.
+///
+/// It prints as its class and its method: `MessageType(class: Request, method: 1(0x1: BINDING)`.
 #[derive(Clone, Copy, Debug, PartialEq, Eq)]
 pub struct MessageType(u16);
 
@@ -212,5 +260,20 @@ impl MessageType {
             return Err(StunParseError::NotStun);
         }
         Ok(MessageType(number))
+    }
+}
+
+/// The class and the method, after a parenthesis that is not closed:
+/// `MessageType(class: Request, method: 1(0x1: BINDING)`.
+impl fmt::Display for MessageType {
+    ghost use Rattle.std.specs.Prelude.{Some};
+    ghost use Rattle.stun_base.specs.Types.{message_type_text};
+
+    ghost output = { λ mtype. Some (message_type_text mtype) };
+
+    fn fmt<W: fmt::Write>(&self, f: &mut fmt::Formatter<W>) -> fmt::Result {
+        let class = self.class();
+        let method = self.method();
+        write!(f, "MessageType(class: {class:?}, method: {method}")
     }
 }

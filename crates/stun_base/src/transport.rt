@@ -1,5 +1,6 @@
 //! The transports that carry messages, and the families of addresses.
 
+use std::fmt;
 use std::net::{IpAddr, Ipv4Addr, Ipv6Addr, SocketAddr, SocketAddrV4, SocketAddrV6};
 use std::str::FromStr;
 use thiserror::Error;
@@ -11,6 +12,26 @@ pub enum TransportType {
     Udp,
     /// TCP.
     Tcp,
+}
+
+/// `UDP` or `TCP`, in the width, with the fill and on the side that the format asks for, and cut to
+/// its precision, as a text is.
+impl fmt::Display for TransportType {
+    ghost use Rattle.std.specs.Prelude.{Some};
+    ghost use Rattle.std.specs.Fmt.{styled_text};
+    ghost use Rattle.stun_base.specs.Transports.{transport_name};
+
+    ghost output = { λ transport. Some (transport_name transport) };
+
+    ghost styled_output = { λ transport options.
+        Some (styled_text options (transport_name transport)) };
+
+    fn fmt<W: fmt::Write>(&self, f: &mut fmt::Formatter<W>) -> fmt::Result {
+        match self {
+            TransportType::Udp => f.pad("UDP"),
+            TransportType::Tcp => f.pad("TCP"),
+        }
+    }
 }
 
 /// Why a text is not the name of a transport.
@@ -51,6 +72,21 @@ pub enum AddressFamily {
     IPV4,
     /// IPv6.
     IPV6,
+}
+
+/// `IPV4` or `IPV6`.
+impl fmt::Display for AddressFamily {
+    ghost use Rattle.std.specs.Prelude.{Some};
+    ghost use Rattle.stun_base.specs.Transports.{family_name};
+
+    ghost output = { λ family. Some (family_name family) };
+
+    fn fmt<W: fmt::Write>(&self, f: &mut fmt::Formatter<W>) -> fmt::Result {
+        match self {
+            AddressFamily::IPV4 => write!(f, "IPV4"),
+            AddressFamily::IPV6 => write!(f, "IPV6"),
+        }
+    }
 }
 
 impl From<&SocketAddr> for AddressFamily {

@@ -7,7 +7,7 @@ use std::fmt;
 /// The type of an attribute: 16 bits (RFC 8489, section 14).
 ///
 /// It prints as its number and its name: `32(0x20: XOR-MAPPED-ADDRESS)`.
-#[derive(Clone, Copy, Debug, Default, PartialEq, Eq, PartialOrd, Ord, Hash)]
+#[derive(Clone, Copy, Default, PartialEq, Eq, PartialOrd, Ord, Hash)]
 pub struct AttributeType(pub u16);
 
 impl AttributeType {
@@ -90,5 +90,21 @@ impl fmt::Display for AttributeType {
         let value = self.0;
         let name = self.name();
         write!(f, "{value}(0x{value:x}: {name})")
+    }
+}
+
+/// The number in decimal: `AttributeType(32)`.
+impl fmt::Debug for AttributeType {
+    ghost use Rattle.std.specs.Prelude.{Some};
+    ghost use Rattle.stun_grammar.specs.Names.{attribute_type_debug};
+
+    ghost debug_output = { λ atype. Some (attribute_type_debug atype.0) };
+
+    fn fmt<W: fmt::Write>(&self, f: &mut fmt::Formatter<W>) -> fmt::Result {
+        if f.alternate() {
+            return f.debug_tuple("AttributeType").field(&self.0).finish();
+        }
+        let value = self.0;
+        write!(f, "AttributeType({value})")
     }
 }

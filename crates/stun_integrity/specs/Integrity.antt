@@ -1,15 +1,14 @@
 -- The attributes that protect a message: MESSAGE-INTEGRITY, MESSAGE-INTEGRITY-SHA256 and
 -- FINGERPRINT (RFC 8489, sections 14.5, 14.6 and 14.7).
 use Rattle.std.specs.Prelude.{◌≡◌, ℕ, ◌<◌, List, length, take, Result, Err, IsOkAnd, MatchOption}
-use Rattle.std.specs.Int.{w32, from_be_bytes}
 use Rattle.stun_grammar.specs.declared.error.StunParseError.{StunParseError}
 use Rattle.stun_grammar.specs.declared.error.StunWriteError.{StunWriteError}
 use Rattle.stun_grammar.specs.declared.integrity_algorithm.IntegrityAlgorithm.TheVariants.{Sha1, Sha256}
 use Rattle.stun_grammar.specs.Errors.{write_error}
 use Rattle.stun_grammar.specs.AttributeTypes.{MESSAGE_INTEGRITY, MESSAGE_INTEGRITY_SHA256, FINGERPRINT}
 use Rattle.stun_grammar.specs.Lengths.{exact_fault}
-use Rattle.stun_grammar.specs.Fingerprints.{masked_checksum}
 use Rattle.stun_grammar.specs.Verdicts.{hmac_fault}
+use Rattle.stun_rules.specs.Checksums.{masked_bytes}
 use Rattle.stun_attrs.specs.Reading.{typed_fault, Reads}
 use Rattle.stun_integrity.specs.declared.fingerprint.Fingerprint.{Fingerprint}
 use Rattle.stun_integrity.specs.declared.message_integrity.MessageIntegrity.{MessageIntegrity}
@@ -20,10 +19,6 @@ use Rattle.stun_integrity.specs.declared.message_integrity_sha256.MessageIntegri
 -- the checksum of a FINGERPRINT, four bytes, not XORed
 abbrev pub checksum_bytes : Fingerprint → List ℕ
 checksum_bytes attribute = attribute.fingerprint
-
--- four bytes, XORed as they are sent; twice, that gives the bytes back
-abbrev pub masked_bytes : List ℕ → List ℕ
-masked_bytes bytes = masked_checksum (from_be_bytes w32 bytes)
 
 -- the HMAC of a MESSAGE-INTEGRITY
 abbrev pub sha1_hmac : MessageIntegrity → List ℕ

@@ -10,11 +10,11 @@ ghost use Rattle.stun_grammar.specs.Hmac.{hmac};
 ghost use Rattle.stun_grammar.specs.Verdicts.{covered_bytes};
 ghost use Rattle.stun_keys.specs.Keys.{key_bytes};
 
-use crate::fingerprint::masked;
 use stun_base::pad_attribute_len;
 use stun_grammar::IntegrityAlgorithm;
 use stun_keys::digest::crc32;
 use stun_keys::keys::IntegrityKey;
+use stun_rules::masked;
 
 /// The length field of a message that ends with an attribute of `size` bytes at `offset`: the low
 /// sixteen bits of the number of bytes that follow the header, big-endian.

@@ -1,25 +1,14 @@
-ghost use Rattle.std.specs.Prelude.{◌≡◌};
-ghost use Rattle.stun_grammar.specs.Fingerprints.{masked_checksum};
-
 use std::alloc::Global;
 use std::boxed::BoxedSlice;
+use std::fmt;
 use stun_attrs::{
-    Attribute, AttributeFromRaw, AttributeStaticType, AttributeWrite, RawAttribute, check_length,
-    check_type, owned_attribute, write_attribute,
+    Attribute, AttributeFromRaw, AttributeStaticType, AttributeWrite, RawAttribute, check_type,
+    owned_attribute, write_attribute,
 };
 use stun_base::{AttributeType, StunParseError, StunWriteError};
 use stun_grammar::attribute_types;
 use stun_keys::digest::crc32;
-
-/// What a checksum is XORed with before it is sent: `STUN` in ASCII.
-const MASK: u32 = 0x5354_554E;
-
-/// A checksum as it is sent: XORed with 53 54 55 4E, in four bytes, big-endian.
-pub(crate) fn masked(checksum: u32) -> [u8; 4]
-    ensures { result ≡ masked_checksum checksum }
-{
-    (checksum ^ MASK).to_be_bytes()
-}
+use stun_rules::{masked, print_hex, read_checksum};
 
 /// FINGERPRINT: the CRC-32 of the message before it, in four bytes, big-endian (RFC 8489, section
 /// 14.7). The value is the CRC-32 XORed with 53 54 55 4E; this type holds it without the XOR.
@@ -34,7 +23,8 @@ impl Fingerprint {
     ghost use Rattle.stun_grammar.specs.Numbers.{be32};
     ghost use Rattle.stun_grammar.specs.Checksums.{crc};
     ghost use Rattle.stun_attrs.specs.Raw.{raw_type, raw_value};
-    ghost use Rattle.stun_integrity.specs.Integrity.{checksum_bytes, masked_bytes, ReadsFingerprint};
+    ghost use Rattle.stun_integrity.specs.Integrity.{checksum_bytes, ReadsFingerprint};
+    ghost use Rattle.stun_rules.specs.Checksums.{masked_bytes};
 
     /// The attribute of this checksum, not XORed.
     pub fn new(fingerprint: [u8; 4]) -> Self
@@ -64,13 +54,8 @@ impl Fingerprint {
         ensures { ReadsFingerprint (raw_type raw.now) (raw_value raw.now) result }
     {
         check_type(raw, Self::TYPE)?;
-        let value = raw.value().as_bytes();
-        check_length(value, 4)?;
-        let mut bytes = [0; 4];
-        bytes.copy_from_slice(value);
-        Ok(Fingerprint {
-            fingerprint: masked(u32::from_be_bytes(bytes)),
-        })
+        let fingerprint = read_checksum(raw.value().as_bytes())?;
+        Ok(Fingerprint { fingerprint })
     }
 
     /// The four bytes of the value, XORed.
@@ -94,7 +79,8 @@ impl AttributeStaticType for Fingerprint {
 
 impl Attribute for Fingerprint {
     ghost use Rattle.stun_grammar.specs.AttributeTypes.{FINGERPRINT};
-    ghost use Rattle.stun_integrity.specs.Integrity.{checksum_bytes, masked_bytes};
+    ghost use Rattle.stun_integrity.specs.Integrity.{checksum_bytes};
+    ghost use Rattle.stun_rules.specs.Checksums.{masked_bytes};
 
     ghost atype = { λ _. FINGERPRINT };
 
@@ -147,5 +133,20 @@ impl AttributeFromRaw<'_> for Fingerprint {
 
     fn from_raw(_alloc: Global, raw: RawAttribute<'_>) -> Result<Self, StunParseError> {
         Self::read(&raw)
+    }
+}
+
+/// The type and the checksum, not XORed, in hexadecimal:
+/// `32808(0x8028: FINGERPRINT): 0x0102fffe`.
+impl fmt::Display for Fingerprint {
+    ghost use Rattle.std.specs.Prelude.{Some};
+    ghost use Rattle.stun_grammar.specs.AttributeTypes.{FINGERPRINT};
+    ghost use Rattle.stun_grammar.specs.Names.{hex_text};
+    ghost use Rattle.stun_integrity.specs.Integrity.{checksum_bytes};
+
+    ghost output = { λ attribute. Some (hex_text FINGERPRINT (checksum_bytes attribute)) };
+
+    fn fmt<W: fmt::Write>(&self, f: &mut fmt::Formatter<W>) -> fmt::Result {
+        print_hex(f, Self::TYPE, self.fingerprint())
     }
 }

@@ -7,7 +7,6 @@
 mod covered;
 mod fingerprint;
 mod laws;
-mod lengths;
 mod message_integrity;
 mod message_integrity_sha256;
 mod userhash;
@@ -18,7 +17,7 @@ pub use laws::{
     fingerprint_is_read_back, integrity_is_read_back, integrity_sha256_is_read_back,
     userhash_is_read_back,
 };
-pub use lengths::{check_hmac_length, hmac_length};
 pub use message_integrity::MessageIntegrity;
 pub use message_integrity_sha256::MessageIntegritySha256;
+pub use stun_rules::{check_hmac_length, hmac_length, print_hex};
 pub use userhash::Userhash;

@@ -1,11 +1,13 @@
 use std::alloc::Global;
+use std::fmt;
 use stun_attrs::{
     Attribute, AttributeFromRaw, AttributeStaticType, AttributeWrite, RawAttribute,
-    borrowed_attribute, check_length, check_type, write_attribute,
+    borrowed_attribute, check_type, write_attribute,
 };
 use stun_base::{AttributeType, StunParseError, StunWriteError};
 use stun_grammar::attribute_types;
 use stun_keys::keys::{IntegrityAlgorithm, IntegrityKey};
+use stun_rules::{check_sha1_length, print_hex};
 
 /// MESSAGE-INTEGRITY: the HMAC-SHA1 of the message before it, 20 bytes (RFC 8489, section 14.5).
 #[derive(Debug, Clone, PartialEq, Eq, Drop)]
@@ -60,13 +62,12 @@ impl MessageIntegrity {
     }
 
     /// Reads a raw attribute. The value is copied into the result, which takes no memory.
-    #[tactic(auto, unfolding(stun_grammar::specs::Verdicts::hmac_fault))]
     fn read(raw: &RawAttribute<'_>) -> Result<Self, StunParseError>
         ensures { ReadsIntegrity (raw_type raw.now) (raw_value raw.now) result }
     {
         check_type(raw, Self::TYPE)?;
         let value = raw.value().as_bytes();
-        check_length(value, 20)?;
+        check_sha1_length(value.len())?;
         let mut hmac = [0; 20];
         hmac.copy_from_slice(value);
         Ok(MessageIntegrity { hmac })
@@ -136,5 +137,20 @@ impl AttributeFromRaw<'_> for MessageIntegrity {
 
     fn from_raw(_alloc: Global, raw: RawAttribute<'_>) -> Result<Self, StunParseError> {
         Self::read(&raw)
+    }
+}
+
+/// The type and the HMAC in hexadecimal, two digits for each byte, in lower case:
+/// `8(0x8: MESSAGE-INTEGRITY): 0x00010203` and so on.
+impl fmt::Display for MessageIntegrity {
+    ghost use Rattle.std.specs.Prelude.{Some};
+    ghost use Rattle.stun_grammar.specs.AttributeTypes.{MESSAGE_INTEGRITY};
+    ghost use Rattle.stun_grammar.specs.Names.{hex_text};
+    ghost use Rattle.stun_integrity.specs.Integrity.{sha1_hmac};
+
+    ghost output = { λ attribute. Some (hex_text MESSAGE_INTEGRITY (sha1_hmac attribute)) };
+
+    fn fmt<W: fmt::Write>(&self, f: &mut fmt::Formatter<W>) -> fmt::Result {
+        print_hex(f, Self::TYPE, self.hmac())
     }
 }

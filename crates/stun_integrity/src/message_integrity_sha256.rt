@@ -1,7 +1,7 @@
 ghost use Rattle.std.specs.Prelude.{◌≡◌, ◌↔◌, ◌<◌, ◌≤◌, ◌%◌, IsTrue, length, take};
 
-use crate::lengths::check_sha256_length;
 use std::alloc::{AllocError, Global};
+use std::fmt;
 use stun_attrs::{
     Attribute, AttributeFromRaw, AttributeStaticType, AttributeWrite, RawAttribute,
     borrowed_attribute, check_type, write_attribute,
@@ -9,6 +9,7 @@ use stun_attrs::{
 use stun_base::{AttributeType, StunParseError, StunWriteError};
 use stun_grammar::attribute_types;
 use stun_keys::keys::{IntegrityAlgorithm, IntegrityKey};
+use stun_rules::{check_sha256_length, print_hex};
 
 /// Whether the bytes are a nonempty prefix of an HMAC.
 fn is_prefix(prefix: &[u8], whole: &[u8; 32]) -> bool
@@ -220,5 +221,20 @@ impl AttributeFromRaw<'_> for MessageIntegritySha256 {
 
     fn from_raw(_alloc: Global, raw: RawAttribute<'_>) -> Result<Self, StunParseError> {
         Self::read(&raw)
+    }
+}
+
+/// The type and the HMAC, or the prefix of it that the attribute holds, in hexadecimal, two digits
+/// for each byte, in lower case: `28(0x1c: MESSAGE-INTEGRITY-SHA256): 0x00010203` and so on.
+impl fmt::Display for MessageIntegritySha256 {
+    ghost use Rattle.std.specs.Prelude.{Some};
+    ghost use Rattle.stun_grammar.specs.AttributeTypes.{MESSAGE_INTEGRITY_SHA256};
+    ghost use Rattle.stun_grammar.specs.Names.{hex_text};
+    ghost use Rattle.stun_integrity.specs.Integrity.{sha256_hmac};
+
+    ghost output = { λ attribute. Some (hex_text MESSAGE_INTEGRITY_SHA256 (sha256_hmac attribute)) };
+
+    fn fmt<W: fmt::Write>(&self, f: &mut fmt::Formatter<W>) -> fmt::Result {
+        print_hex(f, Self::TYPE, self.hmac())
     }
 }

@@ -3,12 +3,14 @@ ghost use Rattle.stun_integrity.specs.Userhash.{hash_bytes};
 
 use sha2::{Digest, Sha256};
 use std::alloc::Global;
+use std::fmt;
 use stun_attrs::{
     Attribute, AttributeFromRaw, AttributeStaticType, AttributeWrite, RawAttribute,
-    borrowed_attribute, check_length, check_type, write_attribute,
+    borrowed_attribute, check_type, write_attribute,
 };
 use stun_base::{AttributeType, StunParseError, StunWriteError};
 use stun_grammar::attribute_types;
+use stun_rules::{check_hash_length, print_hex};
 
 /// USERHASH: the SHA-256 of `username:realm`, 32 bytes, which is sent in place of the username
 /// (RFC 8489, section 14.4).
@@ -53,7 +55,7 @@ impl Userhash {
     {
         check_type(raw, Self::TYPE)?;
         let value = raw.value().as_bytes();
-        check_length(value, 32)?;
+        check_hash_length(value.len())?;
         let mut hash = [0; 32];
         hash.copy_from_slice(value);
         Ok(Userhash { hash })
@@ -122,5 +124,19 @@ impl AttributeFromRaw<'_> for Userhash {
 
     fn from_raw(_alloc: Global, raw: RawAttribute<'_>) -> Result<Self, StunParseError> {
         Self::read(&raw)
+    }
+}
+
+/// The type and the hash in hexadecimal, two digits for each byte, in lower case:
+/// `30(0x1e: USERHASH): 0x00010203` and so on.
+impl fmt::Display for Userhash {
+    ghost use Rattle.std.specs.Prelude.{Some};
+    ghost use Rattle.stun_grammar.specs.AttributeTypes.{USERHASH};
+    ghost use Rattle.stun_grammar.specs.Names.{hex_text};
+
+    ghost output = { λ attribute. Some (hex_text USERHASH (hash_bytes attribute)) };
+
+    fn fmt<W: fmt::Write>(&self, f: &mut fmt::Formatter<W>) -> fmt::Result {
+        print_hex(f, Self::TYPE, self.hash())
     }
 }

@@ -5,3 +5,4 @@ pub mod ItemsLemmas
 mod ValidatingLemmas
 mod LookingUpLemmas
 mod FindingLemmas
+mod PrintedLemmas

@@ -2,3 +2,4 @@ pub mod Iterating
 pub mod Endings
 pub mod Validating
 pub mod LookingUp
+pub mod Printed

@@ -1,6 +1,6 @@
-//! Reading messages: whether bytes are a message, which attributes they show, and whether the
-//! message validates (RFC 8489, sections 6.3, 14 and 14.5 to 14.7). The functions work on the bytes
-//! themselves; the type `Message` of `stun_types` is built on them.
+//! Reading messages: whether bytes are a message, which attributes they show, whether the message
+//! validates, and how it is printed (RFC 8489, sections 6.3, 14 and 14.5 to 14.7). The functions
+//! work on the bytes themselves; the type `Message` of `stun_types` is built on them.
 #![tactic(auto)]
 
 mod endings;
@@ -11,6 +11,7 @@ mod iterate;
 mod laws;
 mod look_up;
 mod parse;
+mod printed;
 mod validate;
 
 pub use framed::iter_framed;
@@ -18,4 +19,5 @@ pub use iterate::MessageAttributesIter;
 pub use laws::{found_has_its_type, shown_is_found};
 pub use look_up::nth_raw;
 pub use parse::check_message;
+pub use printed::print_message;
 pub use validate::{validate_bytes, validate_bytes_with_key};

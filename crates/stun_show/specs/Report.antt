@@ -1,8 +1,8 @@
 -- The report of a message, which the program prints.
-use Rattle.std.specs.Prelude.{ℕ, ◌/◌, ◌%◌, false, List, [], ◌∷◌, ◌++◌, length, codes, is_some, if◌then◌else◌, Option, None, Result, Ok, Err}
+use Rattle.std.specs.Prelude.{ℕ, List, [], ◌∷◌, ◌++◌, length, codes, is_some, if◌then◌else◌, Option, None, Result, Ok, Err}
 use Rattle.std.specs.List.{flat_map}
 use Rattle.std.specs.Option.{option_map_or}
-use Rattle.std.specs.Fmt.{decimal, digit_glyph}
+use Rattle.std.specs.Fmt.{decimal}
 use Rattle.stun_grammar.specs.declared.error.StunParseError.{StunParseError}
 use Rattle.stun_grammar.specs.declared.error.StunParseError.TheVariants.{NotStun, Truncated, TooLarge, FingerprintMismatch, MissingAttribute}
 use Rattle.stun_grammar.specs.declared.error.ValidateError.{ValidateError}
@@ -11,33 +11,17 @@ use Rattle.stun_grammar.specs.declared.integrity_algorithm.IntegrityAlgorithm.{I
 use Rattle.stun_grammar.specs.declared.integrity_algorithm.IntegrityAlgorithm.TheVariants.{Sha1, Sha256}
 use Rattle.stun_grammar.specs.Verdicts.{verdict, is_wanted}
 use Rattle.stun_grammar.specs.Numbers.{be16}
+use Rattle.stun_grammar.specs.Names.{hex}
 use Rattle.stun_grammar.specs.Chains.{Shown}
 use Rattle.stun_grammar.specs.Parsing.{parse_fault}
 use Rattle.stun_grammar.specs.Showing.{shown}
-use Rattle.stun_base.specs.declared.message_type.MessageClass.{MessageClass}
-use Rattle.stun_base.specs.declared.message_type.MessageClass.TheVariants.{Request, Indication, Success, Error}
-use Rattle.stun_base.specs.Types.{Header, header_of, class_of, method_of, id_text}
+use Rattle.stun_base.specs.Types.{Header, header_of, class_of, method_of, class_name, id_text}
 use Rattle.stun_show.specs.declared.engine.RunEnd.{RunEnd}
 use Rattle.stun_show.specs.declared.engine.RunEnd.TheVariants.{Shown as EndsShown, Refused as EndsRefused}
 
 -- the end of each line
 abbrev pub line_feed : List ℕ
 line_feed = 10 ∷ []
-
--- a byte as two hexadecimal digits, in lower case
-abbrev pub hex_byte : ℕ → List ℕ
-hex_byte byte = digit_glyph false (byte / 16) ∷ digit_glyph false (byte % 16) ∷ []
-
--- bytes in hexadecimal
-abbrev pub hex : List ℕ → List ℕ
-hex = flat_map hex_byte
-
--- the name of a class
-abbrev pub class_name : MessageClass → List ℕ
-class_name Request = codes "Request"
-class_name Indication = codes "Indication"
-class_name Success = codes "Success"
-class_name Error = codes "Error"
 
 -- the class, the method in decimal, the transaction ID in hexadecimal, the length field in decimal
 abbrev pub header_line : Header → List ℕ

@@ -7,55 +7,26 @@ ghost use Rattle.std.specs.List.{flat_map};
 ghost use Rattle.stun_base.specs.Types.{header_of};
 ghost use Rattle.stun_attrs.specs.Raw.{raw_type, raw_value};
 ghost use Rattle.stun_types.specs.Message.{message_bytes};
-ghost use Rattle.stun_show.specs.Report.{hex_byte, hex, class_name, header_line, value_text, attribute_line, refusal_line, password_verdict, integrity_line, integrity_lines, end_of_verdict, end_of_message, report, end_of};
+ghost use Rattle.stun_show.specs.Report.{header_line, value_text, attribute_line, refusal_line, password_verdict, integrity_line, integrity_lines, end_of_verdict, end_of_message, report, end_of};
 ghost use Rattle.std.specs.Option.{option_map};
 
 use crate::engine::RunEnd;
 use std::alloc::{AllocError, Global};
+use stun_base::Hex;
 use stun_types::attribute::RawAttribute;
 use stun_types::message::keys::{IntegrityAlgorithm, ShortTermCredentials};
-use stun_types::message::{Message, MessageClass, MessageHeader, StunParseError, ValidateError};
-
-/// Writes a byte as two hexadecimal digits.
-#[tactic(auto, using(std::proofs::lemmas::Fmt::hex_byte))]
-fn write_byte(text: &mut String, byte: u8) -> Result<(), AllocError>
-    ensures { OnOk result (string_bytes text.new ≡ string_bytes text.old ++ hex_byte byte) }
-{
-    write!(text, "{byte:02x}")
-}
-
-/// Writes bytes in hexadecimal.
-fn write_hex(text: &mut String, bytes: &[u8]) -> Result<(), AllocError>
-    ensures { OnOk result (string_bytes text.new ≡ string_bytes text.old ++ hex bytes.now) }
-{
-    for byte in bytes {
-        write_byte(text, *byte)?;
-    }
-    Ok(())
-}
-
-/// The name of a class.
-fn name_of(class: MessageClass) -> &'static str
-    ensures { result.now ≡ class_name class }
-{
-    match class {
-        MessageClass::Request => "Request",
-        MessageClass::Indication => "Indication",
-        MessageClass::Success => "Success",
-        MessageClass::Error => "Error",
-    }
-}
+use stun_types::message::{Message, MessageHeader, StunParseError, ValidateError};
 
 /// Writes the line of a header.
 fn write_header(text: &mut String, header: &MessageHeader) -> Result<(), AllocError>
     ensures { OnOk result
         (string_bytes text.new ≡ string_bytes text.old ++ header_line header.now) }
 {
-    let class = name_of(header.get_type().class());
+    let class = header.get_type().class();
     let method = header.get_type().method().value();
     let id = header.transaction_id();
     let length = header.data_length();
-    write!(text, "{class} method={method} id={id} length={length}\n")
+    write!(text, "{class:?} method={method} id={id} length={length}\n")
 }
 
 /// Writes a value in hexadecimal, or a dash where it is empty.
@@ -65,7 +36,7 @@ fn write_value(text: &mut String, value: &[u8]) -> Result<(), AllocError>
     if value.is_empty() {
         return text.push_str("-");
     }
-    write_hex(text, value)
+    write!(text, "{}", Hex(value))
 }
 
 /// Writes the line of an attribute.
@@ -82,10 +53,9 @@ fn write_attribute(
         })) }
 {
     let header = attribute.header();
+    let atype = header.get_type().value().to_be_bytes();
     let length = header.length();
-    write!(text, "{offset} 0x")?;
-    write_hex(text, &header.get_type().value().to_be_bytes())?;
-    write!(text, " {length} ")?;
+    write!(text, "{offset} 0x{} {length} ", Hex(&atype))?;
     write_value(text, attribute.value().as_bytes())?;
     text.push_str("\n")
 }

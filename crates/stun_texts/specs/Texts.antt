@@ -1,25 +1,18 @@
 -- Attributes whose value is a text (RFC 8489, sections 14.3, 14.9, 14.10, 14.14 and 14.16).
-use Rattle.std.specs.Prelude.{◌≡◌, ℕ, List, ◌++◌, codes, Option, Some, None, Result, if◌then◌else◌}
-use Rattle.std.specs.Str.{is_utf8}
+use Rattle.std.specs.Prelude.{◌≡◌, ℕ, List, Option, Result}
 use Rattle.std.specs.String.{string_bytes}
-use Rattle.std.specs.Option.{option_or}
-use Rattle.std.specs.declared.ops.Bound.TheVariants.{Included, Unbounded}
 use Rattle.stun_grammar.specs.declared.error.StunParseError.{StunParseError}
-use Rattle.stun_grammar.specs.declared.error.StunParseError.TheVariants.{InvalidAttributeData}
-use Rattle.stun_grammar.specs.Names.{attribute_type_text}
-use Rattle.stun_attrs.specs.Checks.{check_fault}
-use Rattle.stun_attrs.specs.Reading.{ReadsInMemory}
+use Rattle.stun_rules.specs.Texts as Rules
+use Rattle.stun_attrs.specs.Reading.{typed_fault, ReadsInMemory}
 use Rattle.stun_texts.specs.declared.text.TextAttribute.{TextAttribute}
 
 -- the bytes of its text, which are its value
 abbrev pub text_bytes : {type most : ℕ} → TextAttribute type most → List ℕ
 text_bytes attribute = string_bytes attribute.text
 
--- why a type and a value aren't the text of a wanted type and of at most so many bytes: the type and the length are tested first, and then that it is UTF-8
+-- why a type and a value aren't the text of a wanted type and of at most so many bytes
 abbrev pub text_fault : ℕ → ℕ → ℕ → List ℕ → Option StunParseError
-text_fault wanted most type value =
-    option_or (check_fault wanted Unbounded (Included most) type value)
-    (if is_utf8 value then None else Some InvalidAttributeData)
+text_fault wanted most = typed_fault wanted (Rules.text_fault most)
 
 -- what reading may answer: the fault, and where there is none the text, unless out of memory
 abbrev pub ReadsText : (wanted most : ℕ) → ℕ → List ℕ → Result (TextAttribute wanted most) StunParseError → Type 0
@@ -29,10 +22,3 @@ ReadsText wanted most type value = ReadsInMemory (text_fault wanted most type va
 abbrev pub IsReadAsText : (wanted greatest : ℕ) → {type most : ℕ} → (ℕ → List ℕ → Result (TextAttribute type most) StunParseError → Type 0) → Type 0
 IsReadAsText wanted greatest {type} {most} reads = (atype : ℕ) (value : List ℕ) (result : Result (TextAttribute type most) StunParseError) → reads atype value result
     → ReadsInMemory (text_fault wanted greatest atype value) (λ read. text_bytes read ≡ value) result
-
--- how a text is printed: its type, and behind it the text, as it is or in quotation marks
-abbrev pub plain_text : ℕ → List ℕ → List ℕ
-plain_text type text = attribute_type_text type ++ codes ": " ++ text
-
-abbrev pub quoted_text : ℕ → List ℕ → List ℕ
-quoted_text type text = attribute_type_text type ++ codes ": '" ++ text ++ codes "'"

@@ -2,7 +2,6 @@
 #![tactic(auto)]
 
 mod alternate_domain;
-mod check;
 mod laws;
 mod nonce;
 mod realm;

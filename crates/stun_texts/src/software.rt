@@ -5,10 +5,11 @@ use crate::TextAttribute;
 use std::fmt;
 use stun_attrs::Attribute;
 use stun_grammar::attribute_types;
+use stun_rules::{SOFTWARE_MOST, print_quoted};
 
 /// SOFTWARE: a description of the software that sent the message, of at most 763 bytes (RFC 8489,
 /// section 14.14).
-pub type Software = TextAttribute<{ attribute_types::SOFTWARE }, 763>;
+pub type Software = TextAttribute<{ attribute_types::SOFTWARE }, { SOFTWARE_MOST }>;
 
 impl Software {
     /// The text.
@@ -22,13 +23,11 @@ impl Software {
 impl fmt::Display for Software {
     ghost use Rattle.std.specs.Prelude.{Some};
     ghost use Rattle.stun_grammar.specs.AttributeTypes.{SOFTWARE};
-    ghost use Rattle.stun_texts.specs.Texts.{quoted_text};
+    ghost use Rattle.stun_grammar.specs.Names.{quoted_text};
 
     ghost output = { λ attribute. Some (quoted_text SOFTWARE (text_bytes attribute)) };
 
     fn fmt<W: fmt::Write>(&self, f: &mut fmt::Formatter<W>) -> fmt::Result {
-        let atype = self.get_type();
-        let text = self.text();
-        write!(f, "{atype}: '{text}'")
+        print_quoted(f, self.get_type(), self.text())
     }
 }

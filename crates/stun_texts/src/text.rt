@@ -1,13 +1,13 @@
 ghost use Rattle.std.specs.Prelude.{◌≡◌, ◌≤◌, length};
 ghost use Rattle.std.specs.String.{string_bytes};
 
-use crate::check::checked_text;
 use std::alloc::Global;
 use stun_attrs::{
     Attribute, AttributeFromRaw, AttributeStaticType, AttributeWrite, RawAttribute,
-    borrowed_attribute, write_attribute,
+    borrowed_attribute, check_type, write_attribute,
 };
 use stun_base::{AttributeType, StunParseError, StunWriteError};
+use stun_rules::read_text;
 
 /// An attribute of the type `TYPE` whose value is a text: at most `MOST` bytes of UTF-8, with no
 /// further preparation. Those of RFC 8489 have names of their own, as [`crate::Software`]; another
@@ -76,7 +76,8 @@ impl<const TYPE: u16, const MOST: u16> TextAttribute<TYPE, MOST> {
     fn read(alloc: Global, raw: &RawAttribute<'_>) -> Result<Self, StunParseError>
         ensures { ReadsText TYPE MOST (raw_type raw.now) (raw_value raw.now) result }
     {
-        let text = checked_text(raw, Self::TYPE, MOST)?;
+        check_type(raw, Self::TYPE)?;
+        let text = read_text(raw.value().as_bytes(), MOST)?;
         let text = String::from_str(alloc, text).map_err(|_| StunParseError::OutOfMemory)?;
         Ok(TextAttribute { text })
     }

@@ -5,9 +5,10 @@ use crate::TextAttribute;
 use std::fmt;
 use stun_attrs::Attribute;
 use stun_grammar::attribute_types;
+use stun_rules::{USERNAME_MOST, print_quoted};
 
 /// USERNAME: the name of the user of a credential, of at most 513 bytes (RFC 8489, section 14.3).
-pub type Username = TextAttribute<{ attribute_types::USERNAME }, 513>;
+pub type Username = TextAttribute<{ attribute_types::USERNAME }, { USERNAME_MOST }>;
 
 impl Username {
     /// The text.
@@ -21,13 +22,11 @@ impl Username {
 impl fmt::Display for Username {
     ghost use Rattle.std.specs.Prelude.{Some};
     ghost use Rattle.stun_grammar.specs.AttributeTypes.{USERNAME};
-    ghost use Rattle.stun_texts.specs.Texts.{quoted_text};
+    ghost use Rattle.stun_grammar.specs.Names.{quoted_text};
 
     ghost output = { λ attribute. Some (quoted_text USERNAME (text_bytes attribute)) };
 
     fn fmt<W: fmt::Write>(&self, f: &mut fmt::Formatter<W>) -> fmt::Result {
-        let atype = self.get_type();
-        let text = self.text();
-        write!(f, "{atype}: '{text}'")
+        print_quoted(f, self.get_type(), self.text())
     }
 }

@@ -6,6 +6,7 @@ pub use stun_attrs::{
     Attribute, AttributeFromRaw, AttributeStaticType, AttributeWrite, RawAttribute,
 };
 pub use stun_base::{AttributeHeader, AttributeType, pad_attribute_len};
+pub use stun_registry::AttributeDisplay;
 pub use typed::{
     AlternateDomain, AlternateServer, ErrorCode, ErrorCodeBuilder, Fingerprint, MappedSocketAddr,
     MessageIntegrity, MessageIntegritySha256, Nonce, PasswordAlgorithm, PasswordAlgorithmValue,

@@ -13,6 +13,7 @@ pub mod attribute;
 pub mod data;
 pub mod message;
 pub mod prelude;
+pub mod show;
 
 pub use stun_addresses::xor_twice;
 pub use stun_base::{AddressFamily, ParseTransportTypeError, TransportType};

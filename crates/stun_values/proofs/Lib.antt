@@ -1,4 +1,2 @@
-mod AlgorithmsLemmas
 mod ErrorsLemmas
-mod ListsLemmas
 mod ReadBackLemmas

@@ -5,33 +5,27 @@ use Rattle.std.proofs.lemmas.Bool.{le-ltb}
 use Rattle.std.proofs.lemmas.Str.{IsUtf8-string_bytes}
 use Rattle.stun_grammar.specs.declared.error.StunParseError.{StunParseError}
 use Rattle.stun_grammar.specs.declared.error.StunParseError.TheVariants.{OutOfMemory}
-use Rattle.stun_values.specs.declared.algorithm.PasswordAlgorithmValue.{PasswordAlgorithmValue}
-use Rattle.stun_values.specs.declared.algorithm.PasswordAlgorithmValue.TheVariants.{MD5, SHA256}
+use Rattle.stun_rules.specs.declared.algorithm.PasswordAlgorithmValue.{PasswordAlgorithmValue}
+use Rattle.stun_rules.specs.declared.algorithm.PasswordAlgorithmValue.TheVariants.{MD5, SHA256}
 use Rattle.stun_values.specs.declared.password_algorithm.PasswordAlgorithm.{PasswordAlgorithm}
 use Rattle.stun_values.specs.declared.password_algorithms.PasswordAlgorithms.{PasswordAlgorithms}
 use Rattle.stun_values.specs.declared.error_code.ErrorCode.{ErrorCode}
 use Rattle.stun_attrs.specs.Reading.{typed_fault}
-use Rattle.stun_values.specs.Algorithms.{algorithm_encoding, algorithms_encoding, fault_within, one_algorithm_fault, algorithms_fault, ReadsAlgorithm, ReadsAlgorithms}
-use Rattle.stun_values.specs.Passwords.{held_algorithm, held_algorithms}
-use Rattle.stun_values.specs.Errors.{error_value, told_code, error_fault}
+use Rattle.stun_rules.specs.Algorithms.{algorithm_encoding, algorithms_encoding, fault_within, one_algorithm_fault, algorithms_fault}
+use Rattle.stun_values.specs.Passwords.{ReadsAlgorithm, ReadsAlgorithms, held_algorithm, held_algorithms}
+use Rattle.stun_rules.specs.Errors.{error_value, told_code, error_fault}
 use Rattle.stun_values.specs.ErrorCodes.{error_code, error_reason, IsError, ReadsError}
 use Rattle.stun_grammar.specs.AttributeTypes.{ERROR_CODE, UNKNOWN_ATTRIBUTES, PASSWORD_ALGORITHM, PASSWORD_ALGORITHMS}
 use Rattle.stun_grammar.specs.Lengths.{range_fault}
 use Rattle.stun_grammar.specs.declared.attribute_type.AttributeType.{AttributeType}
 use Rattle.stun_values.specs.declared.unknown_attributes.UnknownAttributes.{UnknownAttributes}
-use Rattle.stun_values.specs.Types.{type_encoding, types_encoding, types_fault, AreTypes, ReadsTypes}
-use Rattle.stun_values.specs.Unknown.{listed}
-use Rattle.stun_values.proofs.ListsLemmas.{length_of_entries, length_of_twos}
-use Rattle.stun_values.proofs.ErrorsLemmas.{tells, is_error}
+use Rattle.stun_rules.specs.Types.{type_encoding, types_encoding, types_fault, AreTypes}
+use Rattle.stun_values.specs.Unknown.{ReadsTypes, listed}
+use Rattle.stun_rules.proofs.ListsLemmas.{length_of_entries, length_of_twos}
+use Rattle.stun_rules.proofs.AlgorithmsLemmas.{algorithm_one}
+use Rattle.stun_rules.proofs.ErrorsLemmas.{tells, is_error}
 
 -- ---- PASSWORD-ALGORITHM
-
--- an algorithm has one spelling
-algorithm_one : (a b : PasswordAlgorithmValue) → algorithm_encoding a ≡ algorithm_encoding b → a ≡ b
-algorithm_one MD5 MD5 e = refl
-algorithm_one MD5 SHA256 e = let kind : 1 ≡ 2 = ap (λ (l : List ℕ). get_or l 1 0) e in absurd (omega (arith, kind))
-algorithm_one SHA256 MD5 e = let kind : 2 ≡ 1 = ap (λ (l : List ℕ). get_or l 1 0) e in absurd (omega (arith, kind))
-algorithm_one SHA256 SHA256 e = refl
 
 spelling_read : (a : PasswordAlgorithmValue) → typed_fault PASSWORD_ALGORITHM one_algorithm_fault PASSWORD_ALGORITHM (algorithm_encoding a) ≡ None
 spelling_read MD5 = refl

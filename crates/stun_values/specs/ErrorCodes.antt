@@ -7,7 +7,8 @@ use Rattle.stun_grammar.specs.declared.error.StunWriteError.{StunWriteError}
 use Rattle.stun_grammar.specs.declared.error.StunWriteError.TheVariants.{OutOfMemory}
 use Rattle.stun_grammar.specs.AttributeTypes.{ERROR_CODE}
 use Rattle.stun_attrs.specs.Reading.{typed_fault, ReadsInMemory}
-use Rattle.stun_values.specs.Errors.{told_code, error_fault, making_fault, default_reason}
+use Rattle.stun_rules.specs.Errors.{told_code, error_fault}
+use Rattle.stun_values.specs.Errors.{making_fault, default_reason}
 use Rattle.stun_values.specs.declared.error_code.ErrorCode.{ErrorCode}
 use Rattle.stun_values.specs.declared.error_code.ErrorCodeBuilder.{ErrorCodeBuilder}
 

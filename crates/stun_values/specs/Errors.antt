@@ -1,34 +1,7 @@
--- Error codes and their reasons (RFC 8489, section 14.8).
-use Rattle.std.specs.Prelude.{ℕ, ◌+◌, ◌*◌, ◌/◌, ◌%◌, Bool, ◌&&◌, List, ◌∷◌, length, drop, codes, slice_index, Option, Some, None, nat_lt, nat_le, ◌==◌, if◌then◌else◌}
-use Rattle.std.specs.Str.{is_utf8}
-use Rattle.std.specs.Option.{option_or}
-use Rattle.stun_grammar.specs.declared.error.StunParseError.{StunParseError}
-use Rattle.stun_grammar.specs.declared.error.StunParseError.TheVariants.{InvalidAttributeData}
+-- Making an error code, and the reasons that go with the codes (RFC 8489, section 14.8).
+use Rattle.std.specs.Prelude.{ℕ, ◌&&◌, List, length, codes, Option, Some, None, nat_lt, nat_le, ◌==◌, if◌then◌else◌}
 use Rattle.stun_grammar.specs.declared.error.StunWriteError.{StunWriteError}
 use Rattle.stun_grammar.specs.declared.error.StunWriteError.TheVariants as Write
-use Rattle.stun_grammar.specs.Lengths.{range_fault}
-
--- two zeros, the class of the code (its hundreds) and its number (the rest) in a byte each, and the reason
-abbrev pub error_value : ℕ → List ℕ → List ℕ
-error_value code reason = 0 ∷ 0 ∷ (code / 100) ∷ (code % 100) ∷ reason
-
--- the class in a value; the bits above its low three are ignored, and so are its first two bytes
-abbrev pub code_class : List ℕ → ℕ
-code_class value = slice_index value 2 % 8
-
--- the code in a value
-abbrev pub told_code : List ℕ → ℕ
-told_code value = 100 * code_class value + slice_index value 3
-
--- the class and the number are those of a code
-abbrev pub tells_code : List ℕ → Bool
-tells_code value = nat_le 3 (code_class value) && (nat_le (code_class value) 6 && nat_le (slice_index value 3) 99)
-
--- why a value isn't a code and a reason
-abbrev pub error_fault : List ℕ → Option StunParseError
-error_fault value =
-    option_or (range_fault 4 767 (length value))
-    (if tells_code value && is_utf8 (drop 4 value) then None else Some InvalidAttributeData)
 
 -- why no attribute is made of a code and a reason
 abbrev pub making_fault : ℕ → List ℕ → Option StunWriteError

@@ -1,6 +1,4 @@
-pub mod Algorithms
 pub mod ErrorCodes
 pub mod Errors
 pub mod Passwords
-pub mod Types
 pub mod Unknown

@@ -1,14 +1,16 @@
 ghost use Rattle.std.specs.Prelude.{◌≡◌, ◌≤◌, length};
 ghost use Rattle.std.specs.String.{string_bytes};
 
-use crate::error_value::{check_making, read_error, write_error};
+use crate::error_value::{check_making, write_error};
 use std::alloc::Global;
+use std::fmt;
 use stun_attrs::{
     Attribute, AttributeFromRaw, AttributeStaticType, AttributeWrite, MakeValue, RawAttribute,
     check_type, raw_made, write_made,
 };
 use stun_base::{AttributeType, StunParseError, StunWriteError};
 use stun_grammar::attribute_types;
+use stun_rules::{print_error, read_error};
 
 /// ERROR-CODE: why a request failed, as a code of 300 to 699 and a reason of at most 763 bytes of
 /// UTF-8 (RFC 8489, section 14.8).
@@ -212,7 +214,7 @@ impl AttributeStaticType for ErrorCode {
 }
 
 impl MakeValue for ErrorCode {
-    ghost use Rattle.stun_values.specs.Errors.{error_value};
+    ghost use Rattle.stun_rules.specs.Errors.{error_value};
     ghost use Rattle.stun_values.specs.ErrorCodes.{error_code, error_reason};
 
     ghost bytes = { λ attribute. error_value (error_code attribute) (error_reason attribute) };
@@ -228,7 +230,7 @@ impl MakeValue for ErrorCode {
 
 impl Attribute for ErrorCode {
     ghost use Rattle.stun_grammar.specs.AttributeTypes.{ERROR_CODE};
-    ghost use Rattle.stun_values.specs.Errors.{error_value};
+    ghost use Rattle.stun_rules.specs.Errors.{error_value};
     ghost use Rattle.stun_values.specs.ErrorCodes.{error_code, error_reason};
 
     ghost atype = { λ _. ERROR_CODE };
@@ -278,5 +280,18 @@ impl AttributeFromRaw<'_> for ErrorCode {
 
     fn from_raw(alloc: Global, raw: RawAttribute<'_>) -> Result<Self, StunParseError> {
         Self::read(alloc, &raw)
+    }
+}
+
+/// The type, the code and the reason: `9(0x9: ERROR-CODE): 420 'Unknown Attribute'`.
+impl fmt::Display for ErrorCode {
+    ghost use Rattle.std.specs.Prelude.{Some};
+    ghost use Rattle.stun_rules.specs.Errors.{error_text};
+    ghost use Rattle.stun_values.specs.ErrorCodes.{error_code, error_reason};
+
+    ghost output = { λ attribute. Some (error_text (error_code attribute) (error_reason attribute)) };
+
+    fn fmt<W: fmt::Write>(&self, f: &mut fmt::Formatter<W>) -> fmt::Result {
+        print_error(f, self.code(), self.reason())
     }
 }

@@ -9,12 +9,12 @@ ghost use Rattle.stun_values.specs.declared.error_code.ErrorCode.{ErrorCode};
 ghost use Rattle.stun_values.specs.declared.unknown_attributes.UnknownAttributes.{UnknownAttributes};
 ghost use Rattle.stun_values.specs.declared.password_algorithm.PasswordAlgorithm.{PasswordAlgorithm};
 ghost use Rattle.stun_values.specs.declared.password_algorithms.PasswordAlgorithms.{PasswordAlgorithms};
-ghost use Rattle.stun_values.specs.Algorithms.{algorithm_encoding, algorithms_encoding, ReadsAlgorithm, ReadsAlgorithms};
+ghost use Rattle.stun_rules.specs.Algorithms.{algorithm_encoding, algorithms_encoding};
+ghost use Rattle.stun_values.specs.Passwords.{ReadsAlgorithm, ReadsAlgorithms, held_algorithm, held_algorithms};
 ghost use Rattle.stun_values.specs.ErrorCodes.{error_code, error_reason, IsError, ReadsError};
-ghost use Rattle.stun_values.specs.Errors.{error_value};
-ghost use Rattle.stun_values.specs.Passwords.{held_algorithm, held_algorithms};
-ghost use Rattle.stun_values.specs.Types.{types_encoding, AreTypes, ReadsTypes};
-ghost use Rattle.stun_values.specs.Unknown.{listed};
+ghost use Rattle.stun_rules.specs.Errors.{error_value};
+ghost use Rattle.stun_rules.specs.Types.{types_encoding, AreTypes};
+ghost use Rattle.stun_values.specs.Unknown.{ReadsTypes, listed};
 
 /// An ERROR-CODE is read back, unless out of memory.
 pub fn error_code_is_read_back()

@@ -2,7 +2,6 @@
 //! algorithms: ERROR-CODE, UNKNOWN-ATTRIBUTES, PASSWORD-ALGORITHM and PASSWORD-ALGORITHMS.
 #![tactic(auto)]
 
-mod algorithm;
 mod error_code;
 mod error_value;
 mod laws;
@@ -10,7 +9,6 @@ mod password_algorithm;
 mod password_algorithms;
 mod unknown_attributes;
 
-pub use algorithm::PasswordAlgorithmValue;
 pub use error_code::{ErrorCode, ErrorCodeBuilder};
 pub use laws::{
     error_code_is_read_back, password_algorithm_is_read_back, password_algorithms_is_read_back,
@@ -18,4 +16,8 @@ pub use laws::{
 };
 pub use password_algorithm::PasswordAlgorithm;
 pub use password_algorithms::PasswordAlgorithms;
+pub use stun_rules::{
+    PasswordAlgorithmValue, check_algorithms, print_algorithm, print_algorithms,
+    print_algorithms_in, print_error, print_types,
+};
 pub use unknown_attributes::UnknownAttributes;

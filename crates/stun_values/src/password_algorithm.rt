@@ -1,15 +1,15 @@
 ghost use Rattle.std.specs.Prelude.{◌≡◌};
 ghost use Rattle.stun_values.specs.Passwords.{held_algorithm};
 
-use crate::PasswordAlgorithmValue;
-use crate::algorithm::{read_one, write_algorithm};
 use std::alloc::Global;
+use std::fmt;
 use stun_attrs::{
     Attribute, AttributeFromRaw, AttributeStaticType, AttributeWrite, MakeValue, RawAttribute,
     check_type, raw_made, write_made,
 };
 use stun_base::{AttributeType, StunParseError, StunWriteError};
 use stun_grammar::attribute_types;
+use stun_rules::{PasswordAlgorithmValue, print_algorithm, read_one, write_algorithm};
 
 /// PASSWORD-ALGORITHM: the algorithm that a client chose for its password (RFC 8489, section
 /// 14.12).
@@ -22,7 +22,7 @@ pub struct PasswordAlgorithm {
 
 impl PasswordAlgorithm {
     ghost use Rattle.stun_attrs.specs.Raw.{raw_type, raw_value};
-    ghost use Rattle.stun_values.specs.Algorithms.{ReadsAlgorithm};
+    ghost use Rattle.stun_values.specs.Passwords.{ReadsAlgorithm};
 
     /// The attribute of this algorithm.
     pub fn new(algorithm: PasswordAlgorithmValue) -> Self
@@ -60,7 +60,7 @@ impl AttributeStaticType for PasswordAlgorithm {
 }
 
 impl MakeValue for PasswordAlgorithm {
-    ghost use Rattle.stun_values.specs.Algorithms.{algorithm_encoding};
+    ghost use Rattle.stun_rules.specs.Algorithms.{algorithm_encoding};
 
     ghost bytes = { λ attribute. algorithm_encoding (held_algorithm attribute) };
 
@@ -75,7 +75,7 @@ impl MakeValue for PasswordAlgorithm {
 
 impl Attribute for PasswordAlgorithm {
     ghost use Rattle.stun_grammar.specs.AttributeTypes.{PASSWORD_ALGORITHM};
-    ghost use Rattle.stun_values.specs.Algorithms.{algorithm_encoding};
+    ghost use Rattle.stun_rules.specs.Algorithms.{algorithm_encoding};
 
     ghost atype = { λ _. PASSWORD_ALGORITHM };
 
@@ -111,7 +111,7 @@ impl AttributeWrite for PasswordAlgorithm {
 /// `TooLarge { expected: 4, actual: 4 + p }`; another number as `InvalidAttributeData`. What
 /// follows the first four bytes is ignored.
 impl AttributeFromRaw<'_> for PasswordAlgorithm {
-    ghost use Rattle.stun_values.specs.Algorithms.{ReadsAlgorithm};
+    ghost use Rattle.stun_values.specs.Passwords.{ReadsAlgorithm};
 
     ghost reads_ref = { ReadsAlgorithm held_algorithm };
 
@@ -123,5 +123,17 @@ impl AttributeFromRaw<'_> for PasswordAlgorithm {
 
     fn from_raw(_alloc: Global, raw: RawAttribute<'_>) -> Result<Self, StunParseError> {
         Self::read(&raw)
+    }
+}
+
+/// The type and the algorithm: `29(0x1d: PASSWORD-ALGORITHM): MD5`.
+impl fmt::Display for PasswordAlgorithm {
+    ghost use Rattle.std.specs.Prelude.{Some};
+    ghost use Rattle.stun_rules.specs.Algorithms.{algorithm_text};
+
+    ghost output = { λ attribute. Some (algorithm_text (held_algorithm attribute)) };
+
+    fn fmt<W: fmt::Write>(&self, f: &mut fmt::Formatter<W>) -> fmt::Result {
+        print_algorithm(f, self.algorithm())
     }
 }

@@ -1,14 +1,17 @@
-ghost use Rattle.std.specs.Prelude.{◌≡◌, ◌≤◌, length};
+ghost use Rattle.std.specs.Prelude.{◌≡◌, ◌≤◌, ◌/◌, None, length};
+ghost use Rattle.stun_rules.specs.Algorithms.{algorithms_encoding, fault_within};
 
-use crate::PasswordAlgorithmValue;
-use crate::algorithm::{check_algorithms, read_algorithm, write_algorithms};
 use std::alloc::Global;
+use std::fmt;
 use stun_attrs::{
     Attribute, AttributeFromRaw, AttributeStaticType, AttributeWrite, MakeValue, RawAttribute,
     check_type, raw_made, write_made,
 };
 use stun_base::{AttributeType, StunParseError, StunWriteError};
 use stun_grammar::attribute_types;
+use stun_rules::{
+    PasswordAlgorithmValue, check_algorithms, print_algorithms, read_algorithm, write_algorithms,
+};
 
 /// PASSWORD-ALGORITHMS: the algorithms that a server supports for passwords, the preferred one
 /// first (RFC 8489, section 14.11).
@@ -21,10 +24,9 @@ pub struct PasswordAlgorithms {
 }
 
 impl PasswordAlgorithms {
-    ghost use Rattle.std.specs.Prelude.{◌<◌, ◌*◌, ◌/◌, ◌%◌, Err, None, IfOk, IfErr, MatchResult};
+    ghost use Rattle.std.specs.Prelude.{◌<◌, ◌*◌, ◌%◌, Err, IfOk, IfErr, MatchResult};
     ghost use Rattle.stun_attrs.specs.Raw.{raw_type, raw_value};
-    ghost use Rattle.stun_values.specs.Algorithms.{ReadsAlgorithms, algorithms_encoding, fault_within};
-    ghost use Rattle.stun_values.specs.Passwords.{held_algorithms};
+    ghost use Rattle.stun_values.specs.Passwords.{ReadsAlgorithms, held_algorithms};
 
     /// The attribute of these algorithms, copied into memory from `alloc`. An empty list is
     /// accepted, though reading refuses its value.
@@ -117,17 +119,17 @@ impl AttributeStaticType for PasswordAlgorithms {
 }
 
 impl MakeValue for PasswordAlgorithms {
-    ghost use Rattle.stun_values.specs.Algorithms.{algorithms_encoding};
+    ghost use Rattle.stun_rules.specs.Algorithms.{algorithms_encoding};
     ghost use Rattle.stun_values.specs.Passwords.{held_algorithms};
 
     ghost bytes = { λ attribute. algorithms_encoding (held_algorithms attribute) };
 
-    #[tactic(auto, using(crate::proofs::ListsLemmas::length_of_entries))]
+    #[tactic(auto, using(stun_rules::proofs::ListsLemmas::length_of_entries))]
     fn size(&self) -> u16 {
         4 * self.algorithms().len() as u16
     }
 
-    #[tactic(auto, using(crate::proofs::ListsLemmas::length_of_entries))]
+    #[tactic(auto, using(stun_rules::proofs::ListsLemmas::length_of_entries))]
     fn write_value(&self, dest: &mut [u8]) {
         write_algorithms(self.algorithms(), dest);
     }
@@ -135,7 +137,7 @@ impl MakeValue for PasswordAlgorithms {
 
 impl Attribute for PasswordAlgorithms {
     ghost use Rattle.stun_grammar.specs.AttributeTypes.{PASSWORD_ALGORITHMS};
-    ghost use Rattle.stun_values.specs.Algorithms.{algorithms_encoding};
+    ghost use Rattle.stun_rules.specs.Algorithms.{algorithms_encoding};
     ghost use Rattle.stun_values.specs.Passwords.{held_algorithms};
 
     ghost atype = { λ _. PASSWORD_ALGORITHMS };
@@ -173,8 +175,7 @@ impl AttributeWrite for PasswordAlgorithms {
 /// `InvalidAttributeData` if it has another number; and a failed allocation as `OutOfMemory`, since
 /// the list is kept in memory from `alloc`.
 impl AttributeFromRaw<'_> for PasswordAlgorithms {
-    ghost use Rattle.stun_values.specs.Algorithms.{ReadsAlgorithms};
-    ghost use Rattle.stun_values.specs.Passwords.{held_algorithms};
+    ghost use Rattle.stun_values.specs.Passwords.{ReadsAlgorithms, held_algorithms};
 
     ghost reads_ref = { ReadsAlgorithms held_algorithms };
 
@@ -186,5 +187,18 @@ impl AttributeFromRaw<'_> for PasswordAlgorithms {
 
     fn from_raw(alloc: Global, raw: RawAttribute<'_>) -> Result<Self, StunParseError> {
         Self::read(alloc, &raw)
+    }
+}
+
+/// The type and the algorithms: `32770(0x8002: PASSWORD_ALGORITHMS): [MD5, SHA256]`.
+impl fmt::Display for PasswordAlgorithms {
+    ghost use Rattle.std.specs.Prelude.{Some};
+    ghost use Rattle.stun_rules.specs.Algorithms.{algorithms_text};
+    ghost use Rattle.stun_values.specs.Passwords.{held_algorithms};
+
+    ghost output = { λ attribute. Some (algorithms_text (held_algorithms attribute)) };
+
+    fn fmt<W: fmt::Write>(&self, f: &mut fmt::Formatter<W>) -> fmt::Result {
+        print_algorithms(f, self.algorithms())
     }
 }

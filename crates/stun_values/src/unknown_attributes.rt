@@ -1,14 +1,16 @@
 ghost use Rattle.std.specs.Prelude.{◌≡◌, ◌*◌, ◌≤◌, ◌++◌, length, drop};
-ghost use Rattle.stun_values.specs.Types.{types_encoding};
+ghost use Rattle.stun_rules.specs.Types.{types_encoding};
 
 use byteorder::{BigEndian, ByteOrder};
 use std::alloc::Global;
+use std::fmt;
 use stun_attrs::{
     Attribute, AttributeFromRaw, AttributeStaticType, AttributeWrite, MakeValue, RawAttribute,
     check_type, raw_made, write_made,
 };
 use stun_base::{AttributeType, StunParseError, StunWriteError, number_at};
 use stun_grammar::attribute_types;
+use stun_rules::{check_types, print_types};
 
 /// Writes two bytes for each type at the start of `dest`, which has room for them, in order.
 fn write_types(types: &[AttributeType], dest: &mut [u8])
@@ -32,8 +34,7 @@ pub struct UnknownAttributes {
 impl UnknownAttributes {
     ghost use Rattle.std.specs.Prelude.{◌<◌, ◌↔◌, [], ◌∷◌, ◌%◌, Err, Ok, IfOk, IfErr, OnOk, OnErr, IsTrue, Contains, MatchResult};
     ghost use Rattle.stun_attrs.specs.Raw.{raw_type, raw_value};
-    ghost use Rattle.stun_values.specs.Types.{ReadsTypes};
-    ghost use Rattle.stun_values.specs.Unknown.{listed};
+    ghost use Rattle.stun_values.specs.Unknown.{ReadsTypes, listed};
 
     /// The attribute of these types, in order and with repeats, copied into memory from `alloc`.
     ///
@@ -143,14 +144,11 @@ impl UnknownAttributes {
         ensures { ReadsTypes listed (raw_type raw.now) (raw_value raw.now) result }
     {
         check_type(raw, Self::TYPE)?;
-        let length = raw.length() as usize;
-        if length % 2 != 0 {
-            return Err(StunParseError::Truncated {
-                expected: length + 1,
-                actual: length,
-            });
-        }
-        let types = Self::list_of(alloc, raw.value().as_bytes())?;
+        // For the prover: the value has at most 65535 bytes, and so at most 32767 types.
+        let _length = raw.length();
+        let value = raw.value().as_bytes();
+        check_types(value)?;
+        let types = Self::list_of(alloc, value)?;
         Ok(UnknownAttributes { types })
     }
 }
@@ -171,12 +169,12 @@ impl MakeValue for UnknownAttributes {
 
     ghost bytes = { λ attribute. types_encoding (listed attribute) };
 
-    #[tactic(auto, using(crate::proofs::ListsLemmas::length_of_twos))]
+    #[tactic(auto, using(stun_rules::proofs::ListsLemmas::length_of_twos))]
     fn size(&self) -> u16 {
         2 * self.attributes().len() as u16
     }
 
-    #[tactic(auto, using(crate::proofs::ListsLemmas::length_of_twos))]
+    #[tactic(auto, using(stun_rules::proofs::ListsLemmas::length_of_twos))]
     fn write_value(&self, dest: &mut [u8]) {
         write_types(self.attributes(), dest);
     }
@@ -195,7 +193,7 @@ impl Attribute for UnknownAttributes {
     }
 
     /// Two bytes for each type.
-    #[tactic(auto, using(crate::proofs::ListsLemmas::length_of_twos))]
+    #[tactic(auto, using(stun_rules::proofs::ListsLemmas::length_of_twos))]
     fn length(&self) -> u16
         ensures value { result ≡ length (types_encoding (listed self.now)) }
         ensures twos { result ≡ 2 * length (listed self.now) }
@@ -223,8 +221,7 @@ impl AttributeWrite for UnknownAttributes {
 /// number n of bytes as `Truncated { expected: n + 1, actual: n }`; and a failed allocation as
 /// `OutOfMemory`, since the list is kept in memory from `alloc`.
 impl AttributeFromRaw<'_> for UnknownAttributes {
-    ghost use Rattle.stun_values.specs.Types.{ReadsTypes};
-    ghost use Rattle.stun_values.specs.Unknown.{listed};
+    ghost use Rattle.stun_values.specs.Unknown.{ReadsTypes, listed};
 
     ghost reads_ref = { ReadsTypes listed };
 
@@ -236,5 +233,12 @@ impl AttributeFromRaw<'_> for UnknownAttributes {
 
     fn from_raw(alloc: Global, raw: RawAttribute<'_>) -> Result<Self, StunParseError> {
         Self::read(alloc, &raw)
+    }
+}
+
+/// The type and the list: `10(0xa: UNKNOWN-ATTRIBUTES): [AttributeType(20), AttributeType(21)]`.
+impl fmt::Display for UnknownAttributes {
+    fn fmt<W: fmt::Write>(&self, f: &mut fmt::Formatter<W>) -> fmt::Result {
+        print_types(f, self.attributes().iter().copied())
     }
 }

@@ -9,6 +9,7 @@ ghost use Rattle.stun_vectors.specs.MyValue.{ReadsNumber};
 
 use byteorder::{BigEndian, ByteOrder};
 use std::alloc::Global;
+use std::fmt;
 use std::ops::Bound;
 use stun_types::attribute::{AttributeType, RawAttribute};
 use stun_types::message::{StunParseError, StunWriteError};
@@ -78,6 +79,19 @@ impl AttributeFromRaw<'_> for MyAttribute {
 
     fn from_raw(_alloc: Global, raw: RawAttribute<'_>) -> Result<Self, StunParseError> {
         read(&raw)
+    }
+}
+
+/// The number in decimal: `MyAttribute: 18217`.
+impl fmt::Display for MyAttribute {
+    ghost use Rattle.std.specs.Prelude.{Some, codes, ◌++◌};
+    ghost use Rattle.std.specs.Fmt.{decimal};
+
+    ghost output = { λ attribute. Some (codes "MyAttribute: " ++ decimal attribute.value) };
+
+    fn fmt<W: fmt::Write>(&self, f: &mut fmt::Formatter<W>) -> fmt::Result {
+        let value = self.value;
+        write!(f, "MyAttribute: {value}")
     }
 }
 

@@ -3,10 +3,11 @@
 ghost use Rattle.std.specs.Prelude.{◌≡◌, None};
 ghost use Rattle.stun_grammar.specs.Parsing.{parse_fault};
 
+use std::fmt;
 use stun_base::{
     MessageClass, MessageHeader, MessageType, Method, StunParseError, TransactionId, read_header,
 };
-use stun_read::{MessageAttributesIter, check_message, iter_framed};
+use stun_read::{MessageAttributesIter, check_message, iter_framed, print_message};
 
 /// A message, borrowed from the bytes that [`Message::from_bytes`] parsed.
 ///
@@ -145,5 +146,21 @@ impl<'a> Message<'a> {
         ensures bound { length (items_left result) < 2 ^ 64 }
     {
         iter_framed(self.bytes)
+    }
+}
+
+/// The class, the method, the transaction ID, and the attributes that the message shows, each as it
+/// is printed by itself: `Message(class: Request, method: 1(0x1: BINDING), transaction: 0x7392,
+/// attributes: [29(0x1d: PASSWORD-ALGORITHM): SHA256])`. It goes over the attributes once, and
+/// takes no memory.
+impl fmt::Display for Message<'_> {
+    ghost use Rattle.stun_read.specs.Printed.{message_text};
+    ghost use Rattle.stun_types.specs.Message.{message_bytes};
+
+    ghost output = { λ message. message_text (message_bytes message) };
+
+    #[tactic(auto, using(stun_grammar::proofs::ParsingLemmas::parsed_frame))]
+    fn fmt<W: fmt::Write>(&self, f: &mut fmt::Formatter<W>) -> fmt::Result {
+        print_message(self.as_bytes(), f)
     }
 }

@@ -11,9 +11,10 @@ ghost use Rattle.stun_base.specs.declared.message_type.MessageClass.{MessageClas
 ghost use Rattle.stun_base.specs.declared.message_type.MessageClass.TheVariants.{Request, Success, Error as ErrorClass};
 ghost use Rattle.stun_base.specs.Types.{class_of, is_response};
 ghost use Rattle.stun_texts.specs.Texts.{text_bytes};
-ghost use Rattle.stun_values.specs.Errors.{error_value, making_fault};
+ghost use Rattle.stun_rules.specs.Errors.{error_value};
+ghost use Rattle.stun_values.specs.Errors.{making_fault};
 ghost use Rattle.stun_values.specs.ErrorCodes.{error_code, error_reason};
-ghost use Rattle.stun_values.specs.Types.{types_encoding};
+ghost use Rattle.stun_rules.specs.Types.{types_encoding};
 ghost use Rattle.stun_values.specs.Unknown.{listed};
 ghost use Rattle.stun_write.specs.Writers.{IsBegun, IsUnchanged, Keeps, KeepsHeader, Gains, Adds, Allocates};
 ghost use Rattle.stun_types.specs.Message.{message_bytes};

@@ -3,9 +3,11 @@
 use crate::MyAttribute;
 use std::test::Fail;
 use stun_types::attribute::{AttributeType, RawAttribute};
+use stun_types::attribute_display;
 use stun_types::data::Data;
 use stun_types::message::StunParseError;
 use stun_types::prelude::*;
+use stun_types::show::{Registry, Shown};
 
 #[test]
 fn reads_and_writes_an_attribute_of_ones_own(rt: HostRuntime) -> Result<(), Fail> {
@@ -33,6 +35,30 @@ fn refuses_an_attribute_of_ones_own(rt: HostRuntime) -> Result<(), Fail> {
     for (value, refused) in REFUSED {
         let raw = RawAttribute::new(AttributeType(0x8851), value)?;
         assert_eq!(rt; MyAttribute::from_raw_ref(rt.alloc(), &raw), Err(refused));
+    }
+    Ok(())
+}
+
+/// Values, and what is shown of them once the attribute is registered.
+#[rattlefmt::skip]
+const SHOWN: [(&[u8], &str); 2] = [
+    (&[0, 0, 0x47, 0x29], "MyAttribute: 18217"),
+    (&[1, 2, 3], "34897(0x8851: unknown)(Malformed): len: 3, \
+        data: Borrowed(DataSlice([1, 2, 3])))"),
+];
+
+#[test]
+fn shows_an_attribute_of_ones_own(rt: HostRuntime) -> Result<(), Fail> {
+    let mut registry = Registry::new(rt.alloc());
+    attribute_display!(registry, MyAttribute)?;
+    for (value, expected) in SHOWN {
+        let raw = RawAttribute::new(AttributeType(0x8851), value)?;
+        let shown = Shown {
+            registry: &registry,
+            raw: &raw,
+        };
+        let text = format!(in rt.alloc(); "{shown}")?;
+        assert_eq!(rt; text.as_str(), expected);
     }
     Ok(())
 }

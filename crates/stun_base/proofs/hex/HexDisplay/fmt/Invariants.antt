@@ -1,0 +1,10 @@
+use Rattle.std.proofs.Common.{take}
+use Rattle.std.specs.Fmt.{HasWritten, IsPlainFormatter}
+use Rattle.stun_grammar.specs.Names.{hex}
+use Rattle.stun_base.proofs.hex.HexDisplay.fmt.Given as goal
+
+-- the digits of the bytes so far are written
+abbrev pub invariant-loop-byte : goal.invariant-loop-byte
+invariant-loop-byte g l =
+    IsPlainFormatter l.fn.f
+    → HasWritten g.W.Write.write_str_gives l.fn.f (hex (take l.byte-index l.self.0.now)) l.f

@@ -1,0 +1,46 @@
+//! Tests of lengths.
+
+ghost use Rattle.std.specs.Prelude.{◌≡◌, ◌≤◌, MatchResult, None, Some, length};
+ghost use Rattle.stun_grammar.specs.Lengths.{range_fault, exact_fault};
+
+use stun_base::StunParseError;
+
+/// Tests that a length is at least `least` and at most `greatest`.
+///
+/// # Errors
+///
+/// `Truncated { expected: least, actual: length }` where it is less than `least`. Otherwise
+/// `TooLarge { expected: greatest, actual: length }` where it is greater than `greatest`.
+pub fn check_range(length: usize, least: usize, greatest: usize) -> Result<(), StunParseError>
+    ensures { MatchResult result
+        (λ _. (range_fault least greatest length ≡ None) × (least ≤ length) × (length ≤ greatest))
+        (λ e. range_fault least greatest length ≡ Some e) }
+{
+    if length < least {
+        return Err(StunParseError::Truncated {
+            expected: least,
+            actual: length,
+        });
+    }
+    if length > greatest {
+        return Err(StunParseError::TooLarge {
+            expected: greatest,
+            actual: length,
+        });
+    }
+    Ok(())
+}
+
+/// Tests that a value has exactly `wanted` bytes.
+///
+/// # Errors
+///
+/// `Truncated { expected: wanted, actual }` where it has fewer, and
+/// `TooLarge { expected: wanted, actual }` where it has more.
+pub fn check_length(value: &[u8], wanted: usize) -> Result<(), StunParseError>
+    ensures { MatchResult result
+        (λ _. (exact_fault wanted (length value.now) ≡ None) × (length value.now ≡ wanted))
+        (λ e. exact_fault wanted (length value.now) ≡ Some e) }
+{
+    check_range(value.len(), wanted, wanted)
+}

@@ -1,0 +1,28 @@
+//! Names of attribute types and methods, and functions that print attributes, which a user adds to
+//! those of the library, and attributes printed by them.
+
+pub use stun_registry::{AttributeDisplay, Registry, Shown, print_read};
+
+/// Registers a function that prints the attributes of a type of a user's own: it reads one, by
+/// [`AttributeFromRaw::from_raw_ref`](crate::attribute::AttributeFromRaw::from_raw_ref), and prints
+/// what was read, by `Display`. Where reading refuses it prints the text of a malformed attribute,
+/// and where reading or printing finds no memory it answers `fmt::Error`.
+///
+/// It takes the registry and the Rust type, and answers what [`show::Registry::add_display_impl`]
+/// does. It stands in the body of a function that makes the registry itself and does not return it.
+///
+/// ```
+/// let mut registry = Registry::new(alloc);
+/// attribute_display!(registry, MyAttribute)?;
+/// ```
+///
+/// [`show::Registry::add_display_impl`]: crate::show::Registry::add_display_impl
+#[macro_export]
+macro_rules! attribute_display {
+    ($registry:expr, $attribute:ty) => {
+        $registry.add_display_impl(
+            <$attribute as $crate::attribute::AttributeStaticType>::TYPE,
+            |alloc, raw, text| $crate::show::print_read::<$attribute>(alloc, raw, text),
+        )
+    };
+}
