@@ -74,7 +74,10 @@ static void relayed(Text *message, size_t behind) {
 
 /* ---- workloads: each knows its answer */
 
-enum { PARSE, ITERATE, SHORT_KEY, LONG_KEY, VALIDATE, WRITE_VEC, WRITE_SLICE, PLAIN_VEC, PLAIN_SLICE, CRC, TYPED };
+enum {
+    PARSE, ITERATE, SHORT_KEY, LONG_KEY, VALIDATE, HMAC, WRITE_VEC, WRITE_SLICE, PLAIN_VEC, PLAIN_SLICE, EMPTIES, CRC,
+    TYPED
+};
 
 typedef struct {
     const char *name;
@@ -85,7 +88,7 @@ typedef struct {
     uint64_t answer;
 } Workload;
 
-static uint8_t destination[128];
+static uint8_t destination[8192];
 
 static uint64_t run(const Workload *w, uint64_t rounds) {
     const uint8_t *bytes = w->text->bytes, *user = (const uint8_t *)w->user, *password = (const uint8_t *)PASSWORD;
@@ -95,6 +98,8 @@ static uint64_t run(const Workload *w, uint64_t rounds) {
     switch (w->kind) {
     case VALIDATE:
         return stun_bench_validate(bytes, length, password, password_length, rounds);
+    case HMAC:
+        return stun_bench_hmac(bytes, length, password, password_length, algorithm, rounds);
     case WRITE_VEC:
         return stun_bench_write_vec(user, user_length, password, password_length, algorithm, rounds);
     case WRITE_SLICE:
@@ -111,6 +116,7 @@ static uint64_t run(const Workload *w, uint64_t rounds) {
             break;
         case PLAIN_VEC: sum += stun_bench_write_plain_vec(user, user_length); break;
         case PLAIN_SLICE: sum += stun_bench_write_plain_slice(user, user_length, destination, sizeof destination); break;
+        case EMPTIES: sum += stun_bench_write_empties(w->type, destination, sizeof destination); break;
         case TYPED: sum += stun_bench_typed(w->type, bytes, length); break;
         }
     return sum;
@@ -131,6 +137,14 @@ static uint64_t iterate_answer(const Text *message) {
 
 static uint64_t write_answer(const Text *message) {
     return (uint64_t)message->length << 32 | get32(message->bytes + message->length - 4);
+}
+
+/* The HMAC that an integrity attribute holds behind the message. */
+static uint64_t hmac_answer(const Text *message, int algorithm) {
+    static Text copy;
+    copy = *message;
+    sign(&copy, algorithm);
+    return get32(copy.bytes + message->length + 4);
 }
 
 /* ---- measuring */
@@ -172,7 +186,7 @@ static int measure(const Workload *w) {
 /* Runs a workload once, or measures it; answers whether it did right. */
 static int try(const Workload *w, int quick) {
     uint64_t answer;
-    int writes = w->kind == WRITE_SLICE || w->kind == PLAIN_SLICE;
+    int writes = w->kind == WRITE_SLICE || w->kind == PLAIN_SLICE || w->kind == EMPTIES;
     memset(destination, 0xFF, sizeof destination);
     answer = run(w, 1);
     if (answer == UINT64_MAX) {
@@ -195,6 +209,7 @@ static int try(const Workload *w, int quick) {
 
 int main(int count, char **words) {
     static Text header, algorithm, check, check_256, plain, packet, packet_finger, packet_1, packet_256, empties, many;
+    static Text plain_256, packet_plain, empties_1, empties_1000, empties_2000;
     static Text key, address, software, error;
     int quick = count > 1 && strcmp(words[1], "quick") == 0, right = 1;
     begin(&header);
@@ -203,12 +218,17 @@ int main(int count, char **words) {
     ice_check(&check, USER, 1);
     ice_check(&check_256, SHORT_USER, 2);
     ice_check(&plain, USER, 0);
+    ice_check(&plain_256, SHORT_USER, 0);
     relayed(&packet, 0);
     relayed(&packet_finger, 8), finger(&packet_finger);
-    relayed(&packet_1, 24), sign(&packet_1, 1);
+    relayed(&packet_1, 24), packet_plain = packet_1, sign(&packet_1, 1);
     relayed(&packet_256, 36), sign(&packet_256, 2);
     begin(&empties);
     for (uint32_t i = 0; i < 16000; i++) add(&empties, 0xC000 + i % 256, "", 0);
+    empties_1 = empties, sign(&empties_1, 1);
+    begin(&empties_1000), begin(&empties_2000);
+    for (int i = 0; i < 1000; i++) add(&empties_1000, 0xC000, "", 0);
+    for (int i = 0; i < 2000; i++) add(&empties_2000, 0xC000, "", 0);
     for (size_t i = 0; i < MOST; i++) many.bytes[i] = (uint8_t)(i * 31 >> 3);
     many.length = MOST;
     key.length = strlen(PASSWORD);
@@ -232,6 +252,11 @@ int main(int count, char **words) {
         {"validate an ICE check, SHA-256", VALIDATE, 2, 0, NULL, &check_256, 2},
         {"validate a packet, SHA-1", VALIDATE, 1, 0, NULL, &packet_1, 1},
         {"validate a packet, SHA-256", VALIDATE, 2, 0, NULL, &packet_256, 2},
+        {"validate 16,000 attributes, SHA-1", VALIDATE, 1, 0, NULL, &empties_1, 1},
+        {"HMAC of an ICE check, SHA-1", HMAC, 1, 0, NULL, &plain, hmac_answer(&plain, 1)},
+        {"HMAC of an ICE check, SHA-256", HMAC, 2, 0, NULL, &plain_256, hmac_answer(&plain_256, 2)},
+        {"HMAC of a packet, SHA-1", HMAC, 1, 0, NULL, &packet_plain, hmac_answer(&packet_plain, 1)},
+        {"HMAC of 16,000 attributes, SHA-1", HMAC, 1, 0, NULL, &empties, hmac_answer(&empties, 1)},
         {"short-term key, twice", SHORT_KEY, 1, 0, NULL, &key, 1},
         {"long-term key by MD5, twice", LONG_KEY, 1, 0, USER, &key, 1},
         {"long-term key by SHA-256, twice", LONG_KEY, 2, 0, USER, &key, 1},
@@ -241,6 +266,8 @@ int main(int count, char **words) {
         {"write a check, SHA-1, slice", WRITE_SLICE, 1, 0, USER, &check, write_answer(&check)},
         {"write a check, SHA-256, vector", WRITE_VEC, 2, 0, SHORT_USER, &check_256, write_answer(&check_256)},
         {"write a check, SHA-256, slice", WRITE_SLICE, 2, 0, SHORT_USER, &check_256, write_answer(&check_256)},
+        {"write 1,000 empty attributes", EMPTIES, 0, 1000, NULL, &empties_1000, write_answer(&empties_1000)},
+        {"write 2,000 empty attributes", EMPTIES, 0, 2000, NULL, &empties_2000, write_answer(&empties_2000)},
         {"CRC of an ICE check", CRC, 0, 0, NULL, &check, reference_crc(check.bytes, check.length)},
         {"CRC of a packet", CRC, 0, 0, NULL, &packet, reference_crc(packet.bytes, packet.length)},
         {"CRC of 64 KB", CRC, 0, 0, NULL, &many, reference_crc(many.bytes, many.length)},

@@ -1,11 +1,14 @@
 //! CRC-32 and HMACs over pieces.
 
 use std::process::Abort;
+use std::test::Fail;
 use stun_keys::digest::{crc32, hmac_sha1, hmac_sha256};
+use stun_types::attribute::{MessageIntegrity, MessageIntegritySha256};
+use stun_types::message::keys::IntegrityKey;
 
 /// Pieces, and the checksum of what they are joined.
 #[rattlefmt::skip]
-const CHECKSUMS: [(&str, &[&[u8]], u32); 12] = [
+const CHECKSUMS: [(&str, &[&[u8]], u32); 16] = [
     ("no pieces", &[], 0),
     ("one empty piece", &[&[]], 0),
     ("one piece", &[&[99, 99, 99, 99]], 0xD82D_FA0E),
@@ -18,12 +21,73 @@ const CHECKSUMS: [(&str, &[&[u8]], u32); 12] = [
     ("empty pieces between", &[&[], &[99, 99], &[], &[99, 99], &[]], 0xD82D_FA0E),
     ("123456789", &[b"123456789"], 0xCBF4_3926),
     ("123456789 in three", &[b"123", b"4567", b"89"], 0xCBF4_3926),
+    // (a byte meets the register FFFFFFFF: it shows the entry of the table at its complement)
+    ("entry 0 of the table", &[&[255]], 0x0000_0000 ^ 0xFF00_0000),
+    ("entry 1 of the table", &[&[254]], 0x7707_3096 ^ 0xFF00_0000),
+    ("entry 128 of the table", &[&[127]], 0xEDB8_8320 ^ 0xFF00_0000),
+    ("entry 255 of the table", &[&[0]], 0x2D02_EF8D ^ 0xFF00_0000),
 ];
 
 #[test]
 fn crc32_is_that_of_the_joined_pieces(rt: HostRuntime) {
     for (case, pieces, checksum) in CHECKSUMS {
-        assert_eq!(rt; crc32(pieces), checksum, "{case}");
+        assert!(rt; crc32(pieces) == checksum, "{case}");
+    }
+}
+
+/// The checksums of the first 0, 1, 2, .. and 70 of the bytes 1, 8, 15, ..
+#[rattlefmt::skip]
+const CHECKSUMS_BY_LENGTH: [u32; 71] = [
+    0x0000_0000, 0xA505_DF1B, 0x5619_AB8C, 0xA6E5_24BC, 0xE4A7_405F,
+    0x4A34_6871, 0xC949_7E9E, 0x69C0_E1F0, 0xA701_8CF0, 0x301D_9415,
+    0xC933_5762, 0x99CF_089D, 0xCD41_A3EB, 0xFE16_30A5, 0x169D_B305,
+    0x76C5_B653, 0x8D71_A233, 0x4A5D_BE93, 0xE590_89C3, 0x1030_80A3,
+    0x9916_0B4A, 0xD79B_AE95, 0xA5D2_44B5, 0x0E71_3006, 0x03B7_F94C,
+    0x0261_4E83, 0x6DD0_EFD5, 0x71D3_3F16, 0x0A7E_1768, 0x7A6F_4ECF,
+    0x4B71_D179, 0xE44A_D4AA, 0x82E3_D465, 0x3855_4B60, 0x3159_B1D4,
+    0x6338_5F18, 0x95D3_18AD, 0xB9FC_6D61, 0xEF63_8637, 0xFD82_F08C,
+    0xC548_D33E, 0x77CD_1235, 0xBFA8_C674, 0x20DF_4705, 0x7E9E_C98A,
+    0x89A2_DF59, 0xEF53_D885, 0xA0EA_DBD0, 0xC278_7F0C, 0xC71A_BABB,
+    0xEBC6_46F5, 0xE4EA_633D, 0x2E5F_8D92, 0xFF2E_5F8D, 0x169C_8B6A,
+    0xB8A4_53F4, 0x6BDC_9FD7, 0x5EBA_4FE1, 0xF55E_1468, 0xFFF5_5E14,
+    0xDF90_70ED, 0xAADA_B65F, 0xF61C_969D, 0x0E22_FED4, 0x7806_812C,
+    0x0CC1_77C9, 0xA509_1E6C, 0x9D78_14C1, 0x514C_125E, 0xA6E2_7105,
+    0x05A9_DF12,
+];
+
+/// The bytes 1, 8, 15, .., each 7 more than the one before.
+fn bytes_by_sevens() -> [u8; 200] {
+    let mut bytes = [0u8; 200];
+    for i in 0..200u8 {
+        bytes[usize::from(i)] = i.wrapping_mul(7).wrapping_add(1);
+    }
+    bytes
+}
+
+/// The bytes 0, 1, 2, .. and 99.
+fn bytes_from_zero() -> [u8; 100] {
+    let mut bytes = [0u8; 100];
+    for i in 0..100u8 {
+        bytes[usize::from(i)] = i;
+    }
+    bytes
+}
+
+/// A text has this checksum, whole and wherever it is cut in two.
+fn assert_checksum(rt: &impl Abort, text: &[u8], checksum: u32) {
+    let length = text.len();
+    assert!(rt; crc32(&[text]) == checksum, "{length} bytes");
+    for cut in 0..length {
+        let pieces: [&[u8]; 2] = [&text[..cut], &text[cut..]];
+        assert!(rt; crc32(&pieces) == checksum, "{length} bytes, cut at {cut}");
+    }
+}
+
+#[test]
+fn crc32_of_every_length_and_every_cut(rt: HostRuntime) {
+    let bytes = bytes_by_sevens();
+    for length in 0..71usize {
+        assert_checksum(&rt, &bytes[..length], CHECKSUMS_BY_LENGTH[length]);
     }
 }
 
@@ -62,28 +126,79 @@ const HMACS: [(usize, [u8; 20], [u8; 32]); 5] = [
             0x4E, 0x51, 0x5E]),
 ];
 
-/// A text has these HMACs under a key, wherever it is cut in two.
-fn assert_hmacs(rt: &impl Abort, key: &[u8], text: &[u8; 100], sha1: &[u8; 20], sha256: &[u8; 32]) {
+/// Wherever a text is cut in two, it has these HMACs under the bytes of a key, and under the key.
+fn assert_hmacs(
+    rt: &impl Abort,
+    key: &IntegrityKey,
+    text: &[u8; 100],
+    sha1: &[u8; 20],
+    sha256: &[u8; 32],
+) {
     for cut in 0..101usize {
         let pieces: [&[u8]; 2] = [&text[..cut], &text[cut..]];
-        assert_eq!(rt; hmac_sha1(key, &pieces), *sha1, "at {cut}");
-        assert_eq!(rt; hmac_sha256(key, &pieces), *sha256, "at {cut}");
+        assert!(rt; hmac_sha1(key.as_bytes(), &pieces) == *sha1, "at {cut}");
+        assert!(rt; hmac_sha256(key.as_bytes(), &pieces) == *sha256, "at {cut}");
+        assert!(rt; key.hmac_sha1(&pieces) == *sha1, "at {cut}");
+        assert!(rt; key.hmac_sha256(&pieces) == *sha256, "at {cut}");
+        assert!(rt; MessageIntegrity::verify(&pieces, key, sha1), "at {cut}");
+        assert!(rt;
+            MessageIntegritySha256::verify(&pieces, key, sha256),
+            "at {cut}"
+        );
     }
 }
 
 #[test]
-fn hmacs_of_every_length_of_key_and_every_cut(rt: HostRuntime) {
-    let mut bytes = [0u8; 200];
-    for i in 0..200u8 {
-        bytes[usize::from(i)] = i.wrapping_mul(7).wrapping_add(1);
-    }
-    let mut text = [0u8; 100];
-    for i in 0..100u8 {
-        text[usize::from(i)] = i;
-    }
+fn hmacs_of_every_length_of_key_and_every_cut(rt: HostRuntime) -> Result<(), Fail> {
+    let bytes = bytes_by_sevens();
+    let text = bytes_from_zero();
     for (length, sha1, sha256) in &HMACS {
-        let key = bytes.get(..*length).unwrap_or(&[]);
-        assert_eq!(rt; key.len(), *length);
-        assert_hmacs(&rt, key, &text, sha1, sha256);
+        let key = IntegrityKey::new(rt.alloc(), bytes.get(..*length).unwrap_or(&[]), None)?;
+        assert!(rt; key.as_bytes().len() == *length);
+        assert_hmacs(&rt, &key, &text, sha1, sha256);
+        assert_hmacs(&rt, &key.clone(rt.alloc())?, &text, sha1, sha256);
     }
+    Ok(())
+}
+
+/// Used three times, each time for another text, a key has the HMACs under its bytes.
+fn assert_used_again(rt: &impl Abort, key: &IntegrityKey, text: &[u8; 100]) {
+    let bytes = key.as_bytes();
+    for text in [&text[..63], &text[..0], &text[..]] {
+        let length = bytes.len();
+        assert!(rt;
+            key.hmac_sha1(&[text]) == hmac_sha1(bytes, &[text]),
+            "{length} bytes"
+        );
+        assert!(rt;
+            key.hmac_sha256(&[text]) == hmac_sha256(bytes, &[text]),
+            "{length} bytes"
+        );
+    }
+}
+
+/// The HMACs of a text under keys of 0, 1, 2, .. and 200 bytes, in one: at each key HMAC-SHA256 of
+/// the two, joined, under what came of the shorter keys, and at first under zeros.
+#[rattlefmt::skip]
+const HMACS_IN_ONE: [u8; 32] = [
+    0x3C, 0x9B, 0xA8, 0x73, 0x21, 0x7D, 0x99, 0xBC, 0x40, 0x0A, 0x06, 0x40, 0xD3, 0x91, 0xE6, 0x66,
+    0xCF, 0x69, 0x47, 0xD5, 0x62, 0x70, 0xF0, 0x67, 0x3B, 0x11, 0x82, 0x21, 0xFC, 0xE5, 0xE2, 0xDF,
+];
+
+#[test]
+fn keys_of_every_length_are_used_again(rt: HostRuntime) -> Result<(), Fail> {
+    let bytes = bytes_by_sevens();
+    let text = bytes_from_zero();
+    let mut all = [0u8; 32];
+    for length in 0..201usize {
+        let key = IntegrityKey::new(rt.alloc(), &bytes[..length], None)?;
+        let unused = key.clone(rt.alloc())?;
+        assert_used_again(&rt, &key, &text);
+        assert_used_again(&rt, &unused, &text);
+        assert_used_again(&rt, &key.clone(rt.alloc())?, &text);
+        let (sha1, sha256) = (key.hmac_sha1(&[&text]), key.hmac_sha256(&[&text]));
+        all = hmac_sha256(&all, &[&sha1, &sha256]);
+    }
+    assert!(rt; all == HMACS_IN_ONE);
+    Ok(())
 }

@@ -31,7 +31,7 @@ const LETTERS_AND_B: &str = "aaaaaaaaaaaaaaaaaaaaaaaaaaaaaaaaaaaaaaaaaaaaaaaaaaa
 
 /// A password, a text, and its HMACs under that password.
 #[rattlefmt::skip]
-const PASSWORDS: [(&str, &[u8], [u8; 20], [u8; 32]); 4] = [
+static PASSWORDS: [(&str, &[u8], [u8; 20], [u8; 32]); 4] = [
     ("Jefe", b"what do ya want for nothing?",
         [0xEF, 0xFC, 0xDF, 0x6A, 0xE5, 0xEB, 0x2F, 0xA2, 0xD2, 0x74, 0x16, 0xD5, 0xF1, 0x84, 0xDF,
             0x9C, 0x25, 0x9A, 0x7C, 0x79],
@@ -67,8 +67,8 @@ fn assert_hmacs(
     sha1: &[u8; 20],
     sha256: &[u8; 32],
 ) {
-    assert_eq!(rt; MessageIntegrity::compute(&[text], key), Ok(*sha1));
-    assert_eq!(rt; MessageIntegritySha256::compute(&[text], key), Ok(*sha256));
+    assert!(rt; MessageIntegrity::compute(&[text], key) == Ok(*sha1));
+    assert!(rt; MessageIntegritySha256::compute(&[text], key) == Ok(*sha256));
     assert!(rt; MessageIntegrity::verify(&[text], key, sha1));
     assert!(rt; MessageIntegritySha256::verify(&[text], key, sha256));
     assert!(rt; !MessageIntegrity::verify(&[text, &[0]], key, sha1));
@@ -79,11 +79,11 @@ fn assert_hmacs(
 fn hmacs_under_passwords(rt: HostRuntime) -> Result<(), Fail> {
     for (password, text, sha1, sha256) in &PASSWORDS {
         let key = key_of(rt.alloc(), password)?;
-        assert_eq!(rt; key.as_bytes(), password.as_bytes());
-        assert_eq!(rt; key.algorithm(), None);
+        assert!(rt; key.as_bytes() == password.as_bytes());
+        assert!(rt; key.algorithm().is_none());
         assert_hmacs(&rt, &key, text, sha1, sha256);
     }
-    assert_eq!(rt; LETTERS.len(), 64);
+    assert!(rt; LETTERS.len() == 64);
     Ok(())
 }
 
@@ -137,7 +137,7 @@ fn verifies_sha1_with_its_key_alone(rt: HostRuntime) -> Result<(), Fail> {
         let key = long_term_key(rt.alloc(), algorithm)?;
         let hmac = MessageIntegrity::compute(&[&TENS], &key)?;
         let verified = MessageIntegrity::verify(&[&TENS], &key, &hmac);
-        assert_eq!(rt; verified, verifies, "{algorithm:?}");
+        assert!(rt; verified == verifies, "{algorithm:?}");
     }
     Ok(())
 }
@@ -163,7 +163,7 @@ fn verifies_no_sha256_with_the_other_key(rt: HostRuntime) -> Result<(), Fail> {
 
 /// How many bytes of an HMAC make an attribute, and why they don't.
 #[rattlefmt::skip]
-const MADE: [(usize, Option<StunWriteError>); 8] = [
+static MADE: [(usize, Option<StunWriteError>); 8] = [
     (16, None),
     (20, None),
     (24, None),
@@ -177,11 +177,11 @@ const MADE: [(usize, Option<StunWriteError>); 8] = [
 /// A prefix of an HMAC makes an attribute, which is that of the whole one where it has 32 bytes.
 fn assert_made(rt: &impl Abort, prefix: &[u8]) -> Result<(), Fail> {
     let made = MessageIntegritySha256::new(prefix)?;
-    assert_eq!(rt; made.hmac(), prefix);
-    assert_eq!(rt; usize::from(made.length()), prefix.len());
+    assert!(rt; made.hmac() == prefix);
+    assert!(rt; usize::from(made.length()) == prefix.len());
     assert!(rt; made == made.clone()?);
     let is_whole = made == MessageIntegritySha256::new(&PASS_SHA256)?;
-    assert_eq!(rt; is_whole, prefix.len() == 32);
+    assert!(rt; is_whole == (prefix.len() == 32));
     Ok(())
 }
 
@@ -189,11 +189,10 @@ fn assert_made(rt: &impl Abort, prefix: &[u8]) -> Result<(), Fail> {
 fn makes_attributes_of_prefixes(rt: HostRuntime) -> Result<(), Fail> {
     let mut bytes = [0u8; 36];
     bytes[..32].copy_from_slice(&PASS_SHA256);
-    for (length, refused) in MADE {
-        let prefix = bytes.get(..length).unwrap_or(&[]);
-        assert_eq!(rt;
-            MessageIntegritySha256::new(prefix).err(),
-            refused,
+    for (length, refused) in &MADE {
+        let prefix = bytes.get(..*length).unwrap_or(&[]);
+        assert!(rt;
+            MessageIntegritySha256::new(prefix).err() == *refused,
             "{length}"
         );
         if refused.is_none() {

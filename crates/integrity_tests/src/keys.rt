@@ -21,7 +21,8 @@ const SHA256: [u8; 32] = [
     0xB2, 0xD2, 0xA5, 0xF9, 0xA7, 0x1F, 0x54, 0x49, 0x22, 0xD7, 0x5E, 0x07, 0x30, 0xD8, 0x25, 0x1B,
 ];
 
-/// The long-term credentials make this key for this algorithm.
+/// The long-term credentials make this key for this algorithm, and so do its bytes where a server
+/// keeps them.
 fn assert_key(
     rt: &impl Abort,
     alloc: Global,
@@ -29,9 +30,12 @@ fn assert_key(
     bytes: &[u8],
 ) -> Result<(), Fail> {
     let key = long_term(alloc)?.make_key(alloc, algorithm)?;
-    assert_eq!(rt; key.as_bytes(), bytes);
-    assert_eq!(rt; key.algorithm(), Some(algorithm));
+    assert!(rt; key.as_bytes() == bytes);
+    assert!(rt; key.algorithm() == Some(algorithm));
     assert!(rt; key == key.clone(alloc)?);
+    let stored = IntegrityKey::new(alloc, bytes, Some(algorithm))?;
+    assert!(rt; stored == key);
+    assert!(rt; stored.algorithm() == Some(algorithm));
     Ok(())
 }
 
@@ -51,7 +55,7 @@ fn login(alloc: Global) -> Result<LongTermCredentials, Fail> {
 #[test]
 fn keeps_a_login(rt: HostRuntime) -> Result<(), Fail> {
     let login = login(rt.alloc())?;
-    assert_eq!(rt; (login.username(), login.password()), ("user", "pass"));
+    assert!(rt; (login.username(), login.password()) == ("user", "pass"));
     assert!(rt; login.clone(rt.alloc())? == login);
     Ok(())
 }
@@ -65,11 +69,8 @@ fn in_realm(alloc: Global) -> Result<LongTermKeyCredentials, Fail> {
 #[test]
 fn puts_a_login_in_a_realm(rt: HostRuntime) -> Result<(), Fail> {
     let in_realm = in_realm(rt.alloc())?;
-    assert_eq!(rt;
-        (in_realm.username(), in_realm.password()),
-        ("user", "pass")
-    );
-    assert_eq!(rt; in_realm.realm(), "realm");
+    assert!(rt; (in_realm.username(), in_realm.password()) == ("user", "pass"));
+    assert!(rt; in_realm.realm() == "realm");
     let same = MessageIntegrityCredentials::from(in_realm);
     assert!(rt; same == long_term(rt.alloc())?);
     assert!(rt; same.clone(rt.alloc())? == same);
@@ -79,7 +80,7 @@ fn puts_a_login_in_a_realm(rt: HostRuntime) -> Result<(), Fail> {
 #[test]
 fn keeps_a_password(rt: HostRuntime) -> Result<(), Fail> {
     let short = ShortTermCredentials::new(String::from_str(rt.alloc(), "pass")?);
-    assert_eq!(rt; short.password(), "pass");
+    assert!(rt; short.password() == "pass");
     assert!(rt; short.clone(rt.alloc())? == short);
     Ok(())
 }

@@ -8,4 +8,6 @@ mod hmacs;
 #[cfg(test)]
 mod keys;
 #[cfg(test)]
+mod offsets;
+#[cfg(test)]
 mod validate;

@@ -136,19 +136,17 @@ fn assert_validates(
     case: &str,
     bytes: &[u8],
     credentials: &MessageIntegrityCredentials,
-    answer: Answer,
+    answer: &Answer,
 ) -> Result<(), Fail> {
     let read = Message::from_bytes(bytes)?;
-    assert_eq!(rt;
-        read.validate_integrity(alloc, credentials),
-        answer,
+    assert!(rt;
+        read.validate_integrity(alloc, credentials) == *answer,
         "{case}"
     );
     let key = credentials.make_key(alloc, IntegrityAlgorithm::Sha1)?;
     if key.algorithm().is_none() {
-        assert_eq!(rt;
-            read.validate_integrity_with_key(&key),
-            answer,
+        assert!(rt;
+            read.validate_integrity_with_key(&key) == *answer,
             "{case}, by its key"
         );
     }
@@ -157,7 +155,7 @@ fn assert_validates(
 
 /// What stands behind a header with this length, and what is answered with the password `pass`.
 #[rattlefmt::skip]
-const CASES: [(&str, u16, &[&[u8]], Answer); 12] = [
+static CASES: [(&str, u16, &[&[u8]], Answer); 12] = [
     ("no attribute", 0, &[], MISSING),
     ("a FINGERPRINT alone", 8, &[&FIRST_FINGERPRINT], MISSING),
     ("signed, with a FINGERPRINT", 32, &[&SIGNED, &SIGNED_FINGERPRINT], SHA1),
@@ -178,17 +176,17 @@ const CASES: [(&str, u16, &[&[u8]], Answer); 12] = [
 fn last_integrity_attribute_is_checked(rt: HostRuntime) -> Result<(), Fail> {
     let alloc = rt.alloc();
     let pass = short_term(alloc, "pass")?;
-    for (case, length, pieces, answer) in CASES {
-        let bytes = message(alloc, length, pieces)?;
+    for (case, length, pieces, answer) in &CASES {
+        let bytes = message(alloc, *length, pieces)?;
         assert_validates(&rt, alloc, case, &bytes, &pass, answer)?;
     }
     let bytes = message(alloc, 32, &[&SIGNED, &SIGNED_FINGERPRINT])?;
     let past = short_term(alloc, "past")?;
-    assert_validates(&rt, alloc, "another password", &bytes, &past, FAILED)
+    assert_validates(&rt, alloc, "another password", &bytes, &past, &FAILED)
 }
 
 /// What stands at 65560, and what is answered with the password `pass`.
-const FAR: [(&str, &[u8], Answer); 5] = [
+static FAR: [(&str, &[u8], Answer); 5] = [
     ("16 bytes", &SIXTEEN_AT_65560, SHA256),
     ("16 bytes over 65535", &SATURATED_AT_65560, FAILED),
     ("12 bytes", &TWELVE, TOO_SHORT),
@@ -200,9 +198,9 @@ const FAR: [(&str, &[u8], Answer); 5] = [
 fn covered_length_is_the_low_sixteen_bits_of_the_sum(rt: HostRuntime) -> Result<(), Fail> {
     let alloc = rt.alloc();
     let pass = short_term(alloc, "pass")?;
-    for (case, attribute, answer) in FAR {
+    for (case, attribute, answer) in &FAR {
         let bytes = far(alloc, attribute)?;
-        assert_eq!(rt; bytes.len(), 65560 + attribute.len(), "{case}");
+        assert!(rt; bytes.len() == 65560 + attribute.len(), "{case}");
         assert_validates(&rt, alloc, case, &bytes, &pass, answer)?;
     }
     Ok(())
@@ -211,7 +209,7 @@ fn covered_length_is_the_low_sixteen_bits_of_the_sum(rt: HostRuntime) -> Result<
 /// What stands behind a header with this length, what is answered with the long-term credentials,
 /// with their key for SHA-1, and with their key for SHA-256.
 #[rattlefmt::skip]
-const BY_KEYS: [(&str, u16, &[&[u8]], Answer, Answer, Answer); 2] = [
+static BY_KEYS: [(&str, u16, &[&[u8]], Answer, Answer, Answer); 2] = [
     ("zeros, and signed behind them", 60, &[&ZEROS, &BEHIND_ZEROS], SHA256, FAILED, SHA256),
     ("signed with the other key", 24, &[&SIGNED_WITH_THE_OTHER_KEY], FAILED, FAILED, MISSING),
 ];
@@ -222,18 +220,19 @@ fn key_for_an_algorithm_looks_for_its_attribute_alone(rt: HostRuntime) -> Result
     let user = long_term(alloc)?;
     let sha1 = user.make_key(alloc, IntegrityAlgorithm::Sha1)?;
     let sha256 = user.make_key(alloc, IntegrityAlgorithm::Sha256)?;
-    for (case, length, pieces, by_credentials, by_sha1, by_sha256) in BY_KEYS {
-        let bytes = message(alloc, length, pieces)?;
+    for (case, length, pieces, by_credentials, by_sha1, by_sha256) in &BY_KEYS {
+        let bytes = message(alloc, *length, pieces)?;
         let read = Message::from_bytes(&bytes)?;
-        assert_eq!(rt;
-            read.validate_integrity(alloc, &user),
-            by_credentials,
+        assert!(rt;
+            read.validate_integrity(alloc, &user) == *by_credentials,
             "{case}"
         );
-        assert_eq!(rt; read.validate_integrity_with_key(&sha1), by_sha1, "{case}");
-        assert_eq!(rt;
-            read.validate_integrity_with_key(&sha256),
-            by_sha256,
+        assert!(rt;
+            read.validate_integrity_with_key(&sha1) == *by_sha1,
+            "{case}"
+        );
+        assert!(rt;
+            read.validate_integrity_with_key(&sha256) == *by_sha256,
             "{case}"
         );
     }

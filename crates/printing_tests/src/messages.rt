@@ -22,7 +22,7 @@ fn prints_a_binding_request(rt: HostRuntime) -> Result<(), Fail> {
 /// First bytes of a header, and what stands before the attributes where they begin a message whose
 /// other bytes are those of the samples.
 #[rattlefmt::skip]
-const HEADS: [([u8; 2], &str); 4] = [
+static HEADS: [([u8; 2], &str); 4] = [
     ([0x00, 0x01], "Message(class: Request, method: 1(0x1: BINDING), transaction: 0x3e8"),
     ([0x00, 0x11], "Message(class: Indication, method: 1(0x1: BINDING), transaction: 0x3e8"),
     ([0x01, 0x01], "Message(class: Success, method: 1(0x1: BINDING), transaction: 0x3e8"),
@@ -31,7 +31,7 @@ const HEADS: [([u8; 2], &str); 4] = [
 
 #[test]
 fn prints_headers(rt: HostRuntime) -> Result<(), Fail> {
-    for (first, head) in HEADS {
+    for &(first, head) in &HEADS {
         let mut bytes = header(0);
         bytes[..2].copy_from_slice(&first);
         let expected = format!(in rt.alloc(); "{head}, attributes: [])")?;
@@ -61,7 +61,7 @@ const SHA1: [u8; 24] = [
 /// The length that a header states, the attributes behind it, and what a message of them prints of
 /// those that it shows.
 #[rattlefmt::skip]
-const SHOWN: [(u16, &[&[u8]], &str); 8] = [
+static SHOWN: [(u16, &[&[u8]], &str); 8] = [
     (0, &[], ""),
     (8, &[&USERNAME], "6(0x6: USERNAME): 'abc'"),
     (12, &[&USERNAME, &SOFTWARE], "6(0x6: USERNAME): 'abc', 32802(0x8022: SOFTWARE): ''"),
@@ -80,7 +80,7 @@ const SHOWN: [(u16, &[&[u8]], &str); 8] = [
 
 #[test]
 fn prints_what_is_shown(rt: HostRuntime) -> Result<(), Fail> {
-    for (length, attributes, shown) in SHOWN {
+    for &(length, attributes, shown) in &SHOWN {
         let bytes = message(rt.alloc(), length, attributes)?;
         let expected = format!(in rt.alloc();
             "Message(class: Request, method: 1(0x1: BINDING), transaction: 0x3e8, \

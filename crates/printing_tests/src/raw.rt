@@ -30,7 +30,7 @@ fn assert_prints_both(
 
 /// Types, values that reading accepts, and what attributes of both print.
 #[rattlefmt::skip]
-const ACCEPTED: [(u16, &[u8], &str); 19] = [
+static ACCEPTED: [(u16, &[u8], &str); 19] = [
     (0x0006, b"user", "6(0x6: USERNAME): 'user'"),
     (0x0006, b"", "6(0x6: USERNAME): ''"),
     (0x0008, &[0x00, 0x0A, 0xA0, 0x09, 0x90, 0x00, 0xFF, 0x5E, 0x01, 0x02, 0x03, 0x04, 0x05, 0x06,
@@ -64,7 +64,7 @@ const ACCEPTED: [(u16, &[u8], &str); 19] = [
 
 #[test]
 fn prints_values_that_are_accepted(rt: HostRuntime) -> Result<(), Fail> {
-    for (atype, value, expected) in ACCEPTED {
+    for &(atype, value, expected) in &ACCEPTED {
         assert_prints_both(&rt, rt.alloc(), atype, value, expected, expected)?;
     }
     Ok(())
@@ -72,7 +72,7 @@ fn prints_values_that_are_accepted(rt: HostRuntime) -> Result<(), Fail> {
 
 /// Types, values that reading refuses, what stands for the type, and what stands for the bytes.
 #[rattlefmt::skip]
-const REFUSED: [(u16, &[u8], &str, &str); 18] = [
+static REFUSED: [(u16, &[u8], &str, &str); 18] = [
     (0x0006, &[0xFF], "6(0x6: USERNAME)", "[255]"),
     (0x0008, &[0x01, 0x02], "8(0x8: MESSAGE-INTEGRITY)", "[1, 2]"),
     (0x0009, &[0x00, 0x00, 0x04], "9(0x9: ERROR-CODE)", "[0, 0, 4]"),
@@ -96,7 +96,7 @@ const REFUSED: [(u16, &[u8], &str, &str); 18] = [
 
 #[test]
 fn prints_values_that_are_refused(rt: HostRuntime) -> Result<(), Fail> {
-    for (atype, value, name, bytes) in REFUSED {
+    for &(atype, value, name, bytes) in &REFUSED {
         let (alloc, n) = (rt.alloc(), value.len());
         let start = format!(in alloc; "{name}(Malformed): len: {n}, data: ")?;
         let borrowed = format!(in alloc; "{start}Borrowed(DataSlice({bytes})))")?;
@@ -107,7 +107,7 @@ fn prints_values_that_are_refused(rt: HostRuntime) -> Result<(), Fail> {
 }
 
 /// Types that have no typed attribute, values, and what stands for the bytes.
-const UNTYPED: [(u16, &[u8], &str); 4] = [
+static UNTYPED: [(u16, &[u8], &str); 4] = [
     (0xFFFF, &[0x04, 0x00], "[4, 0]"),
     (0x0001, &[0x00, 0x01, 0x06], "[0, 1, 6]"),
     (0x0000, &[], "[]"),
@@ -116,7 +116,7 @@ const UNTYPED: [(u16, &[u8], &str); 4] = [
 
 #[test]
 fn prints_untyped_attributes(rt: HostRuntime) -> Result<(), Fail> {
-    for (atype, value, bytes) in UNTYPED {
+    for &(atype, value, bytes) in &UNTYPED {
         let (alloc, n) = (rt.alloc(), value.len());
         let start = format!(in alloc;
             "RawAttribute (type: AttributeType({atype}), len: {n}, data: "

@@ -14,7 +14,7 @@ use stun_types::show::{Registry, Shown};
 /// has.
 type Named = (&'static [(u16, &'static str)], u16, &'static str);
 
-const TYPES: [Named; 6] = [
+static TYPES: [Named; 6] = [
     (&[], 0x8851, "unknown"),
     (&[(0x8851, "MY-ATTRIBUTE")], 0x8851, "MY-ATTRIBUTE"),
     (&[(0x8851, "MY-ATTRIBUTE")], 0x8852, "unknown"),
@@ -33,17 +33,17 @@ const TYPES: [Named; 6] = [
 
 #[test]
 fn names_types(rt: HostRuntime) -> Result<(), Fail> {
-    for (names, atype, expected) in TYPES {
+    for &(names, atype, expected) in &TYPES {
         let mut registry = Registry::new(rt.alloc());
         for (number, name) in names {
             registry.add_name(AttributeType(*number), name)?;
         }
-        assert_eq!(rt; registry.name(AttributeType(atype)), expected);
+        assert!(rt; registry.name(AttributeType(atype)) == expected);
     }
     Ok(())
 }
 
-const METHODS: [Named; 4] = [
+static METHODS: [Named; 4] = [
     (&[(0x002, "FIRST"), (0x002, "LAST")], 0x002, "LAST"),
     (&[(0x002, "LAST")], 0x003, "unknown"),
     (&[(0x001, "X")], 0x001, "BINDING"),
@@ -52,18 +52,15 @@ const METHODS: [Named; 4] = [
 
 #[test]
 fn names_methods(rt: HostRuntime) -> Result<(), Fail> {
-    for (names, method, expected) in METHODS {
+    for &(names, method, expected) in &METHODS {
         let mut registry = Registry::new(rt.alloc());
         for (number, name) in names {
             assert!(rt; Method::is_valid(*number));
             registry.add_method_name(Method::new(*number), name)?;
         }
         assert!(rt; Method::is_valid(method));
-        assert_eq!(rt; registry.method_name(Method::new(method)), expected);
-        assert_eq!(rt;
-            registry.name(AttributeType(method)),
-            AttributeType(method).name()
-        );
+        assert!(rt; registry.method_name(Method::new(method)) == expected);
+        assert!(rt; registry.name(AttributeType(method)) == AttributeType(method).name());
     }
     Ok(())
 }
@@ -102,7 +99,7 @@ impl Write for Count {
 
 /// Types, values, and what the registry of the test shows of them: nothing where it refuses.
 #[rattlefmt::skip]
-const SHOWN: [(u16, &[u8], Option<&str>); 6] = [
+static SHOWN: [(u16, &[u8], Option<&str>); 6] = [
     (0xFFFF, &[4, 0], Some("Custom 4")),
     (0xFFFF, &[255], Some("Custom 255")),
     (0xFFFF, &[], None),
@@ -121,7 +118,7 @@ fn shows_by_registered_functions(rt: HostRuntime) -> Result<(), Fail> {
     registry.add_display_impl(AttributeType(0x0020), custom)?;
     registry.add_display_impl(AttributeType(0xFFFD), custom)?;
     registry.add_display_impl(AttributeType(0xFFFD), last)?;
-    for (atype, value, expected) in SHOWN {
+    for &(atype, value, expected) in &SHOWN {
         let raw = RawAttribute::new(AttributeType(atype), value)?;
         let shown = Shown {
             registry: &registry,
@@ -130,12 +127,12 @@ fn shows_by_registered_functions(rt: HostRuntime) -> Result<(), Fail> {
         match expected {
             Some(expected) => {
                 let text = format!(in rt.alloc(); "{shown}")?;
-                assert_eq!(rt; text.as_str(), expected);
+                assert!(rt; text.as_str() == expected);
             }
             None => {
                 let mut count = Count { taken: 0 };
                 assert!(rt; write!(count, "{shown}").is_err());
-                assert_eq!(rt; count.taken, 0);
+                assert!(rt; count.taken == 0);
             }
         }
     }
@@ -152,7 +149,7 @@ fn written(rt: &impl Abort, registry: &Registry) -> Result<Option<usize>, Fail> 
     };
     let mut count = Count { taken: 0 };
     if write!(count, "{shown}").is_err() {
-        assert_eq!(rt; count.taken, 0);
+        assert!(rt; count.taken == 0);
         return Ok(None);
     }
     Ok(Some(count.taken))
@@ -168,30 +165,30 @@ fn refused_calls_change_nothing(rt: HostRuntime) -> Result<(), Fail> {
     let named = match registry.add_name(atype, "MY-ATTRIBUTE") {
         Ok(()) => "MY-ATTRIBUTE",
         Err(refused) => {
-            assert_eq!(rt; refused, StunWriteError::OutOfMemory);
+            assert!(rt; refused == StunWriteError::OutOfMemory);
             "unknown"
         }
     };
-    assert_eq!(rt; registry.name(atype), named);
+    assert!(rt; registry.name(atype) == named);
     let of_method = match registry.add_method_name(method, "MY-METHOD") {
         Ok(()) => "MY-METHOD",
         Err(refused) => {
-            assert_eq!(rt; refused, StunWriteError::OutOfMemory);
+            assert!(rt; refused == StunWriteError::OutOfMemory);
             "unknown"
         }
     };
-    assert_eq!(rt; registry.method_name(method), of_method);
+    assert!(rt; registry.method_name(method) == of_method);
     match registry.add_display_impl(atype, custom) {
         Ok(()) => {
             let shown = written(&rt, &registry)?;
             assert!(rt; shown.is_none() || shown == Some("Custom 4".len()));
         }
         Err(refused) => {
-            assert_eq!(rt; refused, StunWriteError::OutOfMemory);
+            assert!(rt; refused == StunWriteError::OutOfMemory);
             assert!(rt; written(&rt, &registry)? == plain);
         }
     }
-    assert_eq!(rt; registry.name(atype), named);
-    assert_eq!(rt; registry.method_name(method), of_method);
+    assert!(rt; registry.name(atype) == named);
+    assert!(rt; registry.method_name(method) == of_method);
     Ok(())
 }

@@ -41,7 +41,7 @@ pub(crate) fn assert_prints<D: fmt::Display>(
     expected: &str,
 ) -> Result<(), Fail> {
     let text = format!(in alloc; "{value}")?;
-    assert_eq!(rt; text.as_str(), expected);
+    assert!(rt; text.as_str() == expected);
     for left in 0..expected.len() {
         let mut room = Room { left };
         assert!(rt; write!(room, "{value}").is_err(), "{expected}: {left}");
@@ -72,13 +72,13 @@ fn pads_transports(rt: HostRuntime) -> Result<(), Fail> {
         (format!(in rt.alloc(); "{udp:.1}|")?, "U|"),
     ];
     for (text, expected) in cases {
-        assert_eq!(rt; text.as_str(), expected);
+        assert!(rt; text.as_str() == expected);
     }
     Ok(())
 }
 
 /// Codes, reasons, and what an ERROR-CODE of both prints.
-const ERRORS: [(u16, &str, &str); 4] = [
+static ERRORS: [(u16, &str, &str); 4] = [
     (
         420,
         "Unknown Attribute",
@@ -91,7 +91,7 @@ const ERRORS: [(u16, &str, &str); 4] = [
 
 #[test]
 fn prints_errors(rt: HostRuntime) -> Result<(), Fail> {
-    for (code, reason, expected) in ERRORS {
+    for &(code, reason, expected) in &ERRORS {
         let error = ErrorCode::new(rt.alloc(), code, reason)?;
         assert_prints(&rt, rt.alloc(), &error, expected)?;
     }
@@ -100,7 +100,7 @@ fn prints_errors(rt: HostRuntime) -> Result<(), Fail> {
 
 /// Types, and what an UNKNOWN-ATTRIBUTES of them prints.
 #[rattlefmt::skip]
-const UNKNOWN: [(&[AttributeType], &str); 3] = [
+static UNKNOWN: [(&[AttributeType], &str); 3] = [
     (&[], "10(0xa: UNKNOWN-ATTRIBUTES): []"),
     (&[AttributeType(20)], "10(0xa: UNKNOWN-ATTRIBUTES): [AttributeType(20)]"),
     (&[AttributeType(21), AttributeType(0), AttributeType(65535)],
@@ -109,18 +109,18 @@ const UNKNOWN: [(&[AttributeType], &str); 3] = [
 
 #[test]
 fn prints_unknown_types(rt: HostRuntime) -> Result<(), Fail> {
-    for (types, expected) in UNKNOWN {
+    for &(types, expected) in &UNKNOWN {
         let unknown = UnknownAttributes::new(rt.alloc(), types)?;
         assert_prints(&rt, rt.alloc(), &unknown, expected)?;
         let of_debug = format!(in rt.alloc(); "10(0xa: UNKNOWN-ATTRIBUTES): {types:?}")?;
-        assert_eq!(rt; of_debug.as_str(), expected);
+        assert!(rt; of_debug.as_str() == expected);
     }
     Ok(())
 }
 
 /// Algorithms, and what a PASSWORD-ALGORITHMS of them prints.
 #[rattlefmt::skip]
-const ALGORITHMS: [(&[PasswordAlgorithmValue], &str); 4] = [
+static ALGORITHMS: [(&[PasswordAlgorithmValue], &str); 4] = [
     (&[], "32770(0x8002: PASSWORD_ALGORITHMS): []"),
     (&[PasswordAlgorithmValue::SHA256], "32770(0x8002: PASSWORD_ALGORITHMS): [SHA256]"),
     (&[PasswordAlgorithmValue::MD5, PasswordAlgorithmValue::SHA256],
@@ -148,7 +148,7 @@ fn prints_algorithms(rt: HostRuntime) -> Result<(), Fail> {
         &chosen,
         "29(0x1d: PASSWORD-ALGORITHM): SHA256",
     )?;
-    for (algorithms, expected) in ALGORITHMS {
+    for &(algorithms, expected) in &ALGORITHMS {
         let listed = PasswordAlgorithms::new(rt.alloc(), algorithms)?;
         assert_prints(&rt, rt.alloc(), &listed, expected)?;
     }
@@ -221,7 +221,7 @@ fn assert_prints_address(
     xored: &str,
 ) -> Result<(), Fail> {
     let of_debug = format!(in alloc; "{addr:?}")?;
-    assert_eq!(rt; of_debug.as_str(), plain);
+    assert!(rt; of_debug.as_str() == plain);
     assert_prints(rt, alloc, &MappedSocketAddr::new(addr), plain)?;
     let typed = format!(in alloc; "32803(0x8023: ALTERNATE-SERVER): {plain}")?;
     assert_prints(rt, alloc, &AlternateServer::new(addr), &typed)?;

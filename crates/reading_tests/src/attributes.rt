@@ -19,11 +19,11 @@ fn reads_attribute_headers(rt: HostRuntime) -> Result<(), Fail> {
             actual,
         };
         let header = AttributeHeader::from_bytes(&SOFTWARE[..actual]);
-        assert_eq!(rt; header, Err(refused), "{actual} bytes");
+        assert!(rt; header == Err(refused), "{actual} bytes");
     }
     let header = AttributeHeader::from_bytes(&[0x80, 0x22, 0x00, 0x0A, 0x73])?;
-    assert_eq!(rt; (header.get_type().value(), header.length()), (0x8022, 10));
-    assert_eq!(rt; header.to_bytes(), [0x80, 0x22, 0x00, 0x0A]);
+    assert!(rt; (header.get_type().value(), header.length()) == (0x8022, 10));
+    assert!(rt; header.to_bytes() == [0x80, 0x22, 0x00, 0x0A]);
     Ok(())
 }
 
@@ -31,13 +31,13 @@ fn reads_attribute_headers(rt: HostRuntime) -> Result<(), Fail> {
 fn pads_to_four_bytes(rt: HostRuntime) {
     let cases = [(0, 0), (1, 4), (3, 4), (4, 4), (5, 8), (65535, 65536)];
     for (length, padded) in cases {
-        assert_eq!(rt; pad_attribute_len(length), padded, "{length}");
+        assert!(rt; pad_attribute_len(length) == padded, "{length}");
     }
 }
 
 /// Bytes, and the type and the value that are read of them.
 #[rattlefmt::skip]
-const READ: [(&str, &[u8], u16, &[u8]); 4] = [
+static READ: [(&str, &[u8], u16, &[u8]); 4] = [
     ("an empty value", &SOFTWARE, 0x8022, &[]),
     ("four bytes", &[0x00, 0x1D, 0x00, 0x04, 0x00, 0x02, 0x00, 0x00], 0x001D, &[0x00, 0x02, 0x00,
         0x00]),
@@ -47,7 +47,7 @@ const READ: [(&str, &[u8], u16, &[u8]); 4] = [
 
 /// Bytes that are cut off, how many there would have to be, and how many there are.
 #[rattlefmt::skip]
-const CUT_OFF: [(&str, &[u8], usize, usize); 6] = [
+static CUT_OFF: [(&str, &[u8], usize, usize); 6] = [
     ("no bytes", &[], 4, 0),
     ("one byte of a header", &[0x80], 4, 1),
     ("two bytes of a header", &[0x80, 0x22], 4, 2),
@@ -58,16 +58,16 @@ const CUT_OFF: [(&str, &[u8], usize, usize); 6] = [
 
 #[test]
 fn reads_raw_attributes(rt: HostRuntime) -> Result<(), Fail> {
-    for (case, bytes, number, value) in READ {
+    for &(case, bytes, number, value) in &READ {
         let read = RawAttribute::from_bytes(bytes)?;
         let header = read.header();
         let told = (header.get_type().value(), usize::from(header.length()));
-        assert_eq!(rt; told, (number, value.len()), "{case}");
-        assert_eq!(rt; read.value().as_bytes(), value, "{case}");
+        assert!(rt; told == (number, value.len()), "{case}");
+        assert!(rt; read.value().as_bytes() == value, "{case}");
     }
-    for (case, bytes, expected, actual) in CUT_OFF {
+    for &(case, bytes, expected, actual) in &CUT_OFF {
         let refused = StunParseError::Truncated { expected, actual };
-        assert_eq!(rt; RawAttribute::from_bytes(bytes), Err(refused), "{case}");
+        assert!(rt; RawAttribute::from_bytes(bytes) == Err(refused), "{case}");
     }
     Ok(())
 }
@@ -77,7 +77,7 @@ fn assert_made(rt: &impl Abort, value: &[u8]) -> Result<(), Fail> {
     let made = RawAttribute::new(AttributeType::new(0x8022), value)?;
     let header = made.header();
     let told = (header.get_type().value(), usize::from(header.length()));
-    assert_eq!(rt; told, (0x8022, value.len()));
+    assert!(rt; told == (0x8022, value.len()));
     assert!(rt; made.value().as_bytes() == value);
     assert!(rt; made.into_value().as_bytes() == value);
     Ok(())
@@ -108,19 +108,19 @@ fn to_be_written(value: &[u8]) -> Result<RawAttribute<'_>, StunWriteError> {
 fn limits_values(rt: HostRuntime) -> Result<(), Fail> {
     let atype = AttributeType(0x0001);
     let longest = RawAttribute::new_owned(atype, boxed(rt.alloc(), 65535)?)?;
-    assert_eq!(rt; longest.length(), 65535);
+    assert!(rt; longest.length() == 65535);
     let refused = StunParseError::TooLarge {
         expected: 65535,
         actual: 65536,
     };
     let longer = boxed(rt.alloc(), 65536)?;
-    assert_eq!(rt; RawAttribute::new(atype, &longer), Err(refused));
+    assert!(rt; RawAttribute::new(atype, &longer) == Err(refused));
     let unwritten = StunWriteError::TooLarge {
         expected: 65535,
         actual: 65536,
     };
-    assert_eq!(rt; to_be_written(&longer), Err(unwritten));
-    assert_eq!(rt; RawAttribute::new_owned(atype, longer), Err(refused));
+    assert!(rt; to_be_written(&longer) == Err(unwritten));
+    assert!(rt; RawAttribute::new_owned(atype, longer) == Err(refused));
     Ok(())
 }
 
@@ -129,7 +129,7 @@ fn gives_bytes_of_a_raw_attribute(rt: HostRuntime) -> Result<(), Fail> {
     let raw = RawAttribute::new(AttributeType(0x0001), &[80, 160])?;
     let bytes = raw.to_bytes(rt.alloc())?;
     let written = [0x00, 0x01, 0x00, 0x02, 0x50, 0xA0, 0x00, 0x00];
-    assert_eq!(rt; bytes.as_slice(), written.as_slice());
+    assert!(rt; bytes.as_slice() == written.as_slice());
     Ok(())
 }
 
@@ -143,7 +143,7 @@ fn owned(alloc: Global) -> Result<RawAttribute<'static>, Fail> {
 fn owns_raw_attributes(rt: HostRuntime) -> Result<(), Fail> {
     let owned = owned(rt.alloc())?;
     assert!(rt; matches!(owned.value(), Data::Owned(_)));
-    assert_eq!(rt; owned.value().as_bytes(), [80, 160].as_slice());
+    assert!(rt; owned.value().as_bytes() == [80, 160].as_slice());
     assert!(rt; owned.clone(rt.alloc())? == owned);
     assert!(rt; RawAttribute::new(AttributeType(0x0001), &[80, 160])? != owned);
     Ok(())
@@ -151,7 +151,7 @@ fn owns_raw_attributes(rt: HostRuntime) -> Result<(), Fail> {
 
 /// Numbers of types, their names, what they print, and whether they have to be understood.
 #[rattlefmt::skip]
-const NAMES: [(u16, &str, &str, bool); 21] = [
+static NAMES: [(u16, &str, &str, bool); 21] = [
     (0x0001, "MAPPED-ADDRESS", "1(0x1: MAPPED-ADDRESS)", true),
     (0x0006, "USERNAME", "6(0x6: USERNAME)", true),
     (0x0008, "MESSAGE-INTEGRITY", "8(0x8: MESSAGE-INTEGRITY)", true),
@@ -177,18 +177,18 @@ const NAMES: [(u16, &str, &str, bool); 21] = [
 
 #[test]
 fn names_attribute_types(rt: HostRuntime) {
-    for (number, name, _, required) in NAMES {
+    for &(number, name, _, required) in &NAMES {
         let atype = AttributeType::from(number);
         let told = (u16::from(atype), atype.comprehension_required());
-        assert_eq!(rt; told, (number, required));
-        assert_eq!(rt; atype.name(), name);
+        assert!(rt; told == (number, required));
+        assert!(rt; atype.name() == name);
     }
 }
 
 #[test]
 fn prints_attribute_types(rt: HostRuntime) -> Result<(), Fail> {
-    for (number, _, text, _) in NAMES {
-        assert_eq!(rt; AttributeType(number).to_string(rt.alloc())?.as_str(), text);
+    for &(number, _, text, _) in &NAMES {
+        assert!(rt; AttributeType(number).to_string(rt.alloc())?.as_str() == text);
     }
     Ok(())
 }
@@ -224,10 +224,10 @@ fn checks_type_and_length(rt: HostRuntime) -> Result<(), Fail> {
     let raw = RawAttribute::new(AttributeType(0x0001), &[1, 2, 3, 4])?;
     for (start, end, told) in &BOUNDS {
         let checked = raw.check_type_and_len(AttributeType(0x0001), *start, *end);
-        assert_eq!(rt; checked, *told, "{start:?} {end:?}");
+        assert!(rt; checked == *told, "{start:?} {end:?}");
         let other = raw.check_type_and_len(AttributeType(0x0002), *start, *end);
         let refused = Err(StunParseError::WrongAttributeImplementation);
-        assert_eq!(rt; other, refused, "{start:?} {end:?}");
+        assert!(rt; other == refused, "{start:?} {end:?}");
     }
     Ok(())
 }
@@ -241,6 +241,6 @@ fn no_length_is_below_0(rt: HostRuntime) -> Result<(), Fail> {
         actual: 0,
     };
     let checked = empty.check_type_and_len(atype, Bound::Unbounded, Bound::Excluded(0));
-    assert_eq!(rt; checked, Err(refused));
+    assert!(rt; checked == Err(refused));
     Ok(())
 }

@@ -9,27 +9,27 @@ use stun_types::message::Message;
 fn tells_borrowed_from_owned(rt: HostRuntime) -> Result<(), Fail> {
     let borrowed = Data::from([1, 2].as_slice());
     let owned = borrowed.clone(rt.alloc())?.into_owned(rt.alloc())?;
-    assert_eq!(rt; owned.as_bytes(), [1, 2].as_slice());
+    assert!(rt; owned.as_bytes() == [1, 2].as_slice());
     assert!(rt; borrowed != owned);
     assert!(rt; matches!(owned, Data::Owned(_)));
-    assert_eq!(rt; borrowed.clone(rt.alloc())?, borrowed);
+    assert!(rt; borrowed.clone(rt.alloc())? == borrowed);
     let copy = owned.clone(rt.alloc())?;
-    assert_eq!(rt; copy, owned);
-    assert_eq!(rt; copy.into_owned(rt.alloc())?, owned);
+    assert!(rt; copy == owned);
+    assert!(rt; copy.into_owned(rt.alloc())? == owned);
     Ok(())
 }
 
 #[test]
 fn takes_bytes_out(rt: HostRuntime) -> Result<(), Fail> {
     let slice = DataSlice::from([1, 2].as_slice());
-    assert_eq!(rt; slice.take(), [1, 2].as_slice());
+    assert!(rt; slice.take() == [1, 2].as_slice());
     let owned: DataOwned = slice.to_owned(rt.alloc())?;
-    assert_eq!(rt; owned.clone(rt.alloc())?, owned);
+    assert!(rt; owned.clone(rt.alloc())? == owned);
     let bytes = owned.take();
-    assert_eq!(rt; &bytes[..], [1, 2].as_slice());
+    assert!(rt; &bytes[..] == [1, 2].as_slice());
     let again = Data::from(bytes);
     assert!(rt; matches!(again, Data::Owned(_)));
-    assert_eq!(rt; again.as_bytes(), [1, 2].as_slice());
+    assert!(rt; again.as_bytes() == [1, 2].as_slice());
     Ok(())
 }
 
@@ -45,9 +45,9 @@ fn values_outlive_the_message(rt: HostRuntime) -> Result<(), Fail> {
     let bytes = message(rt.alloc(), 8, &[&USERNAME])?;
     let value = first_value(&bytes).ok_or("no attribute is shown")?;
     let username: &[u8] = b"abc";
-    assert_eq!(rt; value.as_bytes(), username);
+    assert!(rt; value.as_bytes() == username);
     assert!(rt; matches!(value, Data::Borrowed(_)));
-    assert_eq!(rt; value, Data::from(username));
-    assert_eq!(rt; DataSlice::from(username).as_bytes(), username);
+    assert!(rt; value == Data::from(username));
+    assert!(rt; DataSlice::from(username).as_bytes() == username);
     Ok(())
 }

@@ -5,7 +5,7 @@ use stun_types::attribute::AttributeType;
 use stun_types::message::{StunParseError, StunWriteError, ValidateError};
 
 #[rattlefmt::skip]
-const PARSE: [(StunParseError, &str); 11] = [
+static PARSE: [(StunParseError, &str); 11] = [
     (StunParseError::NotStun, "The provided data is not a STUN message"),
     (StunParseError::Truncated { expected: 20, actual: 6 },
         "Not enough data available to parse the packet, expected 20, actual 6"),
@@ -26,15 +26,15 @@ const PARSE: [(StunParseError, &str); 11] = [
 
 #[test]
 fn parse_errors_print(rt: HostRuntime) -> Result<(), Fail> {
-    for (error, text) in PARSE {
-        assert_eq!(rt; error.to_string(rt.alloc())?.as_str(), text);
+    for &(error, text) in &PARSE {
+        assert!(rt; error.to_string(rt.alloc())?.as_str() == text);
     }
     Ok(())
 }
 
 /// What errors of reading are where an error of writing is wanted.
 #[rattlefmt::skip]
-const CONVERTED: [(StunParseError, StunWriteError); 11] = [
+static CONVERTED: [(StunParseError, StunWriteError); 11] = [
     (StunParseError::TooLarge { expected: 4, actual: 5 },
         StunWriteError::TooLarge { expected: 4, actual: 5 }),
     (StunParseError::Truncated { expected: 20, actual: 6 },
@@ -54,14 +54,14 @@ const CONVERTED: [(StunParseError, StunWriteError); 11] = [
 
 #[test]
 fn parse_errors_become_write_errors(rt: HostRuntime) -> Result<(), Fail> {
-    for (error, expected) in CONVERTED {
-        assert_eq!(rt; StunWriteError::from(error), expected);
+    for &(error, expected) in &CONVERTED {
+        assert!(rt; StunWriteError::from(error) == expected);
     }
     Ok(())
 }
 
 #[rattlefmt::skip]
-const WRITE: [(StunWriteError, &str); 8] = [
+static WRITE: [(StunWriteError, &str); 8] = [
     (StunWriteError::AttributeExists(AttributeType(0x8022)),
         "The attribute already exists in the message"),
     (StunWriteError::FingerprintExists, "The message already contains a fingerprint attribute"),
@@ -78,14 +78,14 @@ const WRITE: [(StunWriteError, &str); 8] = [
 
 #[test]
 fn write_errors_print(rt: HostRuntime) -> Result<(), Fail> {
-    for (error, text) in WRITE {
-        assert_eq!(rt; error.to_string(rt.alloc())?.as_str(), text);
+    for &(error, text) in &WRITE {
+        assert!(rt; error.to_string(rt.alloc())?.as_str() == text);
     }
     Ok(())
 }
 
 #[rattlefmt::skip]
-const VALIDATE: [(ValidateError, &str); 2] = [
+static VALIDATE: [(ValidateError, &str); 2] = [
     (ValidateError::Parse(StunParseError::NotStun),
         "The message failed to parse the relevant integrity attributes"),
     (ValidateError::IntegrityFailed, "The message failed integrity checks"),
@@ -93,10 +93,10 @@ const VALIDATE: [(ValidateError, &str); 2] = [
 
 #[test]
 fn validate_errors_print(rt: HostRuntime) -> Result<(), Fail> {
-    for (error, text) in VALIDATE {
-        assert_eq!(rt; error.to_string(rt.alloc())?.as_str(), text);
+    for &(error, text) in &VALIDATE {
+        assert!(rt; error.to_string(rt.alloc())?.as_str() == text);
     }
     let parse = ValidateError::from(StunParseError::NotStun);
-    assert_eq!(rt; parse, ValidateError::Parse(StunParseError::NotStun));
+    assert!(rt; parse == ValidateError::Parse(StunParseError::NotStun));
     Ok(())
 }

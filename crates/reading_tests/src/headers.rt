@@ -11,18 +11,18 @@ use stun_types::message::{
 #[test]
 fn reads_a_header(rt: HostRuntime) -> Result<(), Fail> {
     let read = MessageHeader::from_bytes(&header(8))?;
-    assert_eq!(rt; read.get_type().class(), MessageClass::Request);
-    assert_eq!(rt; read.get_type().method(), BINDING);
-    assert_eq!(rt; read.data_length(), 8);
-    assert_eq!(rt; u128::from(read.transaction_id()), 1000);
+    assert!(rt; read.get_type().class() == MessageClass::Request);
+    assert!(rt; read.get_type().method() == BINDING);
+    assert!(rt; read.data_length() == 8);
+    assert!(rt; u128::from(read.transaction_id()) == 1000);
     Ok(())
 }
 
 #[test]
 fn constants_of_the_header(rt: HostRuntime) {
-    assert_eq!(rt; MessageHeader::LENGTH, 20);
-    assert_eq!(rt; MAGIC_COOKIE, 0x2112_A442);
-    assert_eq!(rt; BINDING.value(), 0x0001);
+    assert!(rt; MessageHeader::LENGTH == 20);
+    assert!(rt; MAGIC_COOKIE == 0x2112_A442);
+    assert!(rt; BINDING.value() == 0x0001);
 }
 
 const TRUNCATED_AT_0: StunParseError = StunParseError::Truncated {
@@ -42,7 +42,7 @@ const TRUNCATED_AT_6: StunParseError = StunParseError::Truncated {
 
 /// Bytes that are no header, and why.
 #[rattlefmt::skip]
-const NO_HEADER: [(&str, &[u8], StunParseError); 8] = [
+static NO_HEADER: [(&str, &[u8], StunParseError); 8] = [
     ("no bytes", &[], TRUNCATED_AT_0),
     ("type and length alone", &[0x00, 0x01, 0x00, 0x08], TRUNCATED_AT_4),
     ("half of the cookie", &[0x00, 0x01, 0x00, 0x08, 0x21, 0x12], TRUNCATED_AT_6),
@@ -63,13 +63,13 @@ const NO_HEADER: [(&str, &[u8], StunParseError); 8] = [
 fn assert_no_header(rt: &impl Abort, case: &str, bytes: &[u8], refused: StunParseError) {
     let header = MessageHeader::from_bytes(bytes).err();
     let message = Message::from_bytes(bytes).err();
-    assert_eq!(rt; header, Some(refused), "{case}");
-    assert_eq!(rt; message, Some(refused), "{case}");
+    assert!(rt; header == Some(refused), "{case}");
+    assert!(rt; message == Some(refused), "{case}");
 }
 
 #[test]
 fn refuses_what_is_no_header(rt: HostRuntime) {
-    for (case, bytes, refused) in NO_HEADER {
+    for &(case, bytes, refused) in &NO_HEADER {
         assert_no_header(&rt, case, bytes, refused);
     }
     let whole = header(0);
@@ -84,7 +84,7 @@ fn refuses_what_is_no_header(rt: HostRuntime) {
 
 /// A class, a method, what is kept of its number, and the bytes of the type.
 #[rattlefmt::skip]
-const MADE: [(&str, MessageClass, u16, u16, [u8; 2]); 7] = [
+static MADE: [(&str, MessageClass, u16, u16, [u8; 2]); 7] = [
     ("a request", MessageClass::Request, 0x0001, 0x0001, [0x00, 0x01]),
     ("an indication", MessageClass::Indication, 0x0001, 0x0001, [0x00, 0x11]),
     ("a success", MessageClass::Success, 0x0001, 0x0001, [0x01, 0x01]),
@@ -98,17 +98,16 @@ const MADE: [(&str, MessageClass, u16, u16, [u8; 2]); 7] = [
 fn assert_written(rt: &impl Abort, case: &str, made: MessageType, [high, low]: [u8; 2]) {
     let mut buffer = [0xFF; 4];
     made.write_into(&mut buffer);
-    assert_eq!(rt; buffer, [high, low, 0xFF, 0xFF], "{case}");
-    assert_eq!(rt; MessageType::from_bytes(&buffer), Ok(made), "{case}");
+    assert!(rt; buffer == [high, low, 0xFF, 0xFF], "{case}");
+    assert!(rt; MessageType::from_bytes(&buffer) == Ok(made), "{case}");
 }
 
 #[test]
 fn makes_message_types(rt: HostRuntime) -> Result<(), Fail> {
-    for (case, class, method, kept, bytes) in MADE {
+    for &(case, class, method, kept, bytes) in &MADE {
         let made = MessageType::from_class_method(class, Method::new(method));
-        assert_eq!(rt;
-            (made.class(), made.method().value()),
-            (class, kept),
+        assert!(rt;
+            (made.class(), made.method().value()) == (class, kept),
             "{case}"
         );
         assert!(rt;
@@ -122,7 +121,7 @@ fn makes_message_types(rt: HostRuntime) -> Result<(), Fail> {
 
 /// The two bytes of a type, its class and its method.
 #[rattlefmt::skip]
-const READ: [(&str, [u8; 2], MessageClass, u16); 6] = [
+static READ: [(&str, [u8; 2], MessageClass, u16); 6] = [
     ("a request", [0x00, 0x01], MessageClass::Request, 0x0001),
     ("an indication", [0x00, 0x11], MessageClass::Indication, 0x0001),
     ("a success", [0x01, 0x01], MessageClass::Success, 0x0001),
@@ -132,7 +131,7 @@ const READ: [(&str, [u8; 2], MessageClass, u16); 6] = [
 ];
 
 /// The classes, and whether each is of a response.
-const CLASSES: [(MessageClass, bool); 4] = [
+static CLASSES: [(MessageClass, bool); 4] = [
     (MessageClass::Request, false),
     (MessageClass::Indication, false),
     (MessageClass::Success, true),
@@ -147,15 +146,15 @@ fn assert_class(
     read: &Message<'_>,
     class: MessageClass,
 ) {
-    assert_eq!(rt; (mtype.class(), read.class()), (class, class), "{case}");
-    for (other, is_response) in CLASSES {
+    assert!(rt; (mtype.class(), read.class()) == (class, class), "{case}");
+    for &(other, is_response) in &CLASSES {
         let same = other == class;
         let told = (mtype.has_class(other), read.has_class(other));
-        assert_eq!(rt; told, (same, same), "{case}: {other:?}");
-        assert_eq!(rt; other.is_response(), is_response, "{other:?}");
+        assert!(rt; told == (same, same), "{case}: {other:?}");
+        assert!(rt; other.is_response() == is_response, "{other:?}");
         if same {
             let told = (mtype.is_response(), read.is_response());
-            assert_eq!(rt; told, (is_response, is_response), "{case}");
+            assert!(rt; told == (is_response, is_response), "{case}");
         }
     }
 }
@@ -163,27 +162,26 @@ fn assert_class(
 /// A type, and the message that has it, are of this method alone.
 fn assert_method(rt: &impl Abort, case: &str, mtype: MessageType, read: &Message<'_>, method: u16) {
     let told = (mtype.method().value(), read.method().value());
-    assert_eq!(rt; told, (method, method), "{case}");
+    assert!(rt; told == (method, method), "{case}");
     let is_binding = method == 0x0001;
     let told = (mtype.has_method(BINDING), read.has_method(BINDING));
-    assert_eq!(rt; told, (is_binding, is_binding), "{case}");
+    assert!(rt; told == (is_binding, is_binding), "{case}");
     let other = Method::new(0x0003);
-    assert_eq!(rt;
-        (mtype.has_method(other), read.has_method(other)),
-        (false, false),
+    assert!(rt;
+        (mtype.has_method(other), read.has_method(other)) == (false, false),
         "{case}"
     );
 }
 
 #[test]
 fn reads_message_types(rt: HostRuntime) -> Result<(), Fail> {
-    for (case, [high, low], class, method) in READ {
+    for &(case, [high, low], class, method) in &READ {
         let mut bytes = header(0);
         bytes[0] = high;
         bytes[1] = low;
         let mtype = MessageType::from_bytes(&bytes)?;
         let read = Message::from_bytes(&bytes)?;
-        assert_eq!(rt; read.get_type(), mtype, "{case}");
+        assert!(rt; read.get_type() == mtype, "{case}");
         assert_class(&rt, case, mtype, &read, class);
         assert_method(&rt, case, mtype, &read, method);
     }
@@ -195,16 +193,13 @@ fn reads_two_bytes_of_a_type(rt: HostRuntime) -> Result<(), Fail> {
     let binding = MessageType::from_bytes(&[0x00, 0x01])?;
     assert!(rt; !binding.has_method(Method::new(0x1001)));
     let longer = MessageType::from_bytes(&[0x3F, 0xEF, 0x99])?;
-    assert_eq!(rt;
-        longer.to_bytes(rt.alloc())?.as_slice(),
-        [0x3F, 0xEF].as_slice()
-    );
+    assert!(rt; longer.to_bytes(rt.alloc())?.as_slice() == [0x3F, 0xEF].as_slice());
     Ok(())
 }
 
 /// Bytes that are no type, and why.
 #[rattlefmt::skip]
-const NO_TYPE: [(&str, &[u8], StunParseError); 5] = [
+static NO_TYPE: [(&str, &[u8], StunParseError); 5] = [
     ("no bytes", &[], StunParseError::Truncated { expected: 2, actual: 0 }),
     ("one byte", &[0x00], StunParseError::Truncated { expected: 2, actual: 1 }),
     ("one byte of no type", &[0x40], StunParseError::Truncated { expected: 2, actual: 1 }),
@@ -214,16 +209,16 @@ const NO_TYPE: [(&str, &[u8], StunParseError); 5] = [
 
 #[test]
 fn refuses_what_is_no_message_type(rt: HostRuntime) {
-    for (case, bytes, refused) in NO_TYPE {
-        assert_eq!(rt; MessageType::from_bytes(bytes), Err(refused), "{case}");
+    for &(case, bytes, refused) in &NO_TYPE {
+        assert!(rt; MessageType::from_bytes(bytes) == Err(refused), "{case}");
     }
     for (number, valid) in [(0, true), (0xEFFF, true), (0xF000, false), (0xFFFF, false)] {
-        assert_eq!(rt; Method::is_valid(number), valid, "{number:#x}");
+        assert!(rt; Method::is_valid(number) == valid, "{number:#x}");
     }
 }
 
 /// Methods, their names, and what they print.
-const METHODS: [(u16, &str, &str); 6] = [
+static METHODS: [(u16, &str, &str); 6] = [
     (0x0000, "unknown", "0(0x0: unknown)"),
     (0x0001, "BINDING", "1(0x1: BINDING)"),
     (0x0002, "unknown", "2(0x2: unknown)"),
@@ -234,17 +229,17 @@ const METHODS: [(u16, &str, &str); 6] = [
 
 #[test]
 fn names_and_prints_methods(rt: HostRuntime) -> Result<(), Fail> {
-    for (number, name, text) in METHODS {
+    for &(number, name, text) in &METHODS {
         let method = Method::new(number);
-        assert_eq!(rt; method.name(), name, "{text}");
-        assert_eq!(rt; method.to_string(rt.alloc())?.as_str(), text);
+        assert!(rt; method.name() == name, "{text}");
+        assert!(rt; method.to_string(rt.alloc())?.as_str() == text);
     }
     Ok(())
 }
 
 /// A class, a method, and what the type of both prints.
 #[rattlefmt::skip]
-const PRINTED: [(MessageClass, u16, &str); 4] = [
+static PRINTED: [(MessageClass, u16, &str); 4] = [
     (MessageClass::Request, 0x0001, "MessageType(class: Request, method: 1(0x1: BINDING)"),
     (MessageClass::Indication, 0x0001, "MessageType(class: Indication, method: 1(0x1: BINDING)"),
     (MessageClass::Success, 0x0003, "MessageType(class: Success, method: 3(0x3: unknown)"),
@@ -253,16 +248,16 @@ const PRINTED: [(MessageClass, u16, &str); 4] = [
 
 #[test]
 fn prints_message_types(rt: HostRuntime) -> Result<(), Fail> {
-    for (class, method, text) in PRINTED {
+    for &(class, method, text) in &PRINTED {
         let mtype = MessageType::from_class_method(class, Method::new(method));
-        assert_eq!(rt; mtype.to_string(rt.alloc())?.as_str(), text);
+        assert!(rt; mtype.to_string(rt.alloc())?.as_str() == text);
     }
     Ok(())
 }
 
 /// Numbers, what an ID keeps of them, and what it prints.
 #[rattlefmt::skip]
-const IDS: [(u128, u128, &str); 6] = [
+static IDS: [(u128, u128, &str); 6] = [
     (0, 0, "0x0"),
     (1000, 1000, "0x3e8"),
     (0x1_0000_0000_0000_0000, 0x1_0000_0000_0000_0000, "0x10000000000000000"),
@@ -274,11 +269,11 @@ const IDS: [(u128, u128, &str); 6] = [
 
 #[test]
 fn keeps_and_prints_transaction_ids(rt: HostRuntime) -> Result<(), Fail> {
-    for (number, kept, text) in IDS {
+    for &(number, kept, text) in &IDS {
         let id = TransactionId::from(number);
-        assert_eq!(rt; u128::from(id), kept, "{text}");
-        assert_eq!(rt; id.value(), kept, "{text}");
-        assert_eq!(rt; id.to_string(rt.alloc())?.as_str(), text);
+        assert!(rt; u128::from(id) == kept, "{text}");
+        assert!(rt; id.value() == kept, "{text}");
+        assert!(rt; id.to_string(rt.alloc())?.as_str() == text);
     }
     Ok(())
 }

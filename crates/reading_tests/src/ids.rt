@@ -51,8 +51,8 @@ impl Rng for Counting {
 fn draws_an_id(rt: HostRuntime) {
     let mut words = Counting(0x0102_0304_0506_0708);
     let id = TransactionId::generate(&mut words);
-    assert_eq!(rt; u128::from(id), 0x1516_1718_0102_0304_0506_0708);
-    assert_eq!(rt; words.next_u64(), 0x2122_2324_2526_2728);
+    assert!(rt; u128::from(id) == 0x1516_1718_0102_0304_0506_0708);
+    assert!(rt; words.next_u64() == 0x2122_2324_2526_2728);
 }
 
 /// A request (an indication) with the ID of the words 0x0102030405060708 and 0x1112131415161718.
@@ -79,7 +79,7 @@ fn begins_messages_with_an_id_of_its_own(rt: HostRuntime) -> Result<(), Fail> {
         MessageWriteVec::new(rt.alloc()),
     )?.finish();
     for ((case, expected), begun) in BEGUN.iter().zip([&request, &indication]) {
-        assert_eq!(rt; begun.as_slice(), expected.as_slice(), "{case}");
+        assert!(rt; begun.as_slice() == expected.as_slice(), "{case}");
     }
     Ok(())
 }

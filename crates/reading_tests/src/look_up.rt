@@ -34,7 +34,7 @@ const INTEGRITY: [u8; 24] = [0x00, 0x08, 0x00, 0x14, 0, 0, 0, 0, 0, 0, 0, 0, 0, 
 /// The length that the header states, what stands behind it, the type and the place that are looked
 /// up, and the offset and the value that are found.
 #[rattlefmt::skip]
-const FOUND: [(&str, u16, &[&[u8]], u16, usize, Option<(usize, &[u8])>); 13] = [
+static FOUND: [(&str, u16, &[&[u8]], u16, usize, Option<(usize, &[u8])>); 13] = [
     ("nothing in nothing", 0, &[], 0x0001, 0, None),
     ("the first of two", 16, &[&THREE, &THREE], 0x0001, 0, Some((20, &[0x03]))),
     ("the second of two", 16, &[&THREE, &THREE], 0x0001, 1, Some((28, &[0x03]))),
@@ -85,7 +85,7 @@ fn is_raw_found(
 
 #[test]
 fn finds_raw_attributes(rt: HostRuntime) -> Result<(), Fail> {
-    for (case, length, pieces, number, n, expected) in FOUND {
+    for &(case, length, pieces, number, n, expected) in &FOUND {
         let bytes = message(rt.alloc(), length, pieces)?;
         let read = Message::from_bytes(&bytes)?;
         let atype = AttributeType(number);
@@ -98,7 +98,7 @@ fn finds_raw_attributes(rt: HostRuntime) -> Result<(), Fail> {
             assert!(rt; is_found(found, number, expected), "{case}");
             let found = read.raw_attribute(atype);
             assert!(rt; is_raw_found(found, number, expected), "{case}");
-            assert_eq!(rt; read.has_attribute(atype), expected.is_some(), "{case}");
+            assert!(rt; read.has_attribute(atype) == expected.is_some(), "{case}");
         }
     }
     Ok(())
@@ -109,13 +109,13 @@ fn reads_what_it_finds(rt: HostRuntime) -> Result<(), Fail> {
     let bytes = message(rt.alloc(), 40, &[&STUN_TYPES, &STUN_TYPES, &SHA256])?;
     let read = Message::from_bytes(&bytes)?;
     let (offset, software) = read.nth_attribute_and_offset::<Software>(rt.alloc(), 1)?;
-    assert_eq!(rt; (offset, software.software()), (36, "stun-types"));
+    assert!(rt; (offset, software.software()) == (36, "stun-types"));
     let software = read.nth_attribute::<Software>(rt.alloc(), 1)?;
-    assert_eq!(rt; software.software(), "stun-types");
+    assert!(rt; software.software() == "stun-types");
     let (offset, software) = read.attribute_and_offset::<Software>(rt.alloc())?;
-    assert_eq!(rt; (offset, software.software()), (20, "stun-types"));
+    assert!(rt; (offset, software.software()) == (20, "stun-types"));
     let chosen = read.attribute::<PasswordAlgorithm>(rt.alloc())?;
-    assert_eq!(rt; chosen.algorithm(), PasswordAlgorithmValue::SHA256);
+    assert!(rt; chosen.algorithm() == PasswordAlgorithmValue::SHA256);
     Ok(())
 }
 
@@ -125,16 +125,13 @@ fn tells_what_it_does_not_find(rt: HostRuntime) -> Result<(), Fail> {
     let read = Message::from_bytes(&bytes)?;
     let missing = StunParseError::MissingAttribute(AttributeType(0x8022));
     let second = read.nth_attribute_and_offset::<Software>(rt.alloc(), 1);
-    assert_eq!(rt; second.err(), Some(missing));
-    assert_eq!(rt;
-        read.nth_attribute::<Software>(rt.alloc(), 1).err(),
-        Some(missing)
-    );
+    assert!(rt; second.err() == Some(missing));
+    assert!(rt; read.nth_attribute::<Software>(rt.alloc(), 1).err() == Some(missing));
     let bytes = message(rt.alloc(), 8, &[&SHA256])?;
     let read = Message::from_bytes(&bytes)?;
     let first = read.attribute_and_offset::<Software>(rt.alloc());
-    assert_eq!(rt; first.err(), Some(missing));
-    assert_eq!(rt; read.attribute::<Software>(rt.alloc()).err(), Some(missing));
+    assert!(rt; first.err() == Some(missing));
+    assert!(rt; read.attribute::<Software>(rt.alloc()).err() == Some(missing));
     Ok(())
 }
 
@@ -143,11 +140,8 @@ fn tells_what_it_cannot_read(rt: HostRuntime) -> Result<(), Fail> {
     let bytes = message(rt.alloc(), 8, &[&NO_TEXT])?;
     let read = Message::from_bytes(&bytes)?;
     let refused = StunParseError::InvalidAttributeData;
-    assert_eq!(rt;
-        read.attribute_and_offset::<Software>(rt.alloc()).err(),
-        Some(refused)
-    );
-    assert_eq!(rt; read.attribute::<Software>(rt.alloc()).err(), Some(refused));
+    assert!(rt; read.attribute_and_offset::<Software>(rt.alloc()).err() == Some(refused));
+    assert!(rt; read.attribute::<Software>(rt.alloc()).err() == Some(refused));
     Ok(())
 }
 
@@ -161,6 +155,6 @@ fn first_of_type_1(bytes: &[u8]) -> Result<Option<RawAttribute<'_>>, StunParseEr
 fn finds_what_outlives_the_message(rt: HostRuntime) -> Result<(), Fail> {
     let bytes = message(rt.alloc(), 8, &[&THREE])?;
     let found = first_of_type_1(&bytes)?.ok_or("no attribute of type 1")?;
-    assert_eq!(rt; found.value().as_bytes(), [0x03].as_slice());
+    assert!(rt; found.value().as_bytes() == [0x03].as_slice());
     Ok(())
 }

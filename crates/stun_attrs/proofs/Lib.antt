@@ -1,2 +1,3 @@
 mod PrintedLemmas
 mod RawLemmas
+mod EncodingLemmas

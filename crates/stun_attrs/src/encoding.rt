@@ -7,6 +7,7 @@ ghost use Rattle.stun_base.specs.Data.{is_borrowed};
 ghost use Rattle.stun_attrs.specs.Raw.{raw_data, IsRawOf};
 
 use crate::{RawAttribute, owned_attribute};
+use byteorder::{BigEndian, ByteOrder};
 use std::alloc::Global;
 use stun_base::{AttributeHeader, AttributeType, StunWriteError, pad_attribute_len};
 
@@ -54,12 +55,18 @@ pub fn copy_to_start(bytes: &[u8], dest: &mut [u8])
     dest[..bytes.len()].copy_from_slice(bytes);
 }
 
-/// Writes `count` zeros at the start of `dest`, which is long enough.
-fn clear_start(count: usize, dest: &mut [u8])
-    requires { count ≤ length dest.old }
-    ensures { dest.new ≡ replicate count 0 ++ drop count dest.old }
+/// Writes zeros from `end` up to the next multiple of 4, of which there are at most three, as one
+/// number of four bytes: it also clears bytes before `end`, which the caller writes afterwards.
+fn clear_padding(end: usize, dest: &mut [u8])
+    requires { padded_length end ≤ length dest.old }
+    ensures size { length dest.new ≡ length dest.old }
+    ensures zeros { drop end dest.new
+        ≡ replicate (padded_length end - end) 0 ++ drop (padded_length end) dest.old }
 {
-    dest[..count].fill(0);
+    let padded = pad_attribute_len(end);
+    if end < padded {
+        BigEndian::write_u32(&mut dest[padded - 4..padded], 0);
+    }
 }
 
 /// Writes a value at the start of `dest`, and then zeros up to a multiple of 4.
@@ -69,8 +76,7 @@ fn write_padded<V: MakeValue>(value: &V, dest: &mut [u8])
         ++ (replicate (padded_length (length (V.bytes value.now)) - length (V.bytes value.now)) 0
         ++ drop (padded_length (length (V.bytes value.now))) dest.old) }
 {
-    let end = value.size() as usize;
-    clear_start(pad_attribute_len(end) - end, &mut dest[end..]);
+    clear_padding(value.size() as usize, dest);
     value.write_value(dest);
 }
 

@@ -60,8 +60,7 @@ fn begins_with_header(bytes: &[u8]) -> bool
     requires { 20 ≤ length bytes.now }
     ensures { result ≡ is_header bytes.now }
 {
-    let cookie = MAGIC_COOKIE.to_be_bytes();
-    bytes[0] < 64 && bytes[4..8] == cookie[..]
+    bytes[0] < 64 && BigEndian::read_u32(&bytes[4..8]) == MAGIC_COOKIE
 }
 
 /// The two bytes at offset `at` as a number, big-endian.
@@ -94,6 +93,41 @@ pub fn read_header(bytes: &[u8]) -> MessageHeader
     }
 }
 
+/// Why fewer than twenty bytes are refused.
+#[cold]
+#[inline(never)]
+fn short_header(bytes: &[u8]) -> StunParseError
+    requires { length bytes.now < 20 }
+    ensures { header_fault bytes.now ≡ Some result }
+{
+    if !may_begin(bytes) {
+        return StunParseError::NotStun;
+    }
+    StunParseError::Truncated {
+        expected: MessageHeader::LENGTH,
+        actual: bytes.len(),
+    }
+}
+
+/// Checks that `bytes` begin with a header, which is not read. What follows it is not looked at.
+///
+/// # Errors
+///
+/// As for [`MessageHeader::from_bytes`].
+pub fn check_header(bytes: &[u8]) -> Result<(), StunParseError>
+    ensures { MatchResult result
+        (λ _. header_fault bytes.now ≡ None)
+        (λ e. header_fault bytes.now ≡ Some e) }
+{
+    if bytes.len() < MessageHeader::LENGTH {
+        return Err(short_header(bytes));
+    }
+    if !begins_with_header(bytes) {
+        return Err(StunParseError::NotStun);
+    }
+    Ok(())
+}
+
 impl MessageHeader {
     /// How many bytes a header has: 20.
     pub const LENGTH: usize = 20;
@@ -114,18 +148,7 @@ impl MessageHeader {
             (λ header. (header_fault bytes.now ≡ None) × (header ≡ header_of bytes.now))
             (λ e. header_fault bytes.now ≡ Some e) }
     {
-        if bytes.len() < Self::LENGTH {
-            if !may_begin(bytes) {
-                return Err(StunParseError::NotStun);
-            }
-            return Err(StunParseError::Truncated {
-                expected: Self::LENGTH,
-                actual: bytes.len(),
-            });
-        }
-        if !begins_with_header(bytes) {
-            return Err(StunParseError::NotStun);
-        }
+        check_header(bytes)?;
         Ok(read_header(bytes))
     }
 

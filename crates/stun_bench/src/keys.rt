@@ -1,12 +1,14 @@
 //! Making keys, and validating with one.
 
-ghost use Rattle.std.specs.Prelude.{◌≡◌, ◌*◌, ◌%◌, ◌^◌, true, ◌⊎◌, None, IfOk, IfSome, string_bytes};
+ghost use Rattle.std.specs.Prelude.{◌≡◌, ◌≤◌, ◌*◌, ◌%◌, ◌^◌, true, ◌⊎◌, None, IfOk, IfSome, length, string_bytes};
 ghost use Rattle.stun_grammar.specs.declared.integrity_algorithm.IntegrityAlgorithm.{IntegrityAlgorithm};
 ghost use Rattle.stun_grammar.specs.Verdicts.{is_wanted, verdict};
-ghost use Rattle.stun_keys.specs.Keys.{IsKey, credentials_key, credentials_algorithm};
-ghost use Rattle.stun_bench.specs.Answers.{none, verdict_number};
+ghost use Rattle.stun_keys.specs.Keys.{IsKey, key_bytes, credentials_key, credentials_algorithm};
+ghost use Rattle.stun_bench.specs.Answers.{none, algorithm_of as algorithm_told, hmac_number, verdict_number};
 
+use crate::reading::prefix;
 use std::alloc::Global;
+use stun_integrity::{hmac_sha1_at, hmac_sha256_at};
 use stun_types::message::keys::{
     IntegrityAlgorithm, IntegrityKey, LongTermKeyCredentials, MessageIntegrityCredentials,
     ShortTermCredentials,
@@ -24,7 +26,9 @@ fn text(alloc: Global, bytes: &[u8]) -> Option<String>
 }
 
 /// The algorithm of a number: 2 is SHA-256.
-pub fn algorithm_of(number: u32) -> IntegrityAlgorithm {
+pub fn algorithm_of(number: u32) -> IntegrityAlgorithm
+    ensures { result ≡ algorithm_told number }
+{
     match number {
         2 => IntegrityAlgorithm::Sha256,
         _ => IntegrityAlgorithm::Sha1,
@@ -151,6 +155,46 @@ pub extern "C" fn stun_bench_validate(
     let mut sum: u64 = 0;
     for _ in 0..rounds {
         sum = sum.wrapping_add(verdict_of(parsed.validate_integrity_with_key(&key)));
+    }
+    sum
+}
+
+/// The first four bytes, as one number, of the HMAC that an integrity attribute holds behind
+/// `message`.
+fn hmac_behind(message: &[u8], key: &IntegrityKey, algorithm: IntegrityAlgorithm) -> u32
+    requires { 20 ≤ length message.now }
+    ensures { result ≡ hmac_number algorithm (key_bytes key.now) message.now }
+{
+    let offset = message.len();
+    match algorithm {
+        IntegrityAlgorithm::Sha1 => prefix(&hmac_sha1_at(key, message, offset, 20)),
+        IntegrityAlgorithm::Sha256 => prefix(&hmac_sha256_at(key, message, offset, 32)),
+    }
+}
+
+/// Makes the short-term key of a password, computes `rounds` times the HMAC that an integrity
+/// attribute of an algorithm holds behind a message, and returns the sum of their first four bytes,
+/// each as one number.
+#[unsafe(no_mangle)]
+pub extern "C" fn stun_bench_hmac(
+    alloc: Global,
+    message: &[u8],
+    password: &[u8],
+    algorithm: u32,
+    rounds: u64,
+) -> u64
+    ensures { (result ≡ none) ⊎ (result
+        ≡ (rounds * hmac_number (algorithm_told algorithm) password.now message.now) % 2 ^ 64) }
+{
+    if message.len() < 20 {
+        return NONE;
+    }
+    let Some(key) = short_key(alloc, password) else {
+        return NONE;
+    };
+    let mut sum: u64 = 0;
+    for _ in 0..rounds {
+        sum = sum.wrapping_add(u64::from(hmac_behind(message, &key, algorithm_of(algorithm))));
     }
     sum
 }

@@ -1,5 +1,5 @@
 //! The functions of `bench/stun_bench.h`, which the driver of `bench/` measures. They use the
-//! public items of `stun_types`, and the CRC-32 of `stun_keys`.
+//! public items of `stun_types`, the CRC-32 of `stun_keys`, and the HMAC of `stun_integrity`.
 #![tactic(auto)]
 
 mod keys;
@@ -7,7 +7,7 @@ mod reading;
 mod typed;
 mod writing;
 
-pub use keys::{stun_bench_long_key, stun_bench_short_key, stun_bench_validate};
+pub use keys::{stun_bench_hmac, stun_bench_long_key, stun_bench_short_key, stun_bench_validate};
 pub use reading::{stun_bench_crc, stun_bench_iterate, stun_bench_parse};
 pub use typed::stun_bench_typed;
 pub use writing::{

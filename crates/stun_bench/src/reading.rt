@@ -12,9 +12,8 @@ use stun_keys::digest::crc32;
 use stun_types::attribute::RawAttribute;
 use stun_types::message::{Message, MessageAttributesIter};
 
-/// The first four bytes of a message, its type and its length field, as one number; 0 where there
-/// are fewer.
-fn prefix(bytes: &[u8]) -> u32
+/// The first four bytes, as one number; 0 where there are fewer.
+pub(crate) fn prefix(bytes: &[u8]) -> u32
     ensures { 4 ≤ length bytes.now → result ≡ number (take 4 bytes.now) }
 {
     match bytes {

@@ -58,6 +58,15 @@ fn add_signed<B: MessageWrite>(
     message.add_fingerprint()
 }
 
+/// Adds `count` attributes without a value, of type 0xC000.
+fn add_empties<B: MessageWrite>(message: &mut B, count: u32) -> Result<(), StunWriteError> {
+    let empty = RawAttribute::new(AttributeType(0xC000), &[])?;
+    for _ in 0..count {
+        add(message, &empty)?;
+    }
+    Ok(())
+}
+
 /// The type of a binding request.
 fn binding() -> MessageType {
     MessageType::from_class_method(MessageClass::Request, BINDING)
@@ -135,6 +144,16 @@ fn plain_slice(
     Ok(message.finish())
 }
 
+/// Writes a request with `count` attributes without a value into a slice, and returns its length.
+fn empties_slice(alloc: Global, count: u32, destination: &mut [u8]) -> Result<usize, StunWriteError>
+    requires { 20 ≤ length destination.old }
+{
+    let write = MessageWriteMutSlice::new(alloc, destination);
+    let mut message = Message::builder(binding(), id(), write)?;
+    add_empties(&mut message, count)?;
+    Ok(message.finish())
+}
+
 /// The number of a signed check that is written into a vector, or `NONE`.
 fn signed_vector_answer(alloc: Global, user: &[u8], key: &IntegrityKey, algorithm: u32) -> u64 {
     let Some(username) = username_of(alloc, user) else {
@@ -198,6 +217,21 @@ pub extern "C" fn stun_bench_write_plain_slice(
         return NONE;
     };
     let written = plain_slice(alloc, &username, destination);
+    slice_answer(destination, written)
+}
+
+/// Writes a request with `count` attributes without a value into the slice `destination`, and
+/// returns its number.
+#[unsafe(no_mangle)]
+pub extern "C" fn stun_bench_write_empties(
+    alloc: Global,
+    count: u32,
+    destination: &mut [u8],
+) -> u64 {
+    if destination.len() < MessageHeader::LENGTH {
+        return NONE;
+    }
+    let written = empties_slice(alloc, count, destination);
     slice_answer(destination, written)
 }
 

@@ -1,4 +1,5 @@
 pub mod NumbersLemmas
+pub mod FourBytesLemmas
 pub mod HeadersLemmas
 pub mod AttributesLemmas
 pub mod ChainsLemmas

@@ -1,5 +1,8 @@
 //! The numbers of the attribute types (RFC 8489, section 18.3).
 
+ghost use Rattle.std.specs.Prelude.{◌≡◌};
+ghost use Rattle.stun_grammar.specs.AttributeTypes.{is_ending};
+
 /// MAPPED-ADDRESS.
 pub const MAPPED_ADDRESS: u16 = 0x0001;
 
@@ -47,3 +50,11 @@ pub const ALTERNATE_SERVER: u16 = 0x8023;
 
 /// FINGERPRINT.
 pub const FINGERPRINT: u16 = 0x8028;
+
+/// Whether the type is one of the three that follow all others: MESSAGE-INTEGRITY,
+/// MESSAGE-INTEGRITY-SHA256 and FINGERPRINT.
+pub fn is_ending(atype: u16) -> bool
+    ensures { result ≡ is_ending atype }
+{
+    atype == MESSAGE_INTEGRITY || atype == MESSAGE_INTEGRITY_SHA256 || atype == FINGERPRINT
+}

@@ -4,6 +4,7 @@
 //! FINGERPRINT holds. Reading, validation and writing use them.
 #![tactic(auto)]
 
+mod compare;
 mod covered;
 mod fingerprint;
 mod laws;
@@ -11,6 +12,7 @@ mod message_integrity;
 mod message_integrity_sha256;
 mod userhash;
 
+pub use compare::same_bytes;
 pub use covered::{fingerprint_at, hmac_sha1_at, hmac_sha256_at};
 pub use fingerprint::Fingerprint;
 pub use laws::{

@@ -1,3 +1,4 @@
+use crate::compare::same_bytes;
 use std::alloc::Global;
 use std::fmt;
 use stun_attrs::{
@@ -51,14 +52,15 @@ impl MessageIntegrity {
     /// Whether `expected` is the HMAC-SHA1 of the pieces, joined, under a key that was made for
     /// `Sha1` or for no one algorithm. With a key that was made for `Sha256` the result is `false`.
     ///
-    /// It takes no memory. The comparison does not take constant time.
+    /// It takes no memory. All 20 bytes are compared, also behind one that differs; that this takes
+    /// equal time is not claimed.
     pub fn verify(pieces: &[&[u8]], key: &IntegrityKey, expected: &[u8; 20]) -> bool
         ensures { IsTrue result
             ↔ (serves (key_algorithm key.now) IntegrityAlgorithm.Sha1 ≡ true)
             × (expected.now ≡ hmac IntegrityAlgorithm.Sha1 (key_bytes key.now)
             (concat (map (λ piece. piece.now) pieces.now))) }
     {
-        key.serves(IntegrityAlgorithm::Sha1) && *expected == key.hmac_sha1(pieces)
+        key.serves(IntegrityAlgorithm::Sha1) && same_bytes(expected, &key.hmac_sha1(pieces))
     }
 
     /// Reads a raw attribute. The value is copied into the result, which takes no memory.

@@ -1,5 +1,6 @@
 ghost use Rattle.std.specs.Prelude.{◌≡◌, ◌↔◌, ◌<◌, ◌≤◌, ◌%◌, IsTrue, length, take};
 
+use crate::compare::same_bytes;
 use std::alloc::{AllocError, Global};
 use std::fmt;
 use stun_attrs::{
@@ -19,7 +20,7 @@ fn is_prefix(prefix: &[u8], whole: &[u8; 32]) -> bool
     if prefix.is_empty() || prefix.len() > whole.len() {
         return false;
     }
-    prefix == &whole[..prefix.len()]
+    same_bytes(prefix, &whole[..prefix.len()])
 }
 
 /// MESSAGE-INTEGRITY-SHA256: the HMAC-SHA256 of the message before it, or a prefix of it. The value
@@ -96,8 +97,9 @@ impl MessageIntegritySha256 {
     /// `Sha1` the result is `false`.
     ///
     /// A prefix of any length is accepted, a single byte too: the lengths that the attribute may
-    /// have are tested by [`MessageIntegritySha256::new`] and by reading. It takes no memory. The
-    /// comparison does not take constant time.
+    /// have are tested by [`MessageIntegritySha256::new`] and by reading. It takes no memory. All
+    /// bytes of the prefix are compared, also behind one that differs; that this takes equal time
+    /// is not claimed.
     pub fn verify(pieces: &[&[u8]], key: &IntegrityKey, expected: &[u8]) -> bool
         ensures { IsTrue result
             ↔ (serves (key_algorithm key.now) IntegrityAlgorithm.Sha256 ≡ true)

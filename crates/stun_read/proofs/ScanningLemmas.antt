@@ -1,37 +1,50 @@
 -- The scan of a message: the invariant of its loop.
-use Rattle.std.proofs.Common.{◌≡◌, ℕ, ◌+◌, ◌≤◌, Bool, true, false, List, [], ◌∷◌, ◌++◌, drop, Option, Some, None, sym, ap, subst, ◌∙◌, arith, inl, inr}
+use Rattle.std.proofs.Common.{◌≡◌, ℕ, ◌+◌, ◌≤◌, Bool, true, false, List, [], ◌∷◌, ◌++◌, length, drop, Option, Some, None, sym, ap, subst, ◌∙◌, arith, inl, inr}
 use Rattle.std.proofs.lemmas.Bool.{cases_eq}
-use Rattle.std.proofs.lemmas.List.{map-append}
+use Rattle.std.proofs.lemmas.List.{map-append, append-nil}
 use Rattle.stun_grammar.specs.declared.error.StunParseError.{StunParseError}
-use Rattle.stun_grammar.specs.Attributes.{Attribute, types}
-use Rattle.stun_grammar.specs.Chains.{first_attribute, fault}
+use Rattle.stun_grammar.specs.Attributes.{Attribute, encoding, encodings, types}
+use Rattle.stun_grammar.specs.Chains.{first_attribute, fault, chain}
 use Rattle.stun_grammar.specs.ScannedOrder.{in_any_order}
 use Rattle.stun_grammar.specs.AttributeTypes.{FINGERPRINT}
 use Rattle.stun_grammar.specs.Parsing.{body_fault}
+use Rattle.stun_grammar.specs.Showing.{frame_fault}
 use Rattle.stun_grammar.specs.Fingerprints.{fingerprint_fault}
 use Rattle.stun_grammar.proofs.AttributesLemmas.{length-encoding}
-use Rattle.stun_grammar.proofs.ParsingLemmas.{ScannedTo, scan_starts, ends_at, stops_at, goes_on, goes_on_checked, refuses_at}
+use Rattle.stun_grammar.proofs.ChainsLemmas.{chain-none, chain-some}
+use Rattle.stun_grammar.proofs.ParsingLemmas.{ScannedTo, ends_at, stops_at, goes_on, goes_on_checked, refuses_at}
 use Rattle.stun_attrs.specs.declared.raw.RawAttribute.{RawAttribute}
 use Rattle.stun_attrs.specs.Raw.{Finds, raw_type, raw_value}
 use Rattle.stun_read.specs.declared.endings.Seen.{Seen}
+use Rattle.stun_read.specs.declared.offsets.Keeping.{Keeping}
 use Rattle.stun_read.specs.Endings.{Tracks}
+use Rattle.stun_read.specs.Keeping.{KeepsOffsets, Keeps}
+use Rattle.stun_read.proofs.KeepingLemmas.{kept_at_end, kept_at_stop}
 
--- the attributes before an offset were scanned, and `seen` has the ending types among them
-pub record Scanned (seen : Seen) (d : List ℕ) (offset : ℕ) : Type 0 where
+-- the attributes before an offset were scanned, `seen` has the ending types among them, and
+-- `keeping` the offsets
+pub record Scanned (seen : Seen) (keeping : Keeping) (d : List ℕ) (offset : ℕ) : Type 0 where
   pub taken : List Attribute
   pub to : ScannedTo d offset taken
   pub tracks : Tracks seen (types taken)
-
-pub starts : (seen : Seen) (d : List ℕ) → Tracks seen [] → Scanned seen d 20
-starts seen d tracks = record { taken = []; to = scan_starts d; tracks = tracks }
+  pub keeps : Keeps keeping taken
 
 -- what `Seen::admits` ensures of one more type
 abbrev pub Admits : Seen → ℕ → Bool → Seen → Type 0
 Admits seen type answer after = (types : List ℕ) → Tracks seen types → in_any_order types ≡ true → (answer ≡ in_any_order (types ++ type ∷ [])) × Tracks after (types ++ type ∷ [])
 
-module _ (seen : Seen) (d : List ℕ) (offset : ℕ) (scanned : Scanned seen d offset) where
+-- what `Keeping::meet` ensures of one more attribute
+abbrev pub Meets : Keeping → ℕ → ℕ → Keeping → Type 0
+Meets keeping type offset after = (taken : List Attribute) (a : Attribute) → Keeps keeping taken → type ≡ a.type → offset ≡ 20 + length (encodings taken) → Keeps after (taken ++ a ∷ [])
+
+module _ (seen : Seen) (keeping : Keeping) (d : List ℕ) (offset : ℕ) (scanned : Scanned seen keeping d offset) where
   pub ends : (told : Option StunParseError) → first_attribute (drop offset d) ≡ None → fault offset (drop offset d) ≡ told → body_fault d ≡ told
   ends told = ends_at d offset scanned.taken told scanned.to
+
+  pub ends_kept : frame_fault d ≡ None → first_attribute (drop offset d) ≡ None → KeepsOffsets keeping.offsets d
+  ends_kept frame none =
+      kept_at_end keeping d scanned.taken frame scanned.keeps
+      (scanned.to.chain_is ∙ ap (λ (xs : List Attribute). scanned.taken ++ xs) (chain-none (drop offset d) none) ∙ append-nil scanned.taken)
 
   module _ (x : RawAttribute) (behind : ℕ) (found : Finds x behind offset d) (type : ℕ) (type-is : type ≡ raw_type x) (answer : Bool) (after : Seen) (admits : Admits seen type answer after) where
     same_type : type ≡ found.attribute.type
@@ -53,15 +66,22 @@ module _ (seen : Seen) (d : List ℕ) (offset : ℕ) (scanned : Scanned seen d o
     pub stops : answer ≡ false → body_fault d ≡ None
     stops e = stops_at d offset scanned.taken found.attribute scanned.to found.first_is (sym answer_is ∙ e)
 
+    pub stops_kept : frame_fault d ≡ None → answer ≡ false → KeepsOffsets keeping.offsets d
+    stops_kept frame e =
+        kept_at_stop keeping d scanned.taken found.attribute (chain (drop (length (encoding found.attribute)) (drop offset d))) frame scanned.keeps
+        (scanned.to.chain_is ∙ ap (λ (xs : List Attribute). scanned.taken ++ xs) (chain-some (drop offset d) found.attribute found.first_is))
+        (sym answer_is ∙ e)
+
     -- it keeps the order, is right if it is a FINGERPRINT, and the scan goes on
-    pub on : answer ≡ true → (raw_type x ≡ FINGERPRINT → fingerprint_fault d offset (raw_value x) ≡ None) → Scanned after d behind
-    on e right = record {
+    pub on : (met : Keeping) → Meets keeping type offset met → answer ≡ true → (raw_type x ≡ FINGERPRINT → fingerprint_fault d offset (raw_value x) ≡ None) → Scanned after met d behind
+    on met meets e right = record {
       taken = scanned.taken ++ found.attribute ∷ [];
       to = subst (λ (o : ℕ). ScannedTo d o (scanned.taken ++ found.attribute ∷ [])) (sym found.behind_is) (elim (cases_eq (raw_type x) FINGERPRINT) [
         | inl is ↦ goes_on_checked d offset scanned.taken found.attribute scanned.to found.first_is (sym answer_is ∙ e) (sym found.raw_is.raw_is.type_is ∙ is) (fault_is ∙ right is)
         | inr differs ↦ goes_on d offset scanned.taken found.attribute scanned.to found.first_is (sym answer_is ∙ e) (λ is. differs (found.raw_is.raw_is.type_is ∙ is))
       ]);
       tracks = tracks_on;
+      keeps = meets scanned.taken found.attribute scanned.keeps same_type scanned.to.offset_is;
     }
 
     -- it keeps the order, and is a FINGERPRINT that is wrong

@@ -3,7 +3,8 @@ use Rattle.std.proofs.Common.{◌≡◌, ℕ, suc, ◌+◌, ◌-◌, ◌*◌, �
 use Rattle.std.specs.Prelude.{MatchOption, nat_eq}
 use Rattle.std.specs.Option.{option_map, option_or}
 use Rattle.std.specs.Cmp.Lexicographic.{pointwise}
-use Rattle.std.proofs.lemmas.List.{append-nil}
+use Rattle.std.proofs.lemmas.Bool.{ltb-false}
+use Rattle.std.proofs.lemmas.List.{append-nil, take_all}
 use Rattle.stun_grammar.specs.Numbers.{be16, IsBytes}
 use Rattle.stun_grammar.specs.Chains.{Shown}
 use Rattle.stun_grammar.specs.Fingerprints.{message_before}
@@ -13,10 +14,11 @@ use Rattle.stun_grammar.specs.declared.error.StunParseError.TheVariants.{Truncat
 use Rattle.stun_grammar.specs.declared.error.ValidateError.TheVariants.{Parse, IntegrityFailed}
 use Rattle.stun_grammar.specs.declared.integrity_algorithm.IntegrityAlgorithm.{IntegrityAlgorithm}
 use Rattle.stun_grammar.specs.declared.integrity_algorithm.IntegrityAlgorithm.TheVariants.{Sha1, Sha256}
-use Rattle.stun_grammar.specs.Hmac.{hmac, digest_length}
+use Rattle.stun_grammar.specs.Hmac.{hmac}
 use Rattle.stun_grammar.specs.Verdicts.{algorithm_of, hmac_fault, covered_bytes, verdict_on, verdict, last_shown, is_wanted}
 use Rattle.stun_grammar.specs.Lengths.{range_fault}
-use Rattle.stun_grammar.proofs.VerdictsLemmas.{lawful, stands, verdict_missing, verdict_unlawful}
+use Rattle.stun_grammar.proofs.HmacLemmas.{hmac_has_length}
+use Rattle.stun_grammar.proofs.VerdictsLemmas.{lawful, some_not, stands, verdict_missing, verdict_unlawful}
 use Rattle.stun_attrs.specs.declared.raw.RawAttribute.{RawAttribute}
 use Rattle.stun_read.specs.Validating.{shown_at, IsChecked}
 
@@ -80,9 +82,25 @@ never_memory Sha256 n e = elim (told_first (range_fault 16 32 n) (cond (eqb (n %
   | inr fours ↦ entries_told (eqb (n % 4) 0) fours
 ]
 
--- a value of a lawful length is no longer than the digest
-pub is_short : (value read : List ℕ) (algorithm told : IntegrityAlgorithm) → read ≡ value → told ≡ algorithm → hmac_fault algorithm (length value) ≡ None → length read ≤ digest_length told
-is_short value read algorithm told value-is algorithm-is e = rw (value-is, algorithm-is) (lawful algorithm (length value) e).2
+-- a value of a lawful length is no longer than the digest, and that of a MESSAGE-INTEGRITY is as long
+pub no_longer : (n : ℕ) (right : List ℕ) (algorithm : IntegrityAlgorithm) (key text : List ℕ) → hmac_fault algorithm n ≡ None → right ≡ hmac algorithm key text → n ≤ length right
+no_longer n right algorithm key text e is = omega (arith, ap length is, hmac_has_length algorithm key text, (lawful algorithm n e).2)
+
+pub is_twenty : (n : ℕ) → hmac_fault Sha1 n ≡ None → n ≡ 20
+unfolding hmac_fault
+is_twenty n e =
+    let least = some_not (ltb n 20) (Truncated 20 n) (cond (ltb 20 n) (Some (TooLarge 20 n)) None) e in
+    let greatest = some_not (ltb 20 n) (TooLarge 20 n) None least.1 in
+    omega (arith, ltb-false _ _ least.0, ltb-false _ _ greatest.0)
+
+-- so it is compared with the whole digest
+pub whole_digest : (value right key d : List ℕ) (offset : ℕ) (same : Bool) → hmac_fault Sha1 (length value) ≡ None → right ≡ hmac Sha1 key (covered_bytes d offset 20) → same ≡ pointwise nat_eq value right
+    → same ≡ pointwise nat_eq value (take (length value) (hmac Sha1 key (covered_bytes d offset (length value))))
+whole_digest value right key d offset same e right-is same-is =
+    let is : length value ≡ 20 = is_twenty (length value) e in
+    let whole : take 20 (hmac Sha1 key (covered_bytes d offset 20)) ≡ hmac Sha1 key (covered_bytes d offset 20) =
+    take_all 20 (hmac Sha1 key (covered_bytes d offset 20)) (omega (arith, hmac_has_length Sha1 key (covered_bytes d offset 20))) in
+    same-is ∙ ap (pointwise nat_eq value) (right-is ∙ sym whole ∙ ap (λ (n : ℕ). take n (hmac Sha1 key (covered_bytes d offset n))) (sym is))
 
 -- ---- The verdict where no HMAC is compared
 

@@ -3,3 +3,4 @@ pub mod Endings
 pub mod Validating
 pub mod LookingUp
 pub mod Printed
+pub mod Keeping

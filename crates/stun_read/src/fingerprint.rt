@@ -6,6 +6,7 @@ ghost use Rattle.stun_grammar.specs.Fingerprints.{fingerprint_fault};
 ghost use Rattle.stun_attrs.specs.Raw.{raw_type, raw_value};
 
 use crate::endings::type_number;
+use byteorder::{BigEndian, ByteOrder};
 use stun_attrs::{RawAttribute, check_length};
 use stun_base::StunParseError;
 use stun_grammar::attribute_types::FINGERPRINT;
@@ -21,8 +22,9 @@ fn check_fingerprint(bytes: &[u8], offset: usize, value: &[u8]) -> Result<(), St
         (λ e. fingerprint_fault bytes.now offset value.now ≡ Some e) }
 {
     check_length(value, 4)?;
-    let right = fingerprint_at(bytes, offset);
-    if value != &right[..] {
+    let found = BigEndian::read_u32(value);
+    let right = BigEndian::read_u32(&fingerprint_at(bytes, offset));
+    if found != right {
         return Err(StunParseError::FingerprintMismatch);
     }
     Ok(())

@@ -2,23 +2,23 @@
 
 ghost use Rattle.std.specs.Prelude.{◌≡◌, MatchResult, None, Some};
 ghost use Rattle.stun_grammar.specs.Showing.{frame_fault};
-ghost use Rattle.stun_base.specs.Types.{header_of};
 
-use stun_base::{MessageHeader, StunParseError};
+use stun_base::{MessageHeader, StunParseError, check_header, number_at};
 
-/// Reads the header, and checks that at least as many bytes follow it as its length field states.
-pub(crate) fn framed(bytes: &[u8]) -> Result<MessageHeader, StunParseError>
+/// Checks that `bytes` begin with a header, and that at least as many bytes follow it as its length
+/// field states. Nothing else of the header is read.
+pub(crate) fn check_frame(bytes: &[u8]) -> Result<(), StunParseError>
     ensures { MatchResult result
-        (λ header. (frame_fault bytes.now ≡ None) × (header ≡ header_of bytes.now))
+        (λ _. frame_fault bytes.now ≡ None)
         (λ e. frame_fault bytes.now ≡ Some e) }
 {
-    let header = MessageHeader::from_bytes(bytes)?;
-    let whole = MessageHeader::LENGTH + header.data_length() as usize;
+    check_header(bytes)?;
+    let whole = MessageHeader::LENGTH + number_at(bytes, 2) as usize;
     if bytes.len() < whole {
         return Err(StunParseError::Truncated {
             expected: whole,
             actual: bytes.len(),
         });
     }
-    Ok(header)
+    Ok(())
 }

@@ -4,7 +4,7 @@ ghost use Rattle.std.specs.Prelude.{◌≡◌, ◌≤◌, length};
 ghost use Rattle.stun_grammar.specs.Showing.{shown};
 
 use crate::endings::{follows, type_number};
-use crate::frame::framed;
+use crate::frame::check_frame;
 use stun_attrs::{RawAttribute, attribute_at};
 use stun_base::MessageHeader;
 use stun_grammar::attribute_types::FINGERPRINT;
@@ -36,7 +36,7 @@ impl<'a> MessageAttributesIter<'a> {
         ensures items { items_left result ≡ borrowed (shown bytes.now) }
         ensures bound { length (items_left result) < 2 ^ 64 }
     {
-        let Ok(_header) = framed(bytes) else {
+        let Ok(()) = check_frame(bytes) else {
             return MessageAttributesIter {
                 bytes,
                 offset: bytes.len(),

@@ -1,12 +1,15 @@
-//! The laws of looking up an attribute by its type. Each function does nothing: its contract is
-//! the law.
+//! The laws of looking up an attribute by its type, and of reading one at its offset. Each function
+//! does nothing: its contract is the law.
 
-ghost use Rattle.std.specs.Prelude.{◌≡◌, ◌==◌, ◌≤◌, ℕ, ◌+◌, List, ◌∷◌, ◌++◌, false, length, count_by, IfSome, None, Some, is_some};
+ghost use Rattle.std.specs.Prelude.{◌≡◌, ◌==◌, ◌≤◌, ℕ, ◌+◌, Bool, List, ◌∷◌, ◌++◌, false, length, drop, count_by, IfSome, IsSomeAnd, None, Some, is_some};
 ghost use Rattle.std.specs.List.{list_any};
+ghost use Rattle.std.specs.Option.{option_or};
+ghost use Rattle.stun_grammar.specs.declared.integrity_algorithm.IntegrityAlgorithm.TheVariants.{Sha1, Sha256};
 ghost use Rattle.stun_grammar.specs.Attributes.{Attribute, encodings, types};
-ghost use Rattle.stun_grammar.specs.Chains.{placed};
+ghost use Rattle.stun_grammar.specs.Chains.{Shown, chain, first_attribute, placed, rest};
 ghost use Rattle.stun_grammar.specs.ScannedOrder.{has};
 ghost use Rattle.stun_grammar.specs.Showing.{shown};
+ghost use Rattle.stun_grammar.specs.Verdicts.{is_wanted, last_shown};
 ghost use Rattle.stun_grammar.specs.Writing.{message_encoding, IsWritable};
 ghost use Rattle.stun_read.specs.LookingUp.{nth};
 
@@ -53,4 +56,24 @@ pub fn found_has_its_type()
     ensures same { (d : List ℕ) (type n : ℕ) → IfSome (nth d type n) (λ a. a.type ≡ type) }
     ensures any { (d : List ℕ) (type : ℕ)
         → is_some (nth d type 0) ≡ list_any (λ a. a.type == type) (shown d) }
+{}
+
+/// A walk from the offset of a chain's member is the part of the whole walk that begins there.
+pub fn walks_from_there()
+    ensures walk { (d : List ℕ) (offset : ℕ) (before behind : List Attribute)
+        → chain (drop 20 d) ≡ before ++ behind → offset ≡ 20 + length (encodings before)
+        → (chain (drop offset d) ≡ behind) × (rest (drop offset d) ≡ rest (drop 20 d)) }
+    // so an attribute that is shown is the first one that is read from its offset on
+    ensures read { (wanted : ℕ → Bool) (d : List ℕ) (x : Shown) → last_shown wanted d ≡ Some x
+        → IsSomeAnd (first_attribute (drop x.offset d))
+        (λ a. (a.type ≡ x.type) × (a.value ≡ x.value)) }
+    // of the two integrity attributes the last is MESSAGE-INTEGRITY-SHA256, where it is shown
+    ensures last { (d : List ℕ)
+        → last_shown (is_wanted None) d
+        ≡ option_or (last_shown (is_wanted (Some Sha256)) d)
+        (last_shown (is_wanted (Some Sha1)) d) }
+    // and no more than one of each is shown: the last is the first
+    ensures once { (d : List ℕ)
+        → (nth d 0x0008 0 ≡ last_shown (is_wanted (Some Sha1)) d)
+        × (nth d 0x001C 0 ≡ last_shown (is_wanted (Some Sha256)) d) }
 {}

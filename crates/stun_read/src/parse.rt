@@ -1,36 +1,68 @@
 //! Whether bytes are a message.
 
-ghost use Rattle.std.specs.Prelude.{◌≡◌, MatchResult, None, Some};
-ghost use Rattle.stun_grammar.specs.Parsing.{parse_fault};
+ghost use Rattle.std.specs.Prelude.{◌≡◌, MatchResult, None, Some, IfOk};
+ghost use Rattle.stun_grammar.specs.Parsing.{body_fault, parse_fault};
+ghost use Rattle.stun_grammar.specs.Showing.{frame_fault};
+ghost use Rattle.stun_read.specs.Endings.{IsOrdinaryTo};
+ghost use Rattle.stun_read.specs.Keeping.{KeepsOffsets};
 
 use crate::endings::{Seen, type_number};
 use crate::fingerprint::check_scanned;
-use crate::frame::framed;
+use crate::frame::check_frame;
+use crate::offsets::{IntegrityOffsets, Keeping};
 use stun_attrs::attribute_at;
 use stun_base::{MessageHeader, StunParseError};
+use stun_grammar::attribute_types::is_ending;
+
+/// Checks the attributes of a message from `start` on, behind ordinary ones: ending types, each at
+/// most once, and a FINGERPRINT that is right. Returns the offsets of the integrity attributes that
+/// are shown.
+#[inline(never)]
+fn check_endings(bytes: &[u8], start: usize) -> Result<IntegrityOffsets, StunParseError>
+    requires frame { frame_fault bytes.now ≡ None }
+    requires ordinary { IsOrdinaryTo bytes.now start }
+    ensures fault { MatchResult result
+        (λ _. body_fault bytes.now ≡ None)
+        (λ e. body_fault bytes.now ≡ Some e) }
+    ensures offsets { IfOk result (λ offsets. KeepsOffsets offsets bytes.now) }
+{
+    let mut seen = Seen::none();
+    let mut keeping = Keeping::none();
+    let mut offset = start;
+    'scan: while let Some((attribute, behind)) = attribute_at(bytes, offset)? {
+        let atype = type_number(&attribute);
+        if !seen.admits(atype) {
+            return Ok(keeping.offsets());
+        }
+        check_scanned(bytes, offset, &attribute)?;
+        keeping.meet(atype, offset);
+        offset = behind;
+    }
+    Ok(keeping.offsets())
+}
 
 /// Checks that `bytes` are a message: a header, at least as many bytes after it as its length field
-/// states, and attributes up to the end of the slice (RFC 8489, sections 5, 6.3 and 14). It goes
-/// over the attributes once, and reads the bytes before a FINGERPRINT again for their checksum. It
-/// takes no memory and copies nothing.
+/// states, and attributes up to the end of the slice (RFC 8489, sections 5, 6.3 and 14). Returns the
+/// offsets of the integrity attributes that are shown. It goes over the attributes once, and reads
+/// the bytes before a FINGERPRINT again for their checksum. It takes no memory and copies nothing.
 ///
 /// # Errors
 ///
 /// The first violation, as `Message::from_bytes` of `stun_types` lists them.
-pub fn check_message(bytes: &[u8]) -> Result<(), StunParseError>
-    ensures { MatchResult result
+#[inline(always)]
+pub fn check_message(bytes: &[u8]) -> Result<IntegrityOffsets, StunParseError>
+    ensures fault { MatchResult result
         (λ _. parse_fault bytes.now ≡ None)
         (λ e. parse_fault bytes.now ≡ Some e) }
+    ensures offsets { IfOk result (λ offsets. KeepsOffsets offsets bytes.now) }
 {
-    let _header = framed(bytes)?;
-    let mut seen = Seen::none();
+    check_frame(bytes)?;
     let mut offset = MessageHeader::LENGTH;
-    'scan: while let Some((attribute, behind)) = attribute_at(bytes, offset)? {
-        if !seen.admits(type_number(&attribute)) {
-            return Ok(());
+    'walk: while let Some((attribute, behind)) = attribute_at(bytes, offset)? {
+        if is_ending(type_number(&attribute)) {
+            return check_endings(bytes, offset);
         }
-        check_scanned(bytes, offset, &attribute)?;
         offset = behind;
     }
-    Ok(())
+    Ok(IntegrityOffsets::none())
 }

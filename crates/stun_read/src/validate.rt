@@ -2,14 +2,15 @@
 
 ghost use Rattle.std.specs.Prelude.{◌≡◌, ◌≢◌, None, Err, IfOk, IfErr};
 ghost use Rattle.stun_grammar.specs.Numbers.{IsBytes};
-ghost use Rattle.stun_grammar.specs.Showing.{frame_fault};
 ghost use Rattle.stun_grammar.specs.Verdicts.{is_wanted, verdict};
 ghost use Rattle.stun_keys.specs.Keys.{key_bytes, key_algorithm, credentials_key};
+ghost use Rattle.stun_read.specs.Keeping.{KeepsOffsets};
 ghost use Rattle.stun_read.specs.Validating.{ShowsLawful};
 
 mod compare;
 mod find;
 
+use crate::IntegrityOffsets;
 use compare::{algorithm_for, compared};
 use find::checked;
 use std::alloc::Global;
@@ -33,19 +34,21 @@ fn key_for(
 }
 
 /// Checks the last integrity attribute that is shown, with the key that the credentials give for
-/// its algorithm, and returns that algorithm. `bytes` begin with a header, and at least as many
-/// bytes follow it as its length field states. The key is made in memory that `alloc` gives, once
-/// an attribute was found whose value has a lawful length.
+/// its algorithm, and returns that algorithm. `offsets` are those that
+/// [`check_message`](crate::check_message) returns of `bytes`: the attribute is read at its offset,
+/// and no other one is. The key is made in memory that `alloc` gives, once an attribute was found
+/// whose value has a lawful length.
 ///
 /// # Errors
 ///
 /// As `Message::validate_integrity` of `stun_types` lists them.
 pub fn validate_bytes(
     bytes: &[u8],
+    offsets: IntegrityOffsets,
     alloc: Global,
     credentials: &MessageIntegrityCredentials,
 ) -> Result<IntegrityAlgorithm, ValidateError>
-    requires { frame_fault bytes.now ≡ None }
+    requires { KeepsOffsets offsets bytes.now }
     ensures verdict { result ≢ Err (ValidateError.Parse StunParseError.OutOfMemory)
         → result ≡ verdict (is_wanted None) (credentials_key credentials.now) bytes.now }
     ensures memory { result ≡ Err (ValidateError.Parse StunParseError.OutOfMemory)
@@ -53,28 +56,30 @@ pub fn validate_bytes(
     // each number in the slice is below 256, which the laws on what an HMAC authenticates require
     ensures bytes { IsBytes bytes.now }
 {
-    let (offset, attribute) = checked(bytes, None)?;
+    let (offset, attribute) = checked(bytes, offsets, None)?;
     let key = key_for(alloc, credentials, algorithm_for(&attribute))?;
     compared(bytes, offset, &attribute, &key)
 }
 
 /// Checks an integrity attribute with a key, and returns its algorithm: the last one that is shown
-/// or, where the key was made for an algorithm, the last one of that algorithm. `bytes` begin with
-/// a header, and at least as many bytes follow it as its length field states. It takes no memory.
+/// or, where the key was made for an algorithm, the last one of that algorithm. `offsets` are those
+/// that [`check_message`](crate::check_message) returns of `bytes`: the attribute is read at its
+/// offset, and no other one is. It takes no memory.
 ///
 /// # Errors
 ///
 /// As `Message::validate_integrity_with_key` of `stun_types` lists them.
 pub fn validate_bytes_with_key(
     bytes: &[u8],
+    offsets: IntegrityOffsets,
     key: &IntegrityKey,
 ) -> Result<IntegrityAlgorithm, ValidateError>
-    requires { frame_fault bytes.now ≡ None }
+    requires { KeepsOffsets offsets bytes.now }
     ensures verdict { result
         ≡ verdict (is_wanted (key_algorithm key.now)) (λ _. key_bytes key.now) bytes.now }
     // each number in the slice is below 256, which the laws on what an HMAC authenticates require
     ensures bytes { IsBytes bytes.now }
 {
-    let (offset, attribute) = checked(bytes, key.algorithm())?;
+    let (offset, attribute) = checked(bytes, offsets, key.algorithm())?;
     compared(bytes, offset, &attribute, key)
 }

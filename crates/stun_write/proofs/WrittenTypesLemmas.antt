@@ -1,9 +1,12 @@
 -- Types and their numbers.
-use Rattle.std.proofs.Common.{◌≡◌, ℕ, eqb, List, [], ◌∷◌, refl, inl, inr}
+use Rattle.std.proofs.Common.{◌≡◌, ℕ, eqb, ◌||◌, Bool, true, false, List, [], ◌∷◌, ◌++◌, None, refl, sym, ap, ◌∙◌, inl, inr}
 use Rattle.std.specs.Prelude.{find}
-use Rattle.std.specs.List.{list_any}
+use Rattle.std.specs.List.{list_any, list_all}
 use Rattle.std.specs.Option.{option_map}
-use Rattle.std.proofs.lemmas.Bool.{cases_Bool}
+use Rattle.std.proofs.lemmas.Bool.{cases_Bool, and_parts, or_parts, or_from, ne_eqb, false≢true}
+use Rattle.std.proofs.lemmas.List.{map-append}
+use Rattle.std.proofs.lemmas.List.Folds.{list_any-append}
+use Rattle.stun_grammar.specs.AttributeTypes.{is_ending}
 use Rattle.stun_grammar.specs.declared.attribute_type.AttributeType.{AttributeType}
 use Rattle.stun_grammar.specs.ScannedOrder.{has}
 use Rattle.stun_grammar.specs.Adding.{numbers, first_of}
@@ -21,3 +24,32 @@ first_number asked (x ∷ types) =
       | inl here ↦ rw (same, here) refl
       | inr later ↦ rw (same, later) (first_number asked types)
     ]
+
+-- ---- Ending types
+
+or_false : (p : Bool) → (p || false) ≡ p
+or_false true = refl
+or_false false = refl
+
+-- whether an ending type is among the types, with one more
+pub ends_push : (types : List AttributeType) (a : AttributeType) (before now : Bool) → before ≡ list_any is_ending (numbers types) → now ≡ is_ending a.0
+    → (before || now) ≡ list_any is_ending (numbers (types ++ a ∷ []))
+ends_push types a before now e f =
+    let more : list_any is_ending (numbers (types ++ a ∷ [])) ≡ (list_any is_ending (numbers types) || (is_ending a.0 || false)) =
+    ap (list_any is_ending) (map-append (λ (t : AttributeType). t.0) types (a ∷ [])) ∙ list_any-append is_ending (numbers types) (a.0 ∷ []) in
+    rw (e, f) (sym (more ∙ ap (λ (p : Bool). list_any is_ending (numbers types) || p) (or_false (is_ending a.0))))
+
+-- an ordinary type is not among ending ones
+other_has : (k : ℕ) (asked : List AttributeType) → is_ending k ≡ false → list_all (λ a. is_ending a.0) asked ≡ true → has k (numbers asked) ≡ false
+other_has k [] e all = refl
+other_has k (a ∷ asked) e all =
+    let parts = and_parts (is_ending a.0) (list_all (λ (b : AttributeType). is_ending b.0) asked) all in
+    let differs : eqb a.0 k ≡ false = ne_eqb a.0 k (λ same. false≢true (sym e ∙ ap is_ending (sym same) ∙ parts.0)) in
+    or_from (eqb a.0 k) (has k (numbers asked)) differs (other_has k asked e parts.1)
+
+-- where no ending type is written, none of the ending types asked for is
+pub none_ends : (asked types : List AttributeType) → list_any is_ending (numbers types) ≡ false → list_all (λ a. is_ending a.0) asked ≡ true → first_of (numbers asked) (numbers types) ≡ None
+none_ends asked [] e all = refl
+none_ends asked (x ∷ types) e all =
+    let parts = or_parts (is_ending x.0) (list_any is_ending (numbers types)) e in
+    rw (other_has x.0 asked parts.0 all) (none_ends asked types parts.1 all)

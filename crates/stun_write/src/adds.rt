@@ -18,7 +18,9 @@ use crate::readers::written_header;
 use crate::refusals::{Addition, check_add};
 use std::alloc::Global;
 use stun_attrs::AttributeWrite;
-use stun_base::{MessageClass, MessageType, Method, StunWriteError, TransactionId};
+use stun_base::{
+    MessageClass, MessageType, Method, StunWriteError, TransactionId, pad_attribute_len,
+};
 use stun_grammar::IntegrityAlgorithm;
 use stun_integrity::hmac_length;
 use stun_keys::keys::{IntegrityKey, MessageIntegrityCredentials};
@@ -258,12 +260,13 @@ impl<W: MessageWrite> MessageWriteExt for W {
     }
 
     #[tactic(auto, using(stun_grammar::proofs::AddingLemmas::appended_length, crate::proofs::KeptLemmas::pushed, stun_grammar::proofs::AddingRefusedLemmas::ordinary_barred))]
+    #[inline(always)]
     fn add_attribute(&mut self, attribute: &dyn AttributeWrite) -> Result<(), StunWriteError> {
         // `get_type` returns the type as a `u16`: so it fits in two bytes
         let _type_fits = attribute.get_type();
         // and so does the length of the value
-        let _value_fits = attribute.length();
-        check_add(self, Addition::Ordinary, attribute.padded_len())?;
+        let added = 4 + pad_attribute_len(attribute.length() as usize);
+        check_add(self, Addition::Ordinary, added)?;
         self.push_attribute_unchecked(attribute)
     }
 

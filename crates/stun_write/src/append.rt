@@ -8,13 +8,34 @@ use byteorder::{BigEndian, ByteOrder};
 use stun_attrs::{AttributeWrite, write_attribute};
 use stun_base::{AttributeType, pad_attribute_len};
 
+/// As [`append_attribute`], for a caller that knows how many bytes the message then has.
+#[inline]
+#[tactic(auto, unfolding(stun_grammar::specs::Adding::appended))]
+pub(crate) fn append_sized(
+    attribute: &dyn AttributeWrite,
+    len: usize,
+    longer: usize,
+    message: &mut [u8],
+)
+    requires header { 20 ≤ len }
+    requires longer { longer ≡ whole len (length (value attribute.now)) }
+    requires room { longer ≤ length message.old }
+    requires fits { longer ≤ greatest_length }
+    ensures { message.new
+        ≡ appended (take len message.old) (atype attribute.now) (value attribute.now)
+        ++ drop longer message.old }
+{
+    let field = longer - 20;
+    attribute.write_into_unchecked(&mut message[len..]);
+    BigEndian::write_u16(&mut message[2..4], field as u16);
+}
+
 /// Writes an attribute after the first `len` bytes of `message`, which hold the message so far, and
 /// sets the length field (its bytes 2 and 3) to count what follows the header. What comes after the
 /// attribute stays. A writer that keeps its bytes in a slice can be built on it.
 ///
 /// `len` is at least 20, and `message` has room for the attribute; with it the message has at most
 /// 65555 bytes.
-#[tactic(auto, unfolding(stun_grammar::specs::Adding::appended))]
 pub fn append_attribute(attribute: &dyn AttributeWrite, len: usize, message: &mut [u8])
     requires header { 20 ≤ len }
     requires room { whole len (length (value attribute.now)) ≤ length message.old }
@@ -23,9 +44,7 @@ pub fn append_attribute(attribute: &dyn AttributeWrite, len: usize, message: &mu
         ≡ appended (take len message.old) (atype attribute.now) (value attribute.now)
         ++ drop (whole len (length (value attribute.now))) message.old }
 {
-    let field = len + attribute.padded_len() - 20;
-    attribute.write_into_unchecked(&mut message[len..]);
-    BigEndian::write_u16(&mut message[2..4], field as u16);
+    append_sized(attribute, len, len + attribute.padded_len(), message);
 }
 
 /// As [`append_attribute`], with a type and a value of at most 65535 bytes.

@@ -12,6 +12,7 @@ mod readers;
 mod refusals;
 mod slice;
 mod steps;
+mod types;
 mod vec;
 mod writer;
 
@@ -21,5 +22,6 @@ pub use append::{append_attribute, append_value};
 pub use begin::{begin_message, begin_message_into};
 pub use slice::MessageWriteMutSlice;
 pub use steps::{Step, write_steps, write_steps_into};
+pub use types::WrittenTypes;
 pub use vec::MessageWriteVec;
 pub use writer::MessageWrite;

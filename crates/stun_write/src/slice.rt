@@ -2,8 +2,8 @@
 
 ghost use Rattle.std.specs.Prelude.{◌≡◌, ◌+◌, ◌≤◌, ◌++◌, [], length, take, drop};
 
-use crate::{MessageWrite, append_attribute, append_value, first_among, is_among};
-use smallvec::SmallVec;
+use crate::append::append_sized;
+use crate::{MessageWrite, WrittenTypes, append_value};
 use std::alloc::Global;
 use stun_attrs::AttributeWrite;
 use stun_base::{AttributeType, StunWriteError, pad_attribute_len};
@@ -18,7 +18,7 @@ use stun_base::{AttributeType, StunWriteError, pad_attribute_len};
 /// The bytes never need memory. The types of sixteen attributes don't either; those of more are
 /// kept in memory that the `alloc` of [`MessageWriteMutSlice::new`] gives.
 #[derive(Debug, Drop)]
-pub struct MessageWriteMutSlice<'a, T = SmallVec<AttributeType, 16>> {
+pub struct MessageWriteMutSlice<'a, T = WrittenTypes> {
     slice: &'a mut [u8],
     written: usize,
     attributes: T,
@@ -53,7 +53,7 @@ impl<'a> MessageWriteMutSlice<'a> {
         MessageWriteMutSlice {
             slice,
             written: 0,
-            attributes: SmallVec::new(alloc),
+            attributes: WrittenTypes::new(alloc),
         }
     }
 
@@ -116,14 +116,14 @@ impl<'a> MessageWrite for MessageWriteMutSlice<'a> {
     }
 
     fn has_attribute(&self, atype: AttributeType) -> bool {
-        self.len() != 0 && is_among(&self.attributes, atype)
+        self.len() != 0 && self.attributes.has(atype)
     }
 
     fn has_any_attribute(&self, asked: &[AttributeType]) -> Option<AttributeType> {
         if self.len() == 0 {
             return None;
         }
-        first_among(&self.attributes, asked)
+        self.attributes.first_of(asked)
     }
 
     fn push_data(&mut self, more: &[u8]) -> Result<(), StunWriteError> {
@@ -137,16 +137,15 @@ impl<'a> MessageWrite for MessageWriteMutSlice<'a> {
     }
 
     #[tactic(auto, using(stun_grammar::proofs::AddingLemmas::appended_length))]
+    #[inline(always)]
     fn push_attribute_unchecked(
         &mut self,
         attribute: &dyn AttributeWrite,
     ) -> Result<(), StunWriteError> {
         let len = self.len();
         let whole = len + attribute.padded_len();
-        self.attributes
-            .reserve(1)
-            .map_err(|_| StunWriteError::OutOfMemory)?;
-        append_attribute(attribute, len, self.slice);
+        self.attributes.reserve_one()?;
+        append_sized(attribute, len, whole, self.slice);
         self.written = whole;
         self.attributes.push_reserved(attribute.get_type());
         Ok(())
@@ -160,9 +159,7 @@ impl<'a> MessageWrite for MessageWriteMutSlice<'a> {
     ) -> Result<(), StunWriteError> {
         let len = self.len();
         let whole = len + 4 + pad_attribute_len(more.len());
-        self.attributes
-            .reserve(1)
-            .map_err(|_| StunWriteError::OutOfMemory)?;
+        self.attributes.reserve_one()?;
         append_value(atype, more, len, self.slice);
         self.written = whole;
         self.attributes.push_reserved(atype);

@@ -2,8 +2,8 @@
 
 ghost use Rattle.std.specs.Prelude.{◌≡◌, []};
 
-use crate::{MessageWrite, append_attribute, append_value, first_among, is_among};
-use smallvec::SmallVec;
+use crate::append::append_sized;
+use crate::{MessageWrite, WrittenTypes, append_value};
 use std::alloc::Global;
 use stun_attrs::AttributeWrite;
 use stun_base::{AttributeType, StunWriteError, pad_attribute_len};
@@ -14,7 +14,7 @@ use stun_base::{AttributeType, StunWriteError, pad_attribute_len};
 #[derive(Debug, Drop)]
 pub struct MessageWriteVec {
     output: Vec<u8>,
-    attributes: SmallVec<AttributeType, 16>,
+    attributes: WrittenTypes,
     ghost no_types: { output.items ≡ [] → attributes.items ≡ [] },
 }
 
@@ -30,7 +30,7 @@ impl MessageWriteVec {
     {
         MessageWriteVec {
             output: Vec::new(alloc),
-            attributes: SmallVec::new(alloc),
+            attributes: WrittenTypes::new(alloc),
         }
     }
 
@@ -52,7 +52,7 @@ impl MessageWriteVec {
         let output = Vec::with_capacity(alloc, capacity).map_err(|_| StunWriteError::OutOfMemory)?;
         Ok(MessageWriteVec {
             output,
-            attributes: SmallVec::new(alloc),
+            attributes: WrittenTypes::new(alloc),
         })
     }
 }
@@ -107,11 +107,11 @@ impl MessageWrite for MessageWriteVec {
     }
 
     fn has_attribute(&self, atype: AttributeType) -> bool {
-        is_among(&self.attributes, atype)
+        self.attributes.has(atype)
     }
 
     fn has_any_attribute(&self, asked: &[AttributeType]) -> Option<AttributeType> {
-        first_among(&self.attributes, asked)
+        self.attributes.first_of(asked)
     }
 
     fn push_data(&mut self, more: &[u8]) -> Result<(), StunWriteError> {
@@ -121,19 +121,18 @@ impl MessageWrite for MessageWriteVec {
     }
 
     #[tactic(auto, using(stun_grammar::proofs::AddingLemmas::appended_length))]
+    #[inline(always)]
     fn push_attribute_unchecked(
         &mut self,
         attribute: &dyn AttributeWrite,
     ) -> Result<(), StunWriteError> {
         let len = self.output.len();
         let whole = len + attribute.padded_len();
-        self.attributes
-            .reserve(1)
-            .map_err(|_| StunWriteError::OutOfMemory)?;
+        self.attributes.reserve_one()?;
         self.output
             .resize(whole, 0)
             .map_err(|_| StunWriteError::OutOfMemory)?;
-        append_attribute(attribute, len, &mut self.output);
+        append_sized(attribute, len, whole, &mut self.output);
         self.attributes.push_reserved(attribute.get_type());
         Ok(())
     }
@@ -146,9 +145,7 @@ impl MessageWrite for MessageWriteVec {
     ) -> Result<(), StunWriteError> {
         let len = self.output.len();
         let whole = len + 4 + pad_attribute_len(more.len());
-        self.attributes
-            .reserve(1)
-            .map_err(|_| StunWriteError::OutOfMemory)?;
+        self.attributes.reserve_one()?;
         self.output
             .resize(whole, 0)
             .map_err(|_| StunWriteError::OutOfMemory)?;

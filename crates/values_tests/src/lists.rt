@@ -1,5 +1,6 @@
 //! Lists of types and of password algorithms.
 
+use std::alloc::Global;
 use std::test::Fail;
 use stun_types::attribute::{
     AttributeType, PasswordAlgorithm, PasswordAlgorithmValue, PasswordAlgorithms, RawAttribute,
@@ -9,48 +10,62 @@ use stun_types::message::{IntegrityAlgorithm, StunWriteError};
 use stun_types::prelude::*;
 
 #[test]
-fn limits_algorithms(rt: HostRuntime) -> Result<(), Fail> {
+fn no_algorithms(rt: HostRuntime) -> Result<(), Fail> {
     let empty = PasswordAlgorithms::new(rt.alloc(), &[])?;
     let raw = empty.to_raw(rt.alloc())?;
-    assert_eq!(rt; raw.value().as_bytes(), [].as_slice());
+    assert!(rt; raw.value().as_bytes().is_empty());
+    Ok(())
+}
+
+#[test]
+fn limits_algorithms(rt: HostRuntime) -> Result<(), Fail> {
     let mut many = Vec::new(rt.alloc());
     many.resize(16384, PasswordAlgorithmValue::MD5)?;
     let large = StunWriteError::TooLarge {
         expected: 16383,
         actual: 16384,
     };
-    assert_eq!(rt; PasswordAlgorithms::new(rt.alloc(), &many), Err(large));
+    assert!(rt; PasswordAlgorithms::new(rt.alloc(), &many).err() == Some(large));
     Ok(())
 }
 
 #[test]
-fn algorithms_of_integrity(rt: HostRuntime) -> Result<(), Fail> {
+fn algorithms_of_integrity(rt: HostRuntime) {
     let sha256 = PasswordAlgorithm::new(PasswordAlgorithmValue::SHA256);
-    assert_eq!(rt;
-        sha256.algorithm().as_integrity(),
-        IntegrityAlgorithm::Sha256
-    );
-    assert_eq!(rt;
-        PasswordAlgorithmValue::MD5.as_integrity(),
-        IntegrityAlgorithm::Sha1
-    );
+    assert!(rt; sha256.algorithm().as_integrity() == IntegrityAlgorithm::Sha256);
+    assert!(rt; PasswordAlgorithmValue::MD5.as_integrity() == IntegrityAlgorithm::Sha1);
+}
+
+#[test]
+fn reads_the_first_algorithm(rt: HostRuntime) -> Result<(), Fail> {
     let longer = [0x00, 0x02, 0x00, 0x00, 0xFF, 0xFF, 0xFF, 0xFF];
     let raw = RawAttribute::new(AttributeType(0x001D), &longer)?;
-    assert_eq!(rt; PasswordAlgorithm::from_raw(rt.alloc(), raw)?, sha256);
+    let sha256 = PasswordAlgorithm::new(PasswordAlgorithmValue::SHA256);
+    assert!(rt; PasswordAlgorithm::from_raw(rt.alloc(), raw)? == sha256);
     Ok(())
+}
+
+/// Whether a list has this encoding, of eight bytes.
+fn is_written(unknown: &UnknownAttributes, written: [u8; 8]) -> bool {
+    let mut dest = [0xFF; 8];
+    unknown.write_into(&mut dest) == Ok(8) && dest == written
 }
 
 #[test]
 fn lists_unknown_types(rt: HostRuntime) -> Result<(), Fail> {
     let realm = AttributeType(0x0014);
     let mut unknown = UnknownAttributes::new(rt.alloc(), &[realm, realm])?;
-    assert!(rt; unknown.has_attribute(realm));
-    assert!(rt; !unknown.has_attribute(AttributeType(0x0015)));
+    assert!(rt; unknown.has_attribute(realm) && !unknown.has_attribute(AttributeType(0x0015)));
     unknown.add_attribute(realm)?;
-    let mut dest = [0xFF; 8];
-    assert_eq!(rt; unknown.write_into(&mut dest), Ok(8));
-    assert_eq!(rt; dest, [0x00, 0x0A, 0x00, 0x04, 0x00, 0x14, 0x00, 0x14]);
+    assert!(rt; is_written(&unknown, [0x00, 0x0A, 0x00, 0x04, 0x00, 0x14, 0x00, 0x14]));
     Ok(())
+}
+
+/// Whether a list is the raw attribute of this value, and read of it.
+fn is_raw(alloc: Global, unknown: &UnknownAttributes, value: &[u8]) -> Result<bool, Fail> {
+    let raw = unknown.to_raw(alloc)?;
+    let read = UnknownAttributes::from_raw_ref(alloc, &raw)?;
+    Ok(raw.value().as_bytes() == value && read == *unknown)
 }
 
 #[test]
@@ -60,10 +75,7 @@ fn adds_an_unknown_type(rt: HostRuntime) -> Result<(), Fail> {
     let same = unknown.clone(rt.alloc())?;
     unknown.add_attribute(AttributeType(0x0015))?;
     assert!(rt; same != unknown);
-    let raw = unknown.to_raw(rt.alloc())?;
-    let value = [0x00, 0x14, 0x00, 0x14, 0x00, 0x15];
-    assert_eq!(rt; raw.value().as_bytes(), value.as_slice());
-    assert_eq!(rt; UnknownAttributes::from_raw_ref(rt.alloc(), &raw)?, unknown);
+    assert!(rt; is_raw(rt.alloc(), &unknown, &[0x00, 0x14, 0x00, 0x14, 0x00, 0x15])?);
     Ok(())
 }
 
@@ -83,21 +95,33 @@ fn is_full(unknown: &mut UnknownAttributes, atype: AttributeType) -> bool {
     }
 }
 
+/// That a list is full.
+const FULL: StunWriteError = StunWriteError::TooLarge {
+    expected: 32767,
+    actual: 32768,
+};
+
+/// Whether a list of so many types is refused, all 0x0001.
+fn refuses(alloc: Global, types: &[AttributeType]) -> bool {
+    UnknownAttributes::new(alloc, types).err() == Some(FULL)
+}
+
+/// Whether a list takes the type 0x0001, which it has, and not 0x0002.
+fn is_limited(most: &mut UnknownAttributes) -> bool {
+    most.add_attribute(AttributeType(0x0002)) == Err(FULL)
+        && !most.has_attribute(AttributeType(0x0002))
+        && most.add_attribute(AttributeType(0x0001)) == Ok(())
+}
+
 #[test]
 fn limits_unknown_types(rt: HostRuntime) -> Result<(), Fail> {
     let mut many = Vec::new(rt.alloc());
     many.resize(32768, AttributeType(0x0001))?;
-    let large = StunWriteError::TooLarge {
-        expected: 32767,
-        actual: 32768,
-    };
-    assert_eq!(rt; UnknownAttributes::new(rt.alloc(), &many), Err(large));
+    assert!(rt; refuses(rt.alloc(), &many));
     let mut most = UnknownAttributes::new(rt.alloc(), &many[1..])?;
-    assert_eq!(rt; most.add_attribute(AttributeType(0x0002)), Err(large));
-    assert!(rt; !most.has_attribute(AttributeType(0x0002)));
-    assert_eq!(rt; most.add_attribute(AttributeType(0x0001)), Ok(()));
+    assert!(rt; is_limited(&mut most));
     assert!(rt; is_full(&mut most, AttributeType(0x0002)));
     assert!(rt; !is_full(&mut most, AttributeType(0x0001)));
-    assert_eq!(rt; most.length(), 65534);
+    assert!(rt; most.length() == 65534);
     Ok(())
 }

@@ -1,6 +1,7 @@
 //! Texts: how long each may be, and what each prints.
 
 use std::alloc::{AllocError, Global};
+use std::fmt;
 use std::test::Fail;
 use stun_samples::letters;
 use stun_types::attribute::{
@@ -21,7 +22,7 @@ enum Text {
 }
 
 /// The texts, and how many bytes each has at most.
-const LIMITS: [(Text, usize); 5] = [
+static LIMITS: [(Text, usize); 5] = [
     (Text::Username, 513),
     (Text::Realm, 763),
     (Text::Nonce, 763),
@@ -29,39 +30,38 @@ const LIMITS: [(Text, usize); 5] = [
     (Text::AlternateDomain, 65535),
 ];
 
-/// What is told of an attribute that is made of this text.
-fn made(text: Text, alloc: Global, of: &str) -> Result<String, StunWriteError> {
-    let copied: Result<String, AllocError> = match text {
-        Text::Username => String::from_str(alloc, Username::new(alloc, of)?.username()),
-        Text::Realm => String::from_str(alloc, Realm::new(alloc, of)?.realm()),
-        Text::Nonce => String::from_str(alloc, Nonce::new(alloc, of)?.nonce()),
-        Text::Software => String::from_str(alloc, Software::new(alloc, of)?.software()),
-        Text::AlternateDomain => String::from_str(alloc, AlternateDomain::new(alloc, of)?.domain()),
+/// Whether an attribute that is made of a text has it, or why it isn't made.
+fn keeps(text: Text, alloc: Global, of: &str) -> Result<bool, StunWriteError> {
+    let kept = match text {
+        Text::Username => Username::new(alloc, of)?.username() == of,
+        Text::Realm => Realm::new(alloc, of)?.realm() == of,
+        Text::Nonce => Nonce::new(alloc, of)?.nonce() == of,
+        Text::Software => Software::new(alloc, of)?.software() == of,
+        Text::AlternateDomain => AlternateDomain::new(alloc, of)?.domain() == of,
     };
-    copied.map_err(|_| StunWriteError::OutOfMemory)
+    Ok(kept)
+}
+
+/// What is told of an attribute that is made of a text of so many letters.
+fn kept(text: Text, alloc: Global, count: usize) -> Result<bool, StunWriteError> {
+    let Ok(of) = letters(alloc, count) else {
+        return Err(StunWriteError::OutOfMemory);
+    };
+    keeps(text, alloc, &of)
 }
 
 #[test]
-fn limits_texts(rt: HostRuntime) -> Result<(), Fail> {
-    for (text, most) in LIMITS {
-        let longest = letters(rt.alloc(), most)?;
-        assert!(rt; made(text, rt.alloc(), &longest)? == longest, "{text:?}");
-        let longer = letters(rt.alloc(), most + 1)?;
-        let refused = StunWriteError::TooLarge {
-            expected: most,
-            actual: most + 1,
-        };
-        assert_eq!(rt;
-            made(text, rt.alloc(), &longer).err(),
-            Some(refused),
-            "{text:?}"
-        );
+fn limits_texts(rt: HostRuntime) {
+    for (text, most) in &LIMITS {
+        let (expected, actual) = (*most, *most + 1);
+        let refused = StunWriteError::TooLarge { expected, actual };
+        assert!(rt; kept(*text, rt.alloc(), expected) == Ok(true), "{text:?}");
+        assert!(rt; kept(*text, rt.alloc(), actual) == Err(refused), "{text:?}");
     }
-    Ok(())
 }
 
 /// Texts, and what each prints.
-const PRINTED: [(Text, &str, &str); 5] = [
+static PRINTED: [(Text, &str, &str); 5] = [
     (Text::Username, "ich", "6(0x6: USERNAME): 'ich'"),
     (Text::Realm, "hier", "20(0x14: REALM): hier"),
     (Text::Nonce, "n1", "21(0x15: NONCE): n1"),
@@ -77,33 +77,43 @@ const PRINTED: [(Text, &str, &str); 5] = [
     ),
 ];
 
-/// What an attribute of this text prints.
-fn printed(text: Text, alloc: Global, of: &str) -> Result<String, Fail> {
+/// Whether an attribute prints this.
+fn prints<D: fmt::Display>(alloc: Global, text: &D, expected: &str) -> Result<bool, AllocError> {
+    Ok(format!(in alloc; "{text}")?.as_str() == expected)
+}
+
+/// Whether an attribute of this text prints that one.
+fn is_printed(text: Text, alloc: Global, of: &str, expected: &str) -> Result<bool, Fail> {
     let printed = match text {
-        Text::Username => format!(in alloc; "{}", Username::new(alloc, of)?)?,
-        Text::Realm => format!(in alloc; "{}", Realm::new(alloc, of)?)?,
-        Text::Nonce => format!(in alloc; "{}", Nonce::new(alloc, of)?)?,
-        Text::Software => format!(in alloc; "{}", Software::new(alloc, of)?)?,
-        Text::AlternateDomain => format!(in alloc; "{}", AlternateDomain::new(alloc, of)?)?,
+        Text::Username => prints(alloc, &Username::new(alloc, of)?, expected)?,
+        Text::Realm => prints(alloc, &Realm::new(alloc, of)?, expected)?,
+        Text::Nonce => prints(alloc, &Nonce::new(alloc, of)?, expected)?,
+        Text::Software => prints(alloc, &Software::new(alloc, of)?, expected)?,
+        Text::AlternateDomain => prints(alloc, &AlternateDomain::new(alloc, of)?, expected)?,
     };
     Ok(printed)
 }
 
 #[test]
 fn prints_texts(rt: HostRuntime) -> Result<(), Fail> {
-    for (text, of, expected) in PRINTED {
-        assert_eq!(rt; printed(text, rt.alloc(), of)?.as_str(), expected);
+    for (text, of, expected) in &PRINTED {
+        assert!(rt; is_printed(*text, rt.alloc(), of, expected)?, "{expected}");
     }
     Ok(())
+}
+
+/// Whether the raw attribute of a text borrows it, and is read as it.
+fn is_borrowed(alloc: Global, software: &Software) -> Result<bool, Fail> {
+    let raw = software.to_raw(alloc)?;
+    let read = Software::from_raw_ref(alloc, &raw)?;
+    Ok(matches!(raw.value(), Data::Borrowed(_)) && read == *software)
 }
 
 #[test]
 fn a_raw_text_is_borrowed(rt: HostRuntime) -> Result<(), Fail> {
     let software = Software::new(rt.alloc(), "stun-types")?;
     assert!(rt; software.clone(rt.alloc())? == software);
-    let raw = software.to_raw(rt.alloc())?;
-    assert!(rt; matches!(raw.value(), Data::Borrowed(_)));
-    assert!(rt; Software::from_raw_ref(rt.alloc(), &raw)? == software);
+    assert!(rt; is_borrowed(rt.alloc(), &software)?);
     Ok(())
 }
 
@@ -112,10 +122,8 @@ fn a_raw_text_is_copied(rt: HostRuntime) -> Result<(), Fail> {
     let raw = RawAttribute::new(Software::TYPE, b"stun-types")?;
     let same = raw.clone(rt.alloc())?;
     assert!(rt; same == raw);
-    assert_eq!(rt;
-        Software::from_raw(rt.alloc(), same)?.software(),
-        "stun-types"
-    );
+    let read = Software::from_raw(rt.alloc(), same)?;
+    assert!(rt; read.software() == "stun-types");
     Ok(())
 }
 
@@ -124,22 +132,31 @@ type Label = TextAttribute<0x8852, 8>;
 
 /// The label `straße`, seven bytes and one of padding.
 #[rattlefmt::skip]
-const LABEL: [u8; 12] = [
+static LABEL: [u8; 12] = [
     0x88, 0x52, 0x00, 0x07, 0x73, 0x74, 0x72, 0x61, 0xC3, 0x9F, 0x65, 0x00,
 ];
 
 #[test]
-fn reads_a_text_of_a_type_without_a_name(rt: HostRuntime) -> Result<(), Fail> {
+fn writes_a_text_of_a_type_without_a_name(rt: HostRuntime) -> Result<(), Fail> {
     let label = Label::new(rt.alloc(), "straße")?;
-    assert_eq!(rt; label.text(), "straße");
     let mut dest = [0xFF; 12];
-    assert_eq!(rt; label.write_into(&mut dest), Ok(12));
-    assert_eq!(rt; dest, LABEL);
+    assert!(rt; label.text() == "straße" && label.write_into(&mut dest) == Ok(12));
+    assert!(rt; dest == LABEL);
+    Ok(())
+}
+
+#[test]
+fn reads_a_text_of_a_type_without_a_name(rt: HostRuntime) -> Result<(), Fail> {
     let raw = RawAttribute::from_bytes(&LABEL)?;
     let read = Label::from_raw_ref(rt.alloc(), &raw)?;
-    assert_eq!(rt; read.text(), "straße");
+    assert!(rt; read.text() == "straße");
+    Ok(())
+}
+
+#[test]
+fn refuses_a_text_of_a_type_without_a_name(rt: HostRuntime) -> Result<(), Fail> {
     let cut = RawAttribute::new(Label::TYPE, &LABEL[4..9])?;
     let refused = Label::from_raw(rt.alloc(), cut).err();
-    assert_eq!(rt; refused, Some(StunParseError::InvalidAttributeData));
+    assert!(rt; refused == Some(StunParseError::InvalidAttributeData));
     Ok(())
 }

@@ -6,7 +6,9 @@ ghost use Rattle.stun_base.specs.declared.message_type.MessageClass.TheVariants.
 ghost use Rattle.stun_base.specs.Types.{class_of};
 ghost use Rattle.stun_types.specs.Message.{message_bytes};
 
+use std::alloc::Global;
 use std::net::{IpAddr, Ipv4Addr, SocketAddr};
+use std::process::Abort;
 use std::test::Fail;
 use stun_samples::header;
 use stun_types::attribute::{AttributeType, UnknownAttributes, XorMappedAddress};
@@ -68,10 +70,12 @@ const ALGORITHM: AttributeType = AttributeType(0x001D);
 
 const SOFTWARE: AttributeType = AttributeType(0x8022);
 
-/// Requests, what is supported and what is required, and the reply: its length, how it begins, and
-/// how it ends.
+/// The length of a reply, how it begins, and how it ends.
+type Reply<'a> = (usize, &'a [u8], &'a [u8]);
+
+/// Requests, what is supported and what is required, and the reply.
 #[rattlefmt::skip]
-const CHECKED: [(&str, &[u8], &[AttributeType], &[AttributeType], Option<(usize, &[u8], &[u8])>); 8] = [
+static CHECKED: [(&str, &[u8], &[AttributeType], &[AttributeType], Option<Reply<'static>>); 8] = [
     ("nothing is supported", &ONE_ALGORITHM, &[], &[],
         Some((72, &UNKNOWN, &[0x00, 0x0A, 0x00, 0x02, 0x00, 0x1D, 0x00, 0x00]))),
     ("nothing is supported, and one is missing", &ONE_ALGORITHM, &[], &[SOFTWARE],
@@ -87,126 +91,178 @@ const CHECKED: [(&str, &[u8], &[AttributeType], &[AttributeType], Option<(usize,
         Some((72, &UNKNOWN, &[0x00, 0x0A, 0x00, 0x02, 0x00, 0x08, 0x00, 0x00]))),
 ];
 
+/// The reply to a request, if there has to be one.
+fn checked(
+    alloc: Global,
+    bytes: &[u8],
+    supported: &[AttributeType],
+    required: &[AttributeType],
+) -> Result<Option<Vec<u8>>, Fail> {
+    let request = request(bytes)?;
+    let write = MessageWriteVec::new(alloc);
+    match Message::check_attribute_types(alloc, &request, supported, required, write)? {
+        Some(reply) => Ok(Some(reply.finish())),
+        None => Ok(None),
+    }
+}
+
+/// Whether the second message answers the first.
+fn is_answered(request: &[u8], reply: &[u8]) -> Result<bool, StunParseError> {
+    Ok(Message::from_bytes(reply)?.answers(&Message::from_bytes(request)?))
+}
+
+/// A reply to a request is what is expected.
+fn assert_reply(
+    rt: &impl Abort,
+    name: &str,
+    request: &[u8],
+    reply: &[u8],
+    (length, front, back): Reply<'_>,
+) -> Result<(), StunParseError> {
+    assert!(rt; reply.len() == length, "{name}");
+    assert!(rt; reply.starts_with(front), "{name}");
+    assert!(rt; reply.ends_with(back), "{name}");
+    assert!(rt; is_answered(request, reply)?, "{name}");
+    Ok(())
+}
+
 #[test]
 fn checks_the_attributes_of_a_request(rt: HostRuntime) -> Result<(), Fail> {
-    for (name, bytes, supported, required, expected) in CHECKED {
-        let request = request(bytes)?;
-        let write = MessageWriteVec::new(rt.alloc());
-        let reply = Message::check_attribute_types(
-            rt.alloc(),
-            &request,
-            supported,
-            required,
-            write,
-        )?;
-        match (reply, expected) {
+    for (name, bytes, supported, required, expected) in &CHECKED {
+        match (checked(rt.alloc(), bytes, supported, required)?, *expected) {
             (None, None) => {}
-            (Some(reply), Some((length, front, back))) => {
-                let written = reply.finish();
-                assert_eq!(rt; written.len(), length, "{name}");
-                assert!(rt; written.starts_with(front), "{name}");
-                assert!(rt; written.ends_with(back), "{name}");
-                assert!(rt; Message::from_bytes(&written)?.answers(&request), "{name}");
-            }
+            (Some(reply), Some(expected)) => assert_reply(&rt, name, bytes, &reply, expected)?,
             _ => assert!(rt; false, "{name}"),
         }
     }
     Ok(())
 }
 
+/// The reply that tells these types.
+fn unknown(alloc: Global, bytes: &[u8], types: &[AttributeType]) -> Result<Vec<u8>, Fail> {
+    let request = request(bytes)?;
+    let write = MessageWriteVec::new(alloc);
+    Ok(Message::unknown_attributes(alloc, &request, types, write)?.finish())
+}
+
+/// Whether a reply tells these types.
+fn tells(alloc: Global, reply: &[u8], types: &[AttributeType]) -> Result<bool, StunParseError> {
+    let told = Message::from_bytes(reply)?.attribute::<UnknownAttributes>(alloc)?;
+    Ok(told.attributes() == types)
+}
+
 #[test]
 fn tells_which_types_were_unknown(rt: HostRuntime) -> Result<(), Fail> {
-    let request = request(&TWICE)?;
-    let write = MessageWriteVec::new(rt.alloc());
     let types = [ALGORITHM, SOFTWARE, ALGORITHM];
-    let reply = Message::unknown_attributes(rt.alloc(), &request, &types, write)?.finish();
-    assert_eq!(rt; reply.len(), 76);
-    let mut told = false;
-    for (_offset, attribute) in Message::from_bytes(&reply)?.iter_attributes() {
-        if let Ok(unknown) = UnknownAttributes::from_raw(rt.alloc(), attribute) {
-            assert_eq!(rt; unknown.attributes(), types.as_slice());
-            told = true;
-        }
-    }
-    assert!(rt; told);
+    let reply = unknown(rt.alloc(), &TWICE, &types)?;
+    assert!(rt; reply.len() == 76);
+    assert!(rt; tells(rt.alloc(), &reply, &types)?);
     Ok(())
 }
 
 #[test]
 fn lists_no_types_where_there_are_none(rt: HostRuntime) -> Result<(), Fail> {
-    let request = request(&ONE_ALGORITHM)?;
-    let write = MessageWriteVec::new(rt.alloc());
-    let reply = Message::unknown_attributes(rt.alloc(), &request, &[], write)?.finish();
-    assert_eq!(rt; reply.len(), 64);
+    let reply = unknown(rt.alloc(), &ONE_ALGORITHM, &[])?;
+    assert!(rt; reply.len() == 64);
     assert!(rt; reply.starts_with(&[0x01, 0x11, 0x00, 0x2C]));
     assert!(rt; reply.ends_with(&UNKNOWN[4..]));
     Ok(())
 }
 
+/// The reply that tells nothing but that the request is bad.
+fn bad(alloc: Global, bytes: &[u8]) -> Result<Vec<u8>, Fail> {
+    let request = request(bytes)?;
+    Ok(Message::bad_request(alloc, &request, MessageWriteVec::new(alloc))?.finish())
+}
+
 #[test]
 fn writes_a_bad_request(rt: HostRuntime) -> Result<(), Fail> {
-    let request = request(&ONE_ALGORITHM)?;
-    let reply = Message::bad_request(rt.alloc(), &request, MessageWriteVec::new(rt.alloc()))?;
-    assert_eq!(rt; reply.finish().as_slice(), BAD.as_slice());
+    assert!(rt; bad(rt.alloc(), &ONE_ALGORITHM)?.as_slice() == BAD.as_slice());
     Ok(())
 }
 
+/// An error response with nothing behind its header.
+fn error(alloc: Global, bytes: &[u8]) -> Result<Vec<u8>, Fail> {
+    let request = request(bytes)?;
+    Ok(Message::builder_error(&request, MessageWriteVec::new(alloc))?.finish())
+}
+
 #[test]
-fn begins_responses(rt: HostRuntime) -> Result<(), Fail> {
-    let request = request(&ONE_ALGORITHM)?;
-    let error = Message::builder_error(&request, MessageWriteVec::new(rt.alloc()))?.finish();
-    assert_eq!(rt; error.len(), 20);
-    assert!(rt; error.starts_with(&[0x01, 0x11, 0x00, 0x00]));
-    assert!(rt; error.ends_with(&UNKNOWN[4..20]));
-    let mut success = Message::builder_success(&request, MessageWriteVec::new(rt.alloc()))?;
+fn begins_an_error(rt: HostRuntime) -> Result<(), Fail> {
+    let reply = error(rt.alloc(), &ONE_ALGORITHM)?;
+    assert!(rt; reply.len() == 20);
+    assert!(rt; reply.starts_with(&[0x01, 0x11, 0x00, 0x00]));
+    assert!(rt; reply.ends_with(&UNKNOWN[4..20]));
+    Ok(())
+}
+
+/// A success response that tells an address.
+fn success(alloc: Global, bytes: &[u8], source: SocketAddr) -> Result<Vec<u8>, Fail> {
+    let request = request(bytes)?;
+    let mut reply = Message::builder_success(&request, MessageWriteVec::new(alloc))?;
+    reply.add_attribute(&XorMappedAddress::new(source, request.transaction_id()))?;
+    Ok(reply.finish())
+}
+
+/// A success response to [`ONE_ALGORITHM`] that tells the address 192.168.0.1:3178.
+static SUCCESS: [u8; 32] = [
+    0x01, 0x01, 0x00, 0x0C, 0x21, 0x12, 0xA4, 0x42, 0x00, 0x00, 0x00, 0x00, 0x00, 0x00, 0x00, 0x00,
+    0x00, 0x00, 0x73, 0x92, 0x00, 0x20, 0x00, 0x08, 0x00, 0x01, 0x2D, 0x78, 0xE1, 0xBA, 0xA4, 0x43,
+];
+
+#[test]
+fn begins_a_success(rt: HostRuntime) -> Result<(), Fail> {
     let source = SocketAddr::new(IpAddr::V4(Ipv4Addr::new(192, 168, 0, 1)), 3178);
-    success.add_attribute(&XorMappedAddress::new(source, request.transaction_id()))?;
-    let expected = [
-        0x01, 0x01, 0x00, 0x0C, 0x21, 0x12, 0xA4, 0x42, 0x00, 0x00, 0x00, 0x00, 0x00, 0x00, 0x00,
-        0x00, 0x00, 0x00, 0x73, 0x92, 0x00, 0x20, 0x00, 0x08, 0x00, 0x01, 0x2D, 0x78, 0xE1, 0xBA,
-        0xA4, 0x43,
-    ];
-    assert_eq!(rt; success.finish().as_slice(), expected.as_slice());
+    let reply = success(rt.alloc(), &ONE_ALGORITHM, source)?;
+    assert!(rt; reply.as_slice() == SUCCESS.as_slice());
     Ok(())
 }
 
-#[test]
-fn stops_where_a_slice_ends(rt: HostRuntime) -> Result<(), Fail> {
+/// A list of types that a slice of sixty bytes has no room for is refused: the length of what is
+/// written before it.
+fn stop(rt: &impl Abort, alloc: Global, buf: &mut [u8; 60]) -> Result<usize, StunParseError> {
     let request = request(&ONE_ALGORITHM)?;
-    let mut buf = [0xFF; 60];
     let refused = StunWriteError::TooSmall {
         expected: 64,
         actual: 60,
     };
-    let mut write = MessageWriteMutSlice::new(rt.alloc(), &mut buf);
-    let types = [ALGORITHM];
-    let answer = Message::unknown_attributes_into(rt.alloc(), &request, &types, &mut write);
-    assert_eq!(rt; answer, Err(refused));
-    assert_eq!(rt; write.finish(), 36);
+    let mut write = MessageWriteMutSlice::new(alloc, buf);
+    let answer = Message::unknown_attributes_into(alloc, &request, &[ALGORITHM], &mut write);
+    assert!(rt; answer == Err(refused));
+    Ok(write.finish())
+}
+
+#[test]
+fn stops_where_a_slice_ends(rt: HostRuntime) -> Result<(), StunParseError> {
+    let mut buf = [0xFF; 60];
+    assert!(rt; stop(&rt, rt.alloc(), &mut buf)? == 36);
     assert!(rt; buf.starts_with(&[0x01, 0x11, 0x00, 0x10]));
-    assert_eq!(rt; buf[4..36], UNKNOWN[4..36]);
+    assert!(rt; buf[4..36] == UNKNOWN[4..36]);
     assert!(rt; buf.ends_with(&[0xFF; 24]));
     Ok(())
 }
 
+/// A reply with so many types: what is answered, and the length of what is written.
+fn too_many(alloc: Global, count: usize) -> Result<(Result<(), StunWriteError>, usize), Fail> {
+    let request = request(&ONE_ALGORITHM)?;
+    let types = vec![in alloc; ALGORITHM; count]?;
+    let mut write = MessageWriteVec::new(alloc);
+    let answer = Message::unknown_attributes_into(alloc, &request, &types, &mut write);
+    Ok((answer, write.len()))
+}
+
 #[test]
 fn refuses_too_many_types(rt: HostRuntime) -> Result<(), Fail> {
-    let request = request(&ONE_ALGORITHM)?;
     let many = StunWriteError::TooLarge {
         expected: 32767,
         actual: 32768,
     };
+    assert!(rt; too_many(rt.alloc(), 32768)? == (Err(many), 64));
     let long = StunWriteError::TooLarge {
         expected: 65555,
         actual: 65604,
     };
-    for (count, refused) in [(32768, many), (32767, long)] {
-        let types = vec![in rt.alloc(); ALGORITHM; count]?;
-        let mut write = MessageWriteVec::new(rt.alloc());
-        let answer = Message::unknown_attributes_into(rt.alloc(), &request, &types, &mut write);
-        assert_eq!(rt; answer, Err(refused));
-        assert_eq!(rt; write.len(), 64);
-    }
+    assert!(rt; too_many(rt.alloc(), 32767)? == (Err(long), 64));
     Ok(())
 }
 
@@ -221,7 +277,7 @@ fn headed([high, low]: [u8; 2], last: u8) -> [u8; 20] {
 /// The type of a message and the last byte of its transaction ID, and whether it answers the
 /// request with the transaction ID 1000.
 #[rattlefmt::skip]
-const ANSWERS: [(&str, [u8; 2], u8, bool); 6] = [
+static ANSWERS: [(&str, [u8; 2], u8, bool); 6] = [
     ("a success", [0x01, 0x01], 0xE8, true),
     ("an error", [0x01, 0x11], 0xE8, true),
     ("a request", [0x00, 0x01], 0xE8, false),
@@ -231,13 +287,12 @@ const ANSWERS: [(&str, [u8; 2], u8, bool); 6] = [
 ];
 
 #[test]
-fn tells_whether_it_answers_a_request(rt: HostRuntime) -> Result<(), Fail> {
-    let asked = header(0);
-    let request = Message::from_bytes(&asked)?;
-    for (name, kind, last, expected) in ANSWERS {
-        let bytes = headed(kind, last);
-        let message = Message::from_bytes(&bytes)?;
-        assert_eq!(rt; message.answers(&request), expected, "{name}");
+fn tells_whether_it_answers_a_request(rt: HostRuntime) -> Result<(), StunParseError> {
+    for (name, kind, last, expected) in &ANSWERS {
+        assert!(rt;
+            is_answered(&header(0), &headed(*kind, *last))? == *expected,
+            "{name}"
+        );
     }
     Ok(())
 }

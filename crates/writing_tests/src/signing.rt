@@ -1,12 +1,12 @@
 //! Messages that are signed: what is added, and what is refused.
 
-use crate::vector::request;
+use crate::vector::{add_software, request};
 use std::alloc::Global;
 use std::process::Abort;
 use std::test::Fail;
 use stun_base::binding_request;
 use stun_samples::{Shown, long_term, short_term, shows};
-use stun_types::attribute::{AttributeType, Software};
+use stun_types::attribute::AttributeType;
 use stun_types::message::{
     IntegrityAlgorithm, IntegrityKey, Message, MessageWriteVec, StunParseError, StunWriteError,
     TransactionId, ValidateError,
@@ -16,7 +16,7 @@ use stun_types::prelude::*;
 /// A BINDING request with the id 1000 that is signed with the password `pass` for SHA-1 and has a
 /// FINGERPRINT, as another implementation makes it.
 #[rattlefmt::skip]
-const SIGNED: [u8; 52] = [
+static SIGNED: [u8; 52] = [
     0x00, 0x01, 0x00, 0x20, 0x21, 0x12, 0xA4, 0x42, 0x00, 0x00, 0x00, 0x00, 0x00, 0x00, 0x00, 0x00,
         0x00, 0x00, 0x03, 0xE8,
     0x00, 0x08, 0x00, 0x14, 0x69, 0x9E, 0x82, 0x4C, 0x1E, 0xE3, 0xA6, 0x75, 0xDB, 0x9E, 0x32, 0x27,
@@ -26,7 +26,7 @@ const SIGNED: [u8; 52] = [
 
 /// What is shown of it.
 #[rattlefmt::skip]
-const SHOWN: [Shown<'static>; 2] = [
+static SHOWN: [Shown<'static>; 2] = [
     (20, 0x0008, &[0x69, 0x9E, 0x82, 0x4C, 0x1E, 0xE3, 0xA6, 0x75, 0xDB, 0x9E, 0x32, 0x27, 0x7F,
         0xAD, 0xA7, 0x0F, 0x25, 0x7E, 0x0C, 0x0D]),
     (44, 0x8028, &[0x7E, 0x79, 0xAC, 0x9A]),
@@ -48,27 +48,52 @@ fn signed(alloc: Global) -> Result<Vec<u8>, Fail> {
 
 #[test]
 fn signs_a_request(rt: HostRuntime) -> Result<(), Fail> {
-    let bytes = signed(rt.alloc())?;
-    assert_eq!(rt; bytes.as_slice(), SIGNED.as_slice());
+    assert!(rt; signed(rt.alloc())?.as_slice() == SIGNED.as_slice());
     Ok(())
 }
 
 /// A length field of that request, a password, and what is answered.
-const ANSWERS: [(u8, &str, Result<IntegrityAlgorithm, ValidateError>); 3] = [
+static ANSWERS: [(u8, &str, Result<IntegrityAlgorithm, ValidateError>); 3] = [
     (0x20, "pass", Ok(IntegrityAlgorithm::Sha1)),
     (0x00, "pass", Ok(IntegrityAlgorithm::Sha1)),
     (0x00, "past", Err(ValidateError::IntegrityFailed)),
 ];
 
+/// That request with this length field.
+fn signed_with_length(length: u8) -> [u8; 52] {
+    let mut bytes = SIGNED;
+    bytes[3] = length;
+    bytes
+}
+
+/// [`SHOWN`] is shown of these bytes, and a validation with this password is answered so.
+fn assert_validates(
+    rt: &impl Abort,
+    alloc: Global,
+    bytes: &[u8],
+    password: &str,
+    answer: Result<IntegrityAlgorithm, ValidateError>,
+) -> Result<(), Fail> {
+    let credentials = short_term(alloc, password)?;
+    let read = Message::from_bytes(bytes)?;
+    assert!(rt; shows(read.iter_attributes(), &SHOWN));
+    assert!(rt;
+        read.validate_integrity(alloc, &credentials) == answer,
+        "{password}"
+    );
+    Ok(())
+}
+
 #[test]
 fn length_field_of_a_signed_request_is_free(rt: HostRuntime) -> Result<(), Fail> {
-    for (length, password, answer) in ANSWERS {
-        let mut bytes = SIGNED;
-        bytes[3] = length;
-        let read = Message::from_bytes(&bytes)?;
-        assert!(rt; shows(read.iter_attributes(), &SHOWN));
-        let credentials = short_term(rt.alloc(), password)?;
-        assert_eq!(rt; read.validate_integrity(rt.alloc(), &credentials), answer);
+    for (length, password, answer) in &ANSWERS {
+        assert_validates(
+            &rt,
+            rt.alloc(),
+            &signed_with_length(*length),
+            password,
+            *answer,
+        )?;
     }
     Ok(())
 }
@@ -81,46 +106,61 @@ fn fingered(alloc: Global) -> Result<MessageWriteVec, StunWriteError> {
 }
 
 #[test]
-fn adds_nothing_behind_a_fingerprint(rt: HostRuntime) -> Result<(), Fail> {
-    let software = Software::new(rt.alloc(), "")?;
+fn adds_nothing_behind_a_fingerprint(rt: HostRuntime) -> Result<(), StunWriteError> {
     let mut message = fingered(rt.alloc())?;
-    assert_eq!(rt;
-        message.add_attribute(&software),
-        Err(StunWriteError::FingerprintExists)
-    );
-    let twice = Err(StunWriteError::AttributeExists(AttributeType(0x8028)));
-    assert_eq!(rt; message.add_fingerprint(), twice);
-    assert_eq!(rt; message.len(), 28);
+    let added = add_software(rt.alloc(), &mut message);
+    assert!(rt; added == Err(StunWriteError::FingerprintExists));
+    let twice = StunWriteError::AttributeExists(AttributeType(0x8028));
+    assert!(rt; message.add_fingerprint() == Err(twice));
+    assert!(rt; message.len() == 28);
+    Ok(())
+}
+
+/// Nothing is signed with the password `pass` for this algorithm.
+fn assert_not_signed(
+    rt: &impl Abort,
+    alloc: Global,
+    message: &mut MessageWriteVec,
+    algorithm: IntegrityAlgorithm,
+) -> Result<(), Fail> {
+    let credentials = short_term(alloc, "pass")?;
+    let added = message.add_message_integrity(alloc, &credentials, algorithm);
+    assert!(rt; added == Err(StunWriteError::FingerprintExists));
+    assert!(rt; message.len() == 28);
     Ok(())
 }
 
 #[test]
 fn signs_nothing_behind_a_fingerprint(rt: HostRuntime) -> Result<(), Fail> {
-    let credentials = short_term(rt.alloc(), "pass")?;
     let mut message = fingered(rt.alloc())?;
-    for algorithm in [IntegrityAlgorithm::Sha1, IntegrityAlgorithm::Sha256] {
-        let added = message.add_message_integrity(rt.alloc(), &credentials, algorithm);
-        assert_eq!(rt; added, Err(StunWriteError::FingerprintExists));
-    }
-    assert_eq!(rt; message.len(), 28);
+    assert_not_signed(&rt, rt.alloc(), &mut message, IntegrityAlgorithm::Sha1)?;
+    assert_not_signed(&rt, rt.alloc(), &mut message, IntegrityAlgorithm::Sha256)
+}
+
+/// Nothing is signed with its key for this algorithm.
+fn assert_not_signed_with_key(
+    rt: &impl Abort,
+    alloc: Global,
+    message: &mut MessageWriteVec,
+    algorithm: IntegrityAlgorithm,
+) -> Result<(), Fail> {
+    let key = key_of_pass(alloc)?;
+    let added = message.add_message_integrity_with_key(&key, algorithm);
+    assert!(rt; added == Err(StunWriteError::FingerprintExists));
+    assert!(rt; message.len() == 28);
     Ok(())
 }
 
 #[test]
 fn signs_nothing_with_a_key_behind_a_fingerprint(rt: HostRuntime) -> Result<(), Fail> {
-    let key = key_of_pass(rt.alloc())?;
     let mut message = fingered(rt.alloc())?;
-    for algorithm in [IntegrityAlgorithm::Sha1, IntegrityAlgorithm::Sha256] {
-        let added = message.add_message_integrity_with_key(&key, algorithm);
-        assert_eq!(rt; added, Err(StunWriteError::FingerprintExists));
-    }
-    assert_eq!(rt; message.len(), 28);
-    Ok(())
+    assert_not_signed_with_key(&rt, rt.alloc(), &mut message, IntegrityAlgorithm::Sha1)?;
+    assert_not_signed_with_key(&rt, rt.alloc(), &mut message, IntegrityAlgorithm::Sha256)
 }
 
 /// The algorithms for which a request is to be signed, in turn, and what each is answered.
 #[rattlefmt::skip]
-const SIGNATURES: [&[(IntegrityAlgorithm, Result<(), StunWriteError>)]; 2] = [
+static SIGNATURES: [&[(IntegrityAlgorithm, Result<(), StunWriteError>)]; 2] = [
     &[
         (IntegrityAlgorithm::Sha256, Ok(())),
         (IntegrityAlgorithm::Sha1, Err(StunWriteError::AttributeExists(AttributeType(0x001C)))),
@@ -133,29 +173,42 @@ const SIGNATURES: [&[(IntegrityAlgorithm, Result<(), StunWriteError>)]; 2] = [
     ],
 ];
 
-/// The signatures are answered so, and the last of them that is written validates.
-fn assert_signs(
+/// The signatures are answered so: what is written.
+fn sign_in_turn(
     rt: &impl Abort,
     alloc: Global,
     key: &IntegrityKey,
     signatures: &[(IntegrityAlgorithm, Result<(), StunWriteError>)],
-) -> Result<(), Fail> {
+) -> Result<Vec<u8>, StunWriteError> {
     let mut message = request(alloc)?;
     for (algorithm, answer) in signatures {
         let added = message.add_message_integrity_with_key(key, *algorithm);
-        assert_eq!(rt; added, *answer, "{algorithm:?}");
+        assert!(rt; added == *answer, "{algorithm:?}");
     }
-    let bytes = message.finish();
-    let answer = Message::from_bytes(&bytes)?.validate_integrity_with_key(key);
-    assert_eq!(rt; answer, Ok(IntegrityAlgorithm::Sha256));
+    Ok(message.finish())
+}
+
+/// What a validation of these bytes with this key is answered.
+fn validated(bytes: &[u8], key: &IntegrityKey) -> Result<IntegrityAlgorithm, ValidateError> {
+    Message::from_bytes(bytes)?.validate_integrity_with_key(key)
+}
+
+/// The signatures are answered so, and the last of them that is written validates.
+fn assert_signs(
+    rt: &impl Abort,
+    alloc: Global,
+    signatures: &[(IntegrityAlgorithm, Result<(), StunWriteError>)],
+) -> Result<(), Fail> {
+    let key = key_of_pass(alloc)?;
+    let bytes = sign_in_turn(rt, alloc, &key, signatures)?;
+    assert!(rt; validated(&bytes, &key) == Ok(IntegrityAlgorithm::Sha256));
     Ok(())
 }
 
 #[test]
 fn signs_once_for_each_algorithm(rt: HostRuntime) -> Result<(), Fail> {
-    let key = key_of_pass(rt.alloc())?;
-    for signatures in SIGNATURES {
-        assert_signs(&rt, rt.alloc(), &key, signatures)?;
+    for signatures in &SIGNATURES {
+        assert_signs(&rt, rt.alloc(), signatures)?;
     }
     Ok(())
 }
@@ -164,18 +217,18 @@ fn signs_once_for_each_algorithm(rt: HostRuntime) -> Result<(), Fail> {
 fn signs_nothing_without_a_header(rt: HostRuntime) -> Result<(), Fail> {
     let key = key_of_pass(rt.alloc())?;
     let mut nothing = MessageWriteVec::new(rt.alloc());
-    let refused = Err(StunWriteError::TooSmall {
+    let refused = StunWriteError::TooSmall {
         expected: 20,
         actual: 0,
-    });
-    assert_eq!(rt; nothing.add_fingerprint(), refused);
+    };
+    assert!(rt; nothing.add_fingerprint() == Err(refused));
     let added = nothing.add_message_integrity_with_key(&key, IntegrityAlgorithm::Sha1);
-    assert_eq!(rt; added, refused);
+    assert!(rt; added == Err(refused));
     Ok(())
 }
 
 /// A request that is signed for SHA-1 with a key for SHA-256.
-fn signed_with(alloc: Global, key: &IntegrityKey) -> Result<Vec<u8>, Fail> {
+fn signed_with(alloc: Global, key: &IntegrityKey) -> Result<Vec<u8>, StunWriteError> {
     let mut message = request(alloc)?;
     message.add_message_integrity_with_key(key, IntegrityAlgorithm::Sha1)?;
     Ok(message.finish())
@@ -185,9 +238,8 @@ fn signed_with(alloc: Global, key: &IntegrityKey) -> Result<Vec<u8>, Fail> {
 fn signs_with_a_key_of_another_algorithm(rt: HostRuntime) -> Result<(), Fail> {
     let key = long_term(rt.alloc())?.make_key(rt.alloc(), IntegrityAlgorithm::Sha256)?;
     let bytes = signed_with(rt.alloc(), &key)?;
-    let missing = ValidateError::Parse(StunParseError::MissingAttribute(AttributeType(0x0008)));
-    let answer = Message::from_bytes(&bytes)?.validate_integrity_with_key(&key);
-    assert_eq!(rt; answer, Err(missing));
+    let missing = StunParseError::MissingAttribute(AttributeType(0x0008));
+    assert!(rt; validated(&bytes, &key) == Err(ValidateError::Parse(missing)));
     Ok(())
 }
 
@@ -207,7 +259,6 @@ fn signed_unchecked(alloc: Global, key: &IntegrityKey) -> Result<Vec<u8>, StunWr
 #[test]
 fn signs_without_testing_again(rt: HostRuntime) -> Result<(), Fail> {
     let key = key_of_pass(rt.alloc())?;
-    let bytes = signed_unchecked(rt.alloc(), &key)?;
-    assert_eq!(rt; bytes.as_slice(), SIGNED.as_slice());
+    assert!(rt; signed_unchecked(rt.alloc(), &key)?.as_slice() == SIGNED.as_slice());
     Ok(())
 }

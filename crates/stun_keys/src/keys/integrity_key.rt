@@ -1,10 +1,10 @@
-ghost use Rattle.std.specs.Prelude.{◌≡◌, Bool, None, Some, IfOk, IfErr, map};
-ghost use Rattle.std.specs.List.{concat};
+ghost use Rattle.std.specs.Prelude.{◌≡◌};
 ghost use Rattle.std.specs.Box.{boxed_slice_items};
-ghost use Rattle.stun_grammar.specs.Hmac.{hmac};
-ghost use Rattle.stun_keys.specs.Keys.{key_bytes, key_algorithm, serves, IsKey};
+ghost use Rattle.sha1.specs.Sha1.{sha1};
+ghost use Rattle.sha2.specs.Sha256.{sha256};
+ghost use Rattle.stun_grammar.specs.Hmac.{block_of_key, padded_with};
 
-use crate::digest::{hmac_sha1, hmac_sha256};
+use crate::digest::{HmacSha1, HmacSha256};
 use std::alloc::Global;
 use std::boxed::BoxedSlice;
 use stun_grammar::{IntegrityAlgorithm, StunWriteError};
@@ -12,28 +12,68 @@ use stun_grammar::{IntegrityAlgorithm, StunWriteError};
 /// The key of an HMAC: any number of bytes, and the algorithm that it was made for, if it was made
 /// for one. A key that was made for none serves both.
 ///
+/// Beside its bytes it keeps, for each of the two digests, the block of 64 bytes with which an HMAC
+/// under it begins, and from the first HMAC on the hashers that have taken that block in. They take
+/// no memory of their own. Since an HMAC may write them, two threads can't share a key (it isn't
+/// `Sync`): each takes its own clone.
+///
 /// Two keys are equal where their bytes are equal, whatever they were made for.
-#[derive(Debug, Drop)]
+#[derive(Drop)]
+#[derive_where(Debug)]
 pub struct IntegrityKey {
     algorithm: Option<IntegrityAlgorithm>,
     bytes: BoxedSlice<u8>,
+    #[derive_where(skip)]
+    for_sha1: HmacSha1,
+    #[derive_where(skip)]
+    for_sha256: HmacSha256,
+    ghost sha1_inner: { for_sha1.blocks.inner
+        ≡ padded_with 0x36 (block_of_key sha1 (boxed_slice_items bytes)) },
+    ghost sha1_outer: { for_sha1.blocks.outer
+        ≡ padded_with 0x5C (block_of_key sha1 (boxed_slice_items bytes)) },
+    ghost sha256_inner: { for_sha256.blocks.inner
+        ≡ padded_with 0x36 (block_of_key sha256 (boxed_slice_items bytes)) },
+    ghost sha256_outer: { for_sha256.blocks.outer
+        ≡ padded_with 0x5C (block_of_key sha256 (boxed_slice_items bytes)) },
 }
 
 impl IntegrityKey {
-    /// The key with these bytes, which are copied into memory that `alloc` gives.
-    pub(crate) fn new(
+    ghost use Rattle.std.specs.Prelude.{◌≡◌, IfOk, IfErr, map};
+    ghost use Rattle.std.specs.List.{concat};
+    ghost use Rattle.stun_grammar.specs.Hmac.{hmac};
+    ghost use Rattle.stun_keys.specs.Keys.{key_bytes, key_algorithm, serves, IsKey};
+
+    /// The key with these bytes, made for an algorithm or for none. The bytes are copied into
+    /// memory that `alloc` gives.
+    ///
+    /// A server that keeps no passwords makes the keys of long-term credentials by it: for `Sha1`
+    /// of the MD5 of `username:realm:password`, 16 bytes, and for `Sha256` of its SHA-256, 32 bytes
+    /// (RFC 8489, sections 9.2.2 and 18.5.1). How many bytes there are is not tested.
+    ///
+    /// # Errors
+    ///
+    /// `OutOfMemory` alone.
+    pub fn new(
         alloc: Global,
-        algorithm: Option<IntegrityAlgorithm>,
         bytes: &[u8],
+        algorithm: Option<IntegrityAlgorithm>,
     ) -> Result<Self, StunWriteError>
         ensures ok { IfOk result (IsKey algorithm bytes.now) }
         ensures err { IfErr result (λ e. e ≡ StunWriteError.OutOfMemory) }
     {
-        let bytes = BoxedSlice::from_slice(alloc, bytes).map_err(|_| StunWriteError::OutOfMemory)?;
-        Ok(IntegrityKey { algorithm, bytes })
+        let copy = BoxedSlice::from_slice(alloc, bytes).map_err(|_| StunWriteError::OutOfMemory)?;
+        let for_sha1 = HmacSha1::new(bytes);
+        let for_sha256 = HmacSha256::new(bytes);
+        Ok(IntegrityKey {
+            algorithm,
+            bytes: copy,
+            for_sha1,
+            for_sha256,
+        })
     }
 
-    /// The same key, with its bytes copied into memory that `alloc` gives.
+    /// The same key, with its bytes copied into memory that `alloc` gives. The blocks are copied,
+    /// and so are the hashers that the key keeps by then. Nothing is digested.
     ///
     /// # Errors
     ///
@@ -42,7 +82,23 @@ impl IntegrityKey {
         ensures same { IfOk result (IsKey (key_algorithm self.now) (key_bytes self.now)) }
         ensures err { IfErr result (λ e. e ≡ StunWriteError.OutOfMemory) }
     {
-        Self::new(alloc, self.algorithm, &self.bytes)
+        let bytes = BoxedSlice::from_slice(alloc, &self.bytes).map_err(
+            |_| StunWriteError::OutOfMemory,
+        )?;
+        let for_sha1 = self
+            .for_sha1
+            .clone()
+            .map_err(|_| StunWriteError::OutOfMemory)?;
+        let for_sha256 = self
+            .for_sha256
+            .clone()
+            .map_err(|_| StunWriteError::OutOfMemory)?;
+        Ok(IntegrityKey {
+            algorithm: self.algorithm,
+            bytes,
+            for_sha1,
+            for_sha256,
+        })
     }
 
     /// The bytes.
@@ -77,7 +133,7 @@ impl IntegrityKey {
         ensures { result ≡ hmac IntegrityAlgorithm.Sha1 (key_bytes self.now)
             (concat (map (λ piece. piece.now) pieces.now)) }
     {
-        hmac_sha1(&self.bytes, pieces)
+        self.for_sha1.hmac(pieces)
     }
 
     /// HMAC-SHA256 of the pieces, joined, under the key: 32 bytes (RFC 2104). The algorithm that
@@ -86,7 +142,7 @@ impl IntegrityKey {
         ensures { result ≡ hmac IntegrityAlgorithm.Sha256 (key_bytes self.now)
             (concat (map (λ piece. piece.now) pieces.now)) }
     {
-        hmac_sha256(&self.bytes, pieces)
+        self.for_sha256.hmac(pieces)
     }
 }
 
@@ -94,6 +150,7 @@ impl PartialEq for IntegrityKey {
     ghost use Rattle.std.specs.Prelude.{nat_eq};
     ghost use Rattle.std.specs.Cmp.{on_per, partial_equiv_from_equiv};
     ghost use Rattle.std.specs.Cmp.Lexicographic.{nat_list_eq_equiv, pointwise};
+    ghost use Rattle.stun_keys.specs.Keys.{key_bytes};
 
     ghost eq = { λ a b. pointwise nat_eq (key_bytes a) (key_bytes b) };
 
@@ -107,6 +164,7 @@ impl PartialEq for IntegrityKey {
 impl Eq for IntegrityKey {
     ghost use Rattle.std.specs.Cmp.{on_equiv};
     ghost use Rattle.std.specs.Cmp.Lexicographic.{nat_list_eq_equiv};
+    ghost use Rattle.stun_keys.specs.Keys.{key_bytes};
 
     ghost laws = { on_equiv key_bytes nat_list_eq_equiv };
 }

@@ -92,13 +92,13 @@ impl LongTermKeyCredentials {
         match algorithm {
             IntegrityAlgorithm::Sha1 => IntegrityKey::new(
                 alloc,
-                Some(IntegrityAlgorithm::Sha1),
                 &md5_key(username, realm, password),
+                Some(IntegrityAlgorithm::Sha1),
             ),
             IntegrityAlgorithm::Sha256 => IntegrityKey::new(
                 alloc,
-                Some(IntegrityAlgorithm::Sha256),
                 &sha256_key(username, realm, password),
+                Some(IntegrityAlgorithm::Sha256),
             ),
         }
     }

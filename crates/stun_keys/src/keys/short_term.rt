@@ -52,6 +52,6 @@ impl ShortTermCredentials {
         ensures ok { IfOk result (IsKey None (short_term_password self.now)) }
         ensures err { IfErr result (λ e. e ≡ StunWriteError.OutOfMemory) }
     {
-        IntegrityKey::new(alloc, None, self.password().as_bytes())
+        IntegrityKey::new(alloc, self.password().as_bytes(), None)
     }
 }

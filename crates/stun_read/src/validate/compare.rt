@@ -2,7 +2,7 @@
 
 ghost use Rattle.std.specs.Cmp.Lexicographic.{pointwise};
 ghost use Rattle.std.specs.Prelude.{◌≡◌, ◌≤◌, None, length, take, nat_eq};
-ghost use Rattle.stun_grammar.specs.Hmac.{hmac, digest_length};
+ghost use Rattle.stun_grammar.specs.Hmac.{hmac};
 ghost use Rattle.stun_grammar.specs.Verdicts.{algorithm_of, hmac_fault, covered_bytes, verdict_on};
 ghost use Rattle.stun_keys.specs.Keys.{key_bytes};
 ghost use Rattle.stun_attrs.specs.Raw.{raw_type, raw_value};
@@ -13,7 +13,7 @@ use stun_attrs::RawAttribute;
 use stun_base::ValidateError;
 use stun_grammar::IntegrityAlgorithm;
 use stun_grammar::attribute_types::MESSAGE_INTEGRITY;
-use stun_integrity::{hmac_sha1_at, hmac_sha256_at};
+use stun_integrity::{hmac_sha1_at, hmac_sha256_at, same_bytes};
 use stun_keys::keys::IntegrityKey;
 
 /// The algorithm of an integrity attribute.
@@ -28,7 +28,8 @@ pub(super) fn algorithm_for(attribute: &RawAttribute<'_>) -> IntegrityAlgorithm
 }
 
 /// Whether the value of an integrity attribute is a prefix of the HMAC of the bytes that it covers.
-/// The attribute's header is at `offset`.
+/// The attribute's header is at `offset`. All bytes of the value are compared, also behind one that
+/// differs.
 fn is_right(
     bytes: &[u8],
     offset: usize,
@@ -38,15 +39,21 @@ fn is_right(
 ) -> bool
     requires header { 20 ≤ offset }
     requires within { offset ≤ length bytes.now }
-    requires short { length value.now ≤ digest_length algorithm }
+    requires lawful { hmac_fault algorithm (length value.now) ≡ None }
     ensures { result ≡ pointwise nat_eq value.now (take (length value.now)
         (hmac algorithm (key_bytes key.now)
         (covered_bytes bytes.now offset (length value.now)))) }
 {
-    let count = value.len();
     match algorithm {
-        IntegrityAlgorithm::Sha1 => value == &hmac_sha1_at(key, bytes, offset, count)[..count],
-        IntegrityAlgorithm::Sha256 => value == &hmac_sha256_at(key, bytes, offset, count)[..count],
+        IntegrityAlgorithm::Sha1 => same_bytes(value, &hmac_sha1_at(key, bytes, offset, 20)),
+        IntegrityAlgorithm::Sha256 => {
+            let count = value.len();
+            let digest = hmac_sha256_at(key, bytes, offset, count);
+            if count == digest.len() {
+                return same_bytes(value, &digest);
+            }
+            same_bytes(value, &digest[..count])
+        }
     }
 }
 

@@ -27,6 +27,7 @@ impl Message<'_> {
     ///
     /// Only `OutOfMemory`, and only where fewer than twenty bytes are ready; the writer is dropped
     /// then.
+    #[inline(always)]
     pub fn builder<B: MessageWrite + Drop>(
         mtype: MessageType,
         transaction_id: TransactionId,
@@ -48,6 +49,7 @@ impl Message<'_> {
     ///
     /// Only `OutOfMemory`, and only where fewer than twenty bytes are ready; nothing is written
     /// then.
+    #[inline(always)]
     pub fn builder_into<B: MessageWrite>(
         mtype: MessageType,
         transaction_id: TransactionId,

@@ -16,8 +16,9 @@ impl<'a> Message<'a> {
     /// shows no more than `n` of them.
     ///
     /// [`Message::iter_attributes`] says which attributes are shown. This goes over them once, up
-    /// to the one that it finds, and takes no memory. The value borrows the bytes of the message
-    /// for `'a`, and may outlive the message.
+    /// to the one that it finds, and takes no memory; it reads MESSAGE-INTEGRITY and
+    /// MESSAGE-INTEGRITY-SHA256 at place 0 at once, and no other attribute. The value borrows the
+    /// bytes of the message for `'a`, and may outlive the message.
     ///
     /// ```
     /// let second = message.nth_raw_attribute_and_offset(AttributeType(0x0001), 1);
@@ -30,7 +31,7 @@ impl<'a> Message<'a> {
     ) -> Option<(usize, RawAttribute<'a>)>
         ensures { IsFound (nth (message_bytes self.now) atype.0 n) result }
     {
-        nth_raw(self.as_bytes(), atype, n)
+        nth_raw(self.as_bytes(), self.integrity_offsets(), atype, n)
     }
 
     /// As [`Message::nth_raw_attribute_and_offset`], without the offset.

@@ -2,20 +2,29 @@
 
 ghost use Rattle.std.specs.Prelude.{◌≡◌, None};
 ghost use Rattle.stun_grammar.specs.Parsing.{parse_fault};
+ghost use Rattle.stun_read.specs.Keeping.{KeepsOffsets};
 
 use std::fmt;
 use stun_base::{
     MessageClass, MessageHeader, MessageType, Method, StunParseError, TransactionId, read_header,
 };
-use stun_read::{MessageAttributesIter, check_message, iter_framed, print_message};
+use stun_read::{
+    IntegrityOffsets, MessageAttributesIter, check_message, iter_framed, print_message,
+};
 
 /// A message, borrowed from the bytes that [`Message::from_bytes`] parsed.
 ///
-/// It is `Copy`. The attributes that it shows borrow the bytes for `'a`, and may outlive it.
-#[derive(Debug, Clone, Copy)]
+/// It is `Copy`. The attributes that it shows borrow the bytes for `'a`, and may outlive it. Beside
+/// the bytes it keeps the offsets of MESSAGE-INTEGRITY and of MESSAGE-INTEGRITY-SHA256, each where
+/// it shows that attribute.
+#[derive(Clone, Copy)]
+#[derive_where(Debug)]
 pub struct Message<'a> {
     bytes: &'a [u8],
+    #[derive_where(skip)]
+    offsets: IntegrityOffsets,
     ghost parsed: { parse_fault bytes.now ≡ None },
+    ghost keeps: { KeepsOffsets offsets bytes.now },
 }
 
 impl<'a> Message<'a> {
@@ -26,6 +35,7 @@ impl<'a> Message<'a> {
     ghost use Rattle.stun_base.specs.Types.{class_of, method_of, header_of, is_response as responds};
     ghost use Rattle.stun_types.specs.Message.{message_bytes};
     ghost use Rattle.stun_read.specs.Iterating.{items_left, borrowed};
+    ghost use Rattle.stun_read.specs.Keeping.{KeepsOffsets};
 
     /// Parses a message: a header of twenty bytes, and the attributes that follow it up to the end
     /// of `bytes` (RFC 8489, sections 5, 6.3 and 14). The message borrows `bytes`. Parsing takes no
@@ -56,13 +66,14 @@ impl<'a> Message<'a> {
     /// - for a FINGERPRINT, also `Truncated { expected: 4, actual }` or
     ///   `TooLarge { expected: 4, actual }` where its value doesn't have four bytes, and
     ///   `FingerprintMismatch` where the value isn't right.
+    #[inline(always)]
     pub fn from_bytes(bytes: &'a [u8]) -> Result<Message<'a>, StunParseError>
         ensures { MatchResult result
             (λ message. (parse_fault bytes.now ≡ None) × (message_bytes message ≡ bytes.now))
             (λ e. parse_fault bytes.now ≡ Some e) }
     {
-        check_message(bytes)?;
-        Ok(Message { bytes })
+        let offsets = check_message(bytes)?;
+        Ok(Message { bytes, offsets })
     }
 
     /// The bytes that it was parsed from. [`Message::from_bytes`] accepts them: whoever is handed a
@@ -72,6 +83,13 @@ impl<'a> Message<'a> {
         ensures accepted { parse_fault (message_bytes self.now) ≡ None }
     {
         self.bytes
+    }
+
+    /// The offsets of the integrity attributes that it shows.
+    pub(super) fn integrity_offsets(&self) -> IntegrityOffsets
+        ensures { KeepsOffsets result (message_bytes self.now) }
+    {
+        self.offsets
     }
 
     /// The header: message type, length field and transaction ID, which the methods below return

@@ -65,7 +65,12 @@ impl Message<'_> {
             → ((result ≡ Ok a) × (covered (is_wanted None) (message_bytes self.now) ≡ Some c))
             ↔ Carries (message_bytes self.now) c (credentials_key credentials.now a) a }
     {
-        validate_bytes(self.as_bytes(), alloc, credentials)
+        validate_bytes(
+            self.as_bytes(),
+            self.integrity_offsets(),
+            alloc,
+            credentials,
+        )
     }
 
     /// As [`Message::validate_integrity`], with a key. Where the key was made for an algorithm,
@@ -106,6 +111,6 @@ impl Message<'_> {
             → ((result ≡ Ok a) × (covered (is_wanted (Some a)) (message_bytes self.now) ≡ Some c))
             ↔ CarriesPrefix (message_bytes self.now) c (key_bytes key.now) a }
     {
-        validate_bytes_with_key(self.as_bytes(), key)
+        validate_bytes_with_key(self.as_bytes(), self.integrity_offsets(), key)
     }
 }

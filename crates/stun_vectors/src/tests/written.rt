@@ -18,7 +18,7 @@ const IN_FORTY: [u8; 40] = [
 #[test]
 fn writes_a_software(rt: HostRuntime) -> Result<(), Fail> {
     let message = software_message(rt.alloc(), TransactionId::from(1000), "stun-types")?;
-    assert_eq!(rt; message.as_slice(), &IN_FORTY[..36]);
+    assert!(rt; message.as_slice() == &IN_FORTY[..36]);
     Ok(())
 }
 
@@ -26,13 +26,13 @@ fn writes_a_software(rt: HostRuntime) -> Result<(), Fail> {
 fn refuses_a_long_software(rt: HostRuntime) -> Result<(), Fail> {
     let id = TransactionId::from(1);
     let longest = letters(rt.alloc(), 763)?;
-    assert_eq!(rt; software_message(rt.alloc(), id, &longest)?.len(), 788);
+    assert!(rt; software_message(rt.alloc(), id, &longest)?.len() == 788);
     let longer = letters(rt.alloc(), 764)?;
     let refused = StunWriteError::TooLarge {
         expected: 763,
         actual: 764,
     };
-    assert_eq!(rt; software_message(rt.alloc(), id, &longer), Err(refused));
+    assert!(rt; software_message(rt.alloc(), id, &longer) == Err(refused));
     Ok(())
 }
 
@@ -41,21 +41,15 @@ fn writes_a_request_into_a_callers_slice(rt: HostRuntime) -> Result<(), Fail> {
     let software = Software::new(rt.alloc(), "stun-types")?;
     let id = TransactionId::from(1000);
     let mut buf = [0xFF; 40];
-    assert_eq!(rt;
-        software_in_slice(rt.alloc(), id, &software, &mut buf),
-        Ok(36)
-    );
-    assert_eq!(rt; buf, IN_FORTY);
+    assert!(rt; software_in_slice(rt.alloc(), id, &software, &mut buf) == Ok(36));
+    assert!(rt; buf == IN_FORTY);
     let mut short = [0xFF; 19];
     let refused = StunWriteError::TooSmall {
         expected: 20,
         actual: 19,
     };
-    assert_eq!(rt;
-        software_in_slice(rt.alloc(), id, &software, &mut short),
-        Err(refused)
-    );
-    assert_eq!(rt; short, [0xFF; 19]);
+    assert!(rt; software_in_slice(rt.alloc(), id, &software, &mut short) == Err(refused));
+    assert!(rt; short == [0xFF; 19]);
     Ok(())
 }
 
@@ -68,12 +62,9 @@ const SIXTEEN: [u8; 24] = [
 #[test]
 fn needs_no_memory_within_its_room(rt: HostRuntime) -> Result<(), Fail> {
     let mut message = MessageWriteVec::with_capacity(rt.alloc(), 84)?;
-    assert_eq!(rt;
-        nominate_sixteen(TransactionId::from(1000), &mut message),
-        Ok(())
-    );
+    assert!(rt; nominate_sixteen(TransactionId::from(1000), &mut message) == Ok(()));
     let bytes = message.finish();
-    assert_eq!(rt; (bytes.len(), bytes.capacity()), (84, 84));
+    assert!(rt; (bytes.len(), bytes.capacity()) == (84, 84));
     assert!(rt; bytes.starts_with(&SIXTEEN));
     Ok(())
 }
@@ -85,6 +76,6 @@ fn overwrites_what_is_written(rt: HostRuntime) -> Result<(), Fail> {
     overwrite(0x44, &mut message);
     assert!(rt; message.has_attribute(AttributeType(0x0025)));
     let bytes = message.finish();
-    assert_eq!(rt; bytes.as_slice(), [0x44; 84].as_slice());
+    assert!(rt; bytes.as_slice() == [0x44; 84].as_slice());
     Ok(())
 }

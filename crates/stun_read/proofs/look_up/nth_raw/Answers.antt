@@ -1,12 +1,22 @@
-use Rattle.std.proofs.Common.{Bool, ◌∙◌, rules, tests}
+use Rattle.std.proofs.Common.{Bool, sym, ◌∙◌, rules, tests}
 use Rattle.std.specs.Prelude.{◌==◌}
 use Rattle.std.proofs.lemmas.Iterator.Consumers.{nth_from_yields_List, YieldsList-from_filter, YieldsList-from_first, YieldsList-at}
+use Rattle.stun_grammar.specs.declared.integrity_algorithm.IntegrityAlgorithm.TheVariants.{Sha1, Sha256}
 use Rattle.stun_grammar.specs.Chains.{Shown}
 use Rattle.stun_grammar.specs.Showing.{shown}
 use Rattle.stun_read.specs.Iterating.{items_left, item_view, borrowed}
 use Rattle.stun_read.specs.LookingUp.{nth}
+use Rattle.stun_read.proofs.KeptLemmas.{found_kept}
 use Rattle.stun_read.proofs.LookingUpLemmas.{found_borrowed, found_item}
 use Rattle.stun_read.proofs.look_up.nth_raw.Goals as goal
+
+pub returns-then-wanted-eq-MESSAGE_INTEGRITY : goal.returns-then-wanted-eq-MESSAGE_INTEGRITY
+returns-then-wanted-eq-MESSAGE_INTEGRITY c =
+    found_kept Sha1 c.args.bytes.now c.args.atype.0 c.args.n c.last_integrity.result (sym c.value-wanted.ensures ∙ c.if-wanted-eq-MESSAGE_INTEGRITY.true) c.if-n-eq0.true c.last_integrity.ensures
+
+pub returns-then-wanted-eq-MESSAGE_INTEGRITY_SHA256 : goal.returns-then-wanted-eq-MESSAGE_INTEGRITY_SHA256
+returns-then-wanted-eq-MESSAGE_INTEGRITY_SHA256 c =
+    found_kept Sha256 c.args.bytes.now c.args.atype.0 c.args.n c.last_integrity-then-wanted-eq-MESSAGE_INTEGRITY_SHA256.result (sym c.value-wanted.ensures ∙ c.if-wanted-eq-MESSAGE_INTEGRITY_SHA256.true) c.if-n-eq0-2.true c.last_integrity-then-wanted-eq-MESSAGE_INTEGRITY_SHA256.ensures
 
 pub returns : goal.returns
 returns c =

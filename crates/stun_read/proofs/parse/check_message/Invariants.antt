@@ -1,13 +1,12 @@
 use Rattle.std.proofs.Common.{◌-◌, ◌≤◌, length}
-use Rattle.stun_read.proofs.ScanningLemmas.{Scanned}
+use Rattle.stun_read.specs.Endings.{IsOrdinaryTo}
 use Rattle.stun_read.proofs.parse.check_message.Given as goal
 
-abbrev pub invariant-scan : goal.invariant-scan
-invariant-scan l = record {
-  header : 20 ≤ l.offset;
+abbrev pub invariant-walk : goal.invariant-walk
+invariant-walk l = record {
   within : l.offset ≤ length l.bytes;
-  scanned : Scanned l.seen l.bytes l.offset;
+  ordinary : IsOrdinaryTo l.bytes l.offset;
 }
 
-abbrev pub decreases-scan : goal.decreases-scan
-decreases-scan l = length l.bytes - l.offset
+abbrev pub decreases-walk : goal.decreases-walk
+decreases-walk l = length l.bytes - l.offset

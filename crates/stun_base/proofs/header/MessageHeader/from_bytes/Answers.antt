@@ -1,18 +1,16 @@
-use Rattle.std.proofs.Common.{sym, ◌∙◌}
-use Rattle.stun_grammar.proofs.HeadersLemmas.{not_begun, begun, not_header, header, first_low}
+use Rattle.std.proofs.lemmas.Result.{err_from_is_err_and}
+use Rattle.stun_grammar.proofs.HeadersLemmas.{header_there, first_low}
 use Rattle.stun_base.proofs.header.MessageHeader.from_bytes.Goals as goal
 
-pub returns-then-not-may_begin : goal.returns-then-not-may_begin
-returns-then-not-may_begin c = not_begun c.args.bytes.now c.if-bytes-lt-LENGTH.true (sym c.may_begin.ensures ∙ c.if-not-may_begin.true)
+pub returns-in_err-check_header : goal.returns-in_err-check_header
+returns-in_err-check_header c =
+    let p = err_from_is_err_and c.from_residual.result c.from_residual.ensures.1 in rw (p.1, p.2) c.in_err-check_header.ensures
 
-pub returns-then-bytes-lt-LENGTH : goal.returns-then-bytes-lt-LENGTH
-returns-then-bytes-lt-LENGTH c = begun c.args.bytes.now c.if-bytes-lt-LENGTH.true (sym c.may_begin.ensures ∙ c.if-not-may_begin.false)
-
-pub returns-then-not-begins_with_header : goal.returns-then-not-begins_with_header
-returns-then-not-begins_with_header c = not_header c.args.bytes.now c.if-bytes-lt-LENGTH.false (sym c.begins_with_header.ensures ∙ c.if-not-begins_with_header.true)
+pub read_header-requires-clause-long : goal.read_header-requires-clause-long
+read_header-requires-clause-long c = (header_there c.args.bytes.now c.in_ok-check_header.ensures).0
 
 pub read_header-requires-clause-low : goal.read_header-requires-clause-low
-read_header-requires-clause-low c = first_low c.args.bytes.now (header c.args.bytes.now c.if-bytes-lt-LENGTH.false (sym c.begins_with_header.ensures ∙ c.if-not-begins_with_header.false))
+read_header-requires-clause-low c = first_low c.args.bytes.now c.in_ok-check_header.ensures
 
 pub returns : goal.returns
-returns c = (header c.args.bytes.now c.if-bytes-lt-LENGTH.false (sym c.begins_with_header.ensures ∙ c.if-not-begins_with_header.false), c.read_header.ensures)
+returns c = (c.in_ok-check_header.ensures, c.read_header.ensures)

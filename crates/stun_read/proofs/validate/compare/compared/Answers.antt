@@ -1,12 +1,11 @@
 use Rattle.std.proofs.Common.{sym, ap, ◌∙◌}
 use Rattle.stun_base.specs.Data.{data_bytes}
 use Rattle.stun_read.specs.Validating.{shown_at}
-use Rattle.stun_read.proofs.ValidatingLemmas.{is_short, on_failed, on_ok}
+use Rattle.stun_read.proofs.ValidatingLemmas.{on_failed, on_ok}
 use Rattle.stun_read.proofs.validate.compare.compared.Goals as goal
 
-pub is_right-requires-clause-short : goal.is_right-requires-clause-short
-is_right-requires-clause-short c =
-    is_short _ c.as_bytes.result.now _ c.algorithm_for-algorithm.result (c.as_bytes.ensures ∙ ap data_bytes c.value.ensures) c.algorithm_for-algorithm.ensures c.requires.lawful
+pub is_right-requires-clause-lawful : goal.is_right-requires-clause-lawful
+is_right-requires-clause-lawful c = rw (c.as_bytes.ensures ∙ ap data_bytes c.value.ensures, c.algorithm_for-algorithm.ensures) c.requires.lawful
 
 pub returns-then-not-is_right : goal.returns-then-not-is_right
 returns-then-not-is_right c =

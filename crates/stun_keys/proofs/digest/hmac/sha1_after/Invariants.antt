@@ -1,0 +1,8 @@
+use Rattle.std.proofs.Common.{List, ℕ, map, take, ◌++◌}
+use Rattle.std.specs.List.{concat}
+use Rattle.sha1.specs.Sha1.{Holds}
+use Rattle.stun_keys.proofs.digest.hmac.sha1_after.Given as goal
+
+-- whatever the hasher held, it holds that and the pieces so far
+abbrev pub invariant-loop-piece : goal.invariant-loop-piece
+invariant-loop-piece l = (front : List ℕ) → Holds l.keyed front → Holds l.hasher (front ++ concat (map (λ piece. piece.now) (take l.piece-index l.pieces)))

@@ -1,0 +1,32 @@
+use Rattle.std.proofs.Common.{eqb, refl, sym, ◌∙◌}
+use Rattle.std.proofs.lemmas.Bool.{eq-eqb, ne_eqb, cond-true, cond-false}
+use Rattle.stun_read.proofs.KeepingLemmas.{met, met_broken, met_fingerprint}
+use Rattle.stun_read.proofs.offsets.Keeping.meet.Goals as goal
+
+-- a FINGERPRINT is no integrity attribute, and nothing is shown after it
+pub returns-then-atype-eq-FINGERPRINT : goal.returns-then-atype-eq-FINGERPRINT
+returns-then-atype-eq-FINGERPRINT c = λ taken a keeps type-is offset-is.
+    met_fingerprint c.args.self.now _ c.args.atype c.args.offset taken a keeps type-is offset-is c.if-atype-eq-FINGERPRINT.true refl refl
+
+pub returns-then-not-follows : goal.returns-then-not-follows
+returns-then-not-follows c = λ taken a keeps type-is offset-is.
+    met_broken c.args.self.now _ c.args.atype taken a keeps type-is (sym c.follows.ensures ∙ c.if-not-follows.true) refl refl
+
+pub returns-then-atype-eq-MESSAGE_INTEGRITY : goal.returns-then-atype-eq-MESSAGE_INTEGRITY
+returns-then-atype-eq-MESSAGE_INTEGRITY c = λ taken a keeps type-is offset-is.
+    let is = c.if-atype-eq-MESSAGE_INTEGRITY.true in
+    met c.args.self.now _ c.args.atype c.args.offset taken a keeps type-is offset-is (sym c.follows.ensures ∙ c.if-not-follows.false) refl
+    (sym (cond-true (eqb c.args.atype 0x0008) _ _ (eq-eqb _ _ is)))
+    (sym (cond-false (eqb c.args.atype 0x001C) _ _ (ne_eqb _ _ (λ e. absurd (cc (is, e))))))
+
+pub returns-then-atype-eq-MESSAGE_INTEGRITY_SHA256 : goal.returns-then-atype-eq-MESSAGE_INTEGRITY_SHA256
+returns-then-atype-eq-MESSAGE_INTEGRITY_SHA256 c = λ taken a keeps type-is offset-is.
+    met c.args.self.now _ c.args.atype c.args.offset taken a keeps type-is offset-is (sym c.follows.ensures ∙ c.if-not-follows.false) refl
+    (sym (cond-false (eqb c.args.atype 0x0008) _ _ (ne_eqb _ _ c.if-atype-eq-MESSAGE_INTEGRITY.false)))
+    (sym (cond-true (eqb c.args.atype 0x001C) _ _ (eq-eqb _ _ c.if-atype-eq-MESSAGE_INTEGRITY_SHA256.true)))
+
+pub returns-else-atype-eq-MESSAGE_INTEGRITY_SHA256 : goal.returns-else-atype-eq-MESSAGE_INTEGRITY_SHA256
+returns-else-atype-eq-MESSAGE_INTEGRITY_SHA256 c = λ taken a keeps type-is offset-is.
+    met c.args.self.now _ c.args.atype c.args.offset taken a keeps type-is offset-is (sym c.follows.ensures ∙ c.if-not-follows.false) refl
+    (sym (cond-false (eqb c.args.atype 0x0008) _ _ (ne_eqb _ _ c.if-atype-eq-MESSAGE_INTEGRITY.false)))
+    (sym (cond-false (eqb c.args.atype 0x001C) _ _ (ne_eqb _ _ c.if-atype-eq-MESSAGE_INTEGRITY_SHA256.false)))
