@@ -1,5 +1,6 @@
 //! The header of a message, its type and its transaction ID.
 
+use std::alloc::Global;
 use std::process::Abort;
 use std::test::Fail;
 use stun_samples::header;
@@ -227,12 +228,17 @@ static METHODS: [(u16, &str, &str); 6] = [
     (0xEFFF, "unknown", "61439(0xefff: unknown)"),
 ];
 
+/// Whether a method prints this text.
+fn prints_method(alloc: Global, method: Method, text: &str) -> Result<bool, Fail> {
+    Ok(method.to_string(alloc)?.as_str() == text)
+}
+
 #[test]
 fn names_and_prints_methods(rt: HostRuntime) -> Result<(), Fail> {
     for &(number, name, text) in &METHODS {
         let method = Method::new(number);
         assert!(rt; method.name() == name, "{text}");
-        assert!(rt; method.to_string(rt.alloc())?.as_str() == text);
+        assert!(rt; prints_method(rt.alloc(), method, text)?, "{text}");
     }
     Ok(())
 }
@@ -267,13 +273,17 @@ static IDS: [(u128, u128, &str); 6] = [
     (u128::MAX, 0xFFFF_FFFF_FFFF_FFFF_FFFF_FFFF, "0xffffffffffffffffffffffff"),
 ];
 
+/// Whether a transaction ID prints this text.
+fn prints_id(alloc: Global, id: TransactionId, text: &str) -> Result<bool, Fail> {
+    Ok(id.to_string(alloc)?.as_str() == text)
+}
+
 #[test]
 fn keeps_and_prints_transaction_ids(rt: HostRuntime) -> Result<(), Fail> {
     for &(number, kept, text) in &IDS {
         let id = TransactionId::from(number);
-        assert!(rt; u128::from(id) == kept, "{text}");
-        assert!(rt; id.value() == kept, "{text}");
-        assert!(rt; id.to_string(rt.alloc())?.as_str() == text);
+        assert!(rt; u128::from(id) == kept && id.value() == kept, "{text}");
+        assert!(rt; prints_id(rt.alloc(), id, text)?, "{text}");
     }
     Ok(())
 }

@@ -1,15 +1,17 @@
 -- The fault of a header, by the number of bytes.
-use Rattle.std.proofs.Common.{◌≡◌, ℕ, ◌+◌, ◌<◌, ◌≤◌, true, false, ltb, ◌&&◌, List, length, get_or, take, drop, Option, Some, None, refl, sym, ◌∙◌, inl, inr, Bool, eqb, [], ◌∷◌, ◌++◌, ap, arith}
+use Rattle.std.proofs.Common.{◌≡◌, ℕ, ◌+◌, ◌<◌, ◌≤◌, ◌^◌, true, false, ltb, ◌&&◌, List, length, get_or, take, drop, Option, Some, None, refl, sym, ◌∙◌, inl, inr, Bool, eqb, [], ◌∷◌, ◌++◌, ap, arith}
 use Rattle.std.specs.Prelude.{nat_eq}
 use Rattle.std.specs.Cmp.Lexicographic.{pointwise}
 use Rattle.std.proofs.lemmas.Bool.{cases_lt, cases_Bool, le-ltb, lt-ltb, ltb-true, le-leb, and_parts, leb-true, eq-eqb, and_from}
 use Rattle.stun_grammar.specs.declared.error.StunParseError.{StunParseError}
-use Rattle.stun_grammar.specs.declared.error.StunParseError.TheVariants.{NotStun, Truncated}
-use Rattle.stun_grammar.specs.Numbers.{be32}
+use Rattle.stun_grammar.specs.declared.error.StunParseError.TheVariants.{NotStun, Truncated, TooLarge}
+use Rattle.stun_grammar.specs.Numbers.{be32, number, IsBytes}
 use Rattle.stun_grammar.specs.Headers.{magic_cookie, is_header, begins, header_fault, length_field, Begins}
+use Rattle.stun_grammar.specs.Lengths.{exact_fault}
 use Rattle.stun_grammar.specs.Showing.{length_fault, frame_fault}
 use Rattle.std.specs.List.{list_all, zip}
-use Rattle.std.proofs.lemmas.List.{length-append, length-drop, take_at, drop_all, drop-append-le}
+use Rattle.stun_grammar.proofs.NumbersLemmas.{IsBytes-take, IsBytes-drop}
+use Rattle.std.proofs.lemmas.List.{length-append, length-take, length-drop, take_at, drop_all, drop-append-le, take-append-le, take-append-drop, get_or_append_left, append-nil}
 
 -- of twenty bytes or more, the test is that of the first byte and of the cookie
 pub is_header-long : (d : List ℕ) → 20 ≤ length d
@@ -56,13 +58,14 @@ pub frame-header : (d : List ℕ) (told : StunParseError) → header_fault d ≡
 unfolding frame_fault
 frame-header d told e = rw e refl
 
-pub frame-short : (d : List ℕ) → header_fault d ≡ None → length d < 20 + length_field d → frame_fault d ≡ Some (Truncated (20 + length_field d) (length d))
+-- behind a header the length decides
+pub frame_is : (d : List ℕ) → header_fault d ≡ None → frame_fault d ≡ exact_fault (20 + length_field d) (length d)
 unfolding frame_fault length_fault
-frame-short d e short = rw (e, lt-ltb (length d) (20 + length_field d) short) refl
+frame_is d e = rw e refl
 
-pub frame-whole : (d : List ℕ) → header_fault d ≡ None → 20 + length_field d ≤ length d → frame_fault d ≡ None
-unfolding frame_fault length_fault
-frame-whole d e long = rw (e, le-ltb (length d) (20 + length_field d) long) refl
+pub frame-whole : (d : List ℕ) → header_fault d ≡ None → length d ≡ 20 + length_field d → frame_fault d ≡ None
+frame-whole d e whole =
+    frame_is d e ∙ rw (le-ltb (length d) (20 + length_field d) (omega (arith, whole)), le-ltb (20 + length_field d) (length d) (omega (arith, whole))) refl
 
 -- where the frame has no fault, the header has none
 pub frame_there : (d : List ℕ) → frame_fault d ≡ None → header_fault d ≡ None
@@ -71,6 +74,78 @@ frame_there d e = none_first (header_fault d) (frame-header d) e
     none_first : (o : Option StunParseError) → ((told : StunParseError) → o ≡ Some told → frame_fault d ≡ Some told) → frame_fault d ≡ None → o ≡ None
     none_first None f e = refl
     none_first (Some told) f e = absurd (cc (f told refl, e))
+
+-- and there are as many bytes as the header states
+pub framed_length : (d : List ℕ) → frame_fault d ≡ None → length d ≡ 20 + length_field d
+framed_length d e = exact (20 + length_field d) (length d) (sym (frame_is d (frame_there d e)) ∙ e)
+  where
+    below : (asked n : ℕ) → n < asked → exact_fault asked n ≡ Some (Truncated asked n)
+    below asked n h = rw (lt-ltb n asked h) refl
+
+    above : (asked n : ℕ) → asked < n → exact_fault asked n ≡ Some (TooLarge asked n)
+    above asked n h = rw (le-ltb n asked (omega (arith, h)), lt-ltb asked n h) refl
+
+    exact : (asked n : ℕ) → exact_fault asked n ≡ None → n ≡ asked
+    exact asked n e = elim (cases_lt n asked) [
+      | inl short ↦ absurd (cc (e, below asked n short))
+      | inr least ↦ elim (cases_lt asked n) [
+        | inl long ↦ absurd (cc (e, above asked n long))
+        | inr most ↦ omega (arith, least, most)
+      ]
+    ]
+
+-- which is a number of two bytes
+pub field_fits : (d : List ℕ) → IsBytes d → length_field d < 2 ^ 16
+field_fits d bytes = two (take 2 (drop 2 d)) (IsBytes-take 2 (drop 2 d) (IsBytes-drop 2 d bytes)) (omega (arith, length-take 2 (drop 2 d)))
+  where
+    two : (b : List ℕ) → IsBytes b → length b ≤ 2 → number b < 2 ^ 16
+    two [] bytes short = omega arith
+    two (x ∷ []) bytes short = omega (arith, bytes.0)
+    two (x ∷ (y ∷ [])) bytes short = omega (arith, bytes.0, bytes.1.0)
+    two (x ∷ (y ∷ (z ∷ b))) bytes short = absurd (omega (arith, short))
+
+-- ---- A whole header, and what follows it
+
+-- what follows a whole header doesn't change whether it is one, nor the length that it states
+header_stays : (b more : List ℕ) → 20 ≤ length b → is_header (b ++ more) ≡ is_header b
+header_stays b more long =
+    let longer : 20 ≤ length (b ++ more) = omega (arith, long, length-append b more) in
+    let first : get_or (b ++ more) 0 0 ≡ get_or b 0 0 = get_or_append_left b more 0 0 (omega (arith, long)) in
+    let behind : drop 4 (b ++ more) ≡ drop 4 b ++ more = drop-append-le 4 b more (omega (arith, long)) in
+    let cookie : take 4 (drop 4 b ++ more) ≡ take 4 (drop 4 b) = take-append-le 4 (drop 4 b) more (omega (arith, long, length-drop 4 b)) in
+    is_header-long (b ++ more) longer ∙ rw (first, behind, cookie) refl ∙ sym (is_header-long b long)
+
+field_stays : (b more : List ℕ) → 20 ≤ length b → length_field (b ++ more) ≡ length_field b
+field_stays b more long =
+    let behind : drop 2 (b ++ more) ≡ drop 2 b ++ more = drop-append-le 2 b more (omega (arith, long)) in
+    let field : take 2 (drop 2 b ++ more) ≡ take 2 (drop 2 b) = take-append-le 2 (drop 2 b) more (omega (arith, long, length-drop 2 b)) in
+    rw (behind, field) refl
+
+-- the first twenty bytes alone decide both
+first_twenty : (b : List ℕ) → 20 ≤ length b → (is_header b ≡ is_header (take 20 b)) × (length_field b ≡ length_field (take 20 b))
+first_twenty b long =
+    let cut : 20 ≤ length (take 20 b) = omega (arith, long, length-take 20 b) in
+    let whole = sym (take-append-drop 20 b) in (
+      ap is_header whole ∙ header_stays (take 20 b) (drop 20 b) cut,
+      ap length_field whole ∙ field_stays (take 20 b) (drop 20 b) cut,
+    )
+
+-- twenty bytes or more begin a header exactly where they are one
+pub whole_begins : (b : List ℕ) → 20 ≤ length b → is_header b ≡ true → Begins b
+whole_begins b long there = ([], ap is_header (append-nil b) ∙ there)
+
+pub begins_whole : (b : List ℕ) → 20 ≤ length b → Begins b → is_header b ≡ true
+begins_whole b long (more, e) = sym (header_stays b more long) ∙ e
+
+-- bytes that begin with the same twenty, and are as many as those state, have a frame
+pub framed_whole : (front d : List ℕ) → Begins front → 20 ≤ length front → take 20 d ≡ take 20 front → length d ≡ 20 + length_field front → frame_fault d ≡ None
+framed_whole front d begun long same whole =
+    let of_front = first_twenty front long in
+    let least : 20 ≤ length d = omega (arith, whole) in
+    let of_d = first_twenty d least in
+    let there : is_header d ≡ true = of_d.0 ∙ ap is_header same ∙ sym of_front.0 ∙ begins_whole front long begun in
+    let field : length_field d ≡ length_field front = of_d.1 ∙ ap length_field same ∙ sym of_front.1 in
+    frame-whole d (header d least there) (omega (arith, whole, field))
 
 -- ---- Bytes begin a header exactly if they pass the test
 

@@ -199,7 +199,7 @@ header_tells d = tells_if (ltb (length d) 20) _ _ (tells_if (begins d) _ _ tt tt
 
 length_tells : (d : List ℕ) → Tells (length_fault d)
 unfolding length_fault
-length_tells d = tells_if (ltb (length d) (20 + length_field d)) _ _ tt tt
+length_tells d = tells_if (ltb (length d) (20 + length_field d)) _ _ tt (tells_if (ltb (20 + length_field d) (length d)) _ _ tt tt)
 
 fault_tells : (offset : ℕ) (r : List ℕ) → Tells (fault offset r)
 unfolding fault

@@ -56,8 +56,8 @@ pub fn integrity_is_local()
 {}
 
 /// A message that parses validates with given covered bytes exactly if it carries those bytes and
-/// their HMAC. Only the two bytes of its length field, and whatever follows the integrity attribute
-/// that was checked, are free.
+/// their HMAC. Only what follows the integrity attribute that was checked is free, and with it the
+/// length field, which counts it.
 pub fn integrity_is_exact()
     ensures { (key : IntegrityAlgorithm → List ℕ) (d c : List ℕ) (a : IntegrityAlgorithm)
         → IsBytes d → parse_fault d ≡ None

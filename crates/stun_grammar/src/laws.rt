@@ -1,6 +1,6 @@
 //! The laws of the grammar. Each function does nothing: its contract is the law.
 
-ghost use Rattle.std.specs.Prelude.{◌≡◌, ℕ, ◌<◌, ◌+◌, ◌^◌, ◌↔◌, List, [], ◌∷◌, ◌++◌, Bool, true, false, length, take, drop, IsTrue, IfSome, None, Some};
+ghost use Rattle.std.specs.Prelude.{◌≡◌, ℕ, ◌<◌, ◌≤◌, ◌+◌, ◌^◌, ◌↔◌, List, [], ◌∷◌, ◌++◌, Bool, true, false, length, take, drop, IsTrue, IfSome, None, Some};
 ghost use Rattle.std.specs.List.{AllByRecursion};
 ghost use Rattle.stun_grammar.specs.Numbers.{be16, padded_length, IsBytes};
 ghost use Rattle.stun_grammar.specs.Headers.{Begins, begins, type_field, length_field, id_field};
@@ -11,9 +11,9 @@ ghost use Rattle.stun_grammar.specs.ScannedOrder.{has, in_any_order, IsInAnyOrde
 ghost use Rattle.stun_grammar.specs.ShownOrder.{in_order, IsInOrder};
 ghost use Rattle.stun_grammar.specs.Prefixes.{longest_prefix, IsLongestPrefix};
 ghost use Rattle.stun_grammar.specs.Parsing.{parse_fault, IsRefusal};
-ghost use Rattle.stun_grammar.specs.Showing.{shown};
+ghost use Rattle.stun_grammar.specs.Showing.{frame_fault, shown};
 ghost use Rattle.stun_grammar.specs.Fingerprints.{fingerprint_value, first_fingerprint_fault};
-ghost use Rattle.stun_grammar.specs.Writing.{message_encoding, IsWritable};
+ghost use Rattle.stun_grammar.specs.Writing.{greatest_length, message_encoding, IsWritable};
 
 /// Bytes are in exactly one way the encodings of attributes, followed by a rest with which no
 /// attribute begins.
@@ -65,6 +65,17 @@ pub fn one_longest_prefix()
 /// Some bytes that follow make bytes a header exactly if these pass the test `begins`.
 pub fn incomplete_header()
     ensures { (b : List ℕ) → (begins b ≡ true) ↔ Begins b }
+{}
+
+/// A message that parses has as many bytes as its header states, at most 65555; and as many bytes as
+/// a whole header states, of which the first twenty are that header, are not refused by their
+/// length.
+pub fn length_is_stated()
+    ensures parsed { (d : List ℕ) → parse_fault d ≡ None → length d ≡ 20 + length_field d }
+    ensures greatest { (d : List ℕ) → IsBytes d → parse_fault d ≡ None
+        → length d ≤ greatest_length }
+    ensures whole { (front d : List ℕ) → Begins front → 20 ≤ length front
+        → take 20 d ≡ take 20 front → length d ≡ 20 + length_field front → frame_fault d ≡ None }
 {}
 
 /// Parsing returns four errors only: `NotStun`, `Truncated`, `TooLarge` and `FingerprintMismatch`.

@@ -26,6 +26,6 @@ pub use integrity_laws::{
 };
 pub use laws::{
     canonical_is_attribute, encoding_grows, encoding_is_read_back, incomplete_header,
-    one_any_order, one_chain, one_longest_prefix, one_order, one_spelling, prefix_of_chain,
-    refusals_of_parsing, right_fingerprint, written_is_read_back,
+    length_is_stated, one_any_order, one_chain, one_longest_prefix, one_order, one_spelling,
+    prefix_of_chain, refusals_of_parsing, right_fingerprint, written_is_read_back,
 };

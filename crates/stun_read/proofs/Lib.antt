@@ -1,3 +1,4 @@
+mod FramesLemmas
 mod EndingsLemmas
 mod KeepingLemmas
 mod ScanningLemmas

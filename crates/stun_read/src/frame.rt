@@ -1,24 +1,60 @@
 //! The header of a message, and the length that it states.
 
-ghost use Rattle.std.specs.Prelude.{◌≡◌, MatchResult, None, Some};
+ghost use Rattle.std.specs.Prelude.{◌≡◌, ◌+◌, ◌<◌, ◌≤◌, length, MatchResult, MatchOption, None, Some};
+ghost use Rattle.stun_grammar.specs.Headers.{Begins, length_field};
 ghost use Rattle.stun_grammar.specs.Showing.{frame_fault};
 
 use stun_base::{MessageHeader, StunParseError, check_header, number_at};
+use stun_rules::check_length;
 
-/// Checks that `bytes` begin with a header, and that at least as many bytes follow it as its length
-/// field states. Nothing else of the header is read.
+/// How many bytes a message has, as the header that it begins with states.
+fn stated_length(bytes: &[u8]) -> usize
+    requires { 20 ≤ length bytes.now }
+    ensures { result ≡ 20 + length_field bytes.now }
+{
+    MessageHeader::LENGTH + number_at(bytes, 2) as usize
+}
+
+/// Checks that `bytes` begin with a header, and that as many bytes follow it as its length field
+/// states. Nothing else of the header is read.
+#[tactic(auto, using(stun_grammar::proofs::HeadersLemmas::frame_is))]
 pub(crate) fn check_frame(bytes: &[u8]) -> Result<(), StunParseError>
     ensures { MatchResult result
         (λ _. frame_fault bytes.now ≡ None)
         (λ e. frame_fault bytes.now ≡ Some e) }
 {
     check_header(bytes)?;
-    let whole = MessageHeader::LENGTH + number_at(bytes, 2) as usize;
-    if bytes.len() < whole {
-        return Err(StunParseError::Truncated {
-            expected: whole,
-            actual: bytes.len(),
-        });
+    check_length(bytes, stated_length(bytes))
+}
+
+/// How many bytes the message has that `front` begins with: its header, and as many as that states,
+/// 20 to 65555 in all. `None` where fewer than twenty bytes are there, with which a header may
+/// begin. It takes no memory, and looks at the first twenty bytes alone.
+///
+/// A message is read from exactly so many bytes. Where a buffer may hold more of them, as one that
+/// collects the bytes of a stream does (RFC 8489, section 6.2.2), or one that is longer than the
+/// datagram in it, cut it to this length first: bytes of this length are never refused for it.
+///
+/// ```
+/// let Some(length) = message_length(buffer)? else {
+///     return Ok(None);
+/// };
+/// ```
+///
+/// # Errors
+///
+/// `NotStun` where no header begins with these bytes, whatever follows them.
+pub fn message_length(front: &[u8]) -> Result<Option<usize>, StunParseError>
+    ensures { MatchResult result
+        (λ told. Begins front.now × MatchOption told (length front.now < 20)
+        (λ whole. (20 ≤ length front.now) × (whole ≡ 20 + length_field front.now)))
+        (λ e. (e ≡ StunParseError.NotStun) × ¬ Begins front.now) }
+{
+    match check_header(front) {
+        Ok(()) => Ok(Some(stated_length(front))),
+        Err(refused) => match refused {
+            StunParseError::NotStun => Err(refused),
+            _ => Ok(None),
+        },
     }
-    Ok(())
 }

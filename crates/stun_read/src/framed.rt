@@ -7,7 +7,7 @@ ghost use Rattle.stun_read.specs.Iterating.{items_left, borrowed};
 use crate::MessageAttributesIter;
 
 /// As [`MessageAttributesIter::new`], but without checking the header again: `bytes` begin with a
-/// header, and at least as many bytes follow it as its length field states.
+/// header, and as many bytes follow it as its length field states.
 pub fn iter_framed<'a>(bytes: &'a [u8]) -> MessageAttributesIter<'a>
     requires { frame_fault bytes.now ≡ None }
     ensures items { items_left result ≡ borrowed (shown bytes.now) }

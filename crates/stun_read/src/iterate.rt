@@ -30,8 +30,8 @@ impl<'a> MessageAttributesIter<'a> {
     ghost use Rattle.stun_read.specs.Iterating.{items_left, borrowed};
 
     /// Iterates over the attributes that `bytes` show, whatever they are. They show none where they
-    /// don't begin with a header, or where fewer bytes follow it than its length field states. A
-    /// FINGERPRINT is shown whether or not its value is right.
+    /// don't begin with a header, or where fewer or more bytes follow it than its length field
+    /// states. A FINGERPRINT is shown whether or not its value is right.
     pub fn new(bytes: &'a [u8]) -> MessageAttributesIter<'a>
         ensures items { items_left result ≡ borrowed (shown bytes.now) }
         ensures bound { length (items_left result) < 2 ^ 64 }
@@ -47,7 +47,7 @@ impl<'a> MessageAttributesIter<'a> {
     }
 
     /// As [`MessageAttributesIter::new`], but without checking the header again: `bytes` begin with
-    /// a header, and at least as many bytes follow it as its length field states.
+    /// a header, and as many bytes follow it as its length field states.
     pub(crate) fn behind_header(bytes: &'a [u8]) -> MessageAttributesIter<'a>
         requires { frame_fault bytes.now ≡ None }
         ensures items { items_left result ≡ borrowed (shown bytes.now) }

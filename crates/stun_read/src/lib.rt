@@ -16,6 +16,7 @@ mod parse;
 mod printed;
 mod validate;
 
+pub use frame::message_length;
 pub use framed::iter_framed;
 pub use iterate::MessageAttributesIter;
 pub use laws::{found_has_its_type, shown_is_found, walks_from_there};

@@ -37,8 +37,8 @@ fn print_attributes<W: fmt::Write>(bytes: &[u8], f: &mut fmt::Formatter<W>) -> f
 }
 
 /// Prints a message: its class, its method, its transaction ID, and the attributes that it shows,
-/// each as it is printed by itself. `bytes` begin with a header, and at least as many bytes follow
-/// it as its length field states.
+/// each as it is printed by itself. `bytes` begin with a header, and as many bytes follow it as its
+/// length field states.
 ///
 /// It goes over the attributes once, and takes no memory.
 ///

@@ -1,3 +1,2 @@
-mod KnownBytesLemmas
 mod ReportLemmas
 mod ProgramLemmas

@@ -11,7 +11,8 @@ use Rattle.stun_base.specs.Types.{Header, header_of}
 use Rattle.stun_show.specs.declared.engine.RunEnd.{RunEnd}
 use Rattle.stun_show.specs.declared.engine.RunEnd.TheVariants.{Shown, Refused}
 use Rattle.stun_show.specs.Report.{header_line, attribute_line, refusal_line, password_verdict, integrity_lines, end_of_verdict, end_of_message, report, end_of}
-use Rattle.stun_show.specs.Run.{ReadsAll, Ends}
+use Rattle.stun_streams.specs.Streams.{ReadsAll}
+use Rattle.stun_show.specs.Run.{longest_input, Ends}
 
 pub report-message : (d : List ℕ) (password : Option (List ℕ)) → parse_fault d ≡ None → report d password ≡ header_line (header_of d) ++ flat_map attribute_line (shown d) ++ integrity_lines d password
 unfolding report
@@ -39,7 +40,7 @@ two_ends d (Some key) = by_answer (password_verdict d key)
     by_answer (Err e) = inr refl
 
 -- a run that has written its report ends as `end_of` says
-pub ends_so : (d : List ℕ) (password : Option (List ℕ)) (end : RunEnd) (left left' held held' : Option (List ℕ)) → ReadsAll left left' d → Appends held held' (report d password) → end ≡ end_of d password → Ends password end left left' held held'
+pub ends_so : (d : List ℕ) (password : Option (List ℕ)) (end : RunEnd) (left left' held held' : Option (List ℕ)) → ReadsAll longest_input left left' d → Appends held held' (report d password) → end ≡ end_of d password → Ends password end left left' held held'
 ends_so d password end left left' held held' all written e = by_parse (parse_fault d) refl
   where
     shown_so : end ≡ Shown → Ends password end left left' held held'

@@ -1,13 +1,13 @@
 //! A run of the program, over any reader and writer.
 
-ghost use Rattle.std.specs.Prelude.{◌≡◌, MatchResult};
+ghost use Rattle.std.specs.Prelude.{◌≡◌};
 ghost use Rattle.std.specs.Option.{option_map};
-ghost use Rattle.std.specs.Io.KnownBytes.{Appends};
-ghost use Rattle.stun_show.specs.Run.{ReadsAll, StopsReading, WritesPart, Ends};
+ghost use Rattle.stun_show.specs.Run.{Ends, end_of_input};
 
 use crate::report::report;
 use std::alloc::Global;
-use std::io::{ErrorKind, Read, Write};
+use std::io::{Read, Write};
+use stun_streams::{InputError, read_all, write_all};
 
 /// How a run ends.
 #[derive(Debug, Clone, Copy, PartialEq, Eq)]
@@ -32,61 +32,15 @@ pub enum RunEnd {
 /// The most bytes that are read: 128 KiB.
 const LONGEST_INPUT: usize = 131_072;
 
-/// Reads to the end of `reader`, at most `LONGEST_INPUT` bytes.
-fn read_all<R: Read>(alloc: Global, reader: &mut R) -> Result<Vec<u8>, RunEnd>
-    ensures { MatchResult result
-        (λ input. ReadsAll (R.remaining reader.old) (R.remaining reader.new) input.items)
-        (λ end. StopsReading end (R.remaining reader.old) (R.remaining reader.new)) }
+/// How a run ends that couldn't read its input.
+fn end_without_input(e: InputError) -> RunEnd
+    ensures { result ≡ end_of_input e }
 {
-    let mut input = Vec::new(alloc);
-    let mut piece = [0; 4096];
-    for _turn in 0..u64::MAX {
-        match reader.read(&mut piece) {
-            Ok(0) => return Ok(input),
-            Ok(count) => {
-                if count > LONGEST_INPUT - input.len() {
-                    return Err(RunEnd::TooLong);
-                }
-                if input.extend_from_slice(&piece[..count]).is_err() {
-                    return Err(RunEnd::NoMemory);
-                }
-            }
-            Err(e) => {
-                if e.kind() != ErrorKind::Interrupted {
-                    return Err(RunEnd::ReadFailed);
-                }
-            }
-        }
+    match e {
+        InputError::TooLong => RunEnd::TooLong,
+        InputError::ReadFailed => RunEnd::ReadFailed,
+        InputError::NoMemory => RunEnd::NoMemory,
     }
-    Err(RunEnd::ReadFailed)
-}
-
-/// Writes all of the bytes, or, where a write fails or takes none, a prefix of them.
-fn write_all<W: Write>(bytes: &[u8], writer: &mut W) -> Result<(), RunEnd>
-    ensures { MatchResult result
-        (λ _. Appends (W.contents writer.old) (W.contents writer.new) bytes.now)
-        (λ end. (end ≡ RunEnd.WriteFailed)
-        × WritesPart (W.contents writer.old) (W.contents writer.new) bytes.now) }
-{
-    let mut written = 0;
-    for _turn in 0..u64::MAX {
-        if written == bytes.len() {
-            break;
-        }
-        match writer.write(&bytes[written..]) {
-            Ok(0) => break,
-            Ok(count) => written += count,
-            Err(e) => {
-                if e.kind() != ErrorKind::Interrupted {
-                    break;
-                }
-            }
-        }
-    }
-    if written < bytes.len() {
-        return Err(RunEnd::WriteFailed);
-    }
-    Ok(())
 }
 
 /// Reads a message, up to the end of `reader`, and writes its report.
@@ -112,15 +66,15 @@ pub fn run<R: Read, W: Write>(
         (R.remaining reader.old) (R.remaining reader.new)
         (W.contents writer.old) (W.contents writer.new) }
 {
-    let input = match read_all(alloc, reader) {
+    let input = match read_all(alloc, LONGEST_INPUT, reader) {
         Ok(input) => input,
-        Err(end) => return end,
+        Err(e) => return end_without_input(e),
     };
     let Ok((text, end)) = report(alloc, &input, password) else {
         return RunEnd::NoMemory;
     };
     match write_all(text.as_bytes(), writer) {
         Ok(()) => end,
-        Err(stopped) => stopped,
+        Err(_) => RunEnd::WriteFailed,
     }
 }

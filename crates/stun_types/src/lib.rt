@@ -1,7 +1,8 @@
 //! Reading and writing STUN messages (RFC 8489).
 //!
 //! [`message::Message::from_bytes`] parses a message, and [`message::Message::iter_attributes`]
-//! iterates over its attributes. Reading a message borrows its bytes, takes no memory and goes over
+//! iterates over its attributes; [`message::message_length`] tells where a message ends in a longer
+//! buffer. Reading a message borrows its bytes, takes no memory and goes over
 //! the attributes once; for a FINGERPRINT the bytes before it are read again.
 //! [`message::Message::validate_integrity`] checks the HMAC of a message, for which it goes over
 //! what is shown, and then over the bytes that the HMAC covers.
@@ -17,5 +18,5 @@ pub mod show;
 
 pub use stun_addresses::xor_twice;
 pub use stun_base::{AddressFamily, ParseTransportTypeError, TransportType};
-pub use stun_grammar::message_grows;
+pub use stun_grammar::{length_is_stated, message_grows};
 pub use stun_read::{found_has_its_type, shown_is_found};

@@ -19,7 +19,7 @@ pub use stun_base::{
     BINDING, MAGIC_COOKIE, MessageClass, MessageHeader, MessageType, Method, StunParseError,
     StunWriteError, TransactionId, ValidateError,
 };
-pub use stun_read::MessageAttributesIter;
+pub use stun_read::{MessageAttributesIter, message_length};
 pub use write::{
     MessageWrite, MessageWriteExt, MessageWriteMutSlice, MessageWriteVec, Step, write_steps,
     write_steps_into,

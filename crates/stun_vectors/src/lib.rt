@@ -5,7 +5,9 @@
 //! are spelled out.
 #![tactic(auto)]
 
+mod blob;
 mod header;
+mod in_array;
 mod in_slice;
 mod lent;
 mod my_attribute;
@@ -14,11 +16,15 @@ mod room;
 #[cfg(test)]
 mod tests;
 mod whose;
+mod write_fixed;
 
+pub use blob::Blob;
 pub use header::header_behind_adds;
+pub use in_array::steps_in_array;
 pub use in_slice::software_in_slice;
 pub use lent::overwrite;
 pub use my_attribute::{MyAttribute, my_attribute_is_read_back};
 pub use request::software_message;
 pub use room::{UseCandidate, nominate_sixteen};
 pub use whose::validates_own;
+pub use write_fixed::WriteFixed;

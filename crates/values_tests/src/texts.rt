@@ -30,16 +30,40 @@ static LIMITS: [(Text, usize); 5] = [
     (Text::AlternateDomain, 65535),
 ];
 
-/// Whether an attribute that is made of a text has it, or why it isn't made.
+/// Whether a USERNAME of a text has it, or why none is made.
+fn username(alloc: Global, of: &str) -> Result<bool, StunWriteError> {
+    Ok(Username::new(alloc, of)?.username() == of)
+}
+
+/// Whether a REALM of a text has it, or why none is made.
+fn realm(alloc: Global, of: &str) -> Result<bool, StunWriteError> {
+    Ok(Realm::new(alloc, of)?.realm() == of)
+}
+
+/// Whether a NONCE of a text has it, or why none is made.
+fn nonce(alloc: Global, of: &str) -> Result<bool, StunWriteError> {
+    Ok(Nonce::new(alloc, of)?.nonce() == of)
+}
+
+/// Whether a SOFTWARE of a text has it, or why none is made.
+fn software(alloc: Global, of: &str) -> Result<bool, StunWriteError> {
+    Ok(Software::new(alloc, of)?.software() == of)
+}
+
+/// Whether an ALTERNATE-DOMAIN of a text has it, or why none is made.
+fn domain(alloc: Global, of: &str) -> Result<bool, StunWriteError> {
+    Ok(AlternateDomain::new(alloc, of)?.domain() == of)
+}
+
+/// Whether an attribute of a text has it, or why none is made.
 fn keeps(text: Text, alloc: Global, of: &str) -> Result<bool, StunWriteError> {
-    let kept = match text {
-        Text::Username => Username::new(alloc, of)?.username() == of,
-        Text::Realm => Realm::new(alloc, of)?.realm() == of,
-        Text::Nonce => Nonce::new(alloc, of)?.nonce() == of,
-        Text::Software => Software::new(alloc, of)?.software() == of,
-        Text::AlternateDomain => AlternateDomain::new(alloc, of)?.domain() == of,
-    };
-    Ok(kept)
+    match text {
+        Text::Username => username(alloc, of),
+        Text::Realm => realm(alloc, of),
+        Text::Nonce => nonce(alloc, of),
+        Text::Software => software(alloc, of),
+        Text::AlternateDomain => domain(alloc, of),
+    }
 }
 
 /// What is told of an attribute that is made of a text of so many letters.
@@ -77,21 +101,25 @@ static PRINTED: [(Text, &str, &str); 5] = [
     ),
 ];
 
-/// Whether an attribute prints this.
-fn prints<D: fmt::Display>(alloc: Global, text: &D, expected: &str) -> Result<bool, AllocError> {
-    Ok(format!(in alloc; "{text}")?.as_str() == expected)
+/// Whether an attribute, if it was made, prints this.
+fn prints<D: fmt::Display + Drop>(
+    alloc: Global,
+    made: Result<D, StunWriteError>,
+    expected: &str,
+) -> Result<bool, Fail> {
+    let made = made?;
+    Ok(format!(in alloc; "{made}")?.as_str() == expected)
 }
 
 /// Whether an attribute of this text prints that one.
 fn is_printed(text: Text, alloc: Global, of: &str, expected: &str) -> Result<bool, Fail> {
-    let printed = match text {
-        Text::Username => prints(alloc, &Username::new(alloc, of)?, expected)?,
-        Text::Realm => prints(alloc, &Realm::new(alloc, of)?, expected)?,
-        Text::Nonce => prints(alloc, &Nonce::new(alloc, of)?, expected)?,
-        Text::Software => prints(alloc, &Software::new(alloc, of)?, expected)?,
-        Text::AlternateDomain => prints(alloc, &AlternateDomain::new(alloc, of)?, expected)?,
-    };
-    Ok(printed)
+    match text {
+        Text::Username => prints(alloc, Username::new(alloc, of), expected),
+        Text::Realm => prints(alloc, Realm::new(alloc, of), expected),
+        Text::Nonce => prints(alloc, Nonce::new(alloc, of), expected),
+        Text::Software => prints(alloc, Software::new(alloc, of), expected),
+        Text::AlternateDomain => prints(alloc, AlternateDomain::new(alloc, of), expected),
+    }
 }
 
 #[test]
@@ -117,13 +145,17 @@ fn a_raw_text_is_borrowed(rt: HostRuntime) -> Result<(), Fail> {
     Ok(())
 }
 
+/// Whether a raw attribute that is handed over is read as this text.
+fn is_read(alloc: Global, raw: RawAttribute<'_>, text: &str) -> Result<bool, StunParseError> {
+    Ok(Software::from_raw(alloc, raw)?.software() == text)
+}
+
 #[test]
 fn a_raw_text_is_copied(rt: HostRuntime) -> Result<(), Fail> {
     let raw = RawAttribute::new(Software::TYPE, b"stun-types")?;
     let same = raw.clone(rt.alloc())?;
     assert!(rt; same == raw);
-    let read = Software::from_raw(rt.alloc(), same)?;
-    assert!(rt; read.software() == "stun-types");
+    assert!(rt; is_read(rt.alloc(), same, "stun-types")?);
     Ok(())
 }
 
@@ -136,27 +168,30 @@ static LABEL: [u8; 12] = [
     0x88, 0x52, 0x00, 0x07, 0x73, 0x74, 0x72, 0x61, 0xC3, 0x9F, 0x65, 0x00,
 ];
 
-#[test]
-fn writes_a_text_of_a_type_without_a_name(rt: HostRuntime) -> Result<(), Fail> {
-    let label = Label::new(rt.alloc(), "straße")?;
+/// Whether a label of a text has it, and this encoding.
+fn is_written(alloc: Global, text: &str, written: [u8; 12]) -> Result<bool, StunWriteError> {
+    let label = Label::new(alloc, text)?;
     let mut dest = [0xFF; 12];
-    assert!(rt; label.text() == "straße" && label.write_into(&mut dest) == Ok(12));
-    assert!(rt; dest == LABEL);
-    Ok(())
+    Ok(label.text() == text && label.write_into(&mut dest) == Ok(12) && dest == written)
+}
+
+/// Whether the bytes of an attribute are read as a label of this text.
+fn is_label(alloc: Global, bytes: &[u8], text: &str) -> Result<bool, StunParseError> {
+    let raw = RawAttribute::from_bytes(bytes)?;
+    Ok(Label::from_raw_ref(alloc, &raw)?.text() == text)
+}
+
+/// Why a value isn't read as a label.
+fn refused(alloc: Global, value: &[u8]) -> Option<StunParseError> {
+    let raw = RawAttribute::new(Label::TYPE, value).ok()?;
+    Label::from_raw(alloc, raw).err()
 }
 
 #[test]
 fn reads_a_text_of_a_type_without_a_name(rt: HostRuntime) -> Result<(), Fail> {
-    let raw = RawAttribute::from_bytes(&LABEL)?;
-    let read = Label::from_raw_ref(rt.alloc(), &raw)?;
-    assert!(rt; read.text() == "straße");
-    Ok(())
-}
-
-#[test]
-fn refuses_a_text_of_a_type_without_a_name(rt: HostRuntime) -> Result<(), Fail> {
-    let cut = RawAttribute::new(Label::TYPE, &LABEL[4..9])?;
-    let refused = Label::from_raw(rt.alloc(), cut).err();
+    assert!(rt; is_written(rt.alloc(), "straße", LABEL)?);
+    assert!(rt; is_label(rt.alloc(), &LABEL, "straße")?);
+    let refused = refused(rt.alloc(), &LABEL[4..9]);
     assert!(rt; refused == Some(StunParseError::InvalidAttributeData));
     Ok(())
 }

@@ -8,8 +8,8 @@ use stun_base::binding_request;
 use stun_samples::{Shown, long_term, short_term, shows};
 use stun_types::attribute::AttributeType;
 use stun_types::message::{
-    IntegrityAlgorithm, IntegrityKey, Message, MessageWriteVec, StunParseError, StunWriteError,
-    TransactionId, ValidateError,
+    IntegrityAlgorithm, IntegrityKey, Message, MessageIntegrityCredentials, MessageWriteVec,
+    StunParseError, StunWriteError, TransactionId, ValidateError,
 };
 use stun_types::prelude::*;
 
@@ -52,11 +52,23 @@ fn signs_a_request(rt: HostRuntime) -> Result<(), Fail> {
     Ok(())
 }
 
+/// What is answered where a message has 52 bytes, and more or fewer are expected.
+const TOO_LARGE: ValidateError = ValidateError::Parse(StunParseError::TooLarge {
+    expected: 20,
+    actual: 52,
+});
+
+const TRUNCATED: ValidateError = ValidateError::Parse(StunParseError::Truncated {
+    expected: 56,
+    actual: 52,
+});
+
 /// A length field of that request, a password, and what is answered.
-static ANSWERS: [(u8, &str, Result<IntegrityAlgorithm, ValidateError>); 3] = [
+static ANSWERS: [(u8, &str, Result<IntegrityAlgorithm, ValidateError>); 4] = [
     (0x20, "pass", Ok(IntegrityAlgorithm::Sha1)),
-    (0x00, "pass", Ok(IntegrityAlgorithm::Sha1)),
-    (0x00, "past", Err(ValidateError::IntegrityFailed)),
+    (0x20, "past", Err(ValidateError::IntegrityFailed)),
+    (0x00, "pass", Err(TOO_LARGE)),
+    (0x24, "pass", Err(TRUNCATED)),
 ];
 
 /// That request with this length field.
@@ -66,34 +78,31 @@ fn signed_with_length(length: u8) -> [u8; 52] {
     bytes
 }
 
-/// [`SHOWN`] is shown of these bytes, and a validation with this password is answered so.
-fn assert_validates(
-    rt: &impl Abort,
+/// What a validation answers of these bytes, or why they are no message.
+fn validated_with(
     alloc: Global,
     bytes: &[u8],
-    password: &str,
-    answer: Result<IntegrityAlgorithm, ValidateError>,
-) -> Result<(), Fail> {
-    let credentials = short_term(alloc, password)?;
-    let read = Message::from_bytes(bytes)?;
+    credentials: &MessageIntegrityCredentials,
+) -> Result<IntegrityAlgorithm, ValidateError> {
+    Message::from_bytes(bytes)?.validate_integrity(alloc, credentials)
+}
+
+#[test]
+fn signed_request_is_shown(rt: HostRuntime) -> Result<(), Fail> {
+    let read = Message::from_bytes(&SIGNED)?;
     assert!(rt; shows(read.iter_attributes(), &SHOWN));
-    assert!(rt;
-        read.validate_integrity(alloc, &credentials) == answer,
-        "{password}"
-    );
     Ok(())
 }
 
 #[test]
-fn length_field_of_a_signed_request_is_free(rt: HostRuntime) -> Result<(), Fail> {
-    for (length, password, answer) in &ANSWERS {
-        assert_validates(
-            &rt,
-            rt.alloc(),
-            &signed_with_length(*length),
-            password,
-            *answer,
-        )?;
+fn length_field_of_a_signed_request_counts_its_bytes(rt: HostRuntime) -> Result<(), Fail> {
+    for &(length, password, answer) in &ANSWERS {
+        let bytes = signed_with_length(length);
+        let credentials = short_term(rt.alloc(), password)?;
+        assert!(rt;
+            validated_with(rt.alloc(), &bytes, &credentials) == answer,
+            "{length}, {password}"
+        );
     }
     Ok(())
 }

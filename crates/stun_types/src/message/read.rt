@@ -41,6 +41,11 @@ impl<'a> Message<'a> {
     /// of `bytes` (RFC 8489, sections 5, 6.3 and 14). The message borrows `bytes`. Parsing takes no
     /// memory and copies nothing.
     ///
+    /// `bytes` are the message and nothing else, so at most 65555 of them are accepted. Where there
+    /// may be more, as in a buffer for the bytes of a stream (TCP or TLS) or in one that is longer
+    /// than the datagram that was received into it, cut them first to as many as
+    /// [`message_length`](crate::message::message_length) tells.
+    ///
     /// ```
     /// let message = Message::from_bytes(packet)?;
     /// let asks = message.has_class(MessageClass::Request) && message.has_method(BINDING);
@@ -59,7 +64,8 @@ impl<'a> Message<'a> {
     ///
     /// - `NotStun` and `Truncated { expected: 20, actual }` as for [`MessageHeader::from_bytes`];
     /// - `Truncated { expected, actual }` where fewer bytes follow the header than its length field
-    ///   states: `expected` is 20 more than the field, and `actual` the length of `bytes`;
+    ///   states, and `TooLarge { expected, actual }` where more do: `expected` is 20 more than the
+    ///   field, and `actual` the length of `bytes`;
     /// - for each attribute in turn, `Truncated` where its header, its value or its padding is cut
     ///   off: `expected` is the offset where that would end and `actual` the length of `bytes`,
     ///   both plus 4 where the header is cut off;

@@ -23,8 +23,8 @@ impl Message<'_> {
     ///
     /// The attribute's value must be the HMAC of the bytes that it covers, or in a
     /// MESSAGE-INTEGRITY-SHA256 the first 16, 20, 24 or 28 bytes of that. Covered is the message up
-    /// to the attribute, with a length field that counts through the end of the attribute, modulo
-    /// 2^16. The length field as received, and what follows the attribute, aren't covered.
+    /// to the attribute, with a length field that counts through the end of the attribute. The
+    /// length field as received, and what follows the attribute, aren't covered.
     ///
     /// Where the result is `Ok`, the covered bytes, the key and the algorithm determine the message
     /// type, the transaction ID and every attribute that is shown, except a FINGERPRINT. It isn't

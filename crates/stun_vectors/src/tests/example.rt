@@ -8,7 +8,7 @@ use stun_types::attribute::{Software, XorMappedAddress};
 use stun_types::message::{
     BINDING, IntegrityAlgorithm, Message, MessageClass, MessageIntegrityCredentials, MessageType,
     MessageWriteMutSlice, MessageWriteVec, ShortTermCredentials, StunParseError, StunWriteError,
-    TransactionId,
+    TransactionId, message_length,
 };
 use stun_types::prelude::*;
 
@@ -49,6 +49,47 @@ fn reads_a_mapped_address(rt: HostRuntime) -> Result<(), Fail> {
     let other = header(0);
     let other = Message::from_bytes(&other)?;
     assert!(rt; mapped_address(rt.alloc(), &other, &RESPONSE) == Ok(None));
+    Ok(())
+}
+
+/// The first message in a buffer that holds the bytes of a stream, and the bytes behind it; `None`
+/// where more of the message has yet to come.
+pub fn first_message(buffer: &[u8]) -> Result<Option<(Message<'_>, &[u8])>, StunParseError> {
+    let Some(length) = message_length(buffer)? else {
+        return Ok(None);
+    };
+    if buffer.len() < length {
+        return Ok(None);
+    }
+    let (front, behind) = buffer.split_at(length);
+    Ok(Some((Message::from_bytes(front)?, behind)))
+}
+
+/// [`RESPONSE`], and [`REQUEST`] behind it.
+#[rattlefmt::skip]
+static STREAM: [u8; 52] = [
+    0x01, 0x01, 0x00, 0x0C, 0x21, 0x12, 0xA4, 0x42, 0x00, 0x00, 0x00, 0x00, 0x00, 0x00, 0x00, 0x00,
+    0x00, 0x00, 0x73, 0x92, 0x00, 0x20, 0x00, 0x08, 0x00, 0x01, 0x2D, 0x78, 0xE1, 0xBA, 0xA4, 0x43,
+    0x00, 0x01, 0x00, 0x00, 0x21, 0x12, 0xA4, 0x42, 0x00, 0x00, 0x00, 0x00, 0x00, 0x00, 0x00, 0x00,
+    0x00, 0x00, 0x73, 0x92,
+];
+
+/// Whether the first message of a buffer has these bytes, and those stand behind it.
+fn begins_with(buffer: &[u8], first: &[u8], behind: &[u8]) -> bool {
+    match first_message(buffer) {
+        Ok(Some((message, rest))) => message.as_bytes() == first && rest == behind,
+        Ok(None) => false,
+        Err(_) => false,
+    }
+}
+
+#[test]
+fn takes_messages_from_a_stream(rt: HostRuntime) -> Result<(), Fail> {
+    for count in 0..32usize {
+        assert!(rt; first_message(&STREAM[..count])?.is_none(), "{count} bytes");
+    }
+    assert!(rt; begins_with(&STREAM, &RESPONSE, &REQUEST));
+    assert!(rt; begins_with(&STREAM[32..], &REQUEST, &[]));
     Ok(())
 }
 

@@ -1,0 +1,71 @@
+-- A reply, attribute by attribute.
+use Rattle.std.proofs.Common.{◌≡◌, ℕ, ◌^◌, ◌<◌, List, [], ◌∷◌, length, Some, None, refl, sym, ap, subst, ◌∙◌, lit<}
+use Rattle.std.specs.Prelude.{codes}
+use Rattle.std.specs.Net.Addr.{is_ipv6}
+use Rattle.std.specs.Net.Socket.{socket_ip}
+use Rattle.std.specs.declared.net.ip_addr.IpAddr.{IpAddr}
+use Rattle.std.specs.declared.net.ip_addr.IpAddr.TheVariants.{V4, V6}
+use Rattle.std.specs.declared.net.socket_addr.SocketAddr.{SocketAddr}
+use Rattle.stun_grammar.specs.declared.error.StunParseError.{StunParseError}
+use Rattle.stun_grammar.specs.Headers.{type_field, id_field}
+use Rattle.stun_grammar.specs.Attributes.{canonical}
+use Rattle.stun_grammar.specs.AttributeTypes.{XOR_MAPPED_ADDRESS, SOFTWARE}
+use Rattle.stun_grammar.specs.Parsing.{parse_fault}
+use Rattle.stun_grammar.specs.Writing.{message_encoding}
+use Rattle.stun_grammar.specs.Adding.{appended}
+use Rattle.stun_grammar.proofs.AddingLemmas.{message_more}
+use Rattle.stun_base.specs.declared.message_type.MessageClass.{MessageClass}
+use Rattle.stun_base.specs.declared.message_type.MessageClass.TheVariants.{Request, Indication, Success, Error as ErrorClass}
+use Rattle.stun_base.specs.Types.{class_of}
+use Rattle.stun_rules.specs.Addresses.{family, address_value, IsXored}
+use Rattle.stun_types.specs.Replies.{response_type}
+use Rattle.stun_reply.specs.Reply.{xored_value, success_reply, response, request_reply, reply_by_class, reply}
+
+same_family : (x a : IpAddr) → is_ipv6 x ≡ is_ipv6 a → family x ≡ family a
+same_family (V4 x) (V4 a) e = refl
+same_family (V4 x) (V6 a) e = absurd cc
+same_family (V6 x) (V4 a) e = absurd cc
+same_family (V6 x) (V6 a) e = refl
+
+-- the value of an address that was XORed
+pub xored_spelled : (id : ℕ) (a x : SocketAddr) → IsXored id a x → address_value x ≡ xored_value id a
+xored_spelled id a x xored = rw (same_family (socket_ip x) (socket_ip a) xored.family_is, xored.port_is, xored.octets_are) refl
+
+-- the success response is written by two adds
+pub success_written : (source x : SocketAddr) (r text first second third : List ℕ) (id : ℕ) → id ≡ id_field r → IsXored id source x → text ≡ codes "stun-types"
+    → first ≡ message_encoding (response_type Success r) (id_field r) [] → length (address_value x) < 2 ^ 16
+    → second ≡ appended first XOR_MAPPED_ADDRESS (address_value x) → third ≡ appended second SOFTWARE text
+    → third ≡ response Success r (success_reply source r)
+success_written source x r text first second third id id-is xored text-is first-is fits second-is third-is =
+    let kind = response_type Success r in
+    let mapped = canonical XOR_MAPPED_ADDRESS (xored_value (id_field r) source) in
+    let value : address_value x ≡ xored_value (id_field r) source = xored_spelled id source x xored ∙ ap (λ (n : ℕ). xored_value n source) id-is in
+    let small : length (xored_value (id_field r) source) < 2 ^ 16 = subst (λ (b : List ℕ). length b < 2 ^ 16) value fits in
+    let one : second ≡ message_encoding kind (id_field r) (mapped ∷ []) =
+    second-is ∙ ap (λ (b : List ℕ). appended b XOR_MAPPED_ADDRESS (address_value x)) first-is ∙ ap (appended (message_encoding kind (id_field r) []) XOR_MAPPED_ADDRESS) value
+    ∙ message_more kind (id_field r) [] XOR_MAPPED_ADDRESS (xored_value (id_field r) source) (lit< tt) small in
+    third-is ∙ ap (λ (b : List ℕ). appended b SOFTWARE text) one ∙ ap (appended (message_encoding kind (id_field r) (mapped ∷ [])) SOFTWARE) text-is
+    ∙ message_more kind (id_field r) (mapped ∷ []) SOFTWARE (codes "stun-types") (lit< tt) (lit< tt)
+
+-- ---- Whether there is a reply
+
+pub none_to_fault : (source : SocketAddr) (d : List ℕ) (e : StunParseError) → parse_fault d ≡ Some e → reply source d ≡ None
+unfolding reply
+none_to_fault source d e fault = rw fault refl
+
+no_request : (class : MessageClass) (source : SocketAddr) (d : List ℕ) → (class ≡ Request → ⊥) → reply_by_class class source d ≡ None
+no_request Request source d other = absurd (other refl)
+no_request Indication source d other = refl
+no_request Success source d other = refl
+no_request ErrorClass source d other = refl
+
+-- b is what a message keeps of the datagram d
+pub none_to_class : (source : SocketAddr) (d b : List ℕ) → parse_fault d ≡ None → b ≡ d → (class_of (type_field b) ≡ Request → ⊥) → reply source d ≡ None
+unfolding reply
+none_to_class source d b parses same other = rw parses (no_request (class_of (type_field d)) source d (λ is. other (ap (λ (x : List ℕ). class_of (type_field x)) same ∙ is)))
+
+pub one_to_request : (source : SocketAddr) (d b text : List ℕ) → parse_fault d ≡ None → b ≡ d → class_of (type_field b) ≡ Request → text ≡ request_reply source b → reply source d ≡ Some text
+unfolding reply
+one_to_request source d b text parses same request is =
+    let class : class_of (type_field d) ≡ Request = ap (λ (x : List ℕ). class_of (type_field x)) (sym same) ∙ request in
+    rw (parses, class) (ap Some (sym (is ∙ ap (request_reply source) same)))

@@ -1,0 +1,11 @@
+use Rattle.stun_addresses.specs.AddressAttributes.{written_mapped_addr}
+use Rattle.stun_texts.specs.Texts.{text_bytes}
+use Rattle.stun_types.specs.Message.{message_bytes}
+use Rattle.stun_reply.proofs.ReplyLemmas.{success_written}
+use Rattle.stun_reply.proofs.reply.success_response.Goals as goal
+
+pub returns : goal.returns
+returns c =
+    let one = c.in_ok-add_mapped.ensures in
+    success_written c.args.source (written_mapped_addr c.new-mapped.result) (message_bytes c.args.request.now) (text_bytes c.in_ok-software.software) c.in_ok-write.write.output.items c.add_mapped.new.write.output.items c.add_software.new.write.output.items c.transaction_id.result
+    c.transaction_id.ensures c.new-mapped.ensures c.in_ok-software.ensures.ok c.in_ok-write.ensures.begun.bytes one.fits one.bytes c.in_ok-add_software.ensures

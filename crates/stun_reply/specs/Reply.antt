@@ -1,0 +1,81 @@
+-- What a server without credentials replies to a datagram (RFC 8489, sections 6.3.1, 7 and 12).
+use Rattle.std.specs.Prelude.{ℕ, ◌/◌, ◌^◌, List, [], ◌∷◌, ◌++◌, length, bit_xor, is_some, ◌==◌, if◌then◌else◌, Option, None, Some}
+use Rattle.std.specs.Option.{option_map_or}
+use Rattle.std.specs.Net.Socket.{socket_ip, socket_port}
+use Rattle.std.specs.declared.net.socket_addr.SocketAddr.{SocketAddr}
+use Rattle.stun_grammar.specs.declared.attribute_type.AttributeType.{AttributeType}
+use Rattle.stun_grammar.specs.Numbers.{be16}
+use Rattle.stun_grammar.specs.Headers.{magic_cookie, type_field, id_field}
+use Rattle.stun_grammar.specs.AttributeTypes.{XOR_MAPPED_ADDRESS, FINGERPRINT}
+use Rattle.stun_grammar.specs.Attributes.{Attribute, canonical}
+use Rattle.stun_grammar.specs.Fingerprints.{fingerprint_value}
+use Rattle.stun_grammar.specs.Parsing.{parse_fault}
+use Rattle.stun_grammar.specs.Writing.{message_encoding}
+use Rattle.stun_grammar.specs.Adding.{appended}
+use Rattle.stun_base.specs.declared.message_type.MessageClass.{MessageClass}
+use Rattle.stun_base.specs.declared.message_type.MessageClass.TheVariants.{Request, Success, Error as ErrorClass}
+use Rattle.stun_base.specs.Types.{class_of, method_of}
+use Rattle.stun_read.specs.LookingUp.{nth}
+use Rattle.stun_rules.specs.Addresses.{family, octets, mask, xor_bytes}
+use Rattle.stun_types.specs.Replies.{response_type, own_software, bad_reply, check_reply}
+
+-- ---- The attributes of the replies
+
+-- the one type that requires comprehension and that the server comprehends in a request: it has no
+-- credentials, so those that authenticate aren't among them
+abbrev pub comprehended : List AttributeType
+comprehended = record { 0 = FINGERPRINT } ∷ []
+
+-- the value of an XOR-MAPPED-ADDRESS (RFC 8489, section 14.2)
+abbrev pub xored_value : ℕ → SocketAddr → List ℕ
+xored_value id a =
+    0 ∷ family (socket_ip a) ∷ (be16 (bit_xor (socket_port a) (magic_cookie / 2 ^ 16))
+    ++ xor_bytes (octets (socket_ip a)) (mask id))
+
+-- the attributes of the success response: the address that the request came from, and SOFTWARE
+abbrev pub success_reply : SocketAddr → List ℕ → List Attribute
+success_reply source r =
+    canonical XOR_MAPPED_ADDRESS (xored_value (id_field r) source) ∷ own_software ∷ []
+
+-- ---- The replies
+
+-- a response to the request r with these attributes
+abbrev pub response : MessageClass → List ℕ → List Attribute → List ℕ
+response class r attributes = message_encoding (response_type class r) (id_field r) attributes
+
+-- the response, with a FINGERPRINT at its end where r shows one
+abbrev pub finished : List ℕ → List ℕ → List ℕ
+finished r text =
+    if is_some (nth r FINGERPRINT 0)
+    then appended text FINGERPRINT (fingerprint_value text (length text)) else text
+
+-- the reply to a binding request: 420 where it shows types that require comprehension and aren't
+-- comprehended, and else its own address
+abbrev pub binding_reply : SocketAddr → List ℕ → List ℕ
+binding_reply source r =
+    option_map_or (response ErrorClass r) (check_reply comprehended [] r)
+    (response Success r (success_reply source r))
+
+-- the method of binding requests
+abbrev pub BINDING : ℕ
+BINDING = 0x001
+
+-- the reply to a request: 400 where it has another method
+abbrev pub unfinished_reply : SocketAddr → List ℕ → List ℕ
+unfinished_reply source r =
+    if method_of (type_field r) == BINDING then binding_reply source r
+    else response ErrorClass r bad_reply
+
+-- the same, finished
+abbrev pub request_reply : SocketAddr → List ℕ → List ℕ
+request_reply source r = finished r (unfinished_reply source r)
+
+-- what has the class of a request is replied to
+abbrev pub reply_by_class : MessageClass → SocketAddr → List ℕ → Option (List ℕ)
+reply_by_class Request source r = Some (request_reply source r)
+reply_by_class _ source r = None
+
+-- the reply to a datagram that came from an address: none where it doesn't parse, or is no request
+unfoldable pub reply : SocketAddr → List ℕ → Option (List ℕ)
+reply source r =
+    if is_some (parse_fault r) then None else reply_by_class (class_of (type_field r)) source r

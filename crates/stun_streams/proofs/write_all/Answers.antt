@@ -1,0 +1,24 @@
+use Rattle.std.proofs.Common.{take, length, ap, arith}
+use Rattle.std.proofs.lemmas.List.{take_rest, length-drop}
+use Rattle.stun_streams.proofs.KnownBytesLemmas.{Appends-keep, Appends-more}
+use Rattle.stun_streams.proofs.write_all.Goals as goal
+use Rattle.stun_streams.proofs.write_all.Goals.{in-Ok, in-Err+else-ne}
+
+pub loop-turn-preserved : goal.loop-turn-preserved
+loop-turn-preserved g c =
+    let contents = g.W.Write.contents in
+    let bytes = c.args.bytes.now in
+    elim c.match-write.branch [
+      | in-Ok w ↦
+          let told = w.in-Ok.ensures in
+          record {
+            written = rw w.written-is (Appends-more (contents c.args.writer.now) (contents c.loop-turn.writer) (contents c.write.new.self) bytes c.loop-turn.written w.in-Ok.count c.loop-turn.invariant.written told.bytes);
+            within = omega (arith, told.bound, length-drop c.loop-turn.written bytes, ap length (take_rest bytes c.loop-turn.written));
+          }
+      | in-Err+else-ne w ↦
+          let told = w.in-Err.ensures in
+          record {
+            written = rw w.written-is (Appends-keep (contents c.args.writer.now) (contents c.loop-turn.writer) (contents c.write.new.self) (take c.loop-turn.written bytes) c.loop-turn.invariant.written told.bytes);
+            within = omega arith;
+          }
+    ]

@@ -1,0 +1,91 @@
+//! Reading an input to its end, and writing an output whole: what the programs do with their
+//! standard streams, over any reader and writer.
+#![tactic(auto)]
+
+ghost use Rattle.std.specs.Prelude.{MatchResult};
+ghost use Rattle.std.specs.Io.KnownBytes.{Appends};
+ghost use Rattle.stun_streams.specs.Streams.{ReadsAll, StopsReading, WritesPart};
+
+use std::alloc::Global;
+use std::io::{ErrorKind, Read, Write};
+
+/// Why an input wasn't read to its end.
+#[derive(Debug, Clone, Copy, PartialEq, Eq)]
+pub enum InputError {
+    /// There are more bytes than may be read.
+    TooLong,
+    /// A read failed.
+    ReadFailed,
+    /// An allocation failed.
+    NoMemory,
+}
+
+/// A write failed, or took no bytes.
+#[derive(Debug, Clone, Copy, PartialEq, Eq)]
+pub struct WriteFailed;
+
+/// Reads to the end of `reader`, at most `most` bytes, into memory that `alloc` gives. A read that
+/// is interrupted is tried again.
+///
+/// # Errors
+///
+/// `TooLong` where there are more bytes, and else `ReadFailed` or `NoMemory`.
+pub fn read_all<R: Read>(alloc: Global, most: usize, reader: &mut R) -> Result<Vec<u8>, InputError>
+    ensures { MatchResult result
+        (λ input. ReadsAll most (R.remaining reader.old) (R.remaining reader.new) input.items)
+        (λ e. StopsReading most e (R.remaining reader.old) (R.remaining reader.new)) }
+{
+    let mut input = Vec::new(alloc);
+    let mut piece = [0; 4096];
+    for _turn in 0..u64::MAX {
+        match reader.read(&mut piece) {
+            Ok(0) => return Ok(input),
+            Ok(count) => {
+                if count > most - input.len() {
+                    return Err(InputError::TooLong);
+                }
+                if input.extend_from_slice(&piece[..count]).is_err() {
+                    return Err(InputError::NoMemory);
+                }
+            }
+            Err(e) => {
+                if e.kind() != ErrorKind::Interrupted {
+                    return Err(InputError::ReadFailed);
+                }
+            }
+        }
+    }
+    Err(InputError::ReadFailed)
+}
+
+/// Writes all of the bytes, or, where a write fails or takes none, a prefix of them. A write that is
+/// interrupted is tried again.
+///
+/// # Errors
+///
+/// `WriteFailed` where not all was written.
+pub fn write_all<W: Write>(bytes: &[u8], writer: &mut W) -> Result<(), WriteFailed>
+    ensures { MatchResult result
+        (λ _. Appends (W.contents writer.old) (W.contents writer.new) bytes.now)
+        (λ _. WritesPart (W.contents writer.old) (W.contents writer.new) bytes.now) }
+{
+    let mut written = 0;
+    for _turn in 0..u64::MAX {
+        if written == bytes.len() {
+            break;
+        }
+        match writer.write(&bytes[written..]) {
+            Ok(0) => break,
+            Ok(count) => written += count,
+            Err(e) => {
+                if e.kind() != ErrorKind::Interrupted {
+                    break;
+                }
+            }
+        }
+    }
+    if written < bytes.len() {
+        return Err(WriteFailed);
+    }
+    Ok(())
+}
