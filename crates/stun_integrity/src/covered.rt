@@ -1,8 +1,8 @@
 //! The bytes of a message that its HMACs and its FINGERPRINT cover (RFC 8489, sections 14.5 to
-//! 14.7). They are passed to the digests in three pieces, of which two are parts of the message:
-//! nothing is copied.
+//! 14.7). They are passed to the digests in two pieces: the first four bytes, which have another
+//! length field, and from there on the message itself.
 
-ghost use Rattle.std.specs.Prelude.{◌≡◌, ℕ, ◌+◌, ◌-◌, ◌%◌, ◌^◌, ◌<◌, ◌≤◌, length, map};
+ghost use Rattle.std.specs.Prelude.{◌≡◌, ℕ, ◌+◌, ◌-◌, ◌%◌, ◌^◌, ◌≤◌, ◌++◌, length, map, slice_range};
 ghost use Rattle.std.specs.List.{concat};
 ghost use Rattle.stun_grammar.specs.Numbers.{be16, padded_length};
 ghost use Rattle.stun_grammar.specs.Fingerprints.{message_before, fingerprint_value};
@@ -16,26 +16,29 @@ use stun_keys::digest::crc32;
 use stun_keys::keys::IntegrityKey;
 use stun_rules::masked;
 
-/// The length field of a message that ends with an attribute of `size` bytes at `offset`: the low
-/// sixteen bits of the number of bytes that follow the header, big-endian.
-fn length_field(offset: usize, size: usize) -> [u8; 2]
-    requires header { 20 ≤ offset }
-    requires within { offset < 2 ^ 63 }
-    requires short { size ≤ 65540 }
-    ensures { result ≡ be16 ((offset + size - 20) % 2 ^ 16) }
-{
-    let counted = (offset + size - 20) % 65536;
-    (counted as u16).to_be_bytes()
-}
-
-/// The message before `offset` with another length field, in three pieces.
-fn pieces_before<'a>(bytes: &'a [u8], offset: usize, field: &'a [u8; 2]) -> [&'a [u8]; 3]
+/// The first four bytes of a message with another length field: that of one that ends with an
+/// attribute of `size` bytes at `offset`, which is the low sixteen bits of the number of bytes that
+/// follow the header, big-endian.
+fn beginning(bytes: &[u8], offset: usize, size: usize) -> [u8; 4]
     requires header { 20 ≤ offset }
     requires within { offset ≤ length bytes.now }
-    ensures { (size : ℕ) → field.now ≡ be16 ((offset + size - 20) % 2 ^ 16)
+    requires short { size ≤ 65540 }
+    ensures { result ≡ slice_range bytes.now 0 2 ++ be16 ((offset + size - 20) % 2 ^ 16) }
+{
+    let counted = (offset + size - 20) % 65536;
+    let [high, low] = (counted as u16).to_be_bytes();
+    [bytes[0], bytes[1], high, low]
+}
+
+/// The message before `offset`, with its first four bytes as `beginning` has them, in two pieces.
+fn pieces_before<'a>(bytes: &'a [u8], offset: usize, beginning: &'a [u8; 4]) -> [&'a [u8]; 2]
+    requires header { 20 ≤ offset }
+    requires within { offset ≤ length bytes.now }
+    ensures { (size : ℕ)
+        → beginning.now ≡ slice_range bytes.now 0 2 ++ be16 ((offset + size - 20) % 2 ^ 16)
         → concat (map (λ piece. piece.now) result) ≡ message_before bytes.now offset size }
 {
-    [&bytes[..2], field, &bytes[4..offset]]
+    [beginning, &bytes[4..offset]]
 }
 
 /// The HMAC-SHA1 of the bytes that a MESSAGE-INTEGRITY at `offset` covers whose value has `count`
@@ -47,8 +50,8 @@ pub fn hmac_sha1_at(key: &IntegrityKey, bytes: &[u8], offset: usize, count: usiz
     ensures { result ≡ hmac IntegrityAlgorithm.Sha1 (key_bytes key.now)
         (covered_bytes bytes.now offset count) }
 {
-    let field = length_field(offset, 4 + pad_attribute_len(count));
-    key.hmac_sha1(&pieces_before(bytes, offset, &field))
+    let beginning = beginning(bytes, offset, 4 + pad_attribute_len(count));
+    key.hmac_sha1(&pieces_before(bytes, offset, &beginning))
 }
 
 /// The HMAC-SHA256 of the bytes that a MESSAGE-INTEGRITY-SHA256 at `offset` covers whose value has
@@ -60,8 +63,8 @@ pub fn hmac_sha256_at(key: &IntegrityKey, bytes: &[u8], offset: usize, count: us
     ensures { result ≡ hmac IntegrityAlgorithm.Sha256 (key_bytes key.now)
         (covered_bytes bytes.now offset count) }
 {
-    let field = length_field(offset, 4 + pad_attribute_len(count));
-    key.hmac_sha256(&pieces_before(bytes, offset, &field))
+    let beginning = beginning(bytes, offset, 4 + pad_attribute_len(count));
+    key.hmac_sha256(&pieces_before(bytes, offset, &beginning))
 }
 
 /// The value of a FINGERPRINT at `offset`: the CRC-32 of the message before it, with a length field
@@ -72,6 +75,6 @@ pub fn fingerprint_at(bytes: &[u8], offset: usize) -> [u8; 4]
     requires within { offset ≤ length bytes.now }
     ensures { result ≡ fingerprint_value bytes.now offset }
 {
-    let field = length_field(offset, 8);
-    masked(crc32(&pieces_before(bytes, offset, &field)))
+    let beginning = beginning(bytes, offset, 8);
+    masked(crc32(&pieces_before(bytes, offset, &beginning)))
 }

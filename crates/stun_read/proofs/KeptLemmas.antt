@@ -1,7 +1,7 @@
 -- A walk from the offset of an attribute is the part of the whole walk that begins there: so an
 -- attribute whose offset was kept is read there again.
 use Rattle.std.proofs.Common.{◌≡◌, ℕ, ◌+◌, ◌-◌, ◌≤◌, Bool, true, false, cond, eqb, not, ◌&&◌, List, [], ◌∷◌, ◌++◌, length, take, drop, Option, Some, None, refl, sym, ap, subst, ◌∙◌, append_assoc, arith, inl, inr}
-use Rattle.std.specs.Prelude.{find, filter, reverse, slice_get, IfSome, IsSomeAnd, MatchOption}
+use Rattle.std.specs.Prelude.{find, filter, reverse, slice_get, is_some, IfSome, IsSomeAnd, MatchOption}
 use Rattle.std.specs.List.{list_all, list_any}
 use Rattle.std.specs.Option.{option_map, option_or}
 use Rattle.std.proofs.lemmas.Bool.{ne_eqb, eqb-true, cases_Bool, cond-true, cond-false, and_parts, not-true}
@@ -26,7 +26,8 @@ use Rattle.stun_attrs.specs.Raw.{Borrows}
 use Rattle.stun_attrs.specs.declared.raw.RawAttribute.{RawAttribute}
 use Rattle.stun_read.specs.Keeping.{offset_among, IsKept}
 use Rattle.stun_read.specs.LookingUp.{nth, IsFound}
-use Rattle.stun_read.specs.Validating.{shown_at}
+use Rattle.stun_read.specs.Validating.{shown_kept}
+use Rattle.stun_read.specs.declared.kept.Kept.{Kept}
 
 -- ---- The walk from there
 
@@ -90,16 +91,16 @@ kept_at wanted d x frame last =
       },
     )
 
-abbrev Kept : (ℕ → Bool) → List ℕ → ℕ → Type 0
-Kept wanted d offset = (a : Attribute) × (wanted a.type ≡ true) × IsKept wanted d a.type offset
+abbrev IsThere : (ℕ → Bool) → List ℕ → ℕ → Type 0
+IsThere wanted d offset = (a : Attribute) × (wanted a.type ≡ true) × IsKept wanted d a.type offset
 
-there : (wanted : ℕ → Bool) (d : List ℕ) (offset : ℕ) → offset_among wanted (shown d) ≡ Some offset → Kept wanted d offset
+there : (wanted : ℕ → Bool) (d : List ℕ) (offset : ℕ) → offset_among wanted (shown d) ≡ Some offset → IsThere wanted d offset
 there wanted d offset e = elim (none_or_some (last_shown wanted d)) [
   | inl none ↦
       let told : None ≡ Some offset = sym (ap (option_map (λ (y : Shown). y.offset)) none) ∙ e in absurd cc
   | inr (x, some) ↦
       let is : Some x.offset ≡ Some offset = sym (ap (option_map (λ (y : Shown). y.offset)) some) ∙ e in
-      subst (Kept wanted d) (same x.offset offset is) (elim (none_or_some (frame_fault d)) [
+      subst (IsThere wanted d) (same x.offset offset is) (elim (none_or_some (frame_fault d)) [
         | inl frame ↦ kept_at wanted d x frame some
         | inr (fault, refused) ↦
             let empty : last_shown wanted d ≡ None = ap (λ (xs : List Shown). find (at_type wanted) (reverse xs)) (nothing d fault refused) in absurd (cc (some, empty))
@@ -126,52 +127,37 @@ pub none_kept : (algorithm : IntegrityAlgorithm) (d : List ℕ) (kept : Option �
 none_kept algorithm d kept e is = none_there (is_wanted (Some algorithm)) d (sym e ∙ is)
 
 -- its bytes are all there
-pub first_long : (b : List ℕ) (type : ℕ) → IsSomeAnd (first_attribute b) (λ a. type ≡ a.type) → 4 + stated_length b ≤ length b
-first_long b type first = elim (none_or_some (first_attribute b)) [
-  | inl none ↦ let told : ⊥ = rw none at first in absurd told
+pub first_long : (b : List ℕ) → is_some (first_attribute b) ≡ true → 4 + stated_length b ≤ length b
+first_long b first = elim (none_or_some (first_attribute b)) [
+  | inl none ↦ let told : false ≡ true = rw none at first in absurd cc
   | inr (a, some) ↦ omega (arith, (first_attribute_some b a some).0)
 ]
 
-pub first_read : (b : List ℕ) (type made n : ℕ) (read : Option RawAttribute) → IsSomeAnd (first_attribute b) (λ a. type ≡ a.type) → made ≡ type → n ≡ stated_length b → IsSomeAnd read (Borrows made (take (4 + n - 4) (drop 4 b)))
-    → IfSome (first_attribute b) (λ a. IsSomeAnd read (Borrows a.type a.value))
-first_read b type made n read first made-is n-is borrows = elim (none_or_some (first_attribute b)) [
+pub first_read : (b : List ℕ) (n : ℕ) (read : List ℕ) → n ≡ stated_length b → read ≡ take (4 + n - 4) (drop 4 b) → IfSome (first_attribute b) (λ a. read ≡ a.value)
+first_read b n read n-is read-is = elim (none_or_some (first_attribute b)) [
   | inl none ↦ rw none tt
   | inr (a, some) ↦
-      let told : type ≡ a.type = rw some at first in
-      let type-is : made ≡ a.type = made-is ∙ told in
       let count : 4 + n - 4 ≡ stated_length b = omega (arith, n-is) in
-      let value-is : take (4 + n - 4) (drop 4 b) ≡ a.value = ap (λ (k : ℕ). take k (drop 4 b)) count ∙ sym (ap (λ (x : Attribute). x.value) (first_attribute_some b a some).1) in
-      let there : IsSomeAnd read (Borrows a.type a.value) = subst (λ (v : List ℕ). IsSomeAnd read (Borrows a.type v)) value-is (subst (λ (k : ℕ). IsSomeAnd read (Borrows k (take (4 + n - 4) (drop 4 b)))) type-is borrows) in
-      rw some there
+      let value-is : read ≡ a.value = read-is ∙ ap (λ (k : ℕ). take k (drop 4 b)) count ∙ sym (ap (λ (x : Attribute). x.value) (first_attribute_some b a some).1) in
+      rw some value-is
 ]
 
--- what was read there is that attribute
-pub kept_found : (wanted : ℕ → Bool) (d : List ℕ) (type offset : ℕ) (read : Option RawAttribute) (raw : RawAttribute) → IsKept wanted d type offset
-    → IfSome (first_attribute (drop offset d)) (λ a. IsSomeAnd read (Borrows a.type a.value)) → read ≡ Some raw
-    → IsFound (last_shown wanted d) (Some (offset, raw))
-kept_found wanted d type offset read raw kept found is =
-    let borrows : Borrows kept.attribute.type kept.attribute.value raw = rw (kept.first_is, is) at found in
-    rw kept.last_is (refl, borrows)
+-- there is one at a kept offset, and what is read there is that attribute
+pub kept_begins : (wanted : ℕ → Bool) (d : List ℕ) (type offset : ℕ) → IsKept wanted d type offset → is_some (first_attribute (drop offset d)) ≡ true
+kept_begins wanted d type offset kept = rw kept.first_is refl
 
-pub kept_is_read : (wanted : ℕ → Bool) (d : List ℕ) (type offset : ℕ) (read : Option RawAttribute) → IsKept wanted d type offset
-    → IfSome (first_attribute (drop offset d)) (λ a. IsSomeAnd read (Borrows a.type a.value)) → read ≡ None → ⊥
-kept_is_read wanted d type offset read kept found is =
-    let none : ⊥ = rw (kept.first_is, is) at found in none
+pub kept_is : (wanted : ℕ → Bool) (d : List ℕ) (type offset : ℕ) (read : List ℕ) → IsKept wanted d type offset → IfSome (first_attribute (drop offset d)) (λ a. read ≡ a.value) → last_shown wanted d ≡ Some (shown_as offset type read)
+kept_is wanted d type offset read kept found =
+    let value-is : read ≡ kept.attribute.value = rw kept.first_is at found in rw (kept.type_is, value-is) kept.last_is
 
-pub type_there : (wanted : ℕ → Bool) (d : List ℕ) (type offset : ℕ) → IsKept wanted d type offset → IsSomeAnd (first_attribute (drop offset d)) (λ a. type ≡ a.type)
-type_there wanted d type offset kept = rw kept.first_is kept.type_is
+-- as a raw attribute
+pub raw_found : (x : Option Shown) (kept : Kept) (type : ℕ) (raw : RawAttribute) → x ≡ Some (shown_kept kept) → type ≡ kept.atype → Borrows type kept.value.now raw → IsFound x (Some (kept.offset, raw))
+raw_found x kept type raw last type-is borrows =
+    let borrows-it : Borrows kept.atype kept.value.now raw = subst (λ (k : ℕ). Borrows k kept.value.now raw) type-is borrows in
+    rw last (refl, borrows-it)
 
 pub none_found : (x : Option Shown) → x ≡ None → IsFound x None
 none_found x e = rw e refl
-
--- what was found is the attribute that is shown there
-pub found_is : (x : Option Shown) (offset : ℕ) (raw : RawAttribute) → IsFound x (Some (offset, raw)) → x ≡ Some (shown_at offset raw)
-found_is None offset raw found = absurd cc
-found_is (Some x) offset raw found = rw (found.0, found.1.raw_is.type_is, found.1.raw_is.value_is) refl
-
-pub nothing_found : (x : Option Shown) → IsFound x None → x ≡ None
-nothing_found None found = refl
-nothing_found (Some x) found = absurd found
 
 pub read_there : (wanted : ℕ → Bool) (d : List ℕ) (x : Shown) → last_shown wanted d ≡ Some x → IsSomeAnd (first_attribute (drop x.offset d)) (λ a. (a.type ≡ x.type) × (a.value ≡ x.value))
 read_there wanted d x last =

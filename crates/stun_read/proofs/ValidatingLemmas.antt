@@ -1,13 +1,12 @@
 -- Lemmas on validating a message.
-use Rattle.std.proofs.Common.{◌≡◌, ℕ, suc, ◌+◌, ◌-◌, ◌*◌, ◌/◌, ◌%◌, ◌<◌, ◌≤◌, Bool, true, false, cond, eqb, ltb, List, [], ◌∷◌, ◌++◌, length, get_or, take, drop, Option, Some, None, Ok, Err, refl, sym, ap, ◌∙◌, arith, ◌⊎◌, inl, inr}
-use Rattle.std.specs.Prelude.{MatchOption, nat_eq}
-use Rattle.std.specs.Option.{option_map, option_or}
+use Rattle.std.proofs.Common.{◌≡◌, ℕ, suc, ◌%◌, ◌<◌, ◌≤◌, Bool, true, false, cond, eqb, ltb, List, [], ◌∷◌, length, get_or, take, Option, Some, None, Ok, Err, refl, sym, ap, ◌∙◌, arith, ◌⊎◌, inl, inr}
+use Rattle.std.specs.Prelude.{nat_eq}
+use Rattle.std.specs.Option.{option_or}
 use Rattle.std.specs.Cmp.Lexicographic.{pointwise}
 use Rattle.std.proofs.lemmas.Bool.{ltb-false}
-use Rattle.std.proofs.lemmas.List.{append-nil, take_all}
-use Rattle.stun_grammar.specs.Numbers.{be16, IsBytes}
+use Rattle.std.proofs.lemmas.List.{take_all}
+use Rattle.stun_grammar.specs.Numbers.{IsBytes}
 use Rattle.stun_grammar.specs.Chains.{Shown}
-use Rattle.stun_grammar.specs.Fingerprints.{message_before}
 use Rattle.stun_grammar.specs.declared.attribute_type.AttributeType.{AttributeType}
 use Rattle.stun_grammar.specs.declared.error.StunParseError.{StunParseError}
 use Rattle.stun_grammar.specs.declared.error.StunParseError.TheVariants.{Truncated, TooLarge, MissingAttribute, InvalidAttributeData, OutOfMemory}
@@ -19,15 +18,9 @@ use Rattle.stun_grammar.specs.Verdicts.{algorithm_of, hmac_fault, covered_bytes,
 use Rattle.stun_grammar.specs.Lengths.{range_fault}
 use Rattle.stun_grammar.proofs.HmacLemmas.{hmac_has_length}
 use Rattle.stun_grammar.proofs.VerdictsLemmas.{lawful, some_not, stands, verdict_missing, verdict_unlawful}
-use Rattle.stun_attrs.specs.declared.raw.RawAttribute.{RawAttribute}
-use Rattle.stun_read.specs.Validating.{shown_at, IsChecked}
+use Rattle.stun_read.specs.Validating.{IsChecked}
 
 -- ---- The attribute that is checked
-
--- the last item that was found, as an attribute that is shown
-pub last_of : (last : Option (ℕ × RawAttribute)) (x : Option Shown) → option_map (λ (found : ℕ × RawAttribute). shown_at found.0 found.1) last ≡ x → MatchOption last (x ≡ None) (λ found. x ≡ Some (shown_at found.0 found.1))
-last_of None x e = sym e
-last_of (Some found) x e = sym e
 
 -- each number in a slice is a byte
 pub all_bytes : (d : List ℕ) → ((i : ℕ) → get_or d i 0 < 256) → IsBytes d
@@ -40,15 +33,6 @@ past_header m d x each checked = (stands (is_wanted m) d x (all_bytes d each) ch
 
 pub before_end : (m : Option IntegrityAlgorithm) (d : List ℕ) (x : Shown) → ((i : ℕ) → get_or d i 0 < 256) → IsChecked m d x → x.offset ≤ length d
 before_end m d x each checked = omega (arith, (stands (is_wanted m) d x (all_bytes d each) checked.last_is).within)
-
--- ---- The covered bytes
-
-pub covered_is : (d stated : List ℕ) (offset n : ℕ) → 20 ≤ offset → stated ≡ be16 ((offset - 16 + (n + 3) / 4 * 4) % 65536)
-    → take 2 d ++ (stated ++ (take (offset - 4) (drop 4 d) ++ [])) ≡ covered_bytes d offset n
-unfolding message_before
-covered_is d stated offset n header e =
-    let counted : offset - 16 + (n + 3) / 4 * 4 ≡ offset + (4 + 4 * ((n + 3) / 4)) - 20 = omega arith in
-    rw (e, counted, append-nil (take (offset - 4) (drop 4 d))) refl
 
 -- ---- Lengths
 

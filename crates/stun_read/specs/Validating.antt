@@ -3,12 +3,11 @@ use Rattle.std.specs.Prelude.{◌≡◌, ℕ, List, Option, Some, None, length}
 use Rattle.stun_grammar.specs.declared.integrity_algorithm.IntegrityAlgorithm.{IntegrityAlgorithm}
 use Rattle.stun_grammar.specs.Chains.{Shown}
 use Rattle.stun_grammar.specs.Verdicts.{algorithm_of, is_wanted, last_shown, hmac_fault}
-use Rattle.stun_attrs.specs.Raw.{raw_type, raw_value}
-use Rattle.stun_attrs.specs.declared.raw.RawAttribute.{RawAttribute}
+use Rattle.stun_read.specs.declared.kept.Kept.{Kept}
 
--- a raw attribute that was read at an offset, as an attribute that is shown
-abbrev pub shown_at : ℕ → RawAttribute → Shown
-shown_at offset raw = record { offset = offset; type = raw_type raw; value = raw_value raw }
+-- an attribute that was read at the offset that was kept of it, as one that is shown
+abbrev pub shown_kept : Kept → Shown
+shown_kept kept = record { offset = kept.offset; type = kept.atype; value = kept.value.now }
 
 -- x is the last attribute shown of the wanted types, and its value has a length that its type
 -- allows

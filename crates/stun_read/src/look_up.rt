@@ -6,7 +6,7 @@ ghost use Rattle.stun_read.specs.Keeping.{KeepsOffsets};
 ghost use Rattle.stun_read.specs.LookingUp.{nth, IsFound};
 
 use crate::endings::type_number;
-use crate::kept::last_integrity;
+use crate::kept::integrity_raw;
 use crate::{IntegrityOffsets, iter_framed};
 use stun_attrs::RawAttribute;
 use stun_base::AttributeType;
@@ -33,10 +33,10 @@ pub fn nth_raw<'a>(
 {
     let wanted = atype.value();
     if n == 0 && wanted == MESSAGE_INTEGRITY {
-        return last_integrity(bytes, offsets, Some(IntegrityAlgorithm::Sha1));
+        return integrity_raw(bytes, offsets, IntegrityAlgorithm::Sha1);
     }
     if n == 0 && wanted == MESSAGE_INTEGRITY_SHA256 {
-        return last_integrity(bytes, offsets, Some(IntegrityAlgorithm::Sha256));
+        return integrity_raw(bytes, offsets, IntegrityAlgorithm::Sha256);
     }
     iter_framed(bytes)
         .filter(|(_offset, attribute)| type_number(attribute) == wanted)

@@ -56,9 +56,9 @@ pub fn validate_bytes(
     // each number in the slice is below 256, which the laws on what an HMAC authenticates require
     ensures bytes { IsBytes bytes.now }
 {
-    let (offset, attribute) = checked(bytes, offsets, None)?;
-    let key = key_for(alloc, credentials, algorithm_for(&attribute))?;
-    compared(bytes, offset, &attribute, &key)
+    let kept = checked(bytes, offsets, None)?;
+    let key = key_for(alloc, credentials, algorithm_for(kept.atype))?;
+    compared(bytes, kept, &key)
 }
 
 /// Checks an integrity attribute with a key, and returns its algorithm: the last one that is shown
@@ -80,6 +80,6 @@ pub fn validate_bytes_with_key(
     // each number in the slice is below 256, which the laws on what an HMAC authenticates require
     ensures bytes { IsBytes bytes.now }
 {
-    let (offset, attribute) = checked(bytes, offsets, key.algorithm())?;
-    compared(bytes, offset, &attribute, key)
+    let kept = checked(bytes, offsets, key.algorithm())?;
+    compared(bytes, kept, key)
 }

@@ -5,8 +5,6 @@
 mod engine;
 mod program;
 mod reply;
-#[cfg(test)]
-mod tests;
 
 use program::{end_without_arguments, run_on, status_of};
 use std::env;

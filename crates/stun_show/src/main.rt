@@ -4,8 +4,6 @@
 mod engine;
 mod program;
 mod report;
-#[cfg(test)]
-mod tests;
 
 use program::{end_without_arguments, run_on, status_of};
 use std::env;

@@ -1,8 +1,5 @@
 //! Attributes and functions as a user of `stun_types` writes them, and what is proved of the
-//! messages that they write and read.
-//!
-//! The tests run the examples of the README, and compare what these functions write with bytes that
-//! are spelled out.
+//! messages that they write and read. Their tests are in `writing_tests`.
 #![tactic(auto)]
 
 mod blob;
@@ -13,8 +10,6 @@ mod lent;
 mod my_attribute;
 mod request;
 mod room;
-#[cfg(test)]
-mod tests;
 mod whose;
 mod write_fixed;
 

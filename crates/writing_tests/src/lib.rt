@@ -1,5 +1,5 @@
 //! Tests of what is written: attributes, messages in a vector and in a slice, replies,
-//! signatures, and runs of steps.
+//! signatures, and runs of steps, also by a user's own attributes, writers and functions.
 #![tactic(auto)]
 
 #[cfg(test)]
@@ -14,5 +14,7 @@ mod signing;
 mod slice;
 #[cfg(test)]
 mod steps;
+#[cfg(test)]
+mod users;
 #[cfg(test)]
 mod vector;

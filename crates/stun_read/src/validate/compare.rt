@@ -5,22 +5,20 @@ ghost use Rattle.std.specs.Prelude.{◌≡◌, ◌≤◌, None, length, take, na
 ghost use Rattle.stun_grammar.specs.Hmac.{hmac};
 ghost use Rattle.stun_grammar.specs.Verdicts.{algorithm_of, hmac_fault, covered_bytes, verdict_on};
 ghost use Rattle.stun_keys.specs.Keys.{key_bytes};
-ghost use Rattle.stun_attrs.specs.Raw.{raw_type, raw_value};
-ghost use Rattle.stun_read.specs.Validating.{shown_at};
+ghost use Rattle.stun_read.specs.Validating.{shown_kept};
 
-use crate::endings::type_number;
-use stun_attrs::RawAttribute;
+use crate::kept::Kept;
 use stun_base::ValidateError;
 use stun_grammar::IntegrityAlgorithm;
 use stun_grammar::attribute_types::MESSAGE_INTEGRITY;
 use stun_integrity::{hmac_sha1_at, hmac_sha256_at, same_bytes};
 use stun_keys::keys::IntegrityKey;
 
-/// The algorithm of an integrity attribute.
-pub(super) fn algorithm_for(attribute: &RawAttribute<'_>) -> IntegrityAlgorithm
-    ensures { result ≡ algorithm_of (raw_type attribute.now) }
+/// The algorithm of the integrity attribute of a type.
+pub(super) fn algorithm_for(atype: u16) -> IntegrityAlgorithm
+    ensures { result ≡ algorithm_of atype }
 {
-    if type_number(attribute) == MESSAGE_INTEGRITY {
+    if atype == MESSAGE_INTEGRITY {
         IntegrityAlgorithm::Sha1
     } else {
         IntegrityAlgorithm::Sha256
@@ -58,22 +56,19 @@ fn is_right(
 }
 
 /// Compares the value of an integrity attribute with the HMAC of the bytes that it covers, and
-/// returns its algorithm. The attribute's header is at `offset`.
+/// returns its algorithm.
 pub(super) fn compared(
     bytes: &[u8],
-    offset: usize,
-    attribute: &RawAttribute<'_>,
+    kept: Kept<'_>,
     key: &IntegrityKey,
 ) -> Result<IntegrityAlgorithm, ValidateError>
-    requires header { 20 ≤ offset }
-    requires within { offset ≤ length bytes.now }
-    requires lawful { hmac_fault (algorithm_of (raw_type attribute.now))
-        (length (raw_value attribute.now)) ≡ None }
-    ensures { result
-        ≡ verdict_on (λ _. key_bytes key.now) bytes.now (shown_at offset attribute.now) }
+    requires header { 20 ≤ kept.offset }
+    requires within { kept.offset ≤ length bytes.now }
+    requires lawful { hmac_fault (algorithm_of kept.atype) (length kept.value.now) ≡ None }
+    ensures { result ≡ verdict_on (λ _. key_bytes key.now) bytes.now (shown_kept kept.entry) }
 {
-    let algorithm = algorithm_for(attribute);
-    if !is_right(bytes, offset, attribute.value().as_bytes(), algorithm, key) {
+    let algorithm = algorithm_for(kept.atype);
+    if !is_right(bytes, kept.offset, kept.value, algorithm, key) {
         return Err(ValidateError::IntegrityFailed);
     }
     Ok(algorithm)

@@ -12,11 +12,11 @@ use Rattle.stun_read.proofs.look_up.nth_raw.Goals as goal
 
 pub returns-then-wanted-eq-MESSAGE_INTEGRITY : goal.returns-then-wanted-eq-MESSAGE_INTEGRITY
 returns-then-wanted-eq-MESSAGE_INTEGRITY c =
-    found_kept Sha1 c.args.bytes.now c.args.atype.0 c.args.n c.last_integrity.result (sym c.value-wanted.ensures ∙ c.if-wanted-eq-MESSAGE_INTEGRITY.true) c.if-n-eq0.true c.last_integrity.ensures
+    found_kept Sha1 c.args.bytes.now c.args.atype.0 c.args.n c.integrity_raw.result (sym c.value-wanted.ensures ∙ c.if-wanted-eq-MESSAGE_INTEGRITY.true) c.if-n-eq0.true c.integrity_raw.ensures
 
 pub returns-then-wanted-eq-MESSAGE_INTEGRITY_SHA256 : goal.returns-then-wanted-eq-MESSAGE_INTEGRITY_SHA256
 returns-then-wanted-eq-MESSAGE_INTEGRITY_SHA256 c =
-    found_kept Sha256 c.args.bytes.now c.args.atype.0 c.args.n c.last_integrity-then-wanted-eq-MESSAGE_INTEGRITY_SHA256.result (sym c.value-wanted.ensures ∙ c.if-wanted-eq-MESSAGE_INTEGRITY_SHA256.true) c.if-n-eq0-2.true c.last_integrity-then-wanted-eq-MESSAGE_INTEGRITY_SHA256.ensures
+    found_kept Sha256 c.args.bytes.now c.args.atype.0 c.args.n c.integrity_raw-then-wanted-eq-MESSAGE_INTEGRITY_SHA256.result (sym c.value-wanted.ensures ∙ c.if-wanted-eq-MESSAGE_INTEGRITY_SHA256.true) c.if-n-eq0-2.true c.integrity_raw-then-wanted-eq-MESSAGE_INTEGRITY_SHA256.ensures
 
 pub returns : goal.returns
 returns c =

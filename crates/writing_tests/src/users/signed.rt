@@ -1,7 +1,6 @@
 //! A message that is written by steps, and validates as one that was sent; and a header behind
 //! which attributes are added.
 
-use crate::{header_behind_adds, validates_own};
 use std::alloc::Global;
 use std::test::Fail;
 use stun_samples::short_term;
@@ -11,6 +10,7 @@ use stun_types::message::{
     MessageWriteVec, Method, Step, StunWriteError, TransactionId, ValidateError,
 };
 use stun_types::prelude::*;
+use stun_vectors::{header_behind_adds, validates_own};
 
 /// An error of the method 0x0ABC.
 fn odd_type() -> MessageType {

@@ -3,13 +3,13 @@
 ghost use Rattle.std.specs.Prelude.{◌≡◌, []};
 ghost use Rattle.stun_grammar.specs.Adding.{Fits};
 
-use crate::{Blob, WriteFixed};
 use std::test::Fail;
 use stun_base::binding_request;
 use stun_types::message::{
     Message, MessageWriteMutSlice, MessageWriteVec, StunWriteError, TransactionId,
 };
 use stun_types::prelude::*;
+use stun_vectors::{Blob, WriteFixed};
 
 #[test]
 fn writes_a_lent_value(rt: HostRuntime) -> Result<(), Fail> {

@@ -5,7 +5,6 @@
 ghost use Rattle.std.specs.Prelude.{◌≡◌, []};
 ghost use Rattle.stun_grammar.specs.Adding.{Fits};
 
-use crate::WriteFixed;
 use std::alloc::Global;
 use std::net::{IpAddr, Ipv4Addr, Ipv6Addr, SocketAddr};
 use std::test::Fail;
@@ -19,6 +18,7 @@ use stun_types::message::{
 use stun_types::prelude::*;
 use stun_types::show::Registry;
 use stun_types::{attribute_display, show};
+use stun_vectors::WriteFixed;
 use turn_attrs::{Lifetime, PeerData, XorPeerAddress};
 
 /// An indication of the method 6 with the transaction ID 1000: a LIFETIME of 600 seconds, the

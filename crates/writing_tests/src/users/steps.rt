@@ -4,7 +4,6 @@
 ghost use Rattle.std.specs.Prelude.{◌≡◌, ◌≤◌, []};
 ghost use Rattle.stun_grammar.specs.Adding.{Fits};
 
-use crate::{Blob, WriteFixed, steps_in_array};
 use std::alloc::Global;
 use std::test::Fail;
 use stun_base::binding_request;
@@ -15,6 +14,7 @@ use stun_types::message::{
     Step, StunWriteError, TransactionId, write_steps_into,
 };
 use stun_types::prelude::*;
+use stun_vectors::{Blob, WriteFixed, steps_in_array};
 
 /// What a step is answered.
 type Verdict = Result<(), StunWriteError>;

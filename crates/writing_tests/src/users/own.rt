@@ -1,6 +1,5 @@
 //! An attribute of a user's own.
 
-use crate::MyAttribute;
 use std::test::Fail;
 use stun_types::attribute::{AttributeType, RawAttribute};
 use stun_types::attribute_display;
@@ -8,6 +7,7 @@ use stun_types::data::Data;
 use stun_types::message::StunParseError;
 use stun_types::prelude::*;
 use stun_types::show::{Registry, Shown};
+use stun_vectors::MyAttribute;
 
 #[test]
 fn reads_and_writes_an_attribute_of_ones_own(rt: HostRuntime) -> Result<(), Fail> {

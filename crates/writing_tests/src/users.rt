@@ -1,0 +1,10 @@
+//! The examples of the README, and what is written and read by way of a user's own attributes,
+//! writers and functions.
+
+mod example;
+mod limits;
+mod own;
+mod signed;
+mod steps;
+mod turn;
+mod written;
