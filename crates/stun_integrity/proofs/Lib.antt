@@ -1,2 +1,3 @@
+mod CompareLemmas
 mod CoveredLemmas
 mod IntegrityLemmas
