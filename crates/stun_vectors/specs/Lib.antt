@@ -1,2 +1,4 @@
 pub mod MyValue
 pub mod Whose
+pub mod Room
+pub mod InSlice

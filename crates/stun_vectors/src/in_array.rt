@@ -1,9 +1,7 @@
 //! Writing a message into an array.
 
-ghost use Rattle.std.specs.Prelude.{◌≡◌, ◌≤◌, [], All, IsOk, None, length};
-ghost use Rattle.stun_grammar.specs.Parsing.{parse_fault};
-ghost use Rattle.stun_grammar.specs.Sending.{sent_encoding, IsLawfulSent};
-ghost use Rattle.stun_write.specs.Runs.{AddsOrdinary, sent};
+ghost use Rattle.std.specs.Prelude.{◌≡◌, ◌≤◌, [], All, IsOk, length};
+ghost use Rattle.stun_write.specs.Runs.{AddsOrdinary, Writes};
 
 use crate::WriteFixed;
 use std::alloc::Global;
@@ -30,11 +28,9 @@ pub fn steps_in_array<const N: usize>(
     requires count { length verdicts.old ≡ length steps.now }
     requires ordinary { All (AddsOrdinary (λ o. atype o.now)) steps.now }
     ensures ok { IsOk result }
-    ensures encoding { (⟦<WriteFixed<N> as MessageWrite>⟧.state write.new).bytes ≡ sent_encoding
-        (sent (λ o. atype o.now) (λ o. value o.now) mtype id steps.now verdicts.new) }
-    ensures lawful { IsLawfulSent
-        (sent (λ o. atype o.now) (λ o. value o.now) mtype id steps.now verdicts.new) }
-    ensures parses { parse_fault (⟦<WriteFixed<N> as MessageWrite>⟧.state write.new).bytes ≡ None }
+    ensures writes { Writes (λ o. atype o.now) (λ o. value o.now)
+        (⟦<WriteFixed<N> as MessageWrite>⟧.state write.old)
+        (⟦<WriteFixed<N> as MessageWrite>⟧.state write.new) mtype id steps.now verdicts.new }
 {
     write_steps_into(alloc, mtype, id, steps, verdicts, write)
 }

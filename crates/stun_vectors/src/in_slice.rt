@@ -7,6 +7,7 @@ ghost use Rattle.stun_grammar.specs.Steps.{add};
 ghost use Rattle.stun_texts.specs.Texts.{text_bytes};
 ghost use Rattle.stun_grammar.specs.Adding.{Fits, appended, whole, room_refusal, add_refusal, IsAddAnswer};
 ghost use Rattle.stun_write.specs.Writers.{Allocates};
+ghost use Rattle.stun_vectors.specs.InSlice.{WritesSoftware};
 
 use std::alloc::Global;
 use stun_base::binding_request;
@@ -51,18 +52,8 @@ fn write_software<B: MessageWrite>(
         ((B.state message.old).ready_bytes
         < 20 + attribute_length (length (text_bytes software.now))
         ⊎ (B.state message.old).ready_types < 1) result }
-    ensures encoding { OnOk result ((B.state message.new).bytes
-        ≡ message_encoding 0x0001 id (canonical 0x8022 (text_bytes software.now) ∷ [])) }
-    ensures length { OnOk result (length (B.state message.new).bytes
-        ≡ 20 + attribute_length (length (text_bytes software.now))) }
-    ensures rest { OnOk result ((B.state message.new).rest
-        ≡ drop (20 + attribute_length (length (text_bytes software.now)))
-        (B.state message.old).rest) }
-    ensures header_alone { OnErr result
-        ((B.state message.new).bytes ≡ message_encoding 0x0001 id []) }
-    ensures rest_err { OnErr result
-        ((B.state message.new).rest ≡ drop 20 (B.state message.old).rest) }
-    ensures place { (B.state message.new).place ≡ (B.state message.old).place }
+    ensures writes { WritesSoftware result (B.state message.old) (B.state message.new) id
+        (text_bytes software.now) }
     ensures short { length (text_bytes software.now) ≤ 763 }
 {
     // the law by which an encoding with one more attribute appended is an encoding

@@ -1,9 +1,10 @@
 //! Adding attributes without taking memory.
 
-ghost use Rattle.std.specs.Prelude.{◌≡◌, ◌+◌, ◌<◌, ◌≤◌, ◌⊎◌, [], ◌∷◌, ◌++◌, None, IsOk, OnOk, length};
+ghost use Rattle.std.specs.Prelude.{◌≡◌, ℕ, ◌+◌, ◌<◌, ◌≤◌, ◌⊎◌, [], ◌∷◌, ◌++◌, None, IsOk, OnOk, length};
 ghost use Rattle.stun_grammar.specs.Steps.{add};
-ghost use Rattle.stun_grammar.specs.Adding.{order_refusal, add_refusal, IsAddAnswer};
+ghost use Rattle.stun_grammar.specs.Adding.{add_refusal, IsAddAnswer};
 ghost use Rattle.stun_write.specs.Writers.{Allocates, Adds};
+ghost use Rattle.stun_vectors.specs.Room.{HasReady};
 
 use std::alloc::Global;
 use stun_base::binding_request;
@@ -71,18 +72,12 @@ fn add_use_candidate<B: MessageWrite>(message: &mut B) -> Result<(), StunWriteEr
 
 /// Adds a USE-CANDIDATE for which there is room. It succeeds, and no attribute bars the next one.
 fn add_within_room<B: MessageWrite>(message: &mut B) -> Result<(), StunWriteError>
-    requires order { order_refusal (add 0x0025 []) (B.state message.old).types ≡ None }
-    requires header { 20 ≤ length (B.state message.old).bytes }
+    requires room { HasReady (B.state message.old) 1 }
     requires short { length (B.state message.old).bytes ≤ 80 }
-    requires unbounded { (B.state message.old).greatest ≡ None }
-    requires ready_bytes { 4 ≤ (B.state message.old).ready_bytes }
-    requires ready_types { 1 ≤ (B.state message.old).ready_types }
     ensures added { IsOk result }
     ensures length { length (B.state message.new).bytes ≡ length (B.state message.old).bytes + 4 }
-    ensures order { order_refusal (add 0x0025 []) (B.state message.new).types ≡ None }
-    ensures unbounded { (B.state message.new).greatest ≡ None }
-    ensures bytes_left { (B.state message.old).ready_bytes ≤ (B.state message.new).ready_bytes + 4 }
-    ensures types_left { (B.state message.old).ready_types ≤ (B.state message.new).ready_types + 1 }
+    ensures room { (n : ℕ) → HasReady (B.state message.old) (n + 1)
+        → HasReady (B.state message.new) n }
 {
     add_use_candidate(message)
 }

@@ -1,8 +1,9 @@
 -- A run of steps that write one message: the verdict on each, and what the accepted ones write
 -- (RFC 8489, sections 5 and 14).
-use Rattle.std.specs.Prelude.{◌≡◌, ℕ, ◌+◌, ◌<◌, ◌⊎◌, false, List, [], ◌∷◌, ◌++◌, length, drop, None, Some, Result, Ok, Err}
+use Rattle.std.specs.Prelude.{◌≡◌, ℕ, ◌+◌, ◌<◌, ◌⊎◌, ◌≤◌, false, List, [], ◌∷◌, ◌++◌, length, drop, None, Some, Result, Ok, Err, IfOk, IfErr, IsOk, OnErr}
 use Rattle.std.specs.List.{list_any}
 use Rattle.stun_grammar.specs.declared.error.StunWriteError.{StunWriteError}
+use Rattle.stun_grammar.specs.declared.error.StunWriteError.TheVariants.{OutOfMemory}
 use Rattle.stun_grammar.specs.declared.integrity_algorithm.IntegrityAlgorithm.{IntegrityAlgorithm}
 use Rattle.stun_grammar.specs.Attributes.{Attribute, types}
 use Rattle.stun_grammar.specs.Verdicts.{is_wanted, verdict}
@@ -111,3 +112,15 @@ module _ {O : Type 0} (type_of : O → ℕ) (value_of : O → List ℕ) where
     pub fingerprint : first_fingerprint_fault new.bytes (shown new.bytes) ≡ None
     pub last : ValidatesLast (accepted steps verdicts) new.bytes
     pub own : ValidatesEach (accepted steps verdicts) new.bytes
+
+  -- a run writes its steps and stores their verdicts over those before, and `writer` is the writer
+  -- by what the run returns; or an allocation failed, which happens only where fewer than twenty
+  -- bytes are ready, and the verdicts stay
+  pub record Runs {R : Type 0} (writer : R → Writer) (result : Result R StunWriteError)
+      (old : Writer) (type id : ℕ) (steps : List (Step O))
+      (before verdicts : List (Result Unit StunWriteError)) : Type 0 where
+    pub writes : IfOk result (λ r. Writes old (writer r) type id steps verdicts)
+    pub count : length verdicts ≡ length before
+    pub same_verdicts : OnErr result (verdicts ≡ before)
+    pub err : IfErr result (λ e. e ≡ OutOfMemory)
+    pub succeeds : 20 ≤ old.ready_bytes → IsOk result

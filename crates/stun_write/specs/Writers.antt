@@ -1,6 +1,8 @@
 -- A writer as contracts see it, and what a call does to it (RFC 8489, sections 5 and 14).
-use Rattle.std.specs.Prelude.{◌≡◌, ℕ, ◌+◌, ◌<◌, ◌≤◌, ◌^◌, ◌⊎◌, true, List, [], ◌∷◌, ◌++◌, length, drop, Option, Result, OnOk, OnErr}
+use Rattle.std.specs.Prelude.{◌≡◌, ℕ, ◌+◌, ◌<◌, ◌≤◌, ◌^◌, ◌⊎◌, true, List, [], ◌∷◌, ◌++◌, length, drop, Option, Result, IfOk, IfErr, IsOk, OnOk, OnErr}
 use Rattle.std.specs.Borrow.{GName}
+use Rattle.stun_grammar.specs.declared.error.StunWriteError.{StunWriteError}
+use Rattle.stun_grammar.specs.declared.error.StunWriteError.TheVariants.{OutOfMemory}
 use Rattle.stun_grammar.specs.Headers.{is_header, type_field, id_field}
 use Rattle.stun_grammar.specs.Writing.{message_encoding, greatest_length}
 use Rattle.stun_grammar.specs.Attributes.{attribute_length}
@@ -77,6 +79,14 @@ pub record IsBegun (old new : Writer) (type id : ℕ) : Type 0 where
   pub types : new.types ≡ []
   pub rest : new.rest ≡ drop 20 old.rest
   pub keeps : Keeps old new 20 0
+
+-- a call begins a message, and `writer` is the writer by what the call returns; or an allocation
+-- failed, which happens only where fewer than twenty bytes are ready
+pub record Begins {R : Type 0} (writer : R → Writer) (result : Result R StunWriteError)
+    (old : Writer) (type id : ℕ) : Type 0 where
+  pub begun : IfOk result (λ r. IsBegun old (writer r) type id)
+  pub err : IfErr result (λ e. e ≡ OutOfMemory)
+  pub succeeds : 20 ≤ old.ready_bytes → IsOk result
 
 -- the attribute is appended, and the length field counts it
 pub record Gains (old new : Writer) (type : ℕ) (value : List ℕ) : Type 0 where

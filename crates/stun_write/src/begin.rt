@@ -1,9 +1,9 @@
 //! Beginning a message.
 
-ghost use Rattle.std.specs.Prelude.{◌≡◌, ◌^◌, ◌<◌, ◌≤◌, [], IfOk, IfErr, IsOk, OnOk, OnErr};
+ghost use Rattle.std.specs.Prelude.{◌≡◌, ◌^◌, ◌<◌, [], OnErr};
 ghost use Rattle.stun_grammar.specs.Writing.{message_encoding};
 ghost use Rattle.stun_grammar.specs.Adding.{Fits};
-ghost use Rattle.stun_write.specs.Writers.{IsBegun, IsUnchanged, Keeps};
+ghost use Rattle.stun_write.specs.Writers.{Begins, IsUnchanged, Keeps};
 
 use crate::MessageWrite;
 use byteorder::{BigEndian, ByteOrder};
@@ -41,9 +41,7 @@ pub fn begin_message<B: MessageWrite + Drop>(
 ) -> Result<B, StunWriteError>
     requires empty { (B.state write).bytes ≡ [] }
     requires room { Fits (B.state write).greatest 20 }
-    ensures begun { IfOk result (λ w. IsBegun (B.state write) (B.state w) mtype transaction_id) }
-    ensures err { IfErr result (λ e. e ≡ StunWriteError.OutOfMemory) }
-    ensures succeeds { 20 ≤ (B.state write).ready_bytes → IsOk result }
+    ensures { Begins (λ w. B.state w) result (B.state write) mtype transaction_id }
 {
     begin_message_into(mtype, transaction_id, &mut write)?;
     Ok(write)
@@ -63,12 +61,10 @@ pub fn begin_message_into<B: MessageWrite>(
 ) -> Result<(), StunWriteError>
     requires empty { (B.state write.old).bytes ≡ [] }
     requires room { Fits (B.state write.old).greatest 20 }
-    ensures begun { OnOk result
-        (IsBegun (B.state write.old) (B.state write.new) mtype transaction_id) }
+    ensures begins { Begins (λ _. B.state write.new) result (B.state write.old)
+        mtype transaction_id }
     ensures same { OnErr result (IsUnchanged (B.state write.old) (B.state write.new)) }
     ensures keeps { Keeps (B.state write.old) (B.state write.new) 20 0 }
-    ensures err { IfErr result (λ e. e ≡ StunWriteError.OutOfMemory) }
-    ensures succeeds { 20 ≤ (B.state write.old).ready_bytes → IsOk result }
 {
     // by the contract of `data`, a writer without bytes has no attributes
     let _no_types = write.data();

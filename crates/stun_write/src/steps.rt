@@ -1,10 +1,10 @@
 //! Writing one message by a list of steps.
 
-ghost use Rattle.std.specs.Prelude.{◌≡◌, ◌≤◌, ◌⊎◌, [], All, IfOk, IfErr, IsOk, OnOk, OnErr, length};
+ghost use Rattle.std.specs.Prelude.{◌≡◌, ◌⊎◌, [], All, OnErr, length};
 ghost use Rattle.stun_grammar.specs.Steps.{appended_by, IsLawful, value_length};
 ghost use Rattle.stun_grammar.specs.Adding.{Fits, add_refusal, IsAddAnswer};
 ghost use Rattle.stun_write.specs.Writers.{Allocates, Adds, IsUnchanged};
-ghost use Rattle.stun_write.specs.Runs.{plain, AddsOrdinary, MakesKey, Writes};
+ghost use Rattle.stun_write.specs.Runs.{plain, AddsOrdinary, MakesKey, Runs};
 
 use crate::{MessageWrite, MessageWriteExt, begin_message_into};
 use std::alloc::Global;
@@ -74,13 +74,9 @@ pub fn write_steps_into<B: MessageWrite>(
     requires empty { (B.state write.old).bytes ≡ [] }
     requires room { Fits (B.state write.old).greatest 20 }
     requires ordinary { All (AddsOrdinary (λ o. atype o.now)) steps.now }
-    ensures writes { OnOk result (Writes (λ o. atype o.now) (λ o. value o.now)
-        (B.state write.old) (B.state write.new) mtype id steps.now verdicts.new) }
-    ensures count { length verdicts.new ≡ length verdicts.old }
+    ensures runs { Runs (λ o. atype o.now) (λ o. value o.now) (λ _. B.state write.new) result
+        (B.state write.old) mtype id steps.now verdicts.old verdicts.new }
     ensures same { OnErr result (IsUnchanged (B.state write.old) (B.state write.new)) }
-    ensures same_verdicts { OnErr result (verdicts.new ≡ verdicts.old) }
-    ensures err { IfErr result (λ e. e ≡ StunWriteError.OutOfMemory) }
-    ensures succeeds { 20 ≤ (B.state write.old).ready_bytes → IsOk result }
 {
     begin_message_into(mtype, id, write)?;
     for i in 0..steps.len() {
@@ -136,12 +132,8 @@ pub fn write_steps<B: MessageWrite + Drop>(
     requires empty { (B.state write).bytes ≡ [] }
     requires room { Fits (B.state write).greatest 20 }
     requires ordinary { All (AddsOrdinary (λ o. atype o.now)) steps.now }
-    ensures writes { IfOk result (λ w. Writes (λ o. atype o.now) (λ o. value o.now)
-        (B.state write) (B.state w) mtype id steps.now verdicts.new) }
-    ensures count { length verdicts.new ≡ length verdicts.old }
-    ensures same_verdicts { OnErr result (verdicts.new ≡ verdicts.old) }
-    ensures err { IfErr result (λ e. e ≡ StunWriteError.OutOfMemory) }
-    ensures succeeds { 20 ≤ (B.state write).ready_bytes → IsOk result }
+    ensures { Runs (λ o. atype o.now) (λ o. value o.now) (λ w. B.state w) result
+        (B.state write) mtype id steps.now verdicts.old verdicts.new }
 {
     write_steps_into(alloc, mtype, id, steps, verdicts, &mut write)?;
     Ok(write)

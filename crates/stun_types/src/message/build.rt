@@ -1,11 +1,11 @@
 //! Beginning a message.
 
-ghost use Rattle.std.specs.Prelude.{◌≡◌, ◌≤◌, [], IfOk, IfErr, IsOk, OnOk, OnErr};
+ghost use Rattle.std.specs.Prelude.{◌≡◌, [], OnErr};
 ghost use Rattle.stun_grammar.specs.Adding.{Fits};
 ghost use Rattle.stun_base.specs.Types.{type_of};
 ghost use Rattle.stun_base.specs.declared.message_type.MessageClass.TheVariants.{Request, Indication};
 ghost use Rattle.stun_base.specs.Drawing.{drawn_id};
-ghost use Rattle.stun_write.specs.Writers.{IsBegun, IsUnchanged, Keeps};
+ghost use Rattle.stun_write.specs.Writers.{Begins, IsUnchanged, Keeps};
 
 use super::Message;
 use rand_core::Rng;
@@ -35,10 +35,7 @@ impl Message<'_> {
     ) -> Result<B, StunWriteError>
         requires empty { (B.state write).bytes ≡ [] }
         requires room { Fits (B.state write).greatest 20 }
-        ensures begun { IfOk result
-            (λ w. IsBegun (B.state write) (B.state w) mtype transaction_id) }
-        ensures err { IfErr result (λ e. e ≡ StunWriteError.OutOfMemory) }
-        ensures succeeds { 20 ≤ (B.state write).ready_bytes → IsOk result }
+        ensures { Begins (λ w. B.state w) result (B.state write) mtype transaction_id }
     {
         begin_message(mtype, transaction_id, write)
     }
@@ -57,12 +54,10 @@ impl Message<'_> {
     ) -> Result<(), StunWriteError>
         requires empty { (B.state write.old).bytes ≡ [] }
         requires room { Fits (B.state write.old).greatest 20 }
-        ensures begun { OnOk result
-            (IsBegun (B.state write.old) (B.state write.new) mtype transaction_id) }
+        ensures begins { Begins (λ _. B.state write.new) result (B.state write.old)
+            mtype transaction_id }
         ensures same { OnErr result (IsUnchanged (B.state write.old) (B.state write.new)) }
         ensures keeps { Keeps (B.state write.old) (B.state write.new) 20 0 }
-        ensures err { IfErr result (λ e. e ≡ StunWriteError.OutOfMemory) }
-        ensures succeeds { 20 ≤ (B.state write.old).ready_bytes → IsOk result }
     {
         begin_message_into(mtype, transaction_id, write)
     }
@@ -81,12 +76,9 @@ impl Message<'_> {
     ) -> Result<B, StunWriteError>
         requires empty { (B.state write).bytes ≡ [] }
         requires room { Fits (B.state write).greatest 20 }
-        ensures begun { IfOk result
-            (λ w. IsBegun (B.state write) (B.state w) (type_of Request method)
-            (drawn_id (R.stream rng.old)).0) }
+        ensures begins { Begins (λ w. B.state w) result (B.state write)
+            (type_of Request method) (drawn_id (R.stream rng.old)).0 }
         ensures left { R.stream rng.new ≡ (drawn_id (R.stream rng.old)).1 }
-        ensures err { IfErr result (λ e. e ≡ StunWriteError.OutOfMemory) }
-        ensures succeeds { 20 ≤ (B.state write).ready_bytes → IsOk result }
     {
         Self::builder_request_into(method, rng, &mut write)?;
         Ok(write)
@@ -104,13 +96,11 @@ impl Message<'_> {
     ) -> Result<(), StunWriteError>
         requires empty { (B.state write.old).bytes ≡ [] }
         requires room { Fits (B.state write.old).greatest 20 }
-        ensures begun { OnOk result (IsBegun (B.state write.old) (B.state write.new)
-            (type_of Request method) (drawn_id (R.stream rng.old)).0) }
+        ensures begins { Begins (λ _. B.state write.new) result (B.state write.old)
+            (type_of Request method) (drawn_id (R.stream rng.old)).0 }
         ensures left { R.stream rng.new ≡ (drawn_id (R.stream rng.old)).1 }
         ensures same { OnErr result (IsUnchanged (B.state write.old) (B.state write.new)) }
         ensures keeps { Keeps (B.state write.old) (B.state write.new) 20 0 }
-        ensures err { IfErr result (λ e. e ≡ StunWriteError.OutOfMemory) }
-        ensures succeeds { 20 ≤ (B.state write.old).ready_bytes → IsOk result }
     {
         let mtype = MessageType::from_class_method(MessageClass::Request, method);
         Self::builder_into(mtype, TransactionId::generate(rng), write)
@@ -128,12 +118,9 @@ impl Message<'_> {
     ) -> Result<B, StunWriteError>
         requires empty { (B.state write).bytes ≡ [] }
         requires room { Fits (B.state write).greatest 20 }
-        ensures begun { IfOk result
-            (λ w. IsBegun (B.state write) (B.state w) (type_of Indication method)
-            (drawn_id (R.stream rng.old)).0) }
+        ensures begins { Begins (λ w. B.state w) result (B.state write)
+            (type_of Indication method) (drawn_id (R.stream rng.old)).0 }
         ensures left { R.stream rng.new ≡ (drawn_id (R.stream rng.old)).1 }
-        ensures err { IfErr result (λ e. e ≡ StunWriteError.OutOfMemory) }
-        ensures succeeds { 20 ≤ (B.state write).ready_bytes → IsOk result }
     {
         Self::builder_indication_into(method, rng, &mut write)?;
         Ok(write)
@@ -151,13 +138,11 @@ impl Message<'_> {
     ) -> Result<(), StunWriteError>
         requires empty { (B.state write.old).bytes ≡ [] }
         requires room { Fits (B.state write.old).greatest 20 }
-        ensures begun { OnOk result (IsBegun (B.state write.old) (B.state write.new)
-            (type_of Indication method) (drawn_id (R.stream rng.old)).0) }
+        ensures begins { Begins (λ _. B.state write.new) result (B.state write.old)
+            (type_of Indication method) (drawn_id (R.stream rng.old)).0 }
         ensures left { R.stream rng.new ≡ (drawn_id (R.stream rng.old)).1 }
         ensures same { OnErr result (IsUnchanged (B.state write.old) (B.state write.new)) }
         ensures keeps { Keeps (B.state write.old) (B.state write.new) 20 0 }
-        ensures err { IfErr result (λ e. e ≡ StunWriteError.OutOfMemory) }
-        ensures succeeds { 20 ≤ (B.state write.old).ready_bytes → IsOk result }
     {
         let mtype = MessageType::from_class_method(MessageClass::Indication, method);
         Self::builder_into(mtype, TransactionId::generate(rng), write)

@@ -16,7 +16,7 @@ ghost use Rattle.stun_values.specs.Errors.{making_fault};
 ghost use Rattle.stun_values.specs.ErrorCodes.{error_code, error_reason};
 ghost use Rattle.stun_rules.specs.Types.{types_encoding};
 ghost use Rattle.stun_values.specs.Unknown.{listed};
-ghost use Rattle.stun_write.specs.Writers.{IsBegun, IsUnchanged, Keeps, KeepsHeader, Gains, Adds, Allocates};
+ghost use Rattle.stun_write.specs.Writers.{Begins, IsUnchanged, Keeps, KeepsHeader, Gains, Adds, Allocates};
 ghost use Rattle.stun_types.specs.Message.{message_bytes};
 ghost use Rattle.stun_types.specs.Replies.{Answers, response_type, own_software, error_attribute, bad_reply, unknown_reply, is_unknown, unknown_types, lacks, check_reply, IsReply, IsReplyAnswer, Replies, AddsMade};
 
@@ -187,11 +187,8 @@ impl Message<'_> {
         requires request { class_of (type_field (message_bytes orig.now)) ≡ Request }
         requires empty { (B.state write).bytes ≡ [] }
         requires room { Fits (B.state write).greatest 20 }
-        ensures begun { let d = message_bytes orig.now in
-            IfOk result (λ w. IsBegun (B.state write) (B.state w)
-            (response_type Success d) (id_field d)) }
-        ensures err { IfErr result (λ e. e ≡ StunWriteError.OutOfMemory) }
-        ensures succeeds { 20 ≤ (B.state write).ready_bytes → IsOk result }
+        ensures { let d = message_bytes orig.now in
+            Begins (λ w. B.state w) result (B.state write) (response_type Success d) (id_field d) }
     {
         Self::builder_success_into(orig, &mut write)?;
         Ok(write)
@@ -209,13 +206,11 @@ impl Message<'_> {
         requires request { class_of (type_field (message_bytes orig.now)) ≡ Request }
         requires empty { (B.state write.old).bytes ≡ [] }
         requires room { Fits (B.state write.old).greatest 20 }
-        ensures begun { let d = message_bytes orig.now in
-            OnOk result (IsBegun (B.state write.old) (B.state write.new)
-            (response_type Success d) (id_field d)) }
+        ensures begins { let d = message_bytes orig.now in
+            Begins (λ _. B.state write.new) result (B.state write.old)
+            (response_type Success d) (id_field d) }
         ensures same { OnErr result (IsUnchanged (B.state write.old) (B.state write.new)) }
         ensures keeps { Keeps (B.state write.old) (B.state write.new) 20 0 }
-        ensures err { IfErr result (λ e. e ≡ StunWriteError.OutOfMemory) }
-        ensures succeeds { 20 ≤ (B.state write.old).ready_bytes → IsOk result }
     {
         let mtype = MessageType::from_class_method(MessageClass::Success, orig.method());
         Self::builder_into(mtype, orig.transaction_id(), write)
@@ -234,11 +229,8 @@ impl Message<'_> {
         requires request { class_of (type_field (message_bytes orig.now)) ≡ Request }
         requires empty { (B.state write).bytes ≡ [] }
         requires room { Fits (B.state write).greatest 20 }
-        ensures begun { let d = message_bytes orig.now in
-            IfOk result (λ w. IsBegun (B.state write) (B.state w)
-            (response_type ErrorClass d) (id_field d)) }
-        ensures err { IfErr result (λ e. e ≡ StunWriteError.OutOfMemory) }
-        ensures succeeds { 20 ≤ (B.state write).ready_bytes → IsOk result }
+        ensures { let d = message_bytes orig.now in
+            Begins (λ w. B.state w) result (B.state write) (response_type ErrorClass d) (id_field d) }
     {
         Self::builder_error_into(orig, &mut write)?;
         Ok(write)
@@ -256,13 +248,11 @@ impl Message<'_> {
         requires request { class_of (type_field (message_bytes orig.now)) ≡ Request }
         requires empty { (B.state write.old).bytes ≡ [] }
         requires room { Fits (B.state write.old).greatest 20 }
-        ensures begun { let d = message_bytes orig.now in
-            OnOk result (IsBegun (B.state write.old) (B.state write.new)
-            (response_type ErrorClass d) (id_field d)) }
+        ensures begins { let d = message_bytes orig.now in
+            Begins (λ _. B.state write.new) result (B.state write.old)
+            (response_type ErrorClass d) (id_field d) }
         ensures same { OnErr result (IsUnchanged (B.state write.old) (B.state write.new)) }
         ensures keeps { Keeps (B.state write.old) (B.state write.new) 20 0 }
-        ensures err { IfErr result (λ e. e ≡ StunWriteError.OutOfMemory) }
-        ensures succeeds { 20 ≤ (B.state write.old).ready_bytes → IsOk result }
     {
         let mtype = MessageType::from_class_method(MessageClass::Error, orig.method());
         Self::builder_into(mtype, orig.transaction_id(), write)

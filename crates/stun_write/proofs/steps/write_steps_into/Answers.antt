@@ -1,4 +1,4 @@
-use Rattle.std.proofs.Common.{ℕ, ◌<◌, [], length, drop, sym, ap, arith, ◌∙◌}
+use Rattle.std.proofs.Common.{ℕ, ◌<◌, [], length, drop, refl, sym, ap, arith, ◌∙◌}
 use Rattle.std.proofs.lemmas.Grind.{common_steps}
 use Rattle.std.proofs.lemmas.List.{drop-drop}
 use Rattle.stun_grammar.specs.Writing.{message_encoding}
@@ -8,7 +8,7 @@ use Rattle.stun_write.proofs.steps.write_steps_into.Goals as goal
 
 pub loop-i-init : goal.loop-i-init
 loop-i-init g c =
-    let begun = c.in_ok-begin_message_into.ensures.begun in
+    let begun = c.in_ok-begin_message_into.ensures.begins.begun in
     let none = sym (body_none c.args.mtype c.args.id []) in
     record {
       so_far = record {
@@ -53,5 +53,11 @@ loop-i-preserved g c =
       count = grind (arith, common_steps);
     }
 
-pub returns-clause-writes : goal.returns-clause-writes
-returns-clause-writes g c = writes_all _ _ _ _ _ _ _ _ c.loop-i.i (omega arith) c.loop-i.invariant.count c.loop-i.invariant.so_far
+pub returns-clause-runs : goal.returns-clause-runs
+returns-clause-runs g c = record {
+  writes = writes_all _ _ _ _ _ _ _ _ c.loop-i.i (omega arith) c.loop-i.invariant.count c.loop-i.invariant.so_far;
+  count = c.loop-i.invariant.count ∙ sym c.requires.count;
+  same_verdicts = tt;
+  err = tt;
+  succeeds = λ _. refl;
+}

@@ -7,9 +7,9 @@ use Rattle.stun_types.proofs.message.read.Message.bad_request_into.Goals as goal
 pub returns-in_err-add_software-clause-replies : goal.returns-in_err-add_software-clause-replies
 returns-in_err-add_software-clause-replies g c =
     let state = g.B.MessageWrite.state in
-    software_refused _ (state c.args.write.now) (state c.builder_error_into.new.write) (state c.add_software.new.write) (message_bytes c.args.src.now) _ c.add_software.result _ c.in_ok-builder_error_into.ensures.begun c.add_software.ensures c.in_err-add_software.was (search rules)
+    software_refused _ (state c.args.write.now) (state c.builder_error_into.new.write) (state c.add_software.new.write) (message_bytes c.args.src.now) _ c.add_software.result _ c.in_ok-builder_error_into.ensures.begins.begun c.add_software.ensures c.in_err-add_software.was (search rules)
 
 pub returns-clause-replies : goal.returns-clause-replies
 returns-clause-replies g c =
     let state = g.B.MessageWrite.state in
-    error_last 400 (codes "Bad Request") (state c.args.write.now) (state c.builder_error_into.new.write) (state c.add_software.new.write) (state c.add_error.new.write) (message_bytes c.args.src.now) c.add_software.result _ c.add_error.result c.in_ok-builder_error_into.ensures.begun c.add_software.ensures c.in_ok-add_software.was c.add_error.ensures
+    error_last 400 (codes "Bad Request") (state c.args.write.now) (state c.builder_error_into.new.write) (state c.add_software.new.write) (state c.add_error.new.write) (message_bytes c.args.src.now) c.add_software.result _ c.add_error.result c.in_ok-builder_error_into.ensures.begins.begun c.add_software.ensures c.in_ok-add_software.was c.add_error.ensures
