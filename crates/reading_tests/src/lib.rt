@@ -1,6 +1,7 @@
 //! Tests of what `stun_types` reads and validates: headers, types, transaction IDs, raw attributes
 //! and messages, what the errors print, checksums, HMACs and keys, and verdicts: also of messages
-//! with the ending attributes in every order, cut at every place, and with lengths that are far off.
+//! with the ending attributes in every order, cut at every place, and with lengths that are far
+//! off.
 #![tactic(auto)]
 
 #[cfg(test)]

@@ -71,7 +71,7 @@ fn shows_what_the_header_counts(rt: HostRuntime) -> Result<(), Fail> {
 
 /// The first bytes of a stream or of a buffer, and how many bytes the message has that they begin.
 #[rattlefmt::skip]
-static FRONTS: [(&str, &[u8], Result<Option<usize>, StunParseError>); 12] = [
+static PREFIXES: [(&str, &[u8], Result<Option<usize>, StunParseError>); 12] = [
     ("no bytes", &[], Ok(None)),
     ("a first byte", &[0x3F], Ok(None)),
     ("another first byte", &[0x40], Err(StunParseError::NotStun)),
@@ -95,8 +95,8 @@ static FRONTS: [(&str, &[u8], Result<Option<usize>, StunParseError>); 12] = [
 
 #[test]
 fn tells_how_long_a_message_is(rt: HostRuntime) {
-    for &(case, front, length) in &FRONTS {
-        assert!(rt; message_length(front) == length, "{case}");
+    for &(case, prefix, length) in &PREFIXES {
+        assert!(rt; message_length(prefix) == length, "{case}");
     }
 }
 

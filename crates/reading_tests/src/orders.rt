@@ -49,18 +49,18 @@ fn verdict(letters: &[Letter]) -> Result<IntegrityAlgorithm, ValidateError> {
     Err(ValidateError::Parse(StunParseError::MissingAttribute(AttributeType(0x0008))))
 }
 
-/// Whether the message of these letters shows their front alone, and validates by it.
+/// Whether the message of these letters shows their prefix alone, and validates by it.
 fn reads(
     alloc: Global,
     letters: &[Letter],
     bytes: &[u8],
     credentials: &MessageIntegrityCredentials,
 ) -> bool {
-    let front = &letters[..shown(letters).min(letters.len())];
+    let prefix = &letters[..shown(letters).min(letters.len())];
     let Ok(read) = Message::from_bytes(bytes) else {
         return false;
     };
-    shows(&read, front) && read.validate_integrity(alloc, credentials) == verdict(front)
+    shows(&read, prefix) && read.validate_integrity(alloc, credentials) == verdict(prefix)
 }
 
 /// Changes the last byte of every FINGERPRINT.
@@ -78,8 +78,8 @@ fn change_fingerprints(bytes: &mut [u8], letters: &[Letter]) {
 
 /// What is answered where every FINGERPRINT is wrong: one that is looked at is refused.
 fn with_wrong_fingerprints(letters: &[Letter]) -> Result<(), StunParseError> {
-    let front = &letters[..scanned(letters).min(letters.len())];
-    if front.contains(&Letter::F) {
+    let prefix = &letters[..scanned(letters).min(letters.len())];
+    if prefix.contains(&Letter::F) {
         return Err(StunParseError::FingerprintMismatch);
     }
     Ok(())

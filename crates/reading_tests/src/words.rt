@@ -141,7 +141,7 @@ fn ordinary(letters: &[Letter]) -> usize {
     letters.len()
 }
 
-/// How many letters are shown: the longest front of O and again O, then A or not, B or not, F or
+/// How many letters are shown: the longest prefix of O and again O, then A or not, B or not, F or
 /// not.
 pub(crate) fn shown(letters: &[Letter]) -> usize {
     let mut count = ordinary(letters);
@@ -153,14 +153,14 @@ pub(crate) fn shown(letters: &[Letter]) -> usize {
     count.min(letters.len())
 }
 
-/// How many letters are looked at: the longest front of O and again O, then different ones of A, B
+/// How many letters are looked at: the longest prefix of O and again O, then different ones of A, B
 /// and F in any order.
 pub(crate) fn scanned(letters: &[Letter]) -> usize {
-    let front = ordinary(letters).min(letters.len());
-    let endings = &letters[front..];
+    let prefix = ordinary(letters).min(letters.len());
+    let endings = &letters[prefix..];
     for i in 0..endings.len() {
         if endings[i] == Letter::O || endings[..i].contains(&endings[i]) {
-            return front + i;
+            return prefix + i;
         }
     }
     letters.len()

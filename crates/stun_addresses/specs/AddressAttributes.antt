@@ -26,5 +26,8 @@ written_mapped_addr mapped = written_addr mapped.addr
 -- ---- What reading answers
 
 -- the type and the value of an attribute of the wanted type that is an address
-abbrev pub ReadsAddress : {T : Type 0} → ℕ → (T → SocketAddr) → ℕ → List ℕ → Result T StunParseError → Type 0
-ReadsAddress wanted addr_of type value result = Reads (typed_fault wanted address_fault type value) (λ read. Spells value (addr_of read)) result
+abbrev pub ReadsAddress :
+    {T : Type 0} → ℕ → (T → SocketAddr) → ℕ → List ℕ → Result T StunParseError → Type 0
+ReadsAddress wanted addr_of type value result =
+    Reads (typed_fault wanted address_fault type value)
+    (λ read. Spells value (addr_of read)) result

@@ -1,3 +1,3 @@
-mod PrintedLemmas
+mod PrintedDataLemmas
 mod RawLemmas
 mod EncodingLemmas

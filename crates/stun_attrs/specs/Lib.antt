@@ -1,4 +1,4 @@
 pub mod Checks
-pub mod Printed
+pub mod PrintedAttributes
 pub mod Raw
 pub mod Reading

@@ -3,7 +3,7 @@
 ghost use Rattle.std.specs.Fmt.{WritesOnOk};
 ghost use Rattle.stun_base.specs.Data.{data_bytes, is_borrowed};
 ghost use Rattle.stun_attrs.specs.Raw.{raw_type, raw_data, raw_value};
-ghost use Rattle.stun_attrs.specs.Printed.{data_shown, length_and_data, malformed_text, untyped_text};
+ghost use Rattle.stun_attrs.specs.PrintedAttributes.{data_shown, length_and_data, malformed_text, untyped_text};
 
 use crate::{Attribute, RawAttribute};
 use std::fmt;
@@ -69,7 +69,7 @@ fn print_untyped<W: fmt::Write>(raw: &RawAttribute<'_>, f: &mut fmt::Formatter<W
 impl fmt::Display for RawAttribute<'_> {
     ghost use Rattle.stun_base.specs.Data.{is_borrowed};
     ghost use Rattle.stun_attrs.specs.Raw.{raw_type, raw_data, raw_value};
-    ghost use Rattle.stun_attrs.specs.Printed.{attribute_text};
+    ghost use Rattle.stun_attrs.specs.PrintedAttributes.{attribute_text};
 
     ghost output = { λ raw.
         attribute_text (raw_type raw) (raw_value raw) (is_borrowed (raw_data raw)) };

@@ -6,8 +6,8 @@ ghost use Rattle.stun_attrs.specs.Raw.{Finds};
 use crate::RawAttribute;
 use stun_base::{AttributeHeader, AttributeType, StunParseError, number_at, pad_attribute_len};
 
-/// Why an attribute is refused whose header is at `offset` in a message of `actual` bytes, and whose
-/// value of `length` bytes is cut off, or else the padding of that value.
+/// Why an attribute is refused whose header is at `offset` in a message of `actual` bytes, and
+/// whose value of `length` bytes is cut off, or else the padding of that value.
 #[cold]
 #[inline(never)]
 fn cut_off(offset: usize, length: usize, actual: usize) -> StunParseError

@@ -1,4 +1,4 @@
-pub mod Types
+pub mod MessageTypes
 pub mod Data
 pub mod Transports
 pub mod Drawing

@@ -2,7 +2,7 @@ ghost use Rattle.std.specs.Prelude.{◌≡◌, ◌+◌, ◌≤◌, ◌<◌, slic
 ghost use Rattle.std.specs.List.{list_all, zip};
 ghost use Rattle.stun_grammar.specs.Numbers.{be32, number};
 ghost use Rattle.stun_grammar.specs.Headers.{magic_cookie, is_header, begins, header_fault, id_field};
-ghost use Rattle.stun_base.specs.Types.{header_of};
+ghost use Rattle.stun_base.specs.MessageTypes.{header_of};
 
 use crate::{MAGIC_COOKIE, MessageType, TransactionId};
 use byteorder::{BigEndian, ByteOrder};
@@ -20,7 +20,7 @@ pub struct MessageHeader {
 }
 
 impl Model for MessageHeader {
-    ghost use Rattle.stun_base.specs.Types.{Header};
+    ghost use Rattle.stun_base.specs.MessageTypes.{Header};
 
     ghost Value = { Header };
 

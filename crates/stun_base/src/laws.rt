@@ -2,7 +2,7 @@
 
 ghost use Rattle.std.specs.Prelude.{◌≡◌, ℕ, ◌%◌, ◌^◌, ◌<◌};
 ghost use Rattle.stun_base.specs.declared.message_type.MessageClass.{MessageClass};
-ghost use Rattle.stun_base.specs.Types.{type_of, class_of, method_of};
+ghost use Rattle.stun_base.specs.MessageTypes.{type_of, class_of, method_of};
 
 use crate::{BINDING, MessageClass, MessageType};
 

@@ -3,7 +3,7 @@
 ghost use Rattle.std.specs.Prelude.{◌≡◌, ◌↔◌, ◌<◌, ◌≤◌, ◌++◌, ◌+◌, ◌^◌, IsTrue, Result, Ok, Err, IfOk, IfErr, length, drop, slice_range};
 ghost use Rattle.stun_grammar.specs.Numbers.{be16, number};
 ghost use Rattle.stun_grammar.specs.Names.{method_name};
-ghost use Rattle.stun_base.specs.Types.{type_of, class_of, method_of, class_bits, is_response as responds};
+ghost use Rattle.stun_base.specs.MessageTypes.{type_of, class_of, method_of, class_bits, is_response as responds};
 
 use byteorder::{BigEndian, ByteOrder};
 use std::alloc::Global;
@@ -120,7 +120,7 @@ impl MessageClass {
 /// The name of the class: `Request`, `Indication`, `Success` or `Error`.
 impl fmt::Debug for MessageClass {
     ghost use Rattle.std.specs.Prelude.{Some};
-    ghost use Rattle.stun_base.specs.Types.{class_name};
+    ghost use Rattle.stun_base.specs.MessageTypes.{class_name};
 
     ghost debug_output = { λ class. Some (class_name class) };
 
@@ -267,7 +267,7 @@ impl MessageType {
 /// `MessageType(class: Request, method: 1(0x1: BINDING)`.
 impl fmt::Display for MessageType {
     ghost use Rattle.std.specs.Prelude.{Some};
-    ghost use Rattle.stun_base.specs.Types.{message_type_text};
+    ghost use Rattle.stun_base.specs.MessageTypes.{message_type_text};
 
     ghost output = { λ mtype. Some (message_type_text mtype) };
 

@@ -79,7 +79,7 @@ impl From<TransactionId> for u128 {
 
 impl fmt::Display for TransactionId {
     ghost use Rattle.std.specs.Prelude.{Some};
-    ghost use Rattle.stun_base.specs.Types.{id_text};
+    ghost use Rattle.stun_base.specs.MessageTypes.{id_text};
 
     ghost output = { λ id. Some (id_text id) };
 

@@ -1,1 +1,1 @@
-mod PrefixesLemmas
+mod ParsedPrefixesLemmas

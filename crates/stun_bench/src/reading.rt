@@ -26,7 +26,7 @@ pub(crate) fn prefix(bytes: &[u8]) -> u32
 
 /// Parses a message: 2^40 plus the number of its first four bytes, or 0 where the bytes are
 /// refused.
-#[tactic(auto, using(crate::proofs::PrefixesLemmas::parsed_prefix))]
+#[tactic(auto, using(crate::proofs::ParsedPrefixesLemmas::parsed_prefix))]
 #[unsafe(no_mangle)]
 pub extern "C" fn stun_bench_parse(message: &[u8]) -> u64
     ensures { MatchOption (parse_fault message.now)

@@ -138,13 +138,13 @@ pub begins_whole : (b : List ℕ) → 20 ≤ length b → Begins b → is_header
 begins_whole b long (more, e) = sym (header_stays b more long) ∙ e
 
 -- bytes that begin with the same twenty, and are as many as those state, have a frame
-pub framed_whole : (front d : List ℕ) → Begins front → 20 ≤ length front → take 20 d ≡ take 20 front → length d ≡ 20 + length_field front → frame_fault d ≡ None
-framed_whole front d begun long same whole =
-    let of_front = first_twenty front long in
+pub framed_whole : (prefix d : List ℕ) → Begins prefix → 20 ≤ length prefix → take 20 d ≡ take 20 prefix → length d ≡ 20 + length_field prefix → frame_fault d ≡ None
+framed_whole prefix d begun long same whole =
+    let of_prefix = first_twenty prefix long in
     let least : 20 ≤ length d = omega (arith, whole) in
     let of_d = first_twenty d least in
-    let there : is_header d ≡ true = of_d.0 ∙ ap is_header same ∙ sym of_front.0 ∙ begins_whole front long begun in
-    let field : length_field d ≡ length_field front = of_d.1 ∙ ap length_field same ∙ sym of_front.1 in
+    let there : is_header d ≡ true = of_d.0 ∙ ap is_header same ∙ sym of_prefix.0 ∙ begins_whole prefix long begun in
+    let field : length_field d ≡ length_field prefix = of_d.1 ∙ ap length_field same ∙ sym of_prefix.1 in
     frame-whole d (header d least there) (omega (arith, whole, field))
 
 -- ---- Bytes begin a header exactly if they pass the test

@@ -1,5 +1,5 @@
 pub mod Numbers
-pub mod Errors
+pub mod WriteErrors
 pub mod AttributeTypes
 pub mod Names
 pub mod Headers

@@ -1,5 +1,5 @@
--- The names of attribute types and methods (RFC 8489, sections 18.2 and 18.3), and how types, methods
--- and attributes are printed.
+-- The names of attribute types and methods (RFC 8489, sections 18.2 and 18.3), and how types,
+-- methods and attributes are printed.
 use Rattle.std.specs.Prelude.{ℕ, ◌/◌, ◌%◌, List, [], ◌∷◌, ◌++◌, ◌==◌, if◌then◌else◌, false, codes}
 use Rattle.std.specs.Fmt.{decimal, digits, digit_glyph}
 use Rattle.std.specs.List.{flat_map}
@@ -33,8 +33,8 @@ BINDING = 0x0001
 abbrev pub method_name : ℕ → List ℕ
 method_name method = if method == BINDING then codes "BINDING" else codes "unknown"
 
--- a number that has a name, as it is printed: the number, and in parentheses the number in hexadecimal
--- and the name
+-- a number that has a name, as it is printed: the number, and in parentheses the number in
+-- hexadecimal and the name
 abbrev pub numbered_text : ℕ → List ℕ → List ℕ
 numbered_text number name =
     decimal number ++ codes "(0x" ++ digits 16 false number ++ codes ": " ++ name ++ codes ")"

@@ -111,7 +111,7 @@ pub enum StunWriteError {
 /// what they are to be, and become `IntegrityFailed`.
 impl From<StunParseError> for StunWriteError {
     ghost use Rattle.std.specs.Prelude.{◌≡◌};
-    ghost use Rattle.stun_grammar.specs.Errors.{write_error};
+    ghost use Rattle.stun_grammar.specs.WriteErrors.{write_error};
 
     ghost from_gives = { λ told error. error ≡ write_error told };
 

@@ -67,15 +67,15 @@ pub fn incomplete_header()
     ensures { (b : List ℕ) → (begins b ≡ true) ↔ Begins b }
 {}
 
-/// A message that parses has as many bytes as its header states, at most 65555; and as many bytes as
-/// a whole header states, of which the first twenty are that header, are not refused by their
+/// A message that parses has as many bytes as its header states, at most 65555; and as many bytes
+/// as a whole header states, of which the first twenty are that header, are not refused by their
 /// length.
 pub fn length_is_stated()
     ensures parsed { (d : List ℕ) → parse_fault d ≡ None → length d ≡ 20 + length_field d }
     ensures greatest { (d : List ℕ) → IsBytes d → parse_fault d ≡ None
         → length d ≤ greatest_length }
-    ensures whole { (front d : List ℕ) → Begins front → 20 ≤ length front
-        → take 20 d ≡ take 20 front → length d ≡ 20 + length_field front → frame_fault d ≡ None }
+    ensures whole { (prefix d : List ℕ) → Begins prefix → 20 ≤ length prefix
+        → take 20 d ≡ take 20 prefix → length d ≡ 20 + length_field prefix → frame_fault d ≡ None }
 {}
 
 /// Parsing returns four errors only: `NotStun`, `Truncated`, `TooLarge` and `FingerprintMismatch`.

@@ -4,11 +4,11 @@ use Rattle.std.specs.Prelude.{◌≡◌, ℕ, ◌<◌, List, length, take, Resul
 use Rattle.stun_grammar.specs.declared.error.StunParseError.{StunParseError}
 use Rattle.stun_grammar.specs.declared.error.StunWriteError.{StunWriteError}
 use Rattle.stun_grammar.specs.declared.integrity_algorithm.IntegrityAlgorithm.TheVariants.{Sha1, Sha256}
-use Rattle.stun_grammar.specs.Errors.{write_error}
+use Rattle.stun_grammar.specs.WriteErrors.{write_error}
 use Rattle.stun_grammar.specs.AttributeTypes.{MESSAGE_INTEGRITY, MESSAGE_INTEGRITY_SHA256, FINGERPRINT}
 use Rattle.stun_grammar.specs.Lengths.{exact_fault}
 use Rattle.stun_grammar.specs.Verdicts.{hmac_fault}
-use Rattle.stun_rules.specs.Checksums.{masked_bytes}
+use Rattle.stun_rules.specs.FingerprintValues.{masked_bytes}
 use Rattle.stun_attrs.specs.Reading.{typed_fault, Reads}
 use Rattle.stun_integrity.specs.declared.fingerprint.Fingerprint.{Fingerprint}
 use Rattle.stun_integrity.specs.declared.message_integrity.MessageIntegrity.{MessageIntegrity}

@@ -24,7 +24,7 @@ impl Fingerprint {
     ghost use Rattle.stun_grammar.specs.Checksums.{crc};
     ghost use Rattle.stun_attrs.specs.Raw.{raw_type, raw_value};
     ghost use Rattle.stun_integrity.specs.Integrity.{checksum_bytes, ReadsFingerprint};
-    ghost use Rattle.stun_rules.specs.Checksums.{masked_bytes};
+    ghost use Rattle.stun_rules.specs.FingerprintValues.{masked_bytes};
 
     /// The attribute of this checksum, not XORed.
     pub fn new(fingerprint: [u8; 4]) -> Self
@@ -80,7 +80,7 @@ impl AttributeStaticType for Fingerprint {
 impl Attribute for Fingerprint {
     ghost use Rattle.stun_grammar.specs.AttributeTypes.{FINGERPRINT};
     ghost use Rattle.stun_integrity.specs.Integrity.{checksum_bytes};
-    ghost use Rattle.stun_rules.specs.Checksums.{masked_bytes};
+    ghost use Rattle.stun_rules.specs.FingerprintValues.{masked_bytes};
 
     ghost atype = { λ _. FINGERPRINT };
 

@@ -234,7 +234,8 @@ impl fmt::Display for MessageIntegritySha256 {
     ghost use Rattle.stun_grammar.specs.Names.{hex_text};
     ghost use Rattle.stun_integrity.specs.Integrity.{sha256_hmac};
 
-    ghost output = { λ attribute. Some (hex_text MESSAGE_INTEGRITY_SHA256 (sha256_hmac attribute)) };
+    ghost output = { λ attribute.
+        Some (hex_text MESSAGE_INTEGRITY_SHA256 (sha256_hmac attribute)) };
 
     fn fmt<W: fmt::Write>(&self, f: &mut fmt::Formatter<W>) -> fmt::Result {
         print_hex(f, Self::TYPE, self.hmac())

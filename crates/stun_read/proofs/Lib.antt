@@ -5,8 +5,8 @@ mod ScanningLemmas
 mod OrdinaryLemmas
 mod IteratingLemmas
 pub mod ItemsLemmas
-mod KeptLemmas
+mod KeptOffsetsLemmas
 mod ValidatingLemmas
 mod LookingUpLemmas
 mod FindingLemmas
-mod PrintedLemmas
+mod PrintedMessagesLemmas

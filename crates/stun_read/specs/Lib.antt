@@ -2,5 +2,5 @@ pub mod Iterating
 pub mod Endings
 pub mod Validating
 pub mod LookingUp
-pub mod Printed
+pub mod PrintedMessages
 pub mod Keeping

@@ -27,9 +27,9 @@ pub(crate) fn check_frame(bytes: &[u8]) -> Result<(), StunParseError>
     check_length(bytes, stated_length(bytes))
 }
 
-/// How many bytes the message has that `front` begins with: its header, and as many as that states,
-/// 20 to 65555 in all. `None` where fewer than twenty bytes are there, with which a header may
-/// begin. It takes no memory, and looks at the first twenty bytes alone.
+/// How many bytes the message has that `prefix` begins with: its header, and as many as that
+/// states, 20 to 65555 in all. `None` where fewer than twenty bytes are there, with which a header
+/// may begin. It takes no memory, and looks at the first twenty bytes alone.
 ///
 /// A message is read from exactly so many bytes. Where a buffer may hold more of them, as one that
 /// collects the bytes of a stream does (RFC 8489, section 6.2.2), or one that is longer than the
@@ -44,14 +44,14 @@ pub(crate) fn check_frame(bytes: &[u8]) -> Result<(), StunParseError>
 /// # Errors
 ///
 /// `NotStun` where no header begins with these bytes, whatever follows them.
-pub fn message_length(front: &[u8]) -> Result<Option<usize>, StunParseError>
+pub fn message_length(prefix: &[u8]) -> Result<Option<usize>, StunParseError>
     ensures { MatchResult result
-        (λ told. Begins front.now × MatchOption told (length front.now < 20)
-        (λ whole. (20 ≤ length front.now) × (whole ≡ 20 + length_field front.now)))
-        (λ e. (e ≡ StunParseError.NotStun) × ¬ Begins front.now) }
+        (λ told. Begins prefix.now × MatchOption told (length prefix.now < 20)
+        (λ whole. (20 ≤ length prefix.now) × (whole ≡ 20 + length_field prefix.now)))
+        (λ e. (e ≡ StunParseError.NotStun) × ¬ Begins prefix.now) }
 {
-    match check_header(front) {
-        Ok(()) => Ok(Some(stated_length(front))),
+    match check_header(prefix) {
+        Ok(()) => Ok(Some(stated_length(prefix))),
         Err(refused) => match refused {
             StunParseError::NotStun => Err(refused),
             _ => Ok(None),

@@ -20,8 +20,8 @@ pub(crate) struct Kept<'a> {
     ghost short: { length value.now ≤ 65535 },
 }
 
-/// The value of the attribute that `bytes` begin with. What follows it isn't read, and of its header
-/// the length alone.
+/// The value of the attribute that `bytes` begin with. What follows it isn't read, and of its
+/// header the length alone.
 fn first_value(bytes: &[u8]) -> &[u8]
     requires { is_some (first_attribute bytes.now) ≡ true }
     ensures value { IfSome (first_attribute bytes.now) (λ a. result.now ≡ a.value) }

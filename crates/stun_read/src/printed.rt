@@ -3,7 +3,7 @@
 ghost use Rattle.std.specs.Prelude.{◌≡◌, None};
 ghost use Rattle.std.specs.Fmt.{WritesOnOk, DisplaysOnOk};
 ghost use Rattle.stun_grammar.specs.Showing.{frame_fault, shown};
-ghost use Rattle.stun_read.specs.Printed.{head_text, attributes_text, message_text};
+ghost use Rattle.stun_read.specs.PrintedMessages.{head_text, attributes_text, message_text};
 
 use crate::iter_framed;
 use std::fmt;

@@ -37,7 +37,8 @@ pub record AddsMethodName {F : Type 0} {g : _} (method : ℕ) (name : List ℕ)
   pub displays : registered_display after ≡ registered_display before
 
 -- the same for a function
-pub record AddsDisplay {F : Type 0} {g : _} (type : ℕ) (display : F) (before after : Registry F g) : Type 0 where
+pub record AddsDisplay {F : Type 0} {g : _}
+    (type : ℕ) (display : F) (before after : Registry F g) : Type 0 where
   pub names : registered_name after ≡ registered_name before
   pub method_names : registered_method_name after ≡ registered_method_name before
   pub displays : Sets type display (registered_display before) (registered_display after)

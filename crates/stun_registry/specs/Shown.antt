@@ -12,7 +12,7 @@ use Rattle.stun_rules.specs.Typed.{is_typed}
 use Rattle.stun_base.specs.Data.{is_borrowed}
 use Rattle.stun_attrs.specs.declared.raw.RawAttribute.{RawAttribute}
 use Rattle.stun_attrs.specs.Raw.{raw_type, raw_data, raw_value}
-use Rattle.stun_attrs.specs.Printed.{attribute_text, malformed_text}
+use Rattle.stun_attrs.specs.PrintedAttributes.{attribute_text, malformed_text}
 use Rattle.stun_registry.specs.declared.registry.Registry.{Registry}
 use Rattle.stun_registry.specs.Registered.{registered_display}
 
@@ -35,13 +35,13 @@ Prints =
 pub record Gives (prints : Prints) (raw : RawAttribute) (answer : Result (Unit {0}) Error)
     (text : List ℕ) : Type 0 where
   pub alloc : Global
-  pub lent : Bor RawAttribute
+  pub borrowed : Bor RawAttribute
   pub empty : MutBor (String Global)
   pub full : MutBor (String Global)
-  pub lent_is : lent.now ≡ raw
+  pub borrowed_is : borrowed.now ≡ raw
   pub empty_is : string_bytes empty.now ≡ []
   pub full_is : string_bytes full.now ≡ text
-  pub called : prints alloc lent empty answer full
+  pub called : prints alloc borrowed empty answer full
 
 -- printing by the function: where it refuses, so does this, with nothing written; and where it
 -- accepts, the text that it left is written
@@ -53,7 +53,8 @@ ShowsBy took prints raw before result after =
     ⊎ ((text : List ℕ) × Gives prints raw (Ok tt) text
     × WritesOnOk took before result text after)
 
--- what is printed of an attribute for which no function is registered; of another one nothing is said
+-- what is printed of an attribute for which no function is registered; of another one nothing is
+-- said
 abbrev pub shown_text : {F : Type 0} {g : _} → Registry F g → RawAttribute → Option (List ℕ)
 shown_text registry raw =
     if is_some (display_of registry (raw_type raw)) then None else displayed raw

@@ -1,3 +1,3 @@
 pub mod Reply
-pub mod Run
-pub mod Program
+pub mod ReplyRun
+pub mod ReplyProgram

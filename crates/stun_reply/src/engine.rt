@@ -1,7 +1,7 @@
 //! A run of the program, over any reader and writer.
 
 ghost use Rattle.std.specs.Prelude.{◌≡◌};
-ghost use Rattle.stun_reply.specs.Run.{Ends, end_of_input};
+ghost use Rattle.stun_reply.specs.ReplyRun.{Ends, end_of_input};
 
 use crate::reply::reply;
 use std::alloc::Global;
@@ -42,8 +42,8 @@ fn end_without_input(e: InputError) -> RunEnd
     }
 }
 
-/// Reads a datagram that came from `source`, up to the end of `reader`, and writes the reply that it
-/// deserves, if it does.
+/// Reads a datagram that came from `source`, up to the end of `reader`, and writes the reply that
+/// it deserves, if it does.
 ///
 /// It reads at most 65555 bytes, makes the reply in memory that `alloc` gives, and only then writes
 /// it.

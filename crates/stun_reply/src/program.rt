@@ -4,7 +4,7 @@ ghost use Rattle.std.specs.Prelude.{◌≡◌, ◌≢◌, map, MatchOption, Matc
 ghost use Rattle.std.specs.String.{string_bytes};
 ghost use Rattle.std.specs.Vec.Iter.{into_iter_items};
 ghost use Rattle.std.specs.declared.net.socket_addr.SocketAddr.{SocketAddr};
-ghost use Rattle.stun_reply.specs.Program.{without_brackets, IsSource, Gives, EndsOn, exit_status, last_line};
+ghost use Rattle.stun_reply.specs.ReplyProgram.{without_brackets, IsSource, Gives, EndsOn, exit_status, last_line};
 
 use crate::engine::{RunEnd, run};
 use std::alloc::Global;

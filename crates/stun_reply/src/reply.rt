@@ -9,7 +9,7 @@ ghost use Rattle.stun_texts.specs.Texts.{text_bytes};
 ghost use Rattle.stun_rules.specs.Addresses.{address_value};
 ghost use Rattle.stun_addresses.specs.AddressAttributes.{written_mapped_addr};
 ghost use Rattle.stun_base.specs.declared.message_type.MessageClass.TheVariants.{Request, Success};
-ghost use Rattle.stun_base.specs.Types.{class_of};
+ghost use Rattle.stun_base.specs.MessageTypes.{class_of};
 ghost use Rattle.stun_types.specs.Message.{message_bytes};
 ghost use Rattle.stun_reply.specs.Reply.{success_reply, response, unfinished_reply, binding_reply, request_reply, reply};
 

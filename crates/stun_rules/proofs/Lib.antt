@@ -1,8 +1,8 @@
 pub mod AlgorithmsLemmas
-pub mod ErrorsLemmas
+pub mod ErrorValuesLemmas
 pub mod ListsLemmas
 mod OctetsLemmas
-mod PrintedLemmas
-pub mod TextsLemmas
+mod AlgorithmNamesLemmas
+pub mod TextValuesLemmas
 mod XorLemmas
 mod XoredTextLemmas

@@ -10,7 +10,7 @@ use Rattle.stun_grammar.specs.declared.attribute_type.AttributeType.{AttributeTy
 use Rattle.stun_rules.specs.declared.algorithm.PasswordAlgorithmValue.{PasswordAlgorithmValue}
 use Rattle.stun_rules.specs.declared.algorithm.PasswordAlgorithmValue.TheVariants.{MD5, SHA256}
 use Rattle.stun_rules.specs.Algorithms.{algorithms_encoding}
-use Rattle.stun_rules.specs.Types.{types_encoding}
+use Rattle.stun_rules.specs.TypeLists.{types_encoding}
 
 append-nothing : {A : Type 0} (xs : List A) → xs ++ [] ≡ xs
 append-nothing [] = refl

@@ -39,7 +39,8 @@ abbrev pub octets_count : IpAddr → ℕ
 octets_count (V4 ip) = 4
 octets_count (V6 ip) = 16
 
--- what the Rust type guarantees of every address: a port of sixteen bits, and as many bytes as its family has
+-- what the Rust type guarantees of every address: a port of sixteen bits, and as many bytes as its
+-- family has
 pub record IsInRange (a : SocketAddr) : Type 0 where
   pub port : socket_port a < 2 ^ 16
   pub octets_are : length (octets (socket_ip a)) ≡ octets_count (socket_ip a)
@@ -85,7 +86,8 @@ mask id = be32 magic_cookie ++ be96 id
 abbrev pub xor_bytes : List ℕ → List ℕ → List ℕ
 xor_bytes xs ys = map (λ pair. bit_xor pair.0 pair.1) (zip xs ys)
 
--- an address XORed under a transaction ID: its port with the high half of the cookie, its bytes with the mask
+-- an address XORed under a transaction ID: its port with the high half of the cookie, its bytes
+-- with the mask
 pub record IsXored (id : ℕ) (a xored : SocketAddr) : Type 0 where
   pub family_is : is_ipv6 (socket_ip xored) ≡ is_ipv6 (socket_ip a)
   pub port_is : socket_port xored ≡ bit_xor (socket_port a) (magic_cookie / 2 ^ 16)

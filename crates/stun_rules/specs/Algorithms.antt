@@ -26,7 +26,8 @@ abbrev pub integrity_of : PasswordAlgorithmValue → IntegrityAlgorithm
 integrity_of MD5 = Sha1
 integrity_of SHA256 = Sha256
 
--- why the four bytes at the start of a value aren't an algorithm: it has parameters, or another number
+-- why the four bytes at the start of a value aren't an algorithm: it has parameters, or another
+-- number
 abbrev pub algorithm_fault : List ℕ → Option StunParseError
 algorithm_fault value =
     let kind = number (slice_range value 0 2) in
@@ -81,7 +82,8 @@ algorithm_name SHA256 = codes "SHA256"
 -- names with a comma and a space between them
 abbrev pub algorithm_names : List PasswordAlgorithmValue → List ℕ
 algorithm_names [] = []
-algorithm_names (first ∷ others) = algorithm_name first ++ flat_map (λ other. codes ", " ++ algorithm_name other) others
+algorithm_names (first ∷ others) =
+    algorithm_name first ++ flat_map (λ other. codes ", " ++ algorithm_name other) others
 
 -- what stands in them for the algorithm at an index
 abbrev pub name_at : ℕ → PasswordAlgorithmValue → List ℕ
@@ -93,4 +95,5 @@ abbrev pub algorithm_text : PasswordAlgorithmValue → List ℕ
 algorithm_text algorithm = plain_text PASSWORD_ALGORITHM (algorithm_name algorithm)
 
 abbrev pub algorithms_text : List PasswordAlgorithmValue → List ℕ
-algorithms_text algorithms = plain_text PASSWORD_ALGORITHMS (codes "[" ++ algorithm_names algorithms ++ codes "]")
+algorithms_text algorithms =
+    plain_text PASSWORD_ALGORITHMS (codes "[" ++ algorithm_names algorithms ++ codes "]")

@@ -1,8 +1,8 @@
 pub mod Addresses
 pub mod Algorithms
-pub mod Checksums
-pub mod Errors
-pub mod Texts
+pub mod FingerprintValues
+pub mod ErrorValues
+pub mod TextValues
 pub mod Typed
 pub mod TypedValues
-pub mod Types
+pub mod TypeLists

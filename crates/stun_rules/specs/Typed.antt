@@ -13,10 +13,10 @@ use Rattle.stun_rules.specs.declared.rule.Rule.{Rule}
 use Rattle.stun_rules.specs.declared.rule.Rule.TheVariants as Is
 use Rattle.stun_rules.specs.Addresses.{address_fault, address_in, xored_text}
 use Rattle.stun_rules.specs.Algorithms.{one_algorithm_fault, algorithms_fault, algorithm_at, algorithms_in, algorithm_text, algorithms_text}
-use Rattle.stun_rules.specs.Checksums.{masked_bytes}
-use Rattle.stun_rules.specs.Errors.{error_fault, told_code, error_text}
-use Rattle.stun_rules.specs.Texts.{text_fault}
-use Rattle.stun_rules.specs.Types.{types_fault}
+use Rattle.stun_rules.specs.FingerprintValues.{masked_bytes}
+use Rattle.stun_rules.specs.ErrorValues.{error_fault, told_code, error_text}
+use Rattle.stun_rules.specs.TextValues.{text_fault}
+use Rattle.stun_rules.specs.TypeLists.{types_fault}
 
 -- the rule of a type
 unfoldable pub rule_of : ℕ → Option Rule

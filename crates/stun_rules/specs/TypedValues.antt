@@ -7,7 +7,7 @@ use Rattle.stun_rules.specs.declared.typed.TypedValue.{TypedValue}
 use Rattle.stun_rules.specs.declared.typed.TypedValue.TheVariants as Read
 use Rattle.stun_rules.specs.Addresses.{xored_text}
 use Rattle.stun_rules.specs.Algorithms.{algorithms_in, algorithm_text, algorithms_text}
-use Rattle.stun_rules.specs.Errors.{error_text}
+use Rattle.stun_rules.specs.ErrorValues.{error_text}
 
 -- the bytes of a list of algorithms
 abbrev pub list_bytes : AlgorithmList → List ℕ

@@ -212,8 +212,8 @@ pub fn check_algorithms(value: &[u8]) -> Result<(), StunParseError>
     check_each(value)
 }
 
-/// Prints a PASSWORD-ALGORITHM of this algorithm: the type, and behind it the algorithm. It takes no
-/// memory.
+/// Prints a PASSWORD-ALGORITHM of this algorithm: the type, and behind it the algorithm. It takes
+/// no memory.
 ///
 /// # Errors
 ///
@@ -246,8 +246,8 @@ pub fn print_algorithms<W: fmt::Write>(
     write!(f, "]")
 }
 
-/// Prints the same of the value of a PASSWORD-ALGORITHMS that [`check_algorithms`] accepts. It takes
-/// no memory.
+/// Prints the same of the value of a PASSWORD-ALGORITHMS that [`check_algorithms`] accepts. It
+/// takes no memory.
 ///
 /// # Errors
 ///

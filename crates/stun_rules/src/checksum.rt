@@ -3,7 +3,7 @@
 ghost use Rattle.std.specs.Prelude.{◌≡◌, None, Some, MatchResult, length};
 ghost use Rattle.stun_grammar.specs.Fingerprints.{masked_checksum};
 ghost use Rattle.stun_grammar.specs.Lengths.{exact_fault};
-ghost use Rattle.stun_rules.specs.Checksums.{masked_bytes};
+ghost use Rattle.stun_rules.specs.FingerprintValues.{masked_bytes};
 
 use crate::check_length;
 use stun_base::StunParseError;
@@ -25,7 +25,8 @@ pub fn masked(checksum: u32) -> [u8; 4]
 /// Those of [`check_length`] for four bytes.
 pub fn read_checksum(value: &[u8]) -> Result<[u8; 4], StunParseError>
     ensures { MatchResult result
-        (λ checksum. (exact_fault 4 (length value.now) ≡ None) × (checksum ≡ masked_bytes value.now))
+        (λ checksum. (exact_fault 4 (length value.now) ≡ None)
+        × (checksum ≡ masked_bytes value.now))
         (λ e. exact_fault 4 (length value.now) ≡ Some e) }
 {
     check_length(value, 4)?;

@@ -2,7 +2,7 @@
 
 ghost use Rattle.std.specs.Prelude.{◌≡◌, ◌≤◌, true, false, Some, None, MatchOption, MatchResult, length, drop};
 ghost use Rattle.std.specs.Fmt.{WritesOnOk};
-ghost use Rattle.stun_rules.specs.Errors.{told_code, tells_code, error_fault, error_text};
+ghost use Rattle.stun_rules.specs.ErrorValues.{told_code, tells_code, error_fault, error_text};
 
 use crate::check_range;
 use std::fmt;
@@ -10,7 +10,7 @@ use stun_base::{AttributeType, StunParseError};
 use stun_grammar::attribute_types;
 
 /// The code in a value of four bytes or more, if its class is 3 to 6 and its number at most 99.
-#[tactic(auto, using(crate::proofs::ErrorsLemmas::tells, crate::proofs::ErrorsLemmas::low_class, crate::proofs::ErrorsLemmas::high_class, crate::proofs::ErrorsLemmas::high_number))]
+#[tactic(auto, using(crate::proofs::ErrorValuesLemmas::tells, crate::proofs::ErrorValuesLemmas::low_class, crate::proofs::ErrorValuesLemmas::high_class, crate::proofs::ErrorValuesLemmas::high_number))]
 fn read_code(value: &[u8]) -> Option<u16>
     requires { 4 ≤ length value.now }
     ensures { MatchOption result
@@ -36,7 +36,7 @@ fn read_code(value: &[u8]) -> Option<u16>
 /// `TooLarge { expected: 767, actual }` where there are more than 767. Otherwise
 /// `InvalidAttributeData` where the class isn't 3 to 6, the number is above 99, or the reason isn't
 /// UTF-8.
-#[tactic(auto, using(crate::proofs::ErrorsLemmas::wrong_length, crate::proofs::ErrorsLemmas::no_code, crate::proofs::ErrorsLemmas::no_text, crate::proofs::ErrorsLemmas::is_error))]
+#[tactic(auto, using(crate::proofs::ErrorValuesLemmas::wrong_length, crate::proofs::ErrorValuesLemmas::no_code, crate::proofs::ErrorValuesLemmas::no_text, crate::proofs::ErrorValuesLemmas::is_error))]
 pub fn read_error(value: &[u8]) -> Result<(u16, &str), StunParseError>
     ensures { MatchResult result
         (λ told. (error_fault value.now ≡ None) × (told.0 ≡ told_code value.now)

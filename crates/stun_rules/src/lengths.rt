@@ -1,5 +1,5 @@
-//! The lengths of HMACs, and the lengths that the values of integrity attributes and of USERHASH may
-//! have.
+//! The lengths of HMACs, and the lengths that the values of integrity attributes and of USERHASH
+//! may have.
 
 ghost use Rattle.std.specs.Prelude.{◌≡◌, ◌%◌, ◌≤◌, None, Some, MatchResult};
 ghost use Rattle.stun_grammar.specs.Hmac.{digest_length};

@@ -1,7 +1,7 @@
 //! A value that is a text, read.
 
 ghost use Rattle.std.specs.Prelude.{◌≡◌, MatchResult, None, Some};
-ghost use Rattle.stun_rules.specs.Texts.{text_fault};
+ghost use Rattle.stun_rules.specs.TextValues.{text_fault};
 
 use crate::check_range;
 use stun_base::StunParseError;
@@ -12,7 +12,7 @@ use stun_base::StunParseError;
 ///
 /// `TooLarge { expected: most, actual }` where the value has more than `most` bytes. Otherwise
 /// `InvalidAttributeData` where they aren't UTF-8.
-#[tactic(auto, using(crate::proofs::TextsLemmas::refused, crate::proofs::TextsLemmas::not_utf8, crate::proofs::TextsLemmas::is_text))]
+#[tactic(auto, using(crate::proofs::TextValuesLemmas::refused, crate::proofs::TextValuesLemmas::not_utf8, crate::proofs::TextValuesLemmas::is_text))]
 pub fn read_text(value: &[u8], most: u16) -> Result<&str, StunParseError>
     ensures { MatchResult result
         (λ text. (text_fault most value.now ≡ None) × (text.now ≡ value.now))

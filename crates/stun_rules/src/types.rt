@@ -2,7 +2,7 @@
 
 ghost use Rattle.std.specs.Prelude.{◌≡◌, ◌%◌, Some, None, MatchResult, length};
 ghost use Rattle.std.specs.Iterator.{IsFinite};
-ghost use Rattle.stun_rules.specs.Types.{types_fault};
+ghost use Rattle.stun_rules.specs.TypeLists.{types_fault};
 
 use std::fmt;
 use stun_base::{AttributeType, StunParseError, number_at};

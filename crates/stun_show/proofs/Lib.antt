@@ -1,2 +1,2 @@
 mod ReportLemmas
-mod ProgramLemmas
+mod ShowProgramLemmas

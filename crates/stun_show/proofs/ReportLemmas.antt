@@ -7,12 +7,12 @@ use Rattle.stun_grammar.specs.declared.error.ValidateError.{ValidateError}
 use Rattle.stun_grammar.specs.declared.integrity_algorithm.IntegrityAlgorithm.{IntegrityAlgorithm}
 use Rattle.stun_grammar.specs.Parsing.{parse_fault}
 use Rattle.stun_grammar.specs.Showing.{shown}
-use Rattle.stun_base.specs.Types.{Header, header_of}
+use Rattle.stun_base.specs.MessageTypes.{Header, header_of}
 use Rattle.stun_show.specs.declared.engine.RunEnd.{RunEnd}
 use Rattle.stun_show.specs.declared.engine.RunEnd.TheVariants.{Shown, Refused}
 use Rattle.stun_show.specs.Report.{header_line, attribute_line, refusal_line, password_verdict, integrity_lines, end_of_verdict, end_of_message, report, end_of}
 use Rattle.stun_streams.specs.Streams.{ReadsAll}
-use Rattle.stun_show.specs.Run.{longest_input, Ends}
+use Rattle.stun_show.specs.ShowRun.{longest_input, Ends}
 
 pub report-message : (d : List ℕ) (password : Option (List ℕ)) → parse_fault d ≡ None → report d password ≡ header_line (header_of d) ++ flat_map attribute_line (shown d) ++ integrity_lines d password
 unfolding report

@@ -1,3 +1,3 @@
 pub mod Report
-pub mod Run
-pub mod Program
+pub mod ShowRun
+pub mod ShowProgram

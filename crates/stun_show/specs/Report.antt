@@ -15,7 +15,7 @@ use Rattle.stun_grammar.specs.Names.{hex}
 use Rattle.stun_grammar.specs.Chains.{Shown}
 use Rattle.stun_grammar.specs.Parsing.{parse_fault}
 use Rattle.stun_grammar.specs.Showing.{shown}
-use Rattle.stun_base.specs.Types.{Header, header_of, class_of, method_of, class_name, id_text}
+use Rattle.stun_base.specs.MessageTypes.{Header, header_of, class_of, method_of, class_name, id_text}
 use Rattle.stun_show.specs.declared.engine.RunEnd.{RunEnd}
 use Rattle.stun_show.specs.declared.engine.RunEnd.TheVariants.{Shown as EndsShown, Refused as EndsRefused}
 

@@ -2,7 +2,7 @@
 
 ghost use Rattle.std.specs.Prelude.{◌≡◌};
 ghost use Rattle.std.specs.Option.{option_map};
-ghost use Rattle.stun_show.specs.Run.{Ends, end_of_input};
+ghost use Rattle.stun_show.specs.ShowRun.{Ends, end_of_input};
 
 use crate::report::report;
 use std::alloc::Global;

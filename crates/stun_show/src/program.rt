@@ -4,7 +4,7 @@ ghost use Rattle.std.specs.Prelude.{◌≡◌, ◌≢◌, map, MatchResult, Ok, 
 ghost use Rattle.std.specs.Option.{option_map};
 ghost use Rattle.std.specs.String.{string_bytes};
 ghost use Rattle.std.specs.Vec.Iter.{into_iter_items};
-ghost use Rattle.stun_show.specs.Program.{given_password, EndsOn, exit_status, last_line};
+ghost use Rattle.stun_show.specs.ShowProgram.{given_password, EndsOn, exit_status, last_line};
 
 use crate::engine::{RunEnd, run};
 use std::alloc::Global;
@@ -13,7 +13,7 @@ use std::io::{ErrorKind, Read, Write};
 
 /// The password that the arguments give: the one behind the program's name, if there is one. With
 /// more than one the usage is wrong.
-#[tactic(auto, using(crate::proofs::ProgramLemmas::none_left))]
+#[tactic(auto, using(crate::proofs::ShowProgramLemmas::none_left))]
 fn password_of(arguments: Args) -> Result<Option<String>, RunEnd>
     ensures { MatchResult result
         (λ given. given_password (map string_bytes (into_iter_items arguments))

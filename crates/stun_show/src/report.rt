@@ -4,7 +4,7 @@ ghost use Rattle.std.specs.Prelude.{◌≡◌, ◌++◌, OnOk, IfOk, MatchResult
 ghost use Rattle.stun_grammar.specs.Parsing.{parse_fault};
 ghost use Rattle.stun_grammar.specs.Showing.{shown};
 ghost use Rattle.std.specs.List.{flat_map};
-ghost use Rattle.stun_base.specs.Types.{header_of};
+ghost use Rattle.stun_base.specs.MessageTypes.{header_of};
 ghost use Rattle.stun_attrs.specs.Raw.{raw_type, raw_value};
 ghost use Rattle.stun_types.specs.Message.{message_bytes};
 ghost use Rattle.stun_show.specs.Report.{header_line, value_text, attribute_line, refusal_line, password_verdict, integrity_line, integrity_lines, end_of_verdict, end_of_message, report, end_of};

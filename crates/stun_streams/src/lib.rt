@@ -58,8 +58,8 @@ pub fn read_all<R: Read>(alloc: Global, most: usize, reader: &mut R) -> Result<V
     Err(InputError::ReadFailed)
 }
 
-/// Writes all of the bytes, or, where a write fails or takes none, a prefix of them. A write that is
-/// interrupted is tried again.
+/// Writes all of the bytes, or, where a write fails or takes none, a prefix of them. A write that
+/// is interrupted is tried again.
 ///
 /// # Errors
 ///

@@ -2,7 +2,7 @@
 use Rattle.std.specs.Prelude.{◌≡◌, ℕ, List, Option, Result}
 use Rattle.std.specs.String.{string_bytes}
 use Rattle.stun_grammar.specs.declared.error.StunParseError.{StunParseError}
-use Rattle.stun_rules.specs.Texts as Rules
+use Rattle.stun_rules.specs.TextValues as Rules
 use Rattle.stun_attrs.specs.Reading.{typed_fault, ReadsInMemory}
 use Rattle.stun_texts.specs.declared.text.TextAttribute.{TextAttribute}
 
@@ -15,10 +15,17 @@ abbrev pub text_fault : ℕ → ℕ → ℕ → List ℕ → Option StunParseErr
 text_fault wanted most = typed_fault wanted (Rules.text_fault most)
 
 -- what reading may answer: the fault, and where there is none the text, unless out of memory
-abbrev pub ReadsText : (wanted most : ℕ) → ℕ → List ℕ → Result (TextAttribute wanted most) StunParseError → Type 0
-ReadsText wanted most type value = ReadsInMemory (text_fault wanted most type value) (λ read. text_bytes read ≡ value)
+abbrev pub ReadsText :
+    (wanted most : ℕ) → ℕ → List ℕ → Result (TextAttribute wanted most) StunParseError → Type 0
+ReadsText wanted most type value =
+    ReadsInMemory (text_fault wanted most type value) (λ read. text_bytes read ≡ value)
 
 -- whatever reading answers, it is what the rule of the wanted type and the greatest length says
-abbrev pub IsReadAsText : (wanted greatest : ℕ) → {type most : ℕ} → (ℕ → List ℕ → Result (TextAttribute type most) StunParseError → Type 0) → Type 0
-IsReadAsText wanted greatest {type} {most} reads = (atype : ℕ) (value : List ℕ) (result : Result (TextAttribute type most) StunParseError) → reads atype value result
-    → ReadsInMemory (text_fault wanted greatest atype value) (λ read. text_bytes read ≡ value) result
+abbrev pub IsReadAsText :
+    (wanted greatest : ℕ) → {type most : ℕ}
+    → (ℕ → List ℕ → Result (TextAttribute type most) StunParseError → Type 0) → Type 0
+IsReadAsText wanted greatest {type} {most} reads =
+    (atype : ℕ) (value : List ℕ) (result : Result (TextAttribute type most) StunParseError)
+    → reads atype value result
+    → ReadsInMemory (text_fault wanted greatest atype value)
+    (λ read. text_bytes read ≡ value) result

@@ -18,9 +18,9 @@ use Rattle.stun_grammar.specs.Adding.{numbers, add_refusal}
 use Rattle.stun_read.specs.LookingUp.{nth}
 use Rattle.stun_base.specs.declared.message_type.MessageClass.{MessageClass}
 use Rattle.stun_base.specs.declared.message_type.MessageClass.TheVariants.{Error as ErrorClass}
-use Rattle.stun_base.specs.Types.{type_of, class_of, method_of, is_response}
-use Rattle.stun_rules.specs.Errors.{error_value}
-use Rattle.stun_rules.specs.Types.{types_encoding}
+use Rattle.stun_base.specs.MessageTypes.{type_of, class_of, method_of, is_response}
+use Rattle.stun_rules.specs.ErrorValues.{error_value}
+use Rattle.stun_rules.specs.TypeLists.{types_encoding}
 use Rattle.stun_write.specs.Writers.{Writer, IsUnchanged, Keeps, Adds}
 
 -- ---- Which response answers a request

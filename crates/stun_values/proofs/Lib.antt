@@ -1,2 +1,2 @@
-mod ErrorsLemmas
+mod MakingErrorsLemmas
 mod ReadBackLemmas

@@ -13,17 +13,17 @@ use Rattle.stun_values.specs.declared.error_code.ErrorCode.{ErrorCode}
 use Rattle.stun_attrs.specs.Reading.{typed_fault}
 use Rattle.stun_rules.specs.Algorithms.{algorithm_encoding, algorithms_encoding, fault_within, one_algorithm_fault, algorithms_fault}
 use Rattle.stun_values.specs.Passwords.{ReadsAlgorithm, ReadsAlgorithms, held_algorithm, held_algorithms}
-use Rattle.stun_rules.specs.Errors.{error_value, told_code, error_fault}
+use Rattle.stun_rules.specs.ErrorValues.{error_value, told_code, error_fault}
 use Rattle.stun_values.specs.ErrorCodes.{error_code, error_reason, IsError, ReadsError}
 use Rattle.stun_grammar.specs.AttributeTypes.{ERROR_CODE, UNKNOWN_ATTRIBUTES, PASSWORD_ALGORITHM, PASSWORD_ALGORITHMS}
 use Rattle.stun_grammar.specs.Lengths.{range_fault}
 use Rattle.stun_grammar.specs.declared.attribute_type.AttributeType.{AttributeType}
 use Rattle.stun_values.specs.declared.unknown_attributes.UnknownAttributes.{UnknownAttributes}
-use Rattle.stun_rules.specs.Types.{type_encoding, types_encoding, types_fault, AreTypes}
+use Rattle.stun_rules.specs.TypeLists.{type_encoding, types_encoding, types_fault, AreTypes}
 use Rattle.stun_values.specs.Unknown.{ReadsTypes, listed}
 use Rattle.stun_rules.proofs.ListsLemmas.{length_of_entries, length_of_twos}
 use Rattle.stun_rules.proofs.AlgorithmsLemmas.{algorithm_one}
-use Rattle.stun_rules.proofs.ErrorsLemmas.{tells, is_error}
+use Rattle.stun_rules.proofs.ErrorValuesLemmas.{tells, is_error}
 
 -- ---- PASSWORD-ALGORITHM
 

@@ -7,8 +7,8 @@ use Rattle.stun_grammar.specs.declared.error.StunWriteError.{StunWriteError}
 use Rattle.stun_grammar.specs.declared.error.StunWriteError.TheVariants.{OutOfMemory}
 use Rattle.stun_grammar.specs.AttributeTypes.{ERROR_CODE}
 use Rattle.stun_attrs.specs.Reading.{typed_fault, ReadsInMemory}
-use Rattle.stun_rules.specs.Errors.{told_code, error_fault}
-use Rattle.stun_values.specs.Errors.{making_fault, default_reason}
+use Rattle.stun_rules.specs.ErrorValues.{told_code, error_fault}
+use Rattle.stun_values.specs.MakingErrors.{making_fault, default_reason}
 use Rattle.stun_values.specs.declared.error_code.ErrorCode.{ErrorCode}
 use Rattle.stun_values.specs.declared.error_code.ErrorCodeBuilder.{ErrorCodeBuilder}
 
@@ -23,7 +23,8 @@ builder_code builder = builder.code
 
 -- the reason that was given, or else the one that goes with the code
 abbrev pub builder_reason : ErrorCodeBuilder → List ℕ
-builder_reason builder = option_map_or (λ reason. reason.now) builder.reason (default_reason builder.code)
+builder_reason builder =
+    option_map_or (λ reason. reason.now) builder.reason (default_reason builder.code)
 
 -- the attribute has this code and this reason
 pub record IsError (code : ℕ) (reason : List ℕ) (attribute : ErrorCode) : Type 0 where
@@ -39,4 +40,6 @@ MakesError code reason result =
 
 -- what reading a type and a value answers
 abbrev pub ReadsError : ℕ → List ℕ → Result ErrorCode StunParseError → Type 0
-ReadsError type value result = ReadsInMemory (typed_fault ERROR_CODE error_fault type value) (IsError (told_code value) (drop 4 value)) result
+ReadsError type value result =
+    ReadsInMemory (typed_fault ERROR_CODE error_fault type value)
+    (IsError (told_code value) (drop 4 value)) result

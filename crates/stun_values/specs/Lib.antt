@@ -1,4 +1,4 @@
 pub mod ErrorCodes
-pub mod Errors
+pub mod MakingErrors
 pub mod Passwords
 pub mod Unknown

@@ -17,9 +17,15 @@ held_algorithms attribute = attribute.algorithms.items
 -- ---- What reading answers
 
 -- the type and the value of a PASSWORD-ALGORITHM
-abbrev pub ReadsAlgorithm : {T : Type 0} → (T → PasswordAlgorithmValue) → ℕ → List ℕ → Result T StunParseError → Type 0
-ReadsAlgorithm algorithm_in type value result = Reads (typed_fault PASSWORD_ALGORITHM one_algorithm_fault type value) (λ read. algorithm_encoding (algorithm_in read) ≡ take 4 value) result
+abbrev pub ReadsAlgorithm :
+    {T : Type 0} → (T → PasswordAlgorithmValue) → ℕ → List ℕ → Result T StunParseError → Type 0
+ReadsAlgorithm algorithm_in type value result =
+    Reads (typed_fault PASSWORD_ALGORITHM one_algorithm_fault type value)
+    (λ read. algorithm_encoding (algorithm_in read) ≡ take 4 value) result
 
 -- the type and the value of a PASSWORD-ALGORITHMS
-abbrev pub ReadsAlgorithms : {T : Type 0} → (T → List PasswordAlgorithmValue) → ℕ → List ℕ → Result T StunParseError → Type 0
-ReadsAlgorithms algorithms_in type value result = ReadsInMemory (typed_fault PASSWORD_ALGORITHMS algorithms_fault type value) (λ read. algorithms_encoding (algorithms_in read) ≡ value) result
+abbrev pub ReadsAlgorithms :
+    {T : Type 0} → (T → List PasswordAlgorithmValue) → ℕ → List ℕ → Result T StunParseError → Type 0
+ReadsAlgorithms algorithms_in type value result =
+    ReadsInMemory (typed_fault PASSWORD_ALGORITHMS algorithms_fault type value)
+    (λ read. algorithms_encoding (algorithms_in read) ≡ value) result

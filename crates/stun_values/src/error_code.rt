@@ -69,7 +69,7 @@ impl<'reason> ErrorCodeBuilder<'reason> {
 impl ErrorCode {
     ghost use Rattle.std.specs.Prelude.{IfOk, IfErr};
     ghost use Rattle.stun_attrs.specs.Raw.{raw_type, raw_value};
-    ghost use Rattle.stun_values.specs.Errors.{default_reason};
+    ghost use Rattle.stun_values.specs.MakingErrors.{default_reason};
     ghost use Rattle.stun_values.specs.ErrorCodes.{error_code, error_reason, builder_code, builder_reason, IsError, MakesError, ReadsError};
 
     /// The client is to try another server.
@@ -214,7 +214,7 @@ impl AttributeStaticType for ErrorCode {
 }
 
 impl MakeValue for ErrorCode {
-    ghost use Rattle.stun_rules.specs.Errors.{error_value};
+    ghost use Rattle.stun_rules.specs.ErrorValues.{error_value};
     ghost use Rattle.stun_values.specs.ErrorCodes.{error_code, error_reason};
 
     ghost bytes = { λ attribute. error_value (error_code attribute) (error_reason attribute) };
@@ -230,7 +230,7 @@ impl MakeValue for ErrorCode {
 
 impl Attribute for ErrorCode {
     ghost use Rattle.stun_grammar.specs.AttributeTypes.{ERROR_CODE};
-    ghost use Rattle.stun_rules.specs.Errors.{error_value};
+    ghost use Rattle.stun_rules.specs.ErrorValues.{error_value};
     ghost use Rattle.stun_values.specs.ErrorCodes.{error_code, error_reason};
 
     ghost atype = { λ _. ERROR_CODE };
@@ -286,10 +286,11 @@ impl AttributeFromRaw<'_> for ErrorCode {
 /// The type, the code and the reason: `9(0x9: ERROR-CODE): 420 'Unknown Attribute'`.
 impl fmt::Display for ErrorCode {
     ghost use Rattle.std.specs.Prelude.{Some};
-    ghost use Rattle.stun_rules.specs.Errors.{error_text};
+    ghost use Rattle.stun_rules.specs.ErrorValues.{error_text};
     ghost use Rattle.stun_values.specs.ErrorCodes.{error_code, error_reason};
 
-    ghost output = { λ attribute. Some (error_text (error_code attribute) (error_reason attribute)) };
+    ghost output = { λ attribute.
+        Some (error_text (error_code attribute) (error_reason attribute)) };
 
     fn fmt<W: fmt::Write>(&self, f: &mut fmt::Formatter<W>) -> fmt::Result {
         print_error(f, self.code(), self.reason())

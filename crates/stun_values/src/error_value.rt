@@ -1,8 +1,8 @@
 //! A code and a reason as the bytes of a value, made and written (RFC 8489, section 14.8).
 
 ghost use Rattle.std.specs.Prelude.{◌≡◌, ◌+◌, ◌≤◌, ◌<◌, ◌++◌, Some, None, MatchResult, length, drop};
-ghost use Rattle.stun_rules.specs.Errors.{error_value};
-ghost use Rattle.stun_values.specs.Errors.{making_fault};
+ghost use Rattle.stun_rules.specs.ErrorValues.{error_value};
+ghost use Rattle.stun_values.specs.MakingErrors.{making_fault};
 
 use stun_attrs::copy_to_start;
 use stun_base::StunWriteError;
@@ -22,7 +22,7 @@ pub(crate) fn write_error(code: u16, reason: &str, dest: &mut [u8])
 
 /// The rule for making: the code is one of 300 to 699, and the reason has at most 763 bytes. It
 /// reports the first violation, in this order.
-#[tactic(auto, using(crate::proofs::ErrorsLemmas::below_range, crate::proofs::ErrorsLemmas::above_range, crate::proofs::ErrorsLemmas::long_reason, crate::proofs::ErrorsLemmas::can_be_made))]
+#[tactic(auto, using(crate::proofs::MakingErrorsLemmas::below_range, crate::proofs::MakingErrorsLemmas::above_range, crate::proofs::MakingErrorsLemmas::long_reason, crate::proofs::MakingErrorsLemmas::can_be_made))]
 pub(crate) fn check_making(code: u16, reason: &str) -> Result<(), StunWriteError>
     ensures { MatchResult result
         (λ _. (making_fault code reason.now ≡ None) × (300 ≤ code) × (code ≤ 699)

@@ -12,8 +12,8 @@ ghost use Rattle.stun_values.specs.declared.password_algorithms.PasswordAlgorith
 ghost use Rattle.stun_rules.specs.Algorithms.{algorithm_encoding, algorithms_encoding};
 ghost use Rattle.stun_values.specs.Passwords.{ReadsAlgorithm, ReadsAlgorithms, held_algorithm, held_algorithms};
 ghost use Rattle.stun_values.specs.ErrorCodes.{error_code, error_reason, IsError, ReadsError};
-ghost use Rattle.stun_rules.specs.Errors.{error_value};
-ghost use Rattle.stun_rules.specs.Types.{types_encoding, AreTypes};
+ghost use Rattle.stun_rules.specs.ErrorValues.{error_value};
+ghost use Rattle.stun_rules.specs.TypeLists.{types_encoding, AreTypes};
 ghost use Rattle.stun_values.specs.Unknown.{ReadsTypes, listed};
 
 /// An ERROR-CODE is read back, unless out of memory.

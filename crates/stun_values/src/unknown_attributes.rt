@@ -1,5 +1,5 @@
 ghost use Rattle.std.specs.Prelude.{◌≡◌, ◌*◌, ◌≤◌, ◌++◌, length, drop};
-ghost use Rattle.stun_rules.specs.Types.{types_encoding};
+ghost use Rattle.stun_rules.specs.TypeLists.{types_encoding};
 
 use byteorder::{BigEndian, ByteOrder};
 use std::alloc::Global;

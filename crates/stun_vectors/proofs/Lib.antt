@@ -1,5 +1,5 @@
 mod AddsLemmas
 mod InSlicesLemmas
 mod RequestsLemmas
-mod NumbersLemmas
+mod MyValueLemmas
 mod WhoseLemmas

@@ -1,4 +1,4 @@
-//! An attribute whose value is lent.
+//! An attribute whose value is borrowed.
 
 ghost use Rattle.std.specs.Prelude.{◌≡◌, ◌≤◌, length};
 
@@ -66,7 +66,7 @@ impl AttributeWrite for Blob<'_> {
         write_attribute(BLOB, self.bytes, dest);
     }
 
-    /// The value of the raw attribute is the one that is lent here. It takes no memory.
+    /// The value of the raw attribute is the one that is borrowed here. It takes no memory.
     fn to_raw(&self, _alloc: Global) -> Result<RawAttribute<'_>, StunWriteError> {
         Ok(RawAttribute::new(BLOB, self.bytes)?)
     }

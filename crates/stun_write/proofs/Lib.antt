@@ -1,3 +1,3 @@
 mod WrittenTypesLemmas
-mod KeptLemmas
+mod KeptHeadersLemmas
 mod RunsLemmas

@@ -1,4 +1,4 @@
--- What a writer into a vector is once the slice of its bytes that it lent has come back.
+-- What a writer into a vector is once the borrow of its bytes has ended.
 use Rattle.std.specs.Prelude.{◌≡◌, ℕ, ◌++◌, List, [], ◌∷◌, length, take, drop}
 use Rattle.std.specs.Borrow.{Lends, MutBor, Fml, Array, u8}
 use Rattle.std.specs.List.{length_refill}

@@ -9,7 +9,7 @@ ghost use Rattle.stun_grammar.specs.Fingerprints.{fingerprint_value};
 ghost use Rattle.stun_grammar.specs.Steps.{add, sign, finger, integrity_value};
 ghost use Rattle.stun_grammar.specs.Adding.{whole, add_refusal, IsAddAnswer};
 ghost use Rattle.stun_keys.specs.Keys.{key_bytes, credentials_key};
-ghost use Rattle.stun_base.specs.Types.{class_of, method_of, is_response as responds};
+ghost use Rattle.stun_base.specs.MessageTypes.{class_of, method_of, is_response as responds};
 ghost use Rattle.stun_write.specs.Writers.{Allocates, Adds};
 
 use crate::MessageWrite;
@@ -259,7 +259,7 @@ impl<W: MessageWrite> MessageWriteExt for W {
         written_header(self).transaction_id()
     }
 
-    #[tactic(auto, using(stun_grammar::proofs::AddingLemmas::appended_length, crate::proofs::KeptLemmas::pushed, stun_grammar::proofs::AddingRefusedLemmas::ordinary_barred))]
+    #[tactic(auto, using(stun_grammar::proofs::AddingLemmas::appended_length, crate::proofs::KeptHeadersLemmas::pushed, stun_grammar::proofs::AddingRefusedLemmas::ordinary_barred))]
     #[inline(always)]
     fn add_attribute(&mut self, attribute: &dyn AttributeWrite) -> Result<(), StunWriteError> {
         // `get_type` returns the type as a `u16`: so it fits in two bytes
@@ -294,7 +294,7 @@ impl<W: MessageWrite> MessageWriteExt for W {
         self.add_message_integrity_with_key_unchecked(key, algorithm)
     }
 
-    #[tactic(auto, using(stun_grammar::proofs::AddingRefusedLemmas::no_refusal, crate::proofs::KeptLemmas::pushed))]
+    #[tactic(auto, using(stun_grammar::proofs::AddingRefusedLemmas::no_refusal, crate::proofs::KeptHeadersLemmas::pushed))]
     fn add_message_integrity_with_key_unchecked(
         &mut self,
         key: &IntegrityKey,
@@ -308,7 +308,7 @@ impl<W: MessageWrite> MessageWriteExt for W {
         self.add_fingerprint_unchecked()
     }
 
-    #[tactic(auto, using(stun_grammar::proofs::AddingRefusedLemmas::no_refusal, crate::proofs::KeptLemmas::pushed))]
+    #[tactic(auto, using(stun_grammar::proofs::AddingRefusedLemmas::no_refusal, crate::proofs::KeptHeadersLemmas::pushed))]
     fn add_fingerprint_unchecked(&mut self) -> Result<(), StunWriteError> {
         push_fingerprint(self)
     }

@@ -11,7 +11,7 @@ use stun_base::{MAGIC_COOKIE, MessageType, StunWriteError, TransactionId};
 
 /// The header of a message without attributes: the type in two bytes, the length 0 in two, the
 /// magic cookie in four and the transaction ID in twelve.
-#[tactic(auto, using(crate::proofs::KeptLemmas::id_bytes), unfolding(stun_grammar::specs::Writing::message_encoding))]
+#[tactic(auto, using(crate::proofs::KeptHeadersLemmas::id_bytes), unfolding(stun_grammar::specs::Writing::message_encoding))]
 fn header_bytes(mtype: MessageType, transaction_id: TransactionId) -> [u8; 20]
     ensures encoding { result ≡ message_encoding mtype transaction_id [] }
     ensures type_fits { mtype < 2 ^ 14 }
@@ -52,7 +52,7 @@ pub fn begin_message<B: MessageWrite + Drop>(
 /// # Errors
 ///
 /// Only `OutOfMemory`, and only where fewer than twenty bytes are ready; nothing is written then.
-#[tactic(auto, using(stun_grammar::proofs::AddingLemmas::encoding_begins, crate::proofs::KeptLemmas::encoding_type, crate::proofs::KeptLemmas::encoding_id))]
+#[tactic(auto, using(stun_grammar::proofs::AddingLemmas::encoding_begins, crate::proofs::KeptHeadersLemmas::encoding_type, crate::proofs::KeptHeadersLemmas::encoding_id))]
 #[inline(always)]
 pub fn begin_message_into<B: MessageWrite>(
     mtype: MessageType,

@@ -20,7 +20,7 @@ use stun_integrity::{fingerprint_at, hmac_sha1_at, hmac_sha256_at};
 use stun_keys::keys::IntegrityKey;
 
 /// Appends a MESSAGE-INTEGRITY: the 20 bytes of the HMAC-SHA1 of the message so far.
-#[tactic(auto, using(stun_grammar::proofs::AddingLemmas::appended_length, crate::proofs::KeptLemmas::pushed))]
+#[tactic(auto, using(stun_grammar::proofs::AddingLemmas::appended_length, crate::proofs::KeptHeadersLemmas::pushed))]
 pub(crate) fn push_sha1<W: MessageWrite>(
     write: &mut W,
     key: &IntegrityKey,
@@ -40,7 +40,7 @@ pub(crate) fn push_sha1<W: MessageWrite>(
 }
 
 /// Appends a MESSAGE-INTEGRITY-SHA256: the 32 bytes of the HMAC-SHA256 of the message so far.
-#[tactic(auto, using(stun_grammar::proofs::AddingLemmas::appended_length, crate::proofs::KeptLemmas::pushed))]
+#[tactic(auto, using(stun_grammar::proofs::AddingLemmas::appended_length, crate::proofs::KeptHeadersLemmas::pushed))]
 pub(crate) fn push_sha256<W: MessageWrite>(
     write: &mut W,
     key: &IntegrityKey,
@@ -81,7 +81,7 @@ pub(crate) fn push_integrity<W: MessageWrite>(
 }
 
 /// Appends a FINGERPRINT: the four bytes of the masked CRC-32 of the message so far.
-#[tactic(auto, using(stun_grammar::proofs::AddingLemmas::appended_length, crate::proofs::KeptLemmas::pushed, stun_grammar::proofs::AddingLemmas::fingerprint_length))]
+#[tactic(auto, using(stun_grammar::proofs::AddingLemmas::appended_length, crate::proofs::KeptHeadersLemmas::pushed, stun_grammar::proofs::AddingLemmas::fingerprint_length))]
 pub(crate) fn push_fingerprint<W: MessageWrite>(write: &mut W) -> Result<(), StunWriteError>
     requires { HasRoomFor (W.state write.old) 4 }
     ensures adds { Adds result (W.state write.old) (W.state write.new) FINGERPRINT_TYPE

@@ -2,7 +2,7 @@
 
 ghost use Rattle.std.specs.Prelude.{◌≡◌, true};
 ghost use Rattle.stun_grammar.specs.Headers.{is_header};
-ghost use Rattle.stun_base.specs.Types.{header_of};
+ghost use Rattle.stun_base.specs.MessageTypes.{header_of};
 
 use crate::MessageWrite;
 use stun_base::{MessageHeader, read_header};

@@ -8,9 +8,9 @@ use std::alloc::Global;
 use stun_attrs::AttributeWrite;
 use stun_base::{AttributeType, StunWriteError, pad_attribute_len};
 
-/// Writes a message (RFC 8489, section 5) into a vector, which grows as needed. The types of sixteen
-/// attributes need no memory; those of more are kept in memory of the same allocator. A writer that
-/// is dropped without [`MessageWrite::finish`] drops what was written.
+/// Writes a message (RFC 8489, section 5) into a vector, which grows as needed. The types of
+/// sixteen attributes need no memory; those of more are kept in memory of the same allocator. A
+/// writer that is dropped without [`MessageWrite::finish`] drops what was written.
 #[derive(Debug, Drop)]
 pub struct MessageWriteVec {
     output: Vec<u8>,

@@ -81,8 +81,8 @@ pub trait MessageWrite {
         ensures succeeds { length more.now ≤ (state self.old).ready_bytes → IsOk result };
 
     /// Appends an attribute: its type, length, value and zero padding (RFC 8489, section 14), and
-    /// sets the length field of the header to count them (section 5). At least twenty bytes are written, there is room for the
-    /// attribute, and with it the message has at most 65555 bytes.
+    /// sets the length field of the header to count them (section 5). At least twenty bytes are
+    /// written, there is room for the attribute, and with it the message has at most 65555 bytes.
     ///
     /// # Errors
     ///

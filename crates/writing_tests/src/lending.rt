@@ -1,4 +1,4 @@
-//! What a writer is once the bytes that it lent were overwritten.
+//! What a writer is once its bytes were borrowed and overwritten.
 
 use crate::vector::{add_software, request};
 use std::alloc::Global;

@@ -3,7 +3,7 @@
 ghost use Rattle.std.specs.Prelude.{◌≡◌, IfOk};
 ghost use Rattle.stun_grammar.specs.Headers.{type_field};
 ghost use Rattle.stun_base.specs.declared.message_type.MessageClass.TheVariants.{Request};
-ghost use Rattle.stun_base.specs.Types.{class_of};
+ghost use Rattle.stun_base.specs.MessageTypes.{class_of};
 ghost use Rattle.stun_types.specs.Message.{message_bytes};
 
 use std::alloc::Global;
@@ -117,11 +117,11 @@ fn assert_reply(
     name: &str,
     request: &[u8],
     reply: &[u8],
-    (length, front, back): Reply<'_>,
+    (length, prefix, suffix): Reply<'_>,
 ) -> Result<(), StunParseError> {
     assert!(rt; reply.len() == length, "{name}");
-    assert!(rt; reply.starts_with(front), "{name}");
-    assert!(rt; reply.ends_with(back), "{name}");
+    assert!(rt; reply.starts_with(prefix), "{name}");
+    assert!(rt; reply.ends_with(suffix), "{name}");
     assert!(rt; is_answered(request, reply)?, "{name}");
     Ok(())
 }

@@ -3,10 +3,10 @@
 /// Table k tells what each byte becomes once it and k bytes of zeros behind it are shifted out of
 /// the register.
 ///
-/// Entry i of the first table is i after eight shifts by one bit, each of which XORs EDB88320 in where the
-/// bit that it shifted out was 1. An entry of each further table is that of the table before it
-/// after eight more shifts. A script made the numbers by this rule, and the proof of `shifted_out`
-/// computes each of them again.
+/// Entry i of the first table is i after eight shifts by one bit, each of which XORs EDB88320 in
+/// where the bit that it shifted out was 1. An entry of each further table is that of the table
+/// before it after eight more shifts. A script made the numbers by this rule, and the proof of
+/// `shifted_out` computes each of them again.
 #[rattlefmt::skip]
 pub(super) static TABLES: [[u32; 256]; 8] = [
     [

@@ -110,8 +110,8 @@ fn sha1_keyed(block: &[u8; 64]) -> Sha1
 
 /// The SHA-1 of what a hasher has taken in and the pieces after it, joined.
 fn sha1_after(keyed: &Sha1, pieces: &[&[u8]]) -> [u8; 20]
-    ensures { (front : List ℕ) → Holds keyed.now front
-        → result ≡ sha1 (front ++ concat (map (λ piece. piece.now) pieces.now)) }
+    ensures { (before : List ℕ) → Holds keyed.now before
+        → result ≡ sha1 (before ++ concat (map (λ piece. piece.now) pieces.now)) }
 {
     let mut hasher = keyed.clone().unwrap();
     for piece in pieces {
@@ -186,8 +186,8 @@ fn sha256_keyed(block: &[u8; 64]) -> Sha256
 
 /// The SHA-256 of what a hasher has taken in and the pieces after it, joined.
 fn sha256_after(keyed: &Sha256, pieces: &[&[u8]]) -> [u8; 32]
-    ensures { (front : List ℕ) → Holds256 keyed.now front
-        → result ≡ sha256 (front ++ concat (map (λ piece. piece.now) pieces.now)) }
+    ensures { (before : List ℕ) → Holds256 keyed.now before
+        → result ≡ sha256 (before ++ concat (map (λ piece. piece.now) pieces.now)) }
 {
     let mut hasher = keyed.clone().unwrap();
     for piece in pieces {

@@ -15,8 +15,8 @@ use stun_grammar::IntegrityAlgorithm;
 /// first HMAC on the hashers that have taken them in, so that a later HMAC compresses two blocks
 /// fewer.
 ///
-/// No contract tells what a cell holds. So the hashers are used only where the blocks that they have
-/// taken in are these.
+/// No contract tells what a cell holds. So the hashers are used only where the blocks that they
+/// have taken in are these.
 #[derive(Clone, Drop)]
 pub(crate) struct HmacSha1 {
     pub(crate) blocks: HmacBlocks,
@@ -65,8 +65,8 @@ impl HmacSha1 {
 /// first HMAC on the hashers that have taken them in, so that a later HMAC compresses two blocks
 /// fewer.
 ///
-/// No contract tells what a cell holds. So the hashers are used only where the blocks that they have
-/// taken in are these.
+/// No contract tells what a cell holds. So the hashers are used only where the blocks that they
+/// have taken in are these.
 #[derive(Clone, Drop)]
 pub(crate) struct HmacSha256 {
     pub(crate) blocks: HmacBlocks,

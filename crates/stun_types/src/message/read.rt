@@ -32,7 +32,7 @@ impl<'a> Message<'a> {
     ghost use Rattle.stun_grammar.specs.Headers.{type_field, id_field};
     ghost use Rattle.stun_grammar.specs.Parsing.{parse_fault};
     ghost use Rattle.stun_grammar.specs.Showing.{shown};
-    ghost use Rattle.stun_base.specs.Types.{class_of, method_of, header_of, is_response as responds};
+    ghost use Rattle.stun_base.specs.MessageTypes.{class_of, method_of, header_of, is_response as responds};
     ghost use Rattle.stun_types.specs.Message.{message_bytes};
     ghost use Rattle.stun_read.specs.Iterating.{items_left, borrowed};
     ghost use Rattle.stun_read.specs.Keeping.{KeepsOffsets};
@@ -178,7 +178,7 @@ impl<'a> Message<'a> {
 /// attributes: [29(0x1d: PASSWORD-ALGORITHM): SHA256])`. It goes over the attributes once, and
 /// takes no memory.
 impl fmt::Display for Message<'_> {
-    ghost use Rattle.stun_read.specs.Printed.{message_text};
+    ghost use Rattle.stun_read.specs.PrintedMessages.{message_text};
     ghost use Rattle.stun_types.specs.Message.{message_bytes};
 
     ghost output = { λ message. message_text (message_bytes message) };

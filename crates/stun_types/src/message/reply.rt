@@ -9,12 +9,12 @@ ghost use Rattle.stun_grammar.specs.Steps.{add};
 ghost use Rattle.stun_grammar.specs.Adding.{Fits, add_refusal, IsAddAnswer};
 ghost use Rattle.stun_base.specs.declared.message_type.MessageClass.{MessageClass};
 ghost use Rattle.stun_base.specs.declared.message_type.MessageClass.TheVariants.{Request, Success, Error as ErrorClass};
-ghost use Rattle.stun_base.specs.Types.{class_of, is_response};
+ghost use Rattle.stun_base.specs.MessageTypes.{class_of, is_response};
 ghost use Rattle.stun_texts.specs.Texts.{text_bytes};
-ghost use Rattle.stun_rules.specs.Errors.{error_value};
-ghost use Rattle.stun_values.specs.Errors.{making_fault};
+ghost use Rattle.stun_rules.specs.ErrorValues.{error_value};
+ghost use Rattle.stun_values.specs.MakingErrors.{making_fault};
 ghost use Rattle.stun_values.specs.ErrorCodes.{error_code, error_reason};
-ghost use Rattle.stun_rules.specs.Types.{types_encoding};
+ghost use Rattle.stun_rules.specs.TypeLists.{types_encoding};
 ghost use Rattle.stun_values.specs.Unknown.{listed};
 ghost use Rattle.stun_write.specs.Writers.{Begins, IsUnchanged, Keeps, KeepsHeader, Gains, Adds, Allocates};
 ghost use Rattle.stun_types.specs.Message.{message_bytes};
@@ -230,7 +230,8 @@ impl Message<'_> {
         requires empty { (B.state write).bytes ≡ [] }
         requires room { Fits (B.state write).greatest 20 }
         ensures { let d = message_bytes orig.now in
-            Begins (λ w. B.state w) result (B.state write) (response_type ErrorClass d) (id_field d) }
+            Begins (λ w. B.state w) result (B.state write)
+            (response_type ErrorClass d) (id_field d) }
     {
         Self::builder_error_into(orig, &mut write)?;
         Ok(write)

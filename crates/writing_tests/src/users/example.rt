@@ -61,8 +61,8 @@ pub fn first_message(buffer: &[u8]) -> Result<Option<(Message<'_>, &[u8])>, Stun
     if buffer.len() < length {
         return Ok(None);
     }
-    let (front, behind) = buffer.split_at(length);
-    Ok(Some((Message::from_bytes(front)?, behind)))
+    let (prefix, behind) = buffer.split_at(length);
+    Ok(Some((Message::from_bytes(prefix)?, behind)))
 }
 
 /// [`RESPONSE`], and [`REQUEST`] behind it.

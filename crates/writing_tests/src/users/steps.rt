@@ -110,8 +110,8 @@ fn writes_the_same_whatever_was_there(rt: HostRuntime) -> Result<(), Fail> {
     Ok(())
 }
 
-/// Adds a lent value, signs, and adds a FINGERPRINT, in an array.
-fn sign_lent<const N: usize>(
+/// Adds a borrowed value, signs, and adds a FINGERPRINT, in an array.
+fn sign_borrowed<const N: usize>(
     alloc: Global,
     blob: &Blob<'_>,
     key: &IntegrityKey,
@@ -141,7 +141,7 @@ fn writes_a_lent_value_into_an_array(rt: HostRuntime) -> Result<(), Fail> {
     let key = short_term(rt.alloc(), "pass")?.make_key(rt.alloc(), IntegrityAlgorithm::Sha256)?;
     let blob = Blob::new(&[5])?;
     let mut write = WriteFixed::<72>::new();
-    assert!(rt; sign_lent(rt.alloc(), &blob, &key, &mut write)? == [Ok(()); 3]);
+    assert!(rt; sign_borrowed(rt.alloc(), &blob, &key, &mut write)? == [Ok(()); 3]);
     assert!(rt; write.data().starts_with(&LENT));
     let read = Message::from_bytes(write.data())?;
     assert!(rt; read.validate_integrity_with_key(&key) == Ok(IntegrityAlgorithm::Sha256));

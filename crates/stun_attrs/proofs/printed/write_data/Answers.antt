@@ -1,5 +1,5 @@
 use Rattle.stun_base.specs.Data.{data_bytes, is_borrowed}
-use Rattle.stun_attrs.proofs.PrintedLemmas.{data_is}
+use Rattle.stun_attrs.proofs.PrintedDataLemmas.{data_is}
 use Rattle.stun_attrs.proofs.printed.write_data.Goals as goal
 
 pub returns : goal.returns

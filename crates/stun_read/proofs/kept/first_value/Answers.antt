@@ -1,6 +1,6 @@
 use Rattle.std.proofs.Common.{◌+◌, ◌-◌, drop, refl, arith}
 use Rattle.std.proofs.lemmas.List.{length-take}
-use Rattle.stun_read.proofs.KeptLemmas.{first_long, first_read}
+use Rattle.stun_read.proofs.KeptOffsetsLemmas.{first_long, first_read}
 use Rattle.stun_read.proofs.kept.first_value.Goals as goal
 
 pub number_at-length-requires : goal.number_at-length-requires

@@ -3,8 +3,8 @@ use Rattle.std.proofs.Debugs.{Shows, displays_from}
 use Rattle.std.proofs.lemmas.Iterator.Consumers.{YieldsList-from_first, YieldsList-end}
 use Rattle.stun_grammar.specs.Showing.{shown}
 use Rattle.stun_read.specs.Iterating.{items_left, item_view, borrowed}
-use Rattle.stun_read.specs.Printed.{attributes_text}
-use Rattle.stun_read.proofs.PrintedLemmas.{item_text, shows_more, items_text}
+use Rattle.stun_read.specs.PrintedMessages.{attributes_text}
+use Rattle.stun_read.proofs.PrintedMessagesLemmas.{item_text, shows_more, items_text}
 use Rattle.stun_read.proofs.printed.print_attributes.Goals as goal
 
 pub loop-offset-preserved : goal.loop-offset-preserved

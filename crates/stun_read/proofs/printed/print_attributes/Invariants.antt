@@ -3,7 +3,7 @@ use denote.Text.{Utf8}
 use denote.Shadow.{shadow}
 use Rattle.std.specs.Fmt.{IsPlainFormatter, debug_items}
 use Rattle.std.proofs.Debugs.{Shows}
-use Rattle.stun_read.proofs.PrintedLemmas.{item_text, lead_behind}
+use Rattle.stun_read.proofs.PrintedMessagesLemmas.{item_text, lead_behind}
 use Rattle.stun_read.proofs.printed.print_attributes.Given as goal
 
 -- the attributes so far are written; `lead` is what stands before the next

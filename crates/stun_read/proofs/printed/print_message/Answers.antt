@@ -3,8 +3,8 @@ use Rattle.std.specs.Fmt.{◌++?◌}
 use Rattle.std.proofs.Debugs.{shows_then, shows_from, displays_from}
 use Rattle.stun_grammar.specs.Showing.{shown}
 use Rattle.stun_grammar.proofs.HeadersLemmas.{header_there, frame_there, first_low}
-use Rattle.stun_base.specs.Types.{header_of}
-use Rattle.stun_read.specs.Printed.{head_text, attributes_text, message_text}
+use Rattle.stun_base.specs.MessageTypes.{header_of}
+use Rattle.stun_read.specs.PrintedMessages.{head_text, attributes_text, message_text}
 use Rattle.stun_read.proofs.printed.print_message.Goals as goal
 
 pub read_header-header-requires-clause-long : goal.read_header-header-requires-clause-long

@@ -1,7 +1,7 @@
 use Rattle.std.proofs.Common.{◌≡◌, rules}
 use Rattle.stun_grammar.specs.Headers.{type_field}
 use Rattle.stun_base.specs.declared.message_type.MessageClass.TheVariants.{Request}
-use Rattle.stun_base.specs.Types.{class_of}
+use Rattle.stun_base.specs.MessageTypes.{class_of}
 use Rattle.stun_types.specs.Message.{message_bytes}
 use Rattle.stun_reply.proofs.ReplyLemmas.{none_to_fault, none_to_class, one_to_request}
 use Rattle.stun_reply.proofs.reply.reply.Goals as goal

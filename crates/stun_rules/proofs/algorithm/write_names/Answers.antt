@@ -1,6 +1,6 @@
 use Rattle.std.proofs.Common.{rules}
 use Rattle.std.proofs.Output.{has_written_append, has_written_of_eq}
-use Rattle.stun_rules.proofs.PrintedLemmas.{names_next}
+use Rattle.stun_rules.proofs.AlgorithmNamesLemmas.{names_next}
 use Rattle.stun_rules.proofs.algorithm.write_names.Goals as goal
 
 pub loop-i-preserved : goal.loop-i-preserved

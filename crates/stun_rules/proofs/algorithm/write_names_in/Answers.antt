@@ -5,7 +5,7 @@ use Rattle.stun_rules.specs.declared.algorithm.PasswordAlgorithmValue.TheVariant
 use Rattle.stun_rules.specs.Algorithms.{algorithm_names, name_at}
 use Rattle.stun_rules.proofs.AlgorithmsLemmas.{each_none}
 use Rattle.stun_rules.proofs.ListsLemmas.{length_of_entries}
-use Rattle.stun_rules.proofs.PrintedLemmas.{names_next, entry_is}
+use Rattle.stun_rules.proofs.AlgorithmNamesLemmas.{names_next, entry_is}
 use Rattle.stun_rules.proofs.algorithm.write_names_in.Goals as goal
 
 pub unreachable-requires : goal.unreachable-requires

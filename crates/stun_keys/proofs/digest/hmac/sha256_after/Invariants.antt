@@ -5,4 +5,4 @@ use Rattle.stun_keys.proofs.digest.hmac.sha256_after.Given as goal
 
 -- whatever the hasher held, it holds that and the pieces so far
 abbrev pub invariant-loop-piece : goal.invariant-loop-piece
-invariant-loop-piece l = (front : List ℕ) → Holds256 l.keyed front → Holds256 l.hasher (front ++ concat (map (λ piece. piece.now) (take l.piece-index l.pieces)))
+invariant-loop-piece l = (before : List ℕ) → Holds256 l.keyed before → Holds256 l.hasher (before ++ concat (map (λ piece. piece.now) (take l.piece-index l.pieces)))

@@ -1,4 +1,4 @@
-use Rattle.stun_read.proofs.KeptLemmas.{either_kept, other_found}
+use Rattle.stun_read.proofs.KeptOffsetsLemmas.{either_kept, other_found}
 use Rattle.stun_read.proofs.offsets.IntegrityOffsets.last.Goals as goal
 
 pub returns-in-Some-of : goal.returns-in-Some-of

@@ -1,6 +1,6 @@
 use Rattle.std.proofs.Common.{◌+◌, ◌*◌, ◌≡◌, ℕ, take, ◌∙◌, ap, arith}
 use Rattle.std.specs.List.{flat_map}
-use Rattle.stun_rules.specs.Types.{type_encoding}
+use Rattle.stun_rules.specs.TypeLists.{type_encoding}
 use Rattle.stun_rules.proofs.ListsLemmas.{read_next, two_at}
 use Rattle.stun_values.proofs.unknown_attributes.UnknownAttributes.list_of.Goals as goal
 

@@ -2,7 +2,7 @@
 use Rattle.std.proofs.Common.{◌≡◌, ℕ, ◌<◌, ◌≤◌, List, length, Some, None, refl}
 use Rattle.std.proofs.lemmas.Bool.{lt-ltb, le-ltb, lt-leb, le-leb}
 use Rattle.stun_grammar.specs.declared.error.StunWriteError.TheVariants as Write
-use Rattle.stun_values.specs.Errors.{making_fault}
+use Rattle.stun_values.specs.MakingErrors.{making_fault}
 
 pub below_range : (code : ℕ) (reason : List ℕ) → code < 300 → making_fault code reason ≡ Some (Write.OutOfRange code 300 699)
 below_range code reason low = rw (lt-leb 300 code low) refl

@@ -4,8 +4,8 @@ use Rattle.std.specs.Fmt.{◌++?◌, debug_items}
 use Rattle.stun_grammar.specs.Names.{method_text}
 use Rattle.stun_grammar.specs.Chains.{Shown}
 use Rattle.stun_grammar.specs.Showing.{shown}
-use Rattle.stun_base.specs.Types.{Header, header_of, class_of, method_of, class_name, id_text}
-use Rattle.stun_attrs.specs.Printed.{attribute_text}
+use Rattle.stun_base.specs.MessageTypes.{Header, header_of, class_of, method_of, class_name, id_text}
+use Rattle.stun_attrs.specs.PrintedAttributes.{attribute_text}
 
 -- an attribute that is shown; its value is borrowed from the message
 abbrev pub shown_text : Shown → Option (List ℕ)

@@ -6,7 +6,7 @@ use Rattle.std.proofs.lemmas.Str.{IsUtf8-from_is_utf8, is_utf8-from_IsUtf8}
 use Rattle.stun_grammar.specs.declared.error.StunParseError.{StunParseError}
 use Rattle.stun_grammar.specs.declared.error.StunParseError.TheVariants.{InvalidAttributeData}
 use Rattle.stun_grammar.specs.Lengths.{range_fault}
-use Rattle.stun_rules.specs.Errors.{code_class, tells_code, error_fault}
+use Rattle.stun_rules.specs.ErrorValues.{code_class, tells_code, error_fault}
 
 pub tells : (value : List ℕ) → 3 ≤ slice_index value 2 % 8 → slice_index value 2 % 8 ≤ 6 → slice_index value 3 ≤ 99 → tells_code value ≡ true
 tells value low high rest = rw (le-leb 3 (code_class value) low, le-leb (code_class value) 6 high, le-leb (slice_index value 3) 99 rest) refl

@@ -7,10 +7,10 @@ use Rattle.std.proofs.Output.{then_text_assoc}
 use Rattle.stun_grammar.specs.Chains.{Shown}
 use Rattle.stun_base.specs.Data.{is_borrowed}
 use Rattle.stun_attrs.specs.Raw.{raw_type, raw_data, raw_value}
-use Rattle.stun_attrs.specs.Printed.{attribute_text}
+use Rattle.stun_attrs.specs.PrintedAttributes.{attribute_text}
 use Rattle.stun_attrs.specs.declared.raw.RawAttribute.{RawAttribute}
 use Rattle.stun_read.specs.Iterating.{item_view, borrowed}
-use Rattle.stun_read.specs.Printed.{attributes_text}
+use Rattle.stun_read.specs.PrintedMessages.{attributes_text}
 
 -- the text of an item that was yielded
 abbrev pub item_text : ℕ × RawAttribute → Option (List ℕ)

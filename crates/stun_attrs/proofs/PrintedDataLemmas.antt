@@ -4,7 +4,7 @@ use Rattle.std.specs.Prelude.{codes}
 use Rattle.std.specs.Fmt.{decimal, debug_items, comma_space}
 use Rattle.std.specs.List.{flat_map}
 use Rattle.stun_base.specs.Data.{data_text, bytes_text}
-use Rattle.stun_attrs.specs.Printed.{bytes_in_decimal, data_shown}
+use Rattle.stun_attrs.specs.PrintedAttributes.{bytes_in_decimal, data_shown}
 
 others_are : (bytes : List ℕ) → debug_items (λ byte. Some (decimal byte)) comma_space bytes ≡ Some (flat_map (λ byte. codes ", " ++ decimal byte) bytes)
 others_are [] = refl

@@ -9,7 +9,8 @@ use Rattle.stun_rules.specs.Typed.{value_fault, value_text}
 -- bytes in decimal, with a comma and a space between them
 abbrev pub bytes_in_decimal : List ℕ → List ℕ
 bytes_in_decimal [] = []
-bytes_in_decimal (first ∷ others) = decimal first ++ flat_map (λ byte. codes ", " ++ decimal byte) others
+bytes_in_decimal (first ∷ others) =
+    decimal first ++ flat_map (λ byte. codes ", " ++ decimal byte) others
 
 -- the bytes of a value, which the flag tells to be borrowed or owned
 abbrev pub data_shown : Bool → List ℕ → List ℕ
@@ -19,10 +20,11 @@ data_shown false value = codes "Owned(DataOwned([" ++ bytes_in_decimal value ++ 
 -- the length and the bytes of a value; the parenthesis at the end belongs to what stands before
 abbrev pub length_and_data : List ℕ → Bool → List ℕ
 length_and_data value borrowed =
-    codes "len: " ++ decimal (length value) ++ codes ", data: " ++ data_shown borrowed value ++ codes ")"
+    codes "len: " ++ decimal (length value)
+    ++ codes ", data: " ++ data_shown borrowed value ++ codes ")"
 
--- an attribute of a typed type whose value is refused; its last parenthesis has no partner, which is
--- kept from the Rust crate
+-- an attribute of a typed type whose value is refused; its last parenthesis has no partner, which
+-- is kept from the Rust crate
 abbrev pub malformed_text : ℕ → List ℕ → Bool → List ℕ
 malformed_text type value borrowed =
     attribute_type_text type ++ codes "(Malformed): " ++ length_and_data value borrowed
@@ -33,8 +35,8 @@ untyped_text type value borrowed =
     codes "RawAttribute (type: " ++ attribute_type_debug type ++ codes ", "
     ++ length_and_data value borrowed
 
--- an attribute of this type and this value: as the typed attribute where there is one and it accepts
--- the value; the flag tells a borrowed value from an owned one
+-- an attribute of this type and this value: as the typed attribute where there is one and it
+-- accepts the value; the flag tells a borrowed value from an owned one
 abbrev pub attribute_text : ℕ → List ℕ → Bool → Option (List ℕ)
 attribute_text type value borrowed =
     option_map_or (λ fault.

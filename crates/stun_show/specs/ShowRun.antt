@@ -33,7 +33,8 @@ abbrev pub Ends : Option (List ℕ) → RunEnd → (left left' held held' : Opti
 Ends password Shown left left' held held' = Reports password Shown left left' held held'
 Ends password Refused left left' held held' = Reports password Refused left left' held held'
 Ends password WriteFailed left left' held held' = ReportsPart password left left' held held'
-Ends password TooLong left left' held held' = ReadsTooMuch longest_input left left' × Keeps held held'
+Ends password TooLong left left' held held' =
+    ReadsTooMuch longest_input left left' × Keeps held held'
 Ends password ReadFailed left left' held held' = Keeps held held'
 Ends password NoMemory left left' held held' = Keeps held held'
 Ends password Usage left left' held held' = ⊥

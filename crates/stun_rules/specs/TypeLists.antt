@@ -20,4 +20,5 @@ AreTypes = AllByRecursion (λ type. type.0 < 2 ^ 16)
 
 -- why a value isn't a list of types: it has an odd number of bytes
 abbrev pub types_fault : List ℕ → Option StunParseError
-types_fault value = if length value % 2 == 0 then None else Some (Truncated (length value + 1) (length value))
+types_fault value =
+    if length value % 2 == 0 then None else Some (Truncated (length value + 1) (length value))

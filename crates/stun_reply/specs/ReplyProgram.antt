@@ -7,7 +7,7 @@ use Rattle.std.specs.declared.net.socket_addr.SocketAddr.{SocketAddr}
 use Rattle.stun_rules.specs.Addresses.{IsPlain}
 use Rattle.stun_reply.specs.declared.engine.RunEnd.{RunEnd}
 use Rattle.stun_reply.specs.declared.engine.RunEnd.TheVariants.{Replied, NoReply, Usage, TooLong, ReadFailed, NoMemory}
-use Rattle.stun_reply.specs.Run.{Ends}
+use Rattle.stun_reply.specs.ReplyRun.{Ends}
 
 -- ---- The arguments
 

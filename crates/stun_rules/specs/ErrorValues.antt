@@ -9,7 +9,8 @@ use Rattle.stun_grammar.specs.AttributeTypes.{ERROR_CODE}
 use Rattle.stun_grammar.specs.Names.{plain_text}
 use Rattle.stun_grammar.specs.Lengths.{range_fault}
 
--- two zeros, the class of the code (its hundreds) and its number (the rest) in a byte each, and the reason
+-- two zeros, the class of the code (its hundreds) and its number (the rest) in a byte each, and the
+-- reason
 abbrev pub error_value : ℕ → List ℕ → List ℕ
 error_value code reason = 0 ∷ 0 ∷ (code / 100) ∷ (code % 100) ∷ reason
 
@@ -23,7 +24,8 @@ told_code value = 100 * code_class value + slice_index value 3
 
 -- the class and the number are those of a code
 abbrev pub tells_code : List ℕ → Bool
-tells_code value = nat_le 3 (code_class value) && (nat_le (code_class value) 6 && nat_le (slice_index value 3) 99)
+tells_code value =
+    nat_le 3 (code_class value) && (nat_le (code_class value) 6 && nat_le (slice_index value 3) 99)
 
 -- why a value isn't a code and a reason
 abbrev pub error_fault : List ℕ → Option StunParseError

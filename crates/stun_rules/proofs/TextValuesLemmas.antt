@@ -6,7 +6,7 @@ use Rattle.std.proofs.lemmas.Str.{IsUtf8-from_is_utf8, is_utf8-from_IsUtf8}
 use Rattle.stun_grammar.specs.declared.error.StunParseError.{StunParseError}
 use Rattle.stun_grammar.specs.declared.error.StunParseError.TheVariants.{InvalidAttributeData}
 use Rattle.stun_grammar.specs.Lengths.{range_fault}
-use Rattle.stun_rules.specs.Texts.{text_fault}
+use Rattle.stun_rules.specs.TextValues.{text_fault}
 
 pub refused : (most : ℕ) (value : List ℕ) (e : StunParseError) → range_fault 0 most (length value) ≡ Some e → text_fault most value ≡ Some e
 refused most value e told = rw told refl

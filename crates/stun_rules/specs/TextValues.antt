@@ -6,8 +6,8 @@ use Rattle.stun_grammar.specs.declared.error.StunParseError.{StunParseError}
 use Rattle.stun_grammar.specs.declared.error.StunParseError.TheVariants.{InvalidAttributeData}
 use Rattle.stun_grammar.specs.Lengths.{range_fault}
 
--- why a value isn't a text of at most so many bytes: the length is tested first, and then that it is
--- UTF-8
+-- why a value isn't a text of at most so many bytes: the length is tested first, and then that it
+-- is UTF-8
 abbrev pub text_fault : ℕ → List ℕ → Option StunParseError
 text_fault most value =
     option_or (range_fault 0 most (length value))

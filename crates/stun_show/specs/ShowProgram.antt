@@ -3,7 +3,7 @@ use Rattle.std.specs.Prelude.{◌≡◌, ℕ, List, [], ◌∷◌, ◌++◌, cod
 use Rattle.stun_show.specs.declared.engine.RunEnd.{RunEnd}
 use Rattle.stun_show.specs.declared.engine.RunEnd.TheVariants.{Shown, Refused, Usage, TooLong, ReadFailed, NoMemory}
 use Rattle.stun_show.specs.Report.{line_feed}
-use Rattle.stun_show.specs.Run.{Ends}
+use Rattle.stun_show.specs.ShowRun.{Ends}
 
 -- the password that the arguments give: the one behind the program's name, if there is one. More
 -- than one are wrong usage
