@@ -82,7 +82,7 @@ pub record IsBegun (old new : Writer) (type id : ℕ) : Type 0 where
 
 -- a call begins a message, and `writer` is the writer by what the call returns; or an allocation
 -- failed, which happens only where fewer than twenty bytes are ready
-pub record Begins {R : Type 0} (writer : R → Writer) (result : Result R StunWriteError)
+pub record BeginsMessage {R : Type 0} (writer : R → Writer) (result : Result R StunWriteError)
     (old : Writer) (type id : ℕ) : Type 0 where
   pub begun : IfOk result (λ r. IsBegun old (writer r) type id)
   pub err : IfErr result (λ e. e ≡ OutOfMemory)

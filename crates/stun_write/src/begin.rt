@@ -3,7 +3,7 @@
 ghost use Rattle.std.specs.Prelude.{◌≡◌, ◌^◌, ◌<◌, [], OnErr};
 ghost use Rattle.stun_grammar.specs.Writing.{message_encoding};
 ghost use Rattle.stun_grammar.specs.Adding.{Fits};
-ghost use Rattle.stun_write.specs.Writers.{Begins, IsUnchanged, Keeps};
+ghost use Rattle.stun_write.specs.Writers.{BeginsMessage, IsUnchanged, Keeps};
 
 use crate::MessageWrite;
 use byteorder::{BigEndian, ByteOrder};
@@ -41,7 +41,7 @@ pub fn begin_message<B: MessageWrite + Drop>(
 ) -> Result<B, StunWriteError>
     requires empty { (B.state write).bytes ≡ [] }
     requires room { Fits (B.state write).greatest 20 }
-    ensures { Begins (λ w. B.state w) result (B.state write) mtype transaction_id }
+    ensures { BeginsMessage (λ w. B.state w) result (B.state write) mtype transaction_id }
 {
     begin_message_into(mtype, transaction_id, &mut write)?;
     Ok(write)
@@ -61,7 +61,7 @@ pub fn begin_message_into<B: MessageWrite>(
 ) -> Result<(), StunWriteError>
     requires empty { (B.state write.old).bytes ≡ [] }
     requires room { Fits (B.state write.old).greatest 20 }
-    ensures begins { Begins (λ _. B.state write.new) result (B.state write.old)
+    ensures begins { BeginsMessage (λ _. B.state write.new) result (B.state write.old)
         mtype transaction_id }
     ensures same { OnErr result (IsUnchanged (B.state write.old) (B.state write.new)) }
     ensures keeps { Keeps (B.state write.old) (B.state write.new) 20 0 }

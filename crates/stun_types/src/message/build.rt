@@ -5,7 +5,7 @@ ghost use Rattle.stun_grammar.specs.Adding.{Fits};
 ghost use Rattle.stun_base.specs.MessageTypes.{type_of};
 ghost use Rattle.stun_base.specs.declared.message_type.MessageClass.TheVariants.{Request, Indication};
 ghost use Rattle.stun_base.specs.Drawing.{drawn_id};
-ghost use Rattle.stun_write.specs.Writers.{Begins, IsUnchanged, Keeps};
+ghost use Rattle.stun_write.specs.Writers.{BeginsMessage, IsUnchanged, Keeps};
 
 use super::Message;
 use rand_core::Rng;
@@ -35,7 +35,7 @@ impl Message<'_> {
     ) -> Result<B, StunWriteError>
         requires empty { (B.state write).bytes ≡ [] }
         requires room { Fits (B.state write).greatest 20 }
-        ensures { Begins (λ w. B.state w) result (B.state write) mtype transaction_id }
+        ensures { BeginsMessage (λ w. B.state w) result (B.state write) mtype transaction_id }
     {
         begin_message(mtype, transaction_id, write)
     }
@@ -54,7 +54,7 @@ impl Message<'_> {
     ) -> Result<(), StunWriteError>
         requires empty { (B.state write.old).bytes ≡ [] }
         requires room { Fits (B.state write.old).greatest 20 }
-        ensures begins { Begins (λ _. B.state write.new) result (B.state write.old)
+        ensures begins { BeginsMessage (λ _. B.state write.new) result (B.state write.old)
             mtype transaction_id }
         ensures same { OnErr result (IsUnchanged (B.state write.old) (B.state write.new)) }
         ensures keeps { Keeps (B.state write.old) (B.state write.new) 20 0 }
@@ -76,7 +76,7 @@ impl Message<'_> {
     ) -> Result<B, StunWriteError>
         requires empty { (B.state write).bytes ≡ [] }
         requires room { Fits (B.state write).greatest 20 }
-        ensures begins { Begins (λ w. B.state w) result (B.state write)
+        ensures begins { BeginsMessage (λ w. B.state w) result (B.state write)
             (type_of Request method) (drawn_id (R.stream rng.old)).0 }
         ensures left { R.stream rng.new ≡ (drawn_id (R.stream rng.old)).1 }
     {
@@ -96,7 +96,7 @@ impl Message<'_> {
     ) -> Result<(), StunWriteError>
         requires empty { (B.state write.old).bytes ≡ [] }
         requires room { Fits (B.state write.old).greatest 20 }
-        ensures begins { Begins (λ _. B.state write.new) result (B.state write.old)
+        ensures begins { BeginsMessage (λ _. B.state write.new) result (B.state write.old)
             (type_of Request method) (drawn_id (R.stream rng.old)).0 }
         ensures left { R.stream rng.new ≡ (drawn_id (R.stream rng.old)).1 }
         ensures same { OnErr result (IsUnchanged (B.state write.old) (B.state write.new)) }
@@ -118,7 +118,7 @@ impl Message<'_> {
     ) -> Result<B, StunWriteError>
         requires empty { (B.state write).bytes ≡ [] }
         requires room { Fits (B.state write).greatest 20 }
-        ensures begins { Begins (λ w. B.state w) result (B.state write)
+        ensures begins { BeginsMessage (λ w. B.state w) result (B.state write)
             (type_of Indication method) (drawn_id (R.stream rng.old)).0 }
         ensures left { R.stream rng.new ≡ (drawn_id (R.stream rng.old)).1 }
     {
@@ -138,7 +138,7 @@ impl Message<'_> {
     ) -> Result<(), StunWriteError>
         requires empty { (B.state write.old).bytes ≡ [] }
         requires room { Fits (B.state write.old).greatest 20 }
-        ensures begins { Begins (λ _. B.state write.new) result (B.state write.old)
+        ensures begins { BeginsMessage (λ _. B.state write.new) result (B.state write.old)
             (type_of Indication method) (drawn_id (R.stream rng.old)).0 }
         ensures left { R.stream rng.new ≡ (drawn_id (R.stream rng.old)).1 }
         ensures same { OnErr result (IsUnchanged (B.state write.old) (B.state write.new)) }

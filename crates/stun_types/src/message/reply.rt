@@ -16,7 +16,7 @@ ghost use Rattle.stun_values.specs.MakingErrors.{making_fault};
 ghost use Rattle.stun_values.specs.ErrorCodes.{error_code, error_reason};
 ghost use Rattle.stun_rules.specs.TypeLists.{types_encoding};
 ghost use Rattle.stun_values.specs.Unknown.{listed};
-ghost use Rattle.stun_write.specs.Writers.{Begins, IsUnchanged, Keeps, KeepsHeader, Gains, Adds, Allocates};
+ghost use Rattle.stun_write.specs.Writers.{BeginsMessage, IsUnchanged, Keeps, KeepsHeader, Gains, Adds, Allocates};
 ghost use Rattle.stun_types.specs.Message.{message_bytes};
 ghost use Rattle.stun_types.specs.Replies.{Answers, response_type, own_software, error_attribute, bad_reply, unknown_reply, is_unknown, unknown_types, lacks, check_reply, IsReply, IsReplyAnswer, Replies, AddsMade};
 
@@ -188,7 +188,8 @@ impl Message<'_> {
         requires empty { (B.state write).bytes ≡ [] }
         requires room { Fits (B.state write).greatest 20 }
         ensures { let d = message_bytes orig.now in
-            Begins (λ w. B.state w) result (B.state write) (response_type Success d) (id_field d) }
+            BeginsMessage (λ w. B.state w) result (B.state write)
+            (response_type Success d) (id_field d) }
     {
         Self::builder_success_into(orig, &mut write)?;
         Ok(write)
@@ -207,7 +208,7 @@ impl Message<'_> {
         requires empty { (B.state write.old).bytes ≡ [] }
         requires room { Fits (B.state write.old).greatest 20 }
         ensures begins { let d = message_bytes orig.now in
-            Begins (λ _. B.state write.new) result (B.state write.old)
+            BeginsMessage (λ _. B.state write.new) result (B.state write.old)
             (response_type Success d) (id_field d) }
         ensures same { OnErr result (IsUnchanged (B.state write.old) (B.state write.new)) }
         ensures keeps { Keeps (B.state write.old) (B.state write.new) 20 0 }
@@ -230,7 +231,7 @@ impl Message<'_> {
         requires empty { (B.state write).bytes ≡ [] }
         requires room { Fits (B.state write).greatest 20 }
         ensures { let d = message_bytes orig.now in
-            Begins (λ w. B.state w) result (B.state write)
+            BeginsMessage (λ w. B.state w) result (B.state write)
             (response_type ErrorClass d) (id_field d) }
     {
         Self::builder_error_into(orig, &mut write)?;
@@ -250,7 +251,7 @@ impl Message<'_> {
         requires empty { (B.state write.old).bytes ≡ [] }
         requires room { Fits (B.state write.old).greatest 20 }
         ensures begins { let d = message_bytes orig.now in
-            Begins (λ _. B.state write.new) result (B.state write.old)
+            BeginsMessage (λ _. B.state write.new) result (B.state write.old)
             (response_type ErrorClass d) (id_field d) }
         ensures same { OnErr result (IsUnchanged (B.state write.old) (B.state write.new)) }
         ensures keeps { Keeps (B.state write.old) (B.state write.new) 20 0 }
