@@ -1,5 +1,5 @@
 -- What reading an attribute from a raw one returns.
-use Rattle.std.specs.Prelude.{◌≡◌, ℕ, List, Option, Some, Result, Err, IsOkAnd, MatchOption, MatchResult, ◌==◌, if◌then◌else◌}
+use Rattle.std.specs.Prelude.{◌≡◌, ◌≢◌, ℕ, List, Option, Some, Result, Err, IsOkAnd, MatchOption, MatchResult, ◌==◌, if◌then◌else◌}
 use Rattle.stun_grammar.specs.declared.error.StunParseError.{StunParseError}
 use Rattle.stun_grammar.specs.declared.error.StunParseError.TheVariants.{WrongAttributeImplementation, OutOfMemory}
 
@@ -19,3 +19,11 @@ abbrev pub ReadsInMemory : {T : Type 0} → Option StunParseError → (T → Typ
     → Result T StunParseError → Type 0
 ReadsInMemory fault Wanted result =
     MatchOption fault (MatchResult result Wanted (λ e. e ≡ OutOfMemory)) (λ e. result ≡ Err e)
+
+-- an attribute of another type than the wanted one is refused, and the value of one of that type is
+-- read as it says
+abbrev pub ReadsTyped : {A : Type 0} → (wanted : ℕ) → (List ℕ → Result A StunParseError → Type 0)
+    → ℕ → List ℕ → Result A StunParseError → Type 0
+ReadsTyped wanted reads_value type value result =
+    (type ≡ wanted → reads_value value result)
+    × (type ≢ wanted → result ≡ Err WrongAttributeImplementation)

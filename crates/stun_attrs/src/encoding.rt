@@ -1,6 +1,6 @@
 //! The encoding of an attribute: header, value and padding, written from a type and a value.
 
-ghost use Rattle.std.specs.Prelude.{◌≡◌, ℕ, List, ◌+◌, ◌-◌, ◌≤◌, ◌++◌, false, IfOk, IfErr, length, take, drop, replicate};
+ghost use Rattle.std.specs.Prelude.{◌≡◌, ℕ, Bool, List, ◌+◌, ◌-◌, ◌≤◌, ◌++◌, true, false, IfOk, IfErr, MatchOption, length, take, drop, replicate};
 ghost use Rattle.stun_grammar.specs.Numbers.{padded_length};
 ghost use Rattle.stun_grammar.specs.Attributes.{attribute_encoding, attribute_length};
 ghost use Rattle.stun_base.specs.Data.{is_borrowed};
@@ -11,21 +11,29 @@ use byteorder::{BigEndian, ByteOrder};
 use std::alloc::Global;
 use stun_base::{AttributeHeader, AttributeType, StunWriteError, pad_attribute_len};
 
-/// Something that can write the value of an attribute.
+/// A value that an attribute may have, and how it is encoded: as at most 65535 bytes (RFC 8489,
+/// section 14).
 ///
-/// An attribute that does not hold its value as bytes implements it, writes itself with
-/// [`write_made`] and makes its raw attribute with [`raw_made`]. In contracts `bytes` is the value.
-pub trait MakeValue {
+/// In contracts `bytes` is the encoding, and `is_held` says whether the value holds it, so that it
+/// can be borrowed.
+pub trait EncodeValue {
     ghost bytes: { Self → List ℕ };
 
-    /// How many bytes the value has.
-    fn size(&self) -> u16
+    ghost is_held: { Self → Bool } = { λ _. false };
+
+    /// How many bytes the encoding has.
+    fn value_length(&self) -> u16
         ensures { result ≡ length (bytes self.now) };
 
     /// Writes the value at the start of `dest`, which is long enough. What follows is unchanged.
     fn write_value(&self, dest: &mut [u8])
         requires { length (bytes self.now) ≤ length dest.old }
         ensures { dest.new ≡ bytes self.now ++ drop (length (bytes self.now)) dest.old };
+
+    /// The encoding, where the value holds it as it is.
+    fn held_bytes(&self) -> Option<&[u8]>
+        ensures { MatchOption result (is_held self.now ≡ false)
+            (λ held. (is_held self.now ≡ true) × (held.now ≡ bytes self.now)) };
 }
 
 /// A value that is held as bytes, at most 65535 of them.
@@ -35,11 +43,17 @@ struct Bytes<'a> {
     ghost short: { length bytes.now ≤ 65535 },
 }
 
-impl MakeValue for Bytes<'_> {
+impl EncodeValue for Bytes<'_> {
     ghost bytes = { λ value. value.bytes.now };
 
-    fn size(&self) -> u16 {
+    ghost is_held = { λ _. true };
+
+    fn value_length(&self) -> u16 {
         self.bytes.len() as u16
+    }
+
+    fn held_bytes(&self) -> Option<&[u8]> {
+        Some(self.bytes)
     }
 
     fn write_value(&self, dest: &mut [u8]) {
@@ -70,13 +84,13 @@ fn clear_padding(end: usize, dest: &mut [u8])
 }
 
 /// Writes a value at the start of `dest`, and then zeros up to a multiple of 4.
-fn write_padded<V: MakeValue>(value: &V, dest: &mut [u8])
+fn write_padded<V: EncodeValue>(value: &V, dest: &mut [u8])
     requires { padded_length (length (V.bytes value.now)) ≤ length dest.old }
     ensures { dest.new ≡ V.bytes value.now
         ++ (replicate (padded_length (length (V.bytes value.now)) - length (V.bytes value.now)) 0
         ++ drop (padded_length (length (V.bytes value.now))) dest.old) }
 {
-    clear_padding(value.size() as usize, dest);
+    clear_padding(value.value_length() as usize, dest);
     value.write_value(dest);
 }
 
@@ -84,27 +98,27 @@ fn write_padded<V: MakeValue>(value: &V, dest: &mut [u8])
 /// type and the length of the value in two bytes each, big-endian, the value, and zeros up to a
 /// multiple of 4 (RFC 8489, section 14). What follows is unchanged.
 #[tactic(auto, unfolding(stun_grammar::specs::Attributes::encoding))]
-pub fn write_made<V: MakeValue>(atype: AttributeType, value: &V, dest: &mut [u8])
+pub fn write_encoded<V: EncodeValue>(atype: AttributeType, value: &V, dest: &mut [u8])
     requires { attribute_length (length (V.bytes value.now)) ≤ length dest.old }
     ensures { dest.new ≡ attribute_encoding atype.0 (V.bytes value.now)
         ++ drop (attribute_length (length (V.bytes value.now))) dest.old }
 {
     let header = AttributeHeader {
         atype,
-        length: value.size(),
+        length: value.value_length(),
     };
     header.write_into(dest);
     write_padded(value, &mut dest[4..]);
 }
 
-/// As [`write_made`], for a value of at most 65535 bytes.
+/// As [`write_encoded`], for a value of at most 65535 bytes.
 pub fn write_attribute(atype: AttributeType, value: &[u8], dest: &mut [u8])
     requires value { length value.now ≤ 65535 }
     requires room { attribute_length (length value.now) ≤ length dest.old }
     ensures { dest.new ≡ attribute_encoding atype.0 value.now
         ++ drop (attribute_length (length value.now)) dest.old }
 {
-    write_made(atype, &Bytes { bytes: value }, dest);
+    write_encoded(atype, &Bytes { bytes: value }, dest);
 }
 
 /// The raw attribute of this type and value, which it owns in memory that `alloc` gives.
@@ -112,7 +126,7 @@ pub fn write_attribute(atype: AttributeType, value: &[u8], dest: &mut [u8])
 /// # Errors
 ///
 /// `OutOfMemory` alone.
-pub fn raw_made<'a, V: MakeValue>(
+pub fn to_owned_raw<'a, V: EncodeValue>(
     alloc: Global,
     atype: AttributeType,
     value: &V,
@@ -123,7 +137,7 @@ pub fn raw_made<'a, V: MakeValue>(
 {
     let mut bytes = Vec::new(alloc);
     bytes
-        .resize(value.size() as usize, 0)
+        .resize(value.value_length() as usize, 0)
         .map_err(|_| StunWriteError::OutOfMemory)?;
     value.write_value(&mut bytes);
     Ok(owned_attribute(atype, bytes.into_boxed_slice()))

@@ -10,14 +10,16 @@ mod encoding;
 mod owned;
 mod printed;
 mod raw;
+mod typed;
 mod walk;
 
 pub use attribute::{Attribute, AttributeFromRaw, AttributeStaticType, AttributeWrite};
 pub use borrowed::borrowed_attribute;
 pub use check::check_type;
-pub use encoding::{MakeValue, copy_to_start, raw_made, write_attribute, write_made};
+pub use encoding::{EncodeValue, copy_to_start, to_owned_raw, write_attribute, write_encoded};
 pub use owned::owned_attribute;
 pub use printed::print_malformed;
 pub use raw::RawAttribute;
 pub use stun_rules::{check_length, check_range};
+pub use typed::{ReadValue, TypedAttribute, is_read_back};
 pub use walk::attribute_at;

@@ -1,4 +1,4 @@
--- The type and the value of an attribute that protects a message are read as that attribute.
+-- The value of an attribute that protects a message is read as that attribute.
 use Rattle.std.proofs.Common.{◌≡◌, ℕ, zero, suc, ◌<◌, ◌≤◌, ◌%◌, ◌^◌, List, [], ◌∷◌, length, Option, None, get_or, refl, subst, ap, ◌∙◌, arith}
 use Rattle.std.specs.Prelude.{Result, MatchOption, IsOkAnd, Err, bit_xor}
 use Rattle.std.specs.Int.{w32, from_be_bytes}
@@ -10,7 +10,7 @@ use Rattle.stun_grammar.specs.declared.integrity_algorithm.IntegrityAlgorithm.Th
 use Rattle.stun_grammar.specs.Numbers.{be32, IsBytes}
 use Rattle.stun_grammar.specs.Lengths.{exact_fault}
 use Rattle.stun_grammar.specs.Verdicts.{hmac_fault}
-use Rattle.stun_attrs.specs.Reading.{typed_fault, Reads}
+use Rattle.stun_attrs.specs.Reading.{Reads}
 use Rattle.stun_rules.specs.FingerprintValues.{masked_bytes}
 
 exact : (asked n : ℕ) → n ≡ asked → exact_fault asked n ≡ None
@@ -24,16 +24,13 @@ pub lawful_sha256 : (n : ℕ) → 16 ≤ n → n ≤ 32 → n % 4 ≡ 0 → hmac
 unfolding hmac_fault
 lawful_sha256 n least most four = rw (le-ltb n 16 least, le-ltb 32 n most, eq-eqb (n % 4) 0 four) refl
 
--- where the type is the wanted one and the value has no fault, reading returns what is wanted
-pub is_read : {T : Type 0} (wanted : ℕ) (fault : List ℕ → Option StunParseError) (value : List ℕ) (Wanted : T → Type 0) (result : Result T StunParseError)
-    → fault value ≡ None → Reads (typed_fault wanted fault wanted value) Wanted result → IsOkAnd result Wanted
-is_read {T} wanted fault value Wanted result none told =
-    let clear : typed_fault wanted fault wanted value ≡ None = rw (eq-eqb wanted wanted refl, none) refl in
-    subst (λ (o : Option StunParseError). MatchOption o (IsOkAnd result Wanted) (λ e. result ≡ Err e)) clear told
+-- where a value has no fault, reading returns what is wanted
+pub is_read : {T : Type 0} (fault : Option StunParseError) (Wanted : T → Type 0) (result : Result T StunParseError) → fault ≡ None → Reads fault Wanted result → IsOkAnd result Wanted
+is_read {T} fault Wanted result none told = subst (λ (o : Option StunParseError). MatchOption o (IsOkAnd result Wanted) (λ e. result ≡ Err e)) none told
 
-pub exact_read : {T : Type 0} (wanted asked : ℕ) (value : List ℕ) (Wanted : T → Type 0) (result : Result T StunParseError)
-    → length value ≡ asked → Reads (typed_fault wanted (λ v. exact_fault asked (length v)) wanted value) Wanted result → IsOkAnd result Wanted
-exact_read {T} wanted asked value Wanted result long told = is_read wanted (λ v. exact_fault asked (length v)) value Wanted result (exact asked (length value) long) told
+pub exact_read : {T : Type 0} (asked : ℕ) (value : List ℕ) (Wanted : T → Type 0) (result : Result T StunParseError)
+    → length value ≡ asked → Reads (exact_fault asked (length value)) Wanted result → IsOkAnd result Wanted
+exact_read {T} asked value Wanted result long told = is_read (exact_fault asked (length value)) Wanted result (exact asked (length value) long) told
 
 -- ---- FINGERPRINT
 

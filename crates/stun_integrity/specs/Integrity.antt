@@ -5,11 +5,10 @@ use Rattle.stun_grammar.specs.declared.error.StunParseError.{StunParseError}
 use Rattle.stun_grammar.specs.declared.error.StunWriteError.{StunWriteError}
 use Rattle.stun_grammar.specs.declared.integrity_algorithm.IntegrityAlgorithm.TheVariants.{Sha1, Sha256}
 use Rattle.stun_grammar.specs.WriteErrors.{write_error}
-use Rattle.stun_grammar.specs.AttributeTypes.{MESSAGE_INTEGRITY, MESSAGE_INTEGRITY_SHA256, FINGERPRINT}
 use Rattle.stun_grammar.specs.Lengths.{exact_fault}
 use Rattle.stun_grammar.specs.Verdicts.{hmac_fault}
 use Rattle.stun_rules.specs.FingerprintValues.{masked_bytes}
-use Rattle.stun_attrs.specs.Reading.{typed_fault, Reads}
+use Rattle.stun_attrs.specs.Reading.{Reads}
 use Rattle.stun_integrity.specs.declared.fingerprint.Fingerprint.{Fingerprint}
 use Rattle.stun_integrity.specs.declared.message_integrity.MessageIntegrity.{MessageIntegrity}
 use Rattle.stun_integrity.specs.declared.message_integrity_sha256.MessageIntegritySha256.{MessageIntegritySha256}
@@ -40,20 +39,15 @@ MakesSha256 hmac result =
     (IsOkAnd result (λ made. sha256_hmac made ≡ hmac))
     (λ e. result ≡ Err (write_error e))
 
--- ---- What reading returns: the fault, or the attribute where there is none
+-- ---- What reading a value returns: the fault, or the attribute where there is none
 
-abbrev pub ReadsFingerprint : ℕ → List ℕ → Result Fingerprint StunParseError → Type 0
-ReadsFingerprint type value =
-    Reads (typed_fault FINGERPRINT (λ v. exact_fault 4 (length v)) type value)
-    (λ read. checksum_bytes read ≡ masked_bytes value)
+abbrev pub ReadsFingerprint : List ℕ → Result Fingerprint StunParseError → Type 0
+ReadsFingerprint value =
+    Reads (exact_fault 4 (length value)) (λ read. checksum_bytes read ≡ masked_bytes value)
 
-abbrev pub ReadsIntegrity : ℕ → List ℕ → Result MessageIntegrity StunParseError → Type 0
-ReadsIntegrity type value =
-    Reads (typed_fault MESSAGE_INTEGRITY (λ v. hmac_fault Sha1 (length v)) type value)
-    (λ read. sha1_hmac read ≡ value)
+abbrev pub ReadsIntegrity : List ℕ → Result MessageIntegrity StunParseError → Type 0
+ReadsIntegrity value = Reads (hmac_fault Sha1 (length value)) (λ read. sha1_hmac read ≡ value)
 
-abbrev pub ReadsIntegritySha256 : ℕ → List ℕ → Result MessageIntegritySha256 StunParseError
-    → Type 0
-ReadsIntegritySha256 type value =
-    Reads (typed_fault MESSAGE_INTEGRITY_SHA256 (λ v. hmac_fault Sha256 (length v)) type value)
-    (λ read. sha256_hmac read ≡ value)
+abbrev pub ReadsIntegritySha256 : List ℕ → Result MessageIntegritySha256 StunParseError → Type 0
+ReadsIntegritySha256 value =
+    Reads (hmac_fault Sha256 (length value)) (λ read. sha256_hmac read ≡ value)

@@ -2,9 +2,8 @@
 use Rattle.std.specs.Prelude.{◌≡◌, ℕ, List, ◌++◌, length, Result, codes}
 use Rattle.sha2.specs.Sha256.{sha256}
 use Rattle.stun_grammar.specs.declared.error.StunParseError.{StunParseError}
-use Rattle.stun_grammar.specs.AttributeTypes.{USERHASH}
 use Rattle.stun_grammar.specs.Lengths.{exact_fault}
-use Rattle.stun_attrs.specs.Reading.{typed_fault, Reads}
+use Rattle.stun_attrs.specs.Reading.{Reads}
 use Rattle.stun_integrity.specs.declared.userhash.Userhash.{Userhash}
 
 -- the thirty-two bytes of the hash, which are the value
@@ -15,8 +14,6 @@ hash_bytes attribute = attribute.hash
 abbrev pub user_hash : List ℕ → List ℕ → List ℕ
 user_hash user realm = sha256 (user ++ (codes ":" ++ realm))
 
--- what reading returns: the fault, or the attribute where there is none
-abbrev pub ReadsUserhash : ℕ → List ℕ → Result Userhash StunParseError → Type 0
-ReadsUserhash type value =
-    Reads (typed_fault USERHASH (λ v. exact_fault 32 (length v)) type value)
-    (λ read. hash_bytes read ≡ value)
+-- what reading a value returns: the fault, or the attribute where there is none
+abbrev pub ReadsUserhash : List ℕ → Result Userhash StunParseError → Type 0
+ReadsUserhash value = Reads (exact_fault 32 (length value)) (λ read. hash_bytes read ≡ value)

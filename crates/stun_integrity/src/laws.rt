@@ -1,10 +1,9 @@
 //! Laws of the attributes that protect a message, and of USERHASH. Each function does nothing: its
-//! contract is the law. The type and the value of an attribute, which are those of its raw
-//! attribute, are read as the same attribute.
+//! contract is the law. The value of an attribute is read as the same attribute; that its type is
+//! then the right one, `stun_attrs::is_read_back` says of all of them.
 
 ghost use Rattle.std.specs.Prelude.{◌≡◌, ◌≤◌, ◌%◌, Result, IsOkAnd, length};
 ghost use Rattle.stun_grammar.specs.declared.error.StunParseError.{StunParseError};
-ghost use Rattle.stun_grammar.specs.AttributeTypes.{MESSAGE_INTEGRITY, MESSAGE_INTEGRITY_SHA256, FINGERPRINT, USERHASH};
 ghost use Rattle.stun_grammar.specs.Numbers.{IsBytes};
 ghost use Rattle.stun_integrity.specs.declared.fingerprint.Fingerprint.{Fingerprint};
 ghost use Rattle.stun_integrity.specs.declared.message_integrity.MessageIntegrity.{MessageIntegrity};
@@ -18,7 +17,7 @@ ghost use Rattle.stun_integrity.specs.Userhash.{hash_bytes, ReadsUserhash};
 pub fn integrity_is_read_back()
     ensures { (attribute : MessageIntegrity) (result : Result MessageIntegrity StunParseError)
         → length (sha1_hmac attribute) ≡ 20
-        → ReadsIntegrity MESSAGE_INTEGRITY (sha1_hmac attribute) result
+        → ReadsIntegrity (sha1_hmac attribute) result
         → IsOkAnd result (λ read. sha1_hmac read ≡ sha1_hmac attribute) }
 {}
 
@@ -28,7 +27,7 @@ pub fn integrity_sha256_is_read_back()
         (result : Result MessageIntegritySha256 StunParseError)
         → 16 ≤ length (sha256_hmac attribute) → length (sha256_hmac attribute) ≤ 32
         → length (sha256_hmac attribute) % 4 ≡ 0
-        → ReadsIntegritySha256 MESSAGE_INTEGRITY_SHA256 (sha256_hmac attribute) result
+        → ReadsIntegritySha256 (sha256_hmac attribute) result
         → IsOkAnd result (λ read. sha256_hmac read ≡ sha256_hmac attribute) }
 {}
 
@@ -36,7 +35,7 @@ pub fn integrity_sha256_is_read_back()
 pub fn fingerprint_is_read_back()
     ensures { (attribute : Fingerprint) (result : Result Fingerprint StunParseError)
         → length (checksum_bytes attribute) ≡ 4 → IsBytes (checksum_bytes attribute)
-        → ReadsFingerprint FINGERPRINT (masked_bytes (checksum_bytes attribute)) result
+        → ReadsFingerprint (masked_bytes (checksum_bytes attribute)) result
         → IsOkAnd result (λ read. checksum_bytes read ≡ checksum_bytes attribute) }
 {}
 
@@ -44,6 +43,6 @@ pub fn fingerprint_is_read_back()
 pub fn userhash_is_read_back()
     ensures { (attribute : Userhash) (result : Result Userhash StunParseError)
         → length (hash_bytes attribute) ≡ 32
-        → ReadsUserhash USERHASH (hash_bytes attribute) result
+        → ReadsUserhash (hash_bytes attribute) result
         → IsOkAnd result (λ read. hash_bytes read ≡ hash_bytes attribute) }
 {}

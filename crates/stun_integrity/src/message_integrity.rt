@@ -1,11 +1,8 @@
 use crate::compare::same_bytes;
 use std::alloc::Global;
 use std::fmt;
-use stun_attrs::{
-    Attribute, AttributeFromRaw, AttributeStaticType, AttributeWrite, RawAttribute,
-    borrowed_attribute, check_type, write_attribute,
-};
-use stun_base::{AttributeType, StunParseError, StunWriteError};
+use stun_attrs::{Attribute, EncodeValue, ReadValue, TypedAttribute, copy_to_start};
+use stun_base::{StunParseError, StunWriteError};
 use stun_grammar::attribute_types;
 use stun_keys::keys::{IntegrityAlgorithm, IntegrityKey};
 use stun_rules::{check_sha1_length, print_hex};
@@ -21,8 +18,7 @@ impl MessageIntegrity {
     ghost use Rattle.std.specs.List.{concat};
     ghost use Rattle.stun_grammar.specs.Hmac.{hmac};
     ghost use Rattle.stun_keys.specs.Keys.{key_bytes, key_algorithm, serves};
-    ghost use Rattle.stun_attrs.specs.Raw.{raw_type, raw_value};
-    ghost use Rattle.stun_integrity.specs.Integrity.{sha1_hmac, ReadsIntegrity};
+    ghost use Rattle.stun_integrity.specs.Integrity.{sha1_hmac};
 
     /// The attribute of this HMAC.
     pub fn new(hmac: [u8; 20]) -> Self
@@ -62,60 +58,34 @@ impl MessageIntegrity {
     {
         key.serves(IntegrityAlgorithm::Sha1) && same_bytes(expected, &key.hmac_sha1(pieces))
     }
-
-    /// Reads a raw attribute. The value is copied into the result, which takes no memory.
-    fn read(raw: &RawAttribute<'_>) -> Result<Self, StunParseError>
-        ensures { ReadsIntegrity (raw_type raw.now) (raw_value raw.now) result }
-    {
-        check_type(raw, Self::TYPE)?;
-        let value = raw.value().as_bytes();
-        check_sha1_length(value.len())?;
-        let mut hmac = [0; 20];
-        hmac.copy_from_slice(value);
-        Ok(MessageIntegrity { hmac })
-    }
 }
 
-impl AttributeStaticType for MessageIntegrity {
-    ghost use Rattle.std.specs.Prelude.{refl};
+impl TypedAttribute for MessageIntegrity {
     ghost use Rattle.stun_grammar.specs.AttributeTypes.{MESSAGE_INTEGRITY};
 
-    ghost TYPE = { record { 0 = MESSAGE_INTEGRITY } };
+    ghost NUMBER = { MESSAGE_INTEGRITY };
 
-    ghost tells = { λ _. refl };
-
-    const TYPE: AttributeType = AttributeType(attribute_types::MESSAGE_INTEGRITY);
+    const NUMBER: u16 = attribute_types::MESSAGE_INTEGRITY;
 }
 
-impl Attribute for MessageIntegrity {
-    ghost use Rattle.stun_grammar.specs.AttributeTypes.{MESSAGE_INTEGRITY};
+impl EncodeValue for MessageIntegrity {
+    ghost use Rattle.std.specs.Prelude.{true};
     ghost use Rattle.stun_integrity.specs.Integrity.{sha1_hmac};
 
-    ghost atype = { λ _. MESSAGE_INTEGRITY };
+    ghost bytes = { sha1_hmac };
 
-    ghost value = { sha1_hmac };
+    ghost is_held = { λ _. true };
 
-    fn get_type(&self) -> AttributeType {
-        Self::TYPE
-    }
-
-    fn length(&self) -> u16 {
+    fn value_length(&self) -> u16 {
         20
     }
-}
 
-impl AttributeWrite for MessageIntegrity {
-    ghost use Rattle.std.specs.Prelude.{true};
-
-    ghost to_raw_borrows = { λ _. true };
-
-    fn write_into_unchecked(&self, dest: &mut [u8]) {
-        write_attribute(Self::TYPE, &self.hmac, dest);
+    fn write_value(&self, dest: &mut [u8]) {
+        copy_to_start(self.hmac(), dest);
     }
 
-    /// The result borrows the HMAC, which takes no memory.
-    fn to_raw(&self, _alloc: Global) -> Result<RawAttribute<'_>, StunWriteError> {
-        Ok(borrowed_attribute(Self::TYPE, &self.hmac))
+    fn held_bytes(&self) -> Option<&[u8]> {
+        Some(self.hmac())
     }
 }
 
@@ -123,22 +93,18 @@ impl AttributeWrite for MessageIntegrity {
 ///
 /// # Errors
 ///
-/// `WrongAttributeImplementation` where the type is another one. Otherwise
 /// `Truncated { expected: 20, actual }` where the value has fewer than 20 bytes, and
 /// `TooLarge { expected: 20, actual }` where it has more.
-impl AttributeFromRaw<'_> for MessageIntegrity {
+impl ReadValue for MessageIntegrity {
     ghost use Rattle.stun_integrity.specs.Integrity.{ReadsIntegrity};
 
-    ghost reads_ref = { ReadsIntegrity };
+    ghost reads_value = { ReadsIntegrity };
 
-    ghost reads = { ReadsIntegrity };
-
-    fn from_raw_ref(_alloc: Global, raw: &RawAttribute<'_>) -> Result<Self, StunParseError> {
-        Self::read(raw)
-    }
-
-    fn from_raw(_alloc: Global, raw: RawAttribute<'_>) -> Result<Self, StunParseError> {
-        Self::read(&raw)
+    fn read_value(_alloc: Global, value: &[u8]) -> Result<Self, StunParseError> {
+        check_sha1_length(value.len())?;
+        let mut hmac = [0; 20];
+        hmac.copy_from_slice(value);
+        Ok(MessageIntegrity { hmac })
     }
 }
 
@@ -153,6 +119,6 @@ impl fmt::Display for MessageIntegrity {
     ghost output = { λ attribute. Some (hex_text MESSAGE_INTEGRITY (sha1_hmac attribute)) };
 
     fn fmt<W: fmt::Write>(&self, f: &mut fmt::Formatter<W>) -> fmt::Result {
-        print_hex(f, Self::TYPE, self.hmac())
+        print_hex(f, self.get_type(), self.hmac())
     }
 }

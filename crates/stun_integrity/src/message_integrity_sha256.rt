@@ -3,11 +3,8 @@ ghost use Rattle.std.specs.Prelude.{◌≡◌, ◌↔◌, ◌<◌, ◌≤◌, �
 use crate::compare::same_bytes;
 use std::alloc::{AllocError, Global};
 use std::fmt;
-use stun_attrs::{
-    Attribute, AttributeFromRaw, AttributeStaticType, AttributeWrite, RawAttribute,
-    borrowed_attribute, check_type, write_attribute,
-};
-use stun_base::{AttributeType, StunParseError, StunWriteError};
+use stun_attrs::{Attribute, EncodeValue, ReadValue, TypedAttribute, copy_to_start};
+use stun_base::{StunParseError, StunWriteError};
 use stun_grammar::attribute_types;
 use stun_keys::keys::{IntegrityAlgorithm, IntegrityKey};
 use stun_rules::{check_sha256_length, print_hex};
@@ -41,8 +38,7 @@ impl MessageIntegritySha256 {
     ghost use Rattle.std.specs.List.{concat};
     ghost use Rattle.stun_grammar.specs.Hmac.{hmac};
     ghost use Rattle.stun_keys.specs.Keys.{key_bytes, key_algorithm, serves};
-    ghost use Rattle.stun_attrs.specs.Raw.{raw_type, raw_value};
-    ghost use Rattle.stun_integrity.specs.Integrity.{sha256_hmac, IsPrefixOf, MakesSha256, ReadsIntegritySha256};
+    ghost use Rattle.stun_integrity.specs.Integrity.{sha256_hmac, IsPrefixOf, MakesSha256};
 
     /// The attribute of these bytes, whose number is allowed.
     fn kept(hmac: &[u8]) -> Self
@@ -108,16 +104,6 @@ impl MessageIntegritySha256 {
     {
         key.serves(IntegrityAlgorithm::Sha256) && is_prefix(expected, &key.hmac_sha256(pieces))
     }
-
-    /// Reads a raw attribute. The value is copied into the result, which takes no memory.
-    fn read(raw: &RawAttribute<'_>) -> Result<Self, StunParseError>
-        ensures { ReadsIntegritySha256 (raw_type raw.now) (raw_value raw.now) result }
-    {
-        check_type(raw, Self::TYPE)?;
-        let value = raw.value().as_bytes();
-        check_sha256_length(value.len())?;
-        Ok(Self::kept(value))
-    }
 }
 
 /// A copy takes no memory.
@@ -159,46 +145,32 @@ impl Eq for MessageIntegritySha256 {
     ghost laws = { on_equiv sha256_hmac nat_list_eq_equiv };
 }
 
-impl AttributeStaticType for MessageIntegritySha256 {
-    ghost use Rattle.std.specs.Prelude.{refl};
+impl TypedAttribute for MessageIntegritySha256 {
     ghost use Rattle.stun_grammar.specs.AttributeTypes.{MESSAGE_INTEGRITY_SHA256};
 
-    ghost TYPE = { record { 0 = MESSAGE_INTEGRITY_SHA256 } };
+    ghost NUMBER = { MESSAGE_INTEGRITY_SHA256 };
 
-    ghost tells = { λ _. refl };
-
-    const TYPE: AttributeType = AttributeType(attribute_types::MESSAGE_INTEGRITY_SHA256);
+    const NUMBER: u16 = attribute_types::MESSAGE_INTEGRITY_SHA256;
 }
 
-impl Attribute for MessageIntegritySha256 {
-    ghost use Rattle.stun_grammar.specs.AttributeTypes.{MESSAGE_INTEGRITY_SHA256};
+impl EncodeValue for MessageIntegritySha256 {
+    ghost use Rattle.std.specs.Prelude.{true};
     ghost use Rattle.stun_integrity.specs.Integrity.{sha256_hmac};
 
-    ghost atype = { λ _. MESSAGE_INTEGRITY_SHA256 };
+    ghost bytes = { sha256_hmac };
 
-    ghost value = { sha256_hmac };
+    ghost is_held = { λ _. true };
 
-    fn get_type(&self) -> AttributeType {
-        Self::TYPE
-    }
-
-    fn length(&self) -> u16 {
+    fn value_length(&self) -> u16 {
         self.hmac().len() as u16
     }
-}
 
-impl AttributeWrite for MessageIntegritySha256 {
-    ghost use Rattle.std.specs.Prelude.{true};
-
-    ghost to_raw_borrows = { λ _. true };
-
-    fn write_into_unchecked(&self, dest: &mut [u8]) {
-        write_attribute(Self::TYPE, self.hmac(), dest);
+    fn write_value(&self, dest: &mut [u8]) {
+        copy_to_start(self.hmac(), dest);
     }
 
-    /// The result borrows the HMAC, which takes no memory.
-    fn to_raw(&self, _alloc: Global) -> Result<RawAttribute<'_>, StunWriteError> {
-        Ok(borrowed_attribute(Self::TYPE, self.hmac()))
+    fn held_bytes(&self) -> Option<&[u8]> {
+        Some(self.hmac())
     }
 }
 
@@ -206,23 +178,17 @@ impl AttributeWrite for MessageIntegritySha256 {
 ///
 /// # Errors
 ///
-/// `WrongAttributeImplementation` where the type is another one. Otherwise
 /// `Truncated { expected: 16, actual }` where the value has fewer than 16 bytes, and
 /// `TooLarge { expected: 32, actual }` where it has more than 32. Otherwise `InvalidAttributeData`
 /// where its length is not a multiple of 4.
-impl AttributeFromRaw<'_> for MessageIntegritySha256 {
+impl ReadValue for MessageIntegritySha256 {
     ghost use Rattle.stun_integrity.specs.Integrity.{ReadsIntegritySha256};
 
-    ghost reads_ref = { ReadsIntegritySha256 };
+    ghost reads_value = { ReadsIntegritySha256 };
 
-    ghost reads = { ReadsIntegritySha256 };
-
-    fn from_raw_ref(_alloc: Global, raw: &RawAttribute<'_>) -> Result<Self, StunParseError> {
-        Self::read(raw)
-    }
-
-    fn from_raw(_alloc: Global, raw: RawAttribute<'_>) -> Result<Self, StunParseError> {
-        Self::read(&raw)
+    fn read_value(_alloc: Global, value: &[u8]) -> Result<Self, StunParseError> {
+        check_sha256_length(value.len())?;
+        Ok(Self::kept(value))
     }
 }
 
@@ -238,6 +204,6 @@ impl fmt::Display for MessageIntegritySha256 {
         Some (hex_text MESSAGE_INTEGRITY_SHA256 (sha256_hmac attribute)) };
 
     fn fmt<W: fmt::Write>(&self, f: &mut fmt::Formatter<W>) -> fmt::Result {
-        print_hex(f, Self::TYPE, self.hmac())
+        print_hex(f, self.get_type(), self.hmac())
     }
 }

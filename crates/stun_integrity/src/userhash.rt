@@ -4,11 +4,8 @@ ghost use Rattle.stun_integrity.specs.Userhash.{hash_bytes};
 use sha2::{Digest, Sha256};
 use std::alloc::Global;
 use std::fmt;
-use stun_attrs::{
-    Attribute, AttributeFromRaw, AttributeStaticType, AttributeWrite, RawAttribute,
-    borrowed_attribute, check_type, write_attribute,
-};
-use stun_base::{AttributeType, StunParseError, StunWriteError};
+use stun_attrs::{Attribute, EncodeValue, ReadValue, TypedAttribute, copy_to_start};
+use stun_base::StunParseError;
 use stun_grammar::attribute_types;
 use stun_rules::{check_hash_length, print_hex};
 
@@ -20,8 +17,7 @@ pub struct Userhash {
 }
 
 impl Userhash {
-    ghost use Rattle.stun_attrs.specs.Raw.{raw_type, raw_value};
-    ghost use Rattle.stun_integrity.specs.Userhash.{user_hash, ReadsUserhash};
+    ghost use Rattle.stun_integrity.specs.Userhash.{user_hash};
 
     /// The attribute of this hash.
     pub fn new(hash: [u8; 32]) -> Self
@@ -48,59 +44,34 @@ impl Userhash {
         hasher.update(realm.as_bytes());
         hasher.finalize()
     }
-
-    /// Reads a raw attribute. The value is copied into the result, which takes no memory.
-    fn read(raw: &RawAttribute<'_>) -> Result<Self, StunParseError>
-        ensures { ReadsUserhash (raw_type raw.now) (raw_value raw.now) result }
-    {
-        check_type(raw, Self::TYPE)?;
-        let value = raw.value().as_bytes();
-        check_hash_length(value.len())?;
-        let mut hash = [0; 32];
-        hash.copy_from_slice(value);
-        Ok(Userhash { hash })
-    }
 }
 
-impl AttributeStaticType for Userhash {
-    ghost use Rattle.std.specs.Prelude.{refl};
+impl TypedAttribute for Userhash {
     ghost use Rattle.stun_grammar.specs.AttributeTypes.{USERHASH};
 
-    ghost TYPE = { record { 0 = USERHASH } };
+    ghost NUMBER = { USERHASH };
 
-    ghost tells = { λ _. refl };
-
-    const TYPE: AttributeType = AttributeType(attribute_types::USERHASH);
+    const NUMBER: u16 = attribute_types::USERHASH;
 }
 
-impl Attribute for Userhash {
-    ghost use Rattle.stun_grammar.specs.AttributeTypes.{USERHASH};
+impl EncodeValue for Userhash {
+    ghost use Rattle.std.specs.Prelude.{true};
+    ghost use Rattle.stun_integrity.specs.Userhash.{hash_bytes};
 
-    ghost atype = { λ _. USERHASH };
+    ghost bytes = { hash_bytes };
 
-    ghost value = { hash_bytes };
+    ghost is_held = { λ _. true };
 
-    fn get_type(&self) -> AttributeType {
-        Self::TYPE
-    }
-
-    fn length(&self) -> u16 {
+    fn value_length(&self) -> u16 {
         32
     }
-}
 
-impl AttributeWrite for Userhash {
-    ghost use Rattle.std.specs.Prelude.{true};
-
-    ghost to_raw_borrows = { λ _. true };
-
-    fn write_into_unchecked(&self, dest: &mut [u8]) {
-        write_attribute(Self::TYPE, self.hash(), dest);
+    fn write_value(&self, dest: &mut [u8]) {
+        copy_to_start(self.hash(), dest);
     }
 
-    /// The result borrows the hash, which takes no memory.
-    fn to_raw(&self, _alloc: Global) -> Result<RawAttribute<'_>, StunWriteError> {
-        Ok(borrowed_attribute(Self::TYPE, self.hash()))
+    fn held_bytes(&self) -> Option<&[u8]> {
+        Some(self.hash())
     }
 }
 
@@ -108,22 +79,18 @@ impl AttributeWrite for Userhash {
 ///
 /// # Errors
 ///
-/// `WrongAttributeImplementation` where the type is another one. Otherwise
 /// `Truncated { expected: 32, actual }` where the value has fewer than 32 bytes, and
 /// `TooLarge { expected: 32, actual }` where it has more.
-impl AttributeFromRaw<'_> for Userhash {
+impl ReadValue for Userhash {
     ghost use Rattle.stun_integrity.specs.Userhash.{ReadsUserhash};
 
-    ghost reads_ref = { ReadsUserhash };
+    ghost reads_value = { ReadsUserhash };
 
-    ghost reads = { ReadsUserhash };
-
-    fn from_raw_ref(_alloc: Global, raw: &RawAttribute<'_>) -> Result<Self, StunParseError> {
-        Self::read(raw)
-    }
-
-    fn from_raw(_alloc: Global, raw: RawAttribute<'_>) -> Result<Self, StunParseError> {
-        Self::read(&raw)
+    fn read_value(_alloc: Global, value: &[u8]) -> Result<Self, StunParseError> {
+        check_hash_length(value.len())?;
+        let mut hash = [0; 32];
+        hash.copy_from_slice(value);
+        Ok(Userhash { hash })
     }
 }
 
@@ -137,6 +104,6 @@ impl fmt::Display for Userhash {
     ghost output = { λ attribute. Some (hex_text USERHASH (hash_bytes attribute)) };
 
     fn fmt<W: fmt::Write>(&self, f: &mut fmt::Formatter<W>) -> fmt::Result {
-        print_hex(f, Self::TYPE, self.hash())
+        print_hex(f, self.get_type(), self.hash())
     }
 }

@@ -23,10 +23,10 @@ use Rattle.stun_grammar.proofs.StepsLemmas.{step_writable, none_writable}
 use Rattle.stun_base.specs.declared.message_type.MessageClass.{MessageClass}
 use Rattle.stun_base.specs.declared.message_type.MessageClass.TheVariants.{Request, Indication, Success, Error as ErrorClass}
 use Rattle.stun_base.specs.MessageTypes.{type_of, class_of, method_of, is_response}
-use Rattle.stun_values.specs.declared.error_code.ErrorCode.{ErrorCode}
+use Rattle.stun_attributes.specs.declared.error_code.ErrorCode.{ErrorCode}
 use Rattle.stun_rules.specs.ErrorValues.{error_value}
-use Rattle.stun_values.specs.MakingErrors.{making_fault}
-use Rattle.stun_values.specs.ErrorCodes.{error_code, error_reason, IsError, MakesError}
+use Rattle.stun_attributes.specs.MakingErrors.{making_fault}
+use Rattle.stun_attributes.specs.ErrorCodes.{error_code, error_reason, IsError, MakesError}
 use Rattle.stun_rules.specs.TypeLists.{type_encoding, types_encoding}
 use Rattle.std.specs.Prelude.{codes}
 use Rattle.stun_write.specs.Writers.{Writer, IsBegun, IsUnchanged, Keeps, Gains, Adds}

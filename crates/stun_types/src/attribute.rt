@@ -3,7 +3,8 @@
 pub mod typed;
 
 pub use stun_attrs::{
-    Attribute, AttributeFromRaw, AttributeStaticType, AttributeWrite, RawAttribute,
+    Attribute, AttributeFromRaw, AttributeStaticType, AttributeWrite, EncodeValue, RawAttribute,
+    ReadValue, TypedAttribute, check_length, is_read_back,
 };
 pub use stun_base::{AttributeHeader, AttributeType, pad_attribute_len};
 pub use stun_registry::AttributeDisplay;

@@ -16,7 +16,7 @@ pub mod message;
 pub mod prelude;
 pub mod show;
 
-pub use stun_addresses::xor_twice;
+pub use stun_attributes::xor_twice;
 pub use stun_base::{AddressFamily, ParseTransportTypeError, TransportType};
 pub use stun_grammar::{length_is_stated, message_grows};
 pub use stun_read::{found_has_its_type, shown_is_found};

@@ -4,7 +4,7 @@ ghost use Rattle.std.specs.Prelude.{◌≡◌, ◌+◌, ◌<◌, ◌≤◌, ◌�
 ghost use Rattle.stun_grammar.specs.Attributes.{canonical, attribute_length};
 ghost use Rattle.stun_grammar.specs.Writing.{message_encoding};
 ghost use Rattle.stun_grammar.specs.Steps.{add};
-ghost use Rattle.stun_texts.specs.Texts.{text_bytes};
+ghost use Rattle.stun_attributes.specs.Texts.{text_bytes};
 ghost use Rattle.stun_grammar.specs.Adding.{Fits, appended, whole, room_refusal, add_refusal, IsAddAnswer};
 ghost use Rattle.stun_write.specs.Writers.{Allocates};
 ghost use Rattle.stun_vectors.specs.InSlice.{WritesSoftware};

@@ -5,7 +5,7 @@ ghost use Rattle.stun_grammar.specs.Attributes.{canonical};
 ghost use Rattle.stun_grammar.specs.Parsing.{parse_fault};
 ghost use Rattle.stun_grammar.specs.Showing.{shown};
 ghost use Rattle.stun_grammar.specs.Writing.{message_encoding};
-ghost use Rattle.stun_texts.specs.Texts.{text_bytes};
+ghost use Rattle.stun_attributes.specs.Texts.{text_bytes};
 ghost use Rattle.stun_grammar.specs.Adding.{appended};
 
 use std::alloc::Global;

@@ -1,13 +1,12 @@
 -- Attributes of TURN (RFC 8656, section 18).
-use Rattle.std.specs.Prelude.{◌≡◌, ℕ, List, None, Result}
+use Rattle.std.specs.Prelude.{◌≡◌, ℕ, List, length, None, Result}
 use Rattle.std.specs.declared.net.socket_addr.SocketAddr.{SocketAddr}
-use Rattle.std.specs.declared.ops.Bound.TheVariants.{Included}
 use Rattle.stun_grammar.specs.declared.error.StunParseError.{StunParseError}
+use Rattle.stun_grammar.specs.Lengths.{exact_fault}
 use Rattle.stun_grammar.specs.Numbers.{number}
 use Rattle.stun_base.specs.Data.{data_bytes}
-use Rattle.stun_attrs.specs.Checks.{check_fault}
 use Rattle.stun_attrs.specs.Reading.{typed_fault, Reads, ReadsInMemory}
-use Rattle.stun_addresses.specs.AddressAttributes.{written_addr, ReadsAddress}
+use Rattle.stun_attributes.specs.AddressAttributes.{written_addr, ReadsAddress}
 use Rattle.turn_attrs.specs.declared.lifetime.Lifetime.{Lifetime}
 use Rattle.turn_attrs.specs.declared.peer_data.DataAttribute.{DataAttribute}
 use Rattle.turn_attrs.specs.declared.peer_data.ShortData.{ShortData}
@@ -21,10 +20,10 @@ LIFETIME = 0x000D
 abbrev pub seconds_of : Lifetime → ℕ
 seconds_of lifetime = lifetime.seconds
 
-abbrev pub ReadsLifetime : ℕ → List ℕ → Result Lifetime StunParseError → Type 0
-ReadsLifetime type value =
-    Reads (check_fault LIFETIME (Included 4) (Included 4) type value)
-    (λ read. seconds_of read ≡ number value)
+-- what reading a value answers: four bytes are asked for
+abbrev pub ReadsLifetime : List ℕ → Result Lifetime StunParseError → Type 0
+ReadsLifetime value =
+    Reads (exact_fault 4 (length value)) (λ read. seconds_of read ≡ number value)
 
 -- ---- XOR-PEER-ADDRESS (section 18.3): an address, encoded as an XOR-MAPPED-ADDRESS is
 
@@ -35,16 +34,19 @@ XOR_PEER_ADDRESS = 0x0012
 abbrev pub written_peer : XorPeerAddress → SocketAddr
 written_peer peer = written_addr peer.addr
 
-abbrev pub ReadsXorPeerAddress : ℕ → List ℕ → Result XorPeerAddress StunParseError → Type 0
-ReadsXorPeerAddress = ReadsAddress XOR_PEER_ADDRESS written_peer
+abbrev pub ReadsXorPeerAddress : List ℕ → Result XorPeerAddress StunParseError → Type 0
+ReadsXorPeerAddress = ReadsAddress written_peer
 
 -- ---- DATA (section 18.4): any bytes
 
 abbrev pub DATA : ℕ
 DATA = 0x0013
 
+abbrev pub short_bytes : ShortData → List ℕ
+short_bytes short = data_bytes short.bytes
+
 abbrev pub bytes_of : DataAttribute ShortData → List ℕ
-bytes_of attribute = data_bytes attribute.value.bytes
+bytes_of attribute = short_bytes attribute.value
 
 abbrev pub ReadsData : ℕ → List ℕ → Result (DataAttribute ShortData) StunParseError → Type 0
 ReadsData type value =

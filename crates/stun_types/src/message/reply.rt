@@ -10,12 +10,12 @@ ghost use Rattle.stun_grammar.specs.Adding.{Fits, add_refusal, IsAddAnswer};
 ghost use Rattle.stun_base.specs.declared.message_type.MessageClass.{MessageClass};
 ghost use Rattle.stun_base.specs.declared.message_type.MessageClass.TheVariants.{Request, Success, Error as ErrorClass};
 ghost use Rattle.stun_base.specs.MessageTypes.{class_of, is_response};
-ghost use Rattle.stun_texts.specs.Texts.{text_bytes};
+ghost use Rattle.stun_attributes.specs.Texts.{text_bytes};
 ghost use Rattle.stun_rules.specs.ErrorValues.{error_value};
-ghost use Rattle.stun_values.specs.MakingErrors.{making_fault};
-ghost use Rattle.stun_values.specs.ErrorCodes.{error_code, error_reason};
+ghost use Rattle.stun_attributes.specs.MakingErrors.{making_fault};
+ghost use Rattle.stun_attributes.specs.ErrorCodes.{error_code, error_reason};
 ghost use Rattle.stun_rules.specs.TypeLists.{types_encoding};
-ghost use Rattle.stun_values.specs.Unknown.{listed};
+ghost use Rattle.stun_attributes.specs.Unknown.{listed};
 ghost use Rattle.stun_write.specs.Writers.{BeginsMessage, IsUnchanged, Keeps, KeepsHeader, Gains, Adds, Allocates};
 ghost use Rattle.stun_types.specs.Message.{message_bytes};
 ghost use Rattle.stun_types.specs.Replies.{Answers, response_type, own_software, error_attribute, bad_reply, unknown_reply, is_unknown, unknown_types, lacks, check_reply, IsReply, IsReplyAnswer, Replies, AddsMade};
@@ -23,8 +23,7 @@ ghost use Rattle.stun_types.specs.Replies.{Answers, response_type, own_software,
 use super::Message;
 use std::alloc::Global;
 use stun_base::{AttributeType, MessageClass, MessageType, StunWriteError};
-use stun_texts::Software;
-use stun_values::{ErrorCode, UnknownAttributes};
+use stun_attributes::{ErrorCode, Software, UnknownAttributes};
 use stun_write::{MessageWrite, MessageWriteExt, is_among};
 
 /// Adds a SOFTWARE.

@@ -1,6 +1,5 @@
 use Rattle.std.proofs.Common.{◌≡◌, List, ℕ, refl, subst}
 use Rattle.std.specs.Prelude.{IsOkAnd}
-use Rattle.stun_grammar.specs.AttributeTypes.{FINGERPRINT}
 use Rattle.stun_integrity.specs.Integrity.{checksum_bytes}
 use Rattle.stun_rules.specs.FingerprintValues.{masked_bytes}
 use Rattle.stun_integrity.proofs.IntegrityLemmas.{exact_read, masked_twice}
@@ -10,4 +9,4 @@ pub returns : goal.returns
 returns c = λ attribute result long bytes told.
     let value = masked_bytes (checksum_bytes attribute) in
     subst (λ (b : List ℕ). IsOkAnd result (λ read. checksum_bytes read ≡ b)) (masked_twice (checksum_bytes attribute) long bytes)
-    (exact_read FINGERPRINT 4 value (λ read. checksum_bytes read ≡ masked_bytes value) result refl told)
+    (exact_read 4 value (λ read. checksum_bytes read ≡ masked_bytes value) result refl told)

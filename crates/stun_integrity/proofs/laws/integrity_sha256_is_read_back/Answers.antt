@@ -1,6 +1,5 @@
 use Rattle.std.proofs.Common.{◌≡◌, length}
 use Rattle.stun_grammar.specs.declared.integrity_algorithm.IntegrityAlgorithm.TheVariants.{Sha256}
-use Rattle.stun_grammar.specs.AttributeTypes.{MESSAGE_INTEGRITY_SHA256}
 use Rattle.stun_grammar.specs.Verdicts.{hmac_fault}
 use Rattle.stun_integrity.specs.Integrity.{sha256_hmac}
 use Rattle.stun_integrity.proofs.IntegrityLemmas.{is_read, lawful_sha256}
@@ -8,4 +7,4 @@ use Rattle.stun_integrity.proofs.laws.integrity_sha256_is_read_back.Goals as goa
 
 pub returns : goal.returns
 returns c = λ attribute result least most four told.
-    is_read MESSAGE_INTEGRITY_SHA256 (λ v. hmac_fault Sha256 (length v)) (sha256_hmac attribute) (λ read. sha256_hmac read ≡ sha256_hmac attribute) result (lawful_sha256 (length (sha256_hmac attribute)) least most four) told
+    is_read (hmac_fault Sha256 (length (sha256_hmac attribute))) (λ read. sha256_hmac read ≡ sha256_hmac attribute) result (lawful_sha256 (length (sha256_hmac attribute)) least most four) told

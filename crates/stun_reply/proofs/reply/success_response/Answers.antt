@@ -1,5 +1,5 @@
-use Rattle.stun_addresses.specs.AddressAttributes.{written_mapped_addr}
-use Rattle.stun_texts.specs.Texts.{text_bytes}
+use Rattle.stun_attributes.specs.AddressAttributes.{written_mapped_addr}
+use Rattle.stun_attributes.specs.Texts.{text_bytes}
 use Rattle.stun_types.specs.Message.{message_bytes}
 use Rattle.stun_reply.proofs.ReplyLemmas.{success_written}
 use Rattle.stun_reply.proofs.reply.success_response.Goals as goal

@@ -1,5 +1,5 @@
 use Rattle.std.proofs.Common.{length, arith, rules}
-use Rattle.stun_texts.specs.Texts.{text_bytes}
+use Rattle.stun_attributes.specs.Texts.{text_bytes}
 use Rattle.stun_vectors.proofs.InSlicesLemmas.{first_answer, behind_both}
 use Rattle.stun_vectors.proofs.in_slice.write_software.Goals as goal
 

@@ -1,7 +1,7 @@
 use Rattle.std.proofs.Common.{length}
 use Rattle.stun_grammar.specs.AttributeTypes.{ERROR_CODE}
 use Rattle.stun_rules.specs.ErrorValues.{error_value}
-use Rattle.stun_values.specs.ErrorCodes.{error_code, error_reason}
+use Rattle.stun_attributes.specs.ErrorCodes.{error_code, error_reason}
 use Rattle.stun_write.specs.Writers.{Allocates}
 use Rattle.stun_types.proofs.RepliesLemmas.{adds_made, made_error}
 use Rattle.stun_types.proofs.message.reply.add_error.Goals as goal

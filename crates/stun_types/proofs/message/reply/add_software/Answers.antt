@@ -1,6 +1,6 @@
 use Rattle.std.specs.Prelude.{codes, length}
 use Rattle.stun_grammar.specs.AttributeTypes.{SOFTWARE}
-use Rattle.stun_texts.specs.Texts.{text_bytes}
+use Rattle.stun_attributes.specs.Texts.{text_bytes}
 use Rattle.stun_write.specs.Writers.{Allocates}
 use Rattle.stun_types.proofs.RepliesLemmas.{adds_made}
 use Rattle.stun_types.proofs.message.reply.add_software.Goals as goal

@@ -1,7 +1,7 @@
 use Rattle.std.proofs.Common.{length, ap, rules}
 use Rattle.stun_grammar.specs.AttributeTypes.{UNKNOWN_ATTRIBUTES}
 use Rattle.stun_rules.specs.TypeLists.{types_encoding}
-use Rattle.stun_values.specs.Unknown.{listed}
+use Rattle.stun_attributes.specs.Unknown.{listed}
 use Rattle.stun_write.specs.Writers.{Allocates}
 use Rattle.stun_types.proofs.RepliesLemmas.{adds_made, not_made}
 use Rattle.stun_types.proofs.message.reply.add_types.Goals as goal

@@ -1,0 +1,4 @@
+mod AddressesLemmas
+mod MakingErrorsLemmas
+mod ReadBackLemmas
+mod TextsLemmas

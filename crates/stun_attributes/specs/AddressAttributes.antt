@@ -1,0 +1,31 @@
+-- The addresses in attributes.
+use Rattle.std.specs.Prelude.{ℕ, List, Result}
+use Rattle.std.specs.declared.net.socket_addr.SocketAddr.{SocketAddr}
+use Rattle.stun_grammar.specs.declared.error.StunParseError.{StunParseError}
+use Rattle.stun_attrs.specs.Reading.{Reads}
+use Rattle.stun_rules.specs.Addresses.{address_fault, Spells}
+use Rattle.stun_attributes.specs.declared.mapped.MappedSocketAddr.{MappedSocketAddr}
+use Rattle.stun_attributes.specs.declared.xored.XorSocketAddr.{XorSocketAddr}
+use Rattle.stun_attributes.specs.declared.alternate_server.AlternateServer.{AlternateServer}
+use Rattle.stun_attributes.specs.declared.xor_mapped_address.XorMappedAddress.{XorMappedAddress}
+
+abbrev pub mapped_addr : MappedSocketAddr → SocketAddr
+mapped_addr mapped = mapped.addr
+
+-- the address as it is written, after the XOR
+abbrev pub written_addr : XorSocketAddr → SocketAddr
+written_addr xored = mapped_addr xored.addr
+
+abbrev pub server_addr : AlternateServer → SocketAddr
+server_addr server = mapped_addr server.addr
+
+-- the address as it is written, after the XOR
+abbrev pub written_mapped_addr : XorMappedAddress → SocketAddr
+written_mapped_addr mapped = written_addr mapped.addr
+
+-- ---- What reading answers
+
+-- the value of an attribute that is an address
+abbrev pub ReadsAddress :
+    {T : Type 0} → (T → SocketAddr) → List ℕ → Result T StunParseError → Type 0
+ReadsAddress addr_of value = Reads (address_fault value) (λ read. Spells value (addr_of read))

@@ -1,0 +1,98 @@
+ghost use Rattle.std.specs.Prelude.{◌≡◌};
+ghost use Rattle.stun_attributes.specs.AddressAttributes.{server_addr};
+
+use crate::MappedSocketAddr;
+use std::alloc::Global;
+use std::fmt;
+use std::net::SocketAddr;
+use stun_attrs::{Attribute, EncodeValue, ReadValue, TypedAttribute};
+use stun_base::{AttributeType, StunParseError, StunWriteError};
+use stun_grammar::attribute_types;
+use stun_rules::print_address;
+
+/// ALTERNATE-SERVER: the address of another server that the client is to try (RFC 8489, section
+/// 14.15).
+#[derive(Debug, Clone, PartialEq, Eq, Drop)]
+pub struct AlternateServer {
+    addr: MappedSocketAddr,
+}
+
+impl AlternateServer {
+    ghost use Rattle.stun_grammar.specs.AttributeTypes.{ALTERNATE_SERVER};
+    ghost use Rattle.stun_attrs.specs.Raw.{raw_type, raw_value};
+    ghost use Rattle.stun_attributes.specs.AddressAttributes.{ReadsAddress};
+
+    /// The attribute of this address. Flow info and scope ID of an IPv6 address are kept, but not
+    /// written.
+    pub fn new(addr: SocketAddr) -> Self
+        ensures { server_addr result ≡ addr }
+    {
+        AlternateServer {
+            addr: MappedSocketAddr::new(addr),
+        }
+    }
+
+    /// The address of the server.
+    pub fn server(&self) -> SocketAddr
+        ensures { result ≡ server_addr self.now }
+    {
+        self.addr.addr()
+    }
+}
+
+impl TypedAttribute for AlternateServer {
+    ghost use Rattle.stun_grammar.specs.AttributeTypes.{ALTERNATE_SERVER};
+
+    ghost NUMBER = { ALTERNATE_SERVER };
+
+    const NUMBER: u16 = attribute_types::ALTERNATE_SERVER;
+}
+
+impl EncodeValue for AlternateServer {
+    ghost use Rattle.stun_rules.specs.Addresses.{address_value};
+
+    ghost bytes = { λ server. address_value (server_addr server) };
+
+    fn value_length(&self) -> u16 {
+        self.addr.length()
+    }
+
+    fn write_value(&self, dest: &mut [u8]) {
+        self.addr.write_into_unchecked(dest);
+    }
+
+    fn held_bytes(&self) -> Option<&[u8]> {
+        None
+    }
+}
+
+/// No memory is allocated. Reading reports the first of these: fewer than four bytes as `Truncated { expected: 4, actual }`; a
+/// family that is neither 1 nor 2 as `InvalidAttributeData`; and a value of another length than its
+/// family needs as `Truncated { expected, actual }` if it is shorter, and as
+/// `TooLarge { expected, actual }` if it is longer, where `expected` is 8 for IPv4 and 20 for IPv6.
+/// The first byte of the value is ignored.
+impl ReadValue for AlternateServer {
+    ghost use Rattle.stun_attributes.specs.AddressAttributes.{ReadsAddress};
+
+    ghost reads_value = { ReadsAddress server_addr };
+
+    fn read_value(_alloc: Global, value: &[u8]) -> Result<Self, StunParseError> {
+        let addr = MappedSocketAddr::read(value)?;
+        Ok(AlternateServer { addr })
+    }
+}
+
+/// The type and the address: `32803(0x8023: ALTERNATE-SERVER): 192.168.0.1:3178`.
+impl fmt::Display for AlternateServer {
+    ghost use Rattle.std.specs.Prelude.{Some};
+    ghost use Rattle.std.specs.Net.Text.{socket_text};
+    ghost use Rattle.stun_grammar.specs.AttributeTypes.{ALTERNATE_SERVER};
+    ghost use Rattle.stun_grammar.specs.Names.{plain_text};
+
+    ghost output = { λ server.
+        Some (plain_text ALTERNATE_SERVER (socket_text (server_addr server))) };
+
+    fn fmt<W: fmt::Write>(&self, f: &mut fmt::Formatter<W>) -> fmt::Result {
+        print_address(f, self.get_type(), self.server())
+    }
+}

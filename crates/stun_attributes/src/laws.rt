@@ -1,0 +1,105 @@
+//! Laws of the values. Each function does nothing: its contract is the law. The value of an
+//! attribute is read as the same attribute; that its type is then the right one,
+//! `stun_attrs::is_read_back` says of all of them.
+
+ghost use Rattle.std.specs.Prelude.{◌≡◌, ◌<◌, ℕ, Result, IsOkAnd, MatchResult, length};
+ghost use Rattle.std.specs.declared.net.socket_addr.SocketAddr.{SocketAddr};
+ghost use Rattle.stun_grammar.specs.AttributeTypes.{USERNAME, REALM, NONCE, SOFTWARE, ALTERNATE_DOMAIN};
+ghost use Rattle.stun_grammar.specs.declared.error.StunParseError.{StunParseError};
+ghost use Rattle.stun_grammar.specs.declared.error.StunParseError.TheVariants.{OutOfMemory};
+ghost use Rattle.stun_rules.specs.Addresses.{address_value, IsInRange, IsPlain, IsXored};
+ghost use Rattle.stun_rules.specs.Algorithms.{algorithm_encoding, algorithms_encoding};
+ghost use Rattle.stun_rules.specs.ErrorValues.{error_value};
+ghost use Rattle.stun_rules.specs.TypeLists.{types_encoding, AreTypes};
+ghost use Rattle.stun_attributes.specs.declared.alternate_server.AlternateServer.{AlternateServer};
+ghost use Rattle.stun_attributes.specs.declared.error_code.ErrorCode.{ErrorCode};
+ghost use Rattle.stun_attributes.specs.declared.password_algorithm.PasswordAlgorithm.{PasswordAlgorithm};
+ghost use Rattle.stun_attributes.specs.declared.password_algorithms.PasswordAlgorithms.{PasswordAlgorithms};
+ghost use Rattle.stun_attributes.specs.declared.text.TextAttribute.{TextAttribute};
+ghost use Rattle.stun_attributes.specs.declared.unknown_attributes.UnknownAttributes.{UnknownAttributes};
+ghost use Rattle.stun_attributes.specs.declared.xor_mapped_address.XorMappedAddress.{XorMappedAddress};
+ghost use Rattle.stun_attributes.specs.AddressAttributes.{ReadsAddress, server_addr, written_mapped_addr};
+ghost use Rattle.stun_attributes.specs.ErrorCodes.{error_code, error_reason, IsError, ReadsError};
+ghost use Rattle.stun_attributes.specs.Passwords.{ReadsAlgorithm, ReadsAlgorithms, held_algorithm, held_algorithms};
+ghost use Rattle.stun_attributes.specs.Texts.{text_bytes, IsReadAsText, ReadsText};
+ghost use Rattle.stun_attributes.specs.Unknown.{ReadsTypes, listed};
+
+use crate::{AlternateDomain, Nonce, Realm, Software, Username};
+use stun_attrs::AttributeFromRaw;
+
+/// A text is read back, unless out of memory.
+pub fn text_is_read_back<const TYPE: u16, const MAX: u16>()
+    ensures { (text : TextAttribute TYPE MAX)
+        (result : Result (TextAttribute TYPE MAX) StunParseError)
+        → ReadsText MAX (text_bytes text) result
+        → MatchResult result (λ read. text_bytes read ≡ text_bytes text) (λ e. e ≡ OutOfMemory) }
+{}
+
+/// Each of the five names is read by the rule of its own type (RFC 8489, section 18.3) and its own
+/// greatest length.
+pub fn text_types()
+    ensures username { IsReadAsText USERNAME 513 ⟦<Username as AttributeFromRaw<'static>>⟧.reads }
+    ensures realm { IsReadAsText REALM 763 ⟦<Realm as AttributeFromRaw<'static>>⟧.reads }
+    ensures nonce { IsReadAsText NONCE 763 ⟦<Nonce as AttributeFromRaw<'static>>⟧.reads }
+    ensures software { IsReadAsText SOFTWARE 763 ⟦<Software as AttributeFromRaw<'static>>⟧.reads }
+    ensures alternate_domain { IsReadAsText ALTERNATE_DOMAIN 65535
+        ⟦<AlternateDomain as AttributeFromRaw<'static>>⟧.reads }
+{}
+
+/// An address without flow info and scope ID that is XORed twice under one transaction ID is
+/// unchanged.
+pub fn xor_twice()
+    ensures { (id : ℕ) (addr x y : SocketAddr) → IsPlain addr → IsInRange addr
+        → IsXored id addr x → IsXored id x y → y ≡ addr }
+{}
+
+/// An ALTERNATE-SERVER without flow info and scope ID is read back.
+pub fn address_is_read_back()
+    ensures { (attribute : AlternateServer) (result : Result AlternateServer StunParseError)
+        → IsPlain (server_addr attribute) → IsInRange (server_addr attribute)
+        → ReadsAddress server_addr (address_value (server_addr attribute)) result
+        → IsOkAnd result
+        (λ read. IsInRange (server_addr read) → server_addr read ≡ server_addr attribute) }
+{}
+
+/// An XOR-MAPPED-ADDRESS is read back.
+pub fn xored_address_is_read_back()
+    ensures { (attribute : XorMappedAddress) (result : Result XorMappedAddress StunParseError)
+        → IsInRange (written_mapped_addr attribute)
+        → ReadsAddress written_mapped_addr (address_value (written_mapped_addr attribute)) result
+        → IsOkAnd result
+        (λ read. IsInRange (written_mapped_addr read)
+        → written_mapped_addr read ≡ written_mapped_addr attribute) }
+{}
+
+/// An ERROR-CODE is read back, unless out of memory.
+pub fn error_is_read_back()
+    ensures { (attribute : ErrorCode) (result : Result ErrorCode StunParseError)
+        → ReadsError (error_value (error_code attribute) (error_reason attribute)) result
+        → MatchResult result (IsError (error_code attribute) (error_reason attribute))
+        (λ e. e ≡ OutOfMemory) }
+{}
+
+/// An UNKNOWN-ATTRIBUTES is read back, unless out of memory.
+pub fn types_are_read_back()
+    ensures { (attribute : UnknownAttributes) (result : Result UnknownAttributes StunParseError)
+        → AreTypes (listed attribute) → ReadsTypes (types_encoding (listed attribute)) result
+        → MatchResult result (λ read. AreTypes (listed read) → listed read ≡ listed attribute)
+        (λ e. e ≡ OutOfMemory) }
+{}
+
+/// A PASSWORD-ALGORITHM is read back.
+pub fn algorithm_is_read_back()
+    ensures { (attribute : PasswordAlgorithm) (result : Result PasswordAlgorithm StunParseError)
+        → ReadsAlgorithm (algorithm_encoding (held_algorithm attribute)) result
+        → IsOkAnd result (λ read. held_algorithm read ≡ held_algorithm attribute) }
+{}
+
+/// A PASSWORD-ALGORITHMS that isn't empty is read back, unless out of memory.
+pub fn algorithms_are_read_back()
+    ensures { (attribute : PasswordAlgorithms) (result : Result PasswordAlgorithms StunParseError)
+        → 0 < length (held_algorithms attribute)
+        → ReadsAlgorithms (algorithms_encoding (held_algorithms attribute)) result
+        → MatchResult result (λ read. held_algorithms read ≡ held_algorithms attribute)
+        (λ e. e ≡ OutOfMemory) }
+{}

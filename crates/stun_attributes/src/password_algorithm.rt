@@ -1,0 +1,90 @@
+ghost use Rattle.std.specs.Prelude.{◌≡◌};
+ghost use Rattle.stun_attributes.specs.Passwords.{held_algorithm};
+
+use std::alloc::Global;
+use std::fmt;
+use stun_attrs::{EncodeValue, ReadValue, TypedAttribute};
+use stun_base::{AttributeType, StunParseError, StunWriteError};
+use stun_grammar::attribute_types;
+use stun_rules::{PasswordAlgorithmValue, print_algorithm, read_one, write_algorithm};
+
+/// PASSWORD-ALGORITHM: the algorithm that a client chose for its password (RFC 8489, section
+/// 14.12).
+///
+/// Its value is the number of the algorithm in two bytes, big-endian, and two zeros.
+#[derive(Debug, Clone, PartialEq, Eq, Drop)]
+pub struct PasswordAlgorithm {
+    algorithm: PasswordAlgorithmValue,
+}
+
+impl PasswordAlgorithm {
+    ghost use Rattle.stun_attrs.specs.Raw.{raw_type, raw_value};
+    ghost use Rattle.stun_attributes.specs.Passwords.{ReadsAlgorithm};
+
+    /// The attribute of this algorithm.
+    pub fn new(algorithm: PasswordAlgorithmValue) -> Self
+        ensures { held_algorithm result ≡ algorithm }
+    {
+        PasswordAlgorithm { algorithm }
+    }
+
+    /// The algorithm.
+    pub fn algorithm(&self) -> PasswordAlgorithmValue
+        ensures { result ≡ held_algorithm self.now }
+    {
+        self.algorithm
+    }
+}
+
+impl TypedAttribute for PasswordAlgorithm {
+    ghost use Rattle.stun_grammar.specs.AttributeTypes.{PASSWORD_ALGORITHM};
+
+    ghost NUMBER = { PASSWORD_ALGORITHM };
+
+    const NUMBER: u16 = attribute_types::PASSWORD_ALGORITHM;
+}
+
+impl EncodeValue for PasswordAlgorithm {
+    ghost use Rattle.stun_rules.specs.Algorithms.{algorithm_encoding};
+
+    ghost bytes = { λ attribute. algorithm_encoding (held_algorithm attribute) };
+
+    fn value_length(&self) -> u16 {
+        4
+    }
+
+    fn write_value(&self, dest: &mut [u8]) {
+        write_algorithm(self.algorithm, dest);
+    }
+
+    fn held_bytes(&self) -> Option<&[u8]> {
+        None
+    }
+}
+
+/// No memory is allocated. Reading reports the first of these: fewer than four bytes as `Truncated { expected: 4, actual }`; a
+/// length that is no multiple of 4 as `InvalidAttributeData`; parameters of p bytes as
+/// `TooLarge { expected: 4, actual: 4 + p }`; another number as `InvalidAttributeData`. What
+/// follows the first four bytes is ignored.
+impl ReadValue for PasswordAlgorithm {
+    ghost use Rattle.stun_attributes.specs.Passwords.{ReadsAlgorithm};
+
+    ghost reads_value = { ReadsAlgorithm };
+
+    fn read_value(_alloc: Global, value: &[u8]) -> Result<Self, StunParseError> {
+        let algorithm = read_one(value)?;
+        Ok(PasswordAlgorithm { algorithm })
+    }
+}
+
+/// The type and the algorithm: `29(0x1d: PASSWORD-ALGORITHM): MD5`.
+impl fmt::Display for PasswordAlgorithm {
+    ghost use Rattle.std.specs.Prelude.{Some};
+    ghost use Rattle.stun_rules.specs.Algorithms.{algorithm_text};
+
+    ghost output = { λ attribute. Some (algorithm_text (held_algorithm attribute)) };
+
+    fn fmt<W: fmt::Write>(&self, f: &mut fmt::Formatter<W>) -> fmt::Result {
+        print_algorithm(f, self.algorithm())
+    }
+}

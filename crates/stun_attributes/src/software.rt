@@ -1,0 +1,19 @@
+ghost use Rattle.std.specs.Prelude.{◌≡◌};
+ghost use Rattle.stun_attributes.specs.Texts.{text_bytes};
+
+use crate::TextAttribute;
+use stun_grammar::attribute_types;
+use stun_rules::SOFTWARE_MOST;
+
+/// SOFTWARE: a description of the software that sent the message, of at most 763 bytes (RFC 8489,
+/// section 14.14).
+pub type Software = TextAttribute<{ attribute_types::SOFTWARE }, { SOFTWARE_MOST }>;
+
+impl Software {
+    /// The text.
+    pub fn software(&self) -> &str
+        ensures { result.now ≡ text_bytes self.now }
+    {
+        self.text()
+    }
+}

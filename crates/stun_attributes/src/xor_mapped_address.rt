@@ -1,0 +1,129 @@
+ghost use Rattle.stun_rules.specs.Addresses.{IsPlain};
+
+use crate::{MappedSocketAddr, XorSocketAddr};
+use std::alloc::{AllocError, Global};
+use std::fmt;
+use std::net::SocketAddr;
+use stun_attrs::{Attribute, EncodeValue, ReadValue, TypedAttribute};
+use stun_base::{AttributeType, StunParseError, StunWriteError, TransactionId};
+use stun_grammar::attribute_types;
+use stun_rules::print_xored;
+
+/// XOR-MAPPED-ADDRESS: the address that a request came from, as the server saw it (RFC 8489,
+/// section 14.2).
+#[derive(Debug, PartialEq, Eq, Drop)]
+pub struct XorMappedAddress {
+    addr: XorSocketAddr,
+    ghost plain: { IsPlain addr.addr.addr },
+}
+
+impl XorMappedAddress {
+    ghost use Rattle.stun_grammar.specs.AttributeTypes.{XOR_MAPPED_ADDRESS};
+    ghost use Rattle.std.specs.Prelude.{◌≡◌};
+    ghost use Rattle.stun_attrs.specs.Raw.{raw_type, raw_value};
+    ghost use Rattle.stun_rules.specs.Addresses.{IsXored};
+    ghost use Rattle.stun_attributes.specs.AddressAttributes.{ReadsAddress, written_mapped_addr};
+
+    /// The attribute of this address in a message with this transaction ID. Flow info and scope ID
+    /// of an IPv6 address are dropped.
+    pub fn new(addr: SocketAddr, transaction: TransactionId) -> Self
+        ensures { IsXored transaction addr (written_mapped_addr result) }
+    {
+        XorMappedAddress {
+            addr: XorSocketAddr::new(addr, transaction),
+        }
+    }
+
+    /// The address, if the message has this transaction ID.
+    pub fn addr(&self, transaction: TransactionId) -> SocketAddr
+        ensures { IsXored transaction (written_mapped_addr self.now) result }
+    {
+        self.addr.addr(transaction)
+    }
+
+    /// The address as it is written, after the XOR.
+    pub(crate) fn written(&self) -> SocketAddr
+        ensures address { result ≡ written_mapped_addr self.now }
+        ensures plain { IsPlain result }
+    {
+        self.addr.addr.addr()
+    }
+}
+
+/// The same address. No memory is allocated.
+impl Clone for XorMappedAddress {
+    ghost use Rattle.std.specs.Prelude.{◌≡◌, ⊤};
+    ghost use Rattle.stun_attributes.specs.AddressAttributes.{written_mapped_addr};
+
+    ghost is_clone = { λ mapped copy. written_mapped_addr copy ≡ written_mapped_addr mapped };
+
+    ghost is_infallible = { λ _. ⊤ };
+
+    fn clone(&self) -> Result<Self, AllocError> {
+        let addr = MappedSocketAddr::new(self.written());
+        Ok(XorMappedAddress {
+            addr: XorSocketAddr { addr },
+        })
+    }
+}
+
+impl TypedAttribute for XorMappedAddress {
+    ghost use Rattle.stun_grammar.specs.AttributeTypes.{XOR_MAPPED_ADDRESS};
+
+    ghost NUMBER = { XOR_MAPPED_ADDRESS };
+
+    const NUMBER: u16 = attribute_types::XOR_MAPPED_ADDRESS;
+}
+
+impl EncodeValue for XorMappedAddress {
+    ghost use Rattle.stun_rules.specs.Addresses.{address_value};
+    ghost use Rattle.stun_attributes.specs.AddressAttributes.{written_mapped_addr};
+
+    ghost bytes = { λ mapped. address_value (written_mapped_addr mapped) };
+
+    fn value_length(&self) -> u16 {
+        self.addr.length()
+    }
+
+    fn write_value(&self, dest: &mut [u8]) {
+        self.addr.write_into_unchecked(dest);
+    }
+
+    fn held_bytes(&self) -> Option<&[u8]> {
+        None
+    }
+}
+
+/// No memory is allocated. Reading reports the first of these: fewer than four bytes as `Truncated { expected: 4, actual }`; a
+/// family that is neither 1 nor 2 as `InvalidAttributeData`; and a value of another length than its
+/// family needs as `Truncated { expected, actual }` if it is shorter, and as
+/// `TooLarge { expected, actual }` if it is longer, where `expected` is 8 for IPv4 and 20 for IPv6.
+/// The first byte of the value is ignored.
+impl ReadValue for XorMappedAddress {
+    ghost use Rattle.stun_attributes.specs.AddressAttributes.{ReadsAddress, written_mapped_addr};
+
+    ghost reads_value = { ReadsAddress written_mapped_addr };
+
+    fn read_value(_alloc: Global, value: &[u8]) -> Result<Self, StunParseError> {
+        let addr = XorSocketAddr::read(value)?;
+        Ok(XorMappedAddress { addr })
+    }
+}
+
+/// The type and the address: `32(0x20: XOR-MAPPED-ADDRESS): 192.168.0.1:3178` for IPv4, as it is
+/// without the XOR, and `32(0x20: XOR-MAPPED-ADDRESS): XOR([2112:a442::5679]:9664)` for IPv6, as it
+/// is written.
+impl fmt::Display for XorMappedAddress {
+    ghost use Rattle.std.specs.Prelude.{Some};
+    ghost use Rattle.stun_grammar.specs.AttributeTypes.{XOR_MAPPED_ADDRESS};
+    ghost use Rattle.stun_grammar.specs.Names.{plain_text};
+    ghost use Rattle.stun_rules.specs.Addresses.{xored_text};
+    ghost use Rattle.stun_attributes.specs.AddressAttributes.{written_mapped_addr};
+
+    ghost output = { λ mapped.
+        Some (plain_text XOR_MAPPED_ADDRESS (xored_text (written_mapped_addr mapped))) };
+
+    fn fmt<W: fmt::Write>(&self, f: &mut fmt::Formatter<W>) -> fmt::Result {
+        print_xored(f, self.get_type(), self.written())
+    }
+}

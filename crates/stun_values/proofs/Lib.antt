@@ -1,2 +1,0 @@
-mod MakingErrorsLemmas
-mod ReadBackLemmas

@@ -1,4 +1,0 @@
-pub mod ErrorCodes
-pub mod MakingErrors
-pub mod Passwords
-pub mod Unknown
