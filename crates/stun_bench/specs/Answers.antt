@@ -14,13 +14,13 @@ abbrev pub first_byte : List ℕ → ℕ
 first_byte [] = 0
 first_byte (byte ∷ bytes) = byte
 
--- what was made of the attributes before, mixed with one more, in 64 bits
+-- the number that the attributes before gave, mixed with one more, in 64 bits
 abbrev pub mixed : ℕ → Shown → ℕ
 mixed sum attribute =
     (sum * 31 + attribute.offset + attribute.type * 2 ^ 20
     + length attribute.value * 2 ^ 40 + first_byte attribute.value) % 2 ^ 64
 
--- what a workload returns that can't be run
+-- what a workload returns if it can't be run
 abbrev pub none : ℕ
 none = 2 ^ 64 - 1
 

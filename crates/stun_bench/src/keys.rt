@@ -15,7 +15,7 @@ use stun_types::message::keys::{
 };
 use stun_types::message::{Message, StunWriteError, ValidateError};
 
-/// What a workload returns that can't be run.
+/// What a workload returns if it can't be run.
 pub const NONE: u64 = u64::MAX;
 
 /// Bytes as a string, or `None` where they aren't UTF-8 or an allocation failed.

@@ -50,10 +50,10 @@ impl MessageIntegrity {
     }
 
     /// Whether `expected` is the HMAC-SHA1 of the pieces, joined, under a key that was made for
-    /// `Sha1` or for no one algorithm. With a key that was made for `Sha256` the result is `false`.
+    /// `Sha1` or has no algorithm. With a key that was made for `Sha256` the result is `false`.
     ///
-    /// It takes no memory. All 20 bytes are compared, also behind one that differs; that this takes
-    /// equal time is not claimed.
+    /// It takes no memory. All 20 bytes are compared, even after a difference; constant time is not
+    /// claimed.
     pub fn verify(pieces: &[&[u8]], key: &IntegrityKey, expected: &[u8; 20]) -> bool
         ensures { IsTrue result
             ↔ (serves (key_algorithm key.now) IntegrityAlgorithm.Sha1 ≡ true)

@@ -70,7 +70,7 @@ unfinished_reply source r =
 abbrev pub request_reply : SocketAddr → List ℕ → List ℕ
 request_reply source r = finished r (unfinished_reply source r)
 
--- what has the class of a request is replied to
+-- only a message of the class of a request gets a reply
 abbrev pub reply_by_class : MessageClass → SocketAddr → List ℕ → Option (List ℕ)
 reply_by_class Request source r = Some (request_reply source r)
 reply_by_class _ source r = None

@@ -31,7 +31,7 @@ pub enum RunEnd {
 /// The most bytes that are read: as many as a message may have.
 const LONGEST_INPUT: usize = 65_555;
 
-/// How a run ends that couldn't read its input.
+/// How the run ends when reading fails.
 fn end_without_input(e: InputError) -> RunEnd
     ensures { result ≡ end_of_input e }
 {

@@ -76,7 +76,7 @@ pub fn run_on<R: Read, W: Write>(
     }
 }
 
-/// How the program ends whose arguments couldn't be read, by the kind of that error.
+/// How the program ends when its arguments can't be read, by the kind of the error.
 pub fn end_without_arguments(kind: ErrorKind) -> RunEnd
     ensures memory { kind ≡ ErrorKind.OutOfMemory → result ≡ RunEnd.NoMemory }
     ensures other { kind ≢ ErrorKind.OutOfMemory → result ≡ RunEnd.Usage }

@@ -246,7 +246,7 @@ pub fn print_algorithms<W: fmt::Write>(
     write!(f, "]")
 }
 
-/// Prints the same of the value of a PASSWORD-ALGORITHMS that [`check_algorithms`] accepts. It
+/// Prints in the same way the value of a PASSWORD-ALGORITHMS that [`check_algorithms`] accepts. It
 /// takes no memory.
 ///
 /// # Errors

@@ -54,8 +54,8 @@ pub fn print_types<W: fmt::Write, I: Iterator<Item = AttributeType>>(
     write!(f, "]")
 }
 
-/// Prints the same of the value of an UNKNOWN-ATTRIBUTES that [`check_types`] accepts. It takes no
-/// memory.
+/// Prints in the same way the value of an UNKNOWN-ATTRIBUTES that [`check_types`] accepts. It takes
+/// no memory.
 ///
 /// # Errors
 ///

@@ -19,6 +19,7 @@ use stun_types::prelude::*;
 /// Adds a SOFTWARE to a message that is a header alone, in a writer without a bound.
 #[tactic(auto, using(crate::proofs::AddsLemmas::short_add, crate::proofs::AddsLemmas::nothing_before))]
 fn add_software<B: MessageWrite>(software: &Software, message: &mut B) -> Result<(), StunWriteError>
+    // the message is a header alone
     requires header { length (B.state message.old).bytes ≡ 20 }
     requires alone { (B.state message.old).types ≡ [] }
     requires unbounded { (B.state message.old).greatest ≡ None }
@@ -61,9 +62,11 @@ pub fn software_message(
     id: TransactionId,
     name: &str,
 ) -> Result<Vec<u8>, StunWriteError>
+    // the result, by how long the name is
     ensures large { 763 < length name.now
         → result ≡ Err (StunWriteError.TooLarge 763 (length name.now)) }
     ensures err { length name.now ≤ 763 → IfErr result (λ e. e ≡ StunWriteError.OutOfMemory) }
+    // the message, and what is read from it
     ensures encoding { IfOk result (λ message. message.items
         ≡ message_encoding 0x0001 id (canonical 0x8022 name.now ∷ [])) }
     ensures parses { IfOk result (λ message. parse_fault message.items ≡ None) }
