@@ -19,5 +19,4 @@ pub use encoding::{MakeValue, copy_to_start, raw_made, write_attribute, write_ma
 pub use owned::owned_attribute;
 pub use printed::print_malformed;
 pub use raw::RawAttribute;
-pub use stun_rules::{check_length, check_range};
 pub use walk::attribute_at;

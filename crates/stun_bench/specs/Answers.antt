@@ -35,7 +35,7 @@ verdict_number (Err (Parse _)) = 4
 abbrev pub algorithm_of : ℕ → IntegrityAlgorithm
 algorithm_of number = if number == 2 then Sha256 else Sha1
 
--- the first four bytes, as one number, of the HMAC that an integrity attribute holds behind d
+-- the first four bytes, as one number, of the HMAC that an integrity attribute holds after d
 abbrev pub hmac_number : IntegrityAlgorithm → List ℕ → List ℕ → ℕ
 hmac_number algorithm key d =
     number (take 4 (hmac algorithm key (covered_bytes d (length d) (digest_length algorithm))))

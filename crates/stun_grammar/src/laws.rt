@@ -119,7 +119,7 @@ pub fn encoding_grows()
         ++ (drop 4 old ++ encoding a)) }
 {}
 
-/// A FINGERPRINT that was computed over the message before it is accepted, whatever follows it.
+/// A FINGERPRINT that was computed over the message before it is right, whatever follows it.
 pub fn right_fingerprint()
     ensures { (type id : ℕ) (before behind : List Attribute)
         → has FINGERPRINT (types before) ≡ false

@@ -6,8 +6,8 @@ use stun_attrs::{
     borrowed_attribute, check_type, write_attribute,
 };
 use stun_base::{AttributeType, StunParseError, StunWriteError};
-use stun_grammar::attribute_types;
-use stun_keys::keys::{IntegrityAlgorithm, IntegrityKey};
+use stun_grammar::{IntegrityAlgorithm, attribute_types};
+use stun_keys::keys::IntegrityKey;
 use stun_rules::{check_sha1_length, print_hex};
 
 /// MESSAGE-INTEGRITY: the HMAC-SHA1 of the message before it, 20 bytes (RFC 8489, section 14.5).

@@ -8,8 +8,8 @@ use stun_attrs::{
     borrowed_attribute, check_type, write_attribute,
 };
 use stun_base::{AttributeType, StunParseError, StunWriteError};
-use stun_grammar::attribute_types;
-use stun_keys::keys::{IntegrityAlgorithm, IntegrityKey};
+use stun_grammar::{IntegrityAlgorithm, attribute_types};
+use stun_keys::keys::IntegrityKey;
 use stun_rules::{check_sha256_length, print_hex};
 
 /// Whether the bytes are a nonempty prefix of an HMAC.
@@ -96,9 +96,9 @@ impl MessageIntegritySha256 {
     /// under a key that was made for `Sha256` or has no algorithm. With a key that was made for
     /// `Sha1` the result is `false`.
     ///
-    /// A prefix of any length is accepted, a single byte too: the lengths that the attribute may
-    /// have are tested by [`MessageIntegritySha256::new`] and by reading. It takes no memory. All
-    /// bytes of the prefix are compared, even after a difference; constant time is not claimed.
+    /// A prefix of any length will do, even a single byte: the lengths that the attribute may have
+    /// are tested by [`MessageIntegritySha256::new`] and by reading. It takes no memory. All bytes
+    /// of the prefix are compared, even after a difference; constant time is not claimed.
     pub fn verify(pieces: &[&[u8]], key: &IntegrityKey, expected: &[u8]) -> bool
         ensures { IsTrue result
             ↔ (serves (key_algorithm key.now) IntegrityAlgorithm.Sha256 ≡ true)

@@ -6,6 +6,7 @@ use Rattle.std.specs.declared.net.socket_addr.SocketAddr.{SocketAddr}
 use Rattle.stun_grammar.specs.declared.attribute_type.AttributeType.{AttributeType}
 use Rattle.stun_grammar.specs.Numbers.{be16}
 use Rattle.stun_grammar.specs.Headers.{magic_cookie, type_field, id_field}
+use Rattle.stun_grammar.specs.Names.{BINDING}
 use Rattle.stun_grammar.specs.AttributeTypes.{XOR_MAPPED_ADDRESS, FINGERPRINT}
 use Rattle.stun_grammar.specs.Attributes.{Attribute, canonical}
 use Rattle.stun_grammar.specs.Fingerprints.{fingerprint_value}
@@ -55,10 +56,6 @@ abbrev pub binding_reply : SocketAddr → List ℕ → List ℕ
 binding_reply source r =
     option_map_or (response ErrorClass r) (check_reply comprehended [] r)
     (response Success r (success_reply source r))
-
--- the method of binding requests
-abbrev pub BINDING : ℕ
-BINDING = 0x001
 
 -- the reply to a request: 400 where it has another method
 abbrev pub unfinished_reply : SocketAddr → List ℕ → List ℕ

@@ -34,7 +34,7 @@ pub record IsSource (address port : List ℕ) (source : SocketAddr) : Type 0 whe
   pub number : IsPortNumber port (socket_port source)
   pub plain : IsPlain source
 
--- the arguments behind the program's name are the address and the port that the datagram came from
+-- the arguments after the program's name are the address and the port that the datagram came from
 abbrev pub Gives : List (List ℕ) → SocketAddr → Type 0
 Gives (name ∷ address ∷ port ∷ []) source = IsSource address port source
 Gives _ source = ⊥

@@ -33,7 +33,7 @@ fn source_in(address: &str, port: &str) -> Option<SocketAddr>
     Some(SocketAddr::new(ip, port))
 }
 
-/// The address that the datagram came from: the IP address and the port behind the program's name.
+/// The address that the datagram came from: the IP address and the port after the program's name.
 /// Without them, or with more arguments, the usage is wrong.
 fn source_of(arguments: Args) -> Result<SocketAddr, RunEnd>
     ensures { MatchResult result

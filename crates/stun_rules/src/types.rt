@@ -28,7 +28,7 @@ pub fn check_types(value: &[u8]) -> Result<(), StunParseError>
     Ok(())
 }
 
-/// Prints an UNKNOWN-ATTRIBUTES of these types: its own type, and behind it the list of types as
+/// Prints an UNKNOWN-ATTRIBUTES of these types: its own type, and after it the list of types as
 /// `{:?}` prints it. It takes no memory.
 ///
 /// # Errors

@@ -5,7 +5,7 @@ use Rattle.stun_show.specs.declared.engine.RunEnd.TheVariants.{Shown, Refused, U
 use Rattle.stun_show.specs.Report.{line_feed}
 use Rattle.stun_show.specs.ShowRun.{Ends}
 
--- the password that the arguments give: the one behind the program's name, if there is one. More
+-- the password that the arguments give: the one after the program's name, if there is one. More
 -- than one is wrong usage
 abbrev pub given_password : List (List ℕ) → Result (Option (List ℕ)) RunEnd
 given_password [] = Ok None

@@ -11,7 +11,7 @@ use std::alloc::Global;
 use std::env::Args;
 use std::io::{ErrorKind, Read, Write};
 
-/// The password that the arguments give: the one behind the program's name, if there is one. With
+/// The password that the arguments give: the one after the program's name, if there is one. With
 /// more than one the usage is wrong.
 #[tactic(auto, using(crate::proofs::ShowProgramLemmas::none_left))]
 fn password_of(arguments: Args) -> Result<Option<String>, RunEnd>

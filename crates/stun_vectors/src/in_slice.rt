@@ -8,6 +8,7 @@ ghost use Rattle.stun_texts.specs.Texts.{text_bytes};
 ghost use Rattle.stun_grammar.specs.Adding.{Fits, appended, whole, room_refusal, add_refusal, IsAddAnswer};
 ghost use Rattle.stun_write.specs.Writers.{Allocates};
 ghost use Rattle.stun_vectors.specs.InSlice.{WritesSoftware};
+ghost use Rattle.stun_rules.specs.TextValues.{text_max};
 
 use std::alloc::Global;
 use stun_base::binding_request;
@@ -58,7 +59,7 @@ fn write_software<B: MessageWrite>(
         ⊎ (B.state message.old).ready_types < 1) result }
     ensures writes { WritesSoftware result (B.state message.old) (B.state message.new) id
         (text_bytes software.now) }
-    ensures short { length (text_bytes software.now) ≤ 763 }
+    ensures short { length (text_bytes software.now) ≤ text_max }
 {
     // the law by which an encoding with one more attribute appended is an encoding
     message_grows();

@@ -7,6 +7,7 @@ ghost use Rattle.stun_grammar.specs.Showing.{shown};
 ghost use Rattle.stun_grammar.specs.Writing.{message_encoding};
 ghost use Rattle.stun_texts.specs.Texts.{text_bytes};
 ghost use Rattle.stun_grammar.specs.Adding.{appended};
+ghost use Rattle.stun_rules.specs.TextValues.{text_max};
 
 use std::alloc::Global;
 use stun_base::binding_request;
@@ -26,19 +27,19 @@ fn add_software<B: MessageWrite>(software: &Software, message: &mut B) -> Result
     ensures bytes { OnOk result ((B.state message.new).bytes
         ≡ appended (B.state message.old).bytes 0x8022 (text_bytes software.now)) }
     ensures err { IfErr result (λ e. e ≡ StunWriteError.OutOfMemory) }
-    ensures short { length (text_bytes software.now) ≤ 763 }
+    ensures short { length (text_bytes software.now) ≤ text_max }
 {
     message.add_attribute(software)
 }
 
 /// Writes a binding request with this transaction ID and one SOFTWARE of this name.
 fn write_request(alloc: Global, id: TransactionId, name: &str) -> Result<Vec<u8>, StunWriteError>
-    ensures large { 763 < length name.now
-        → result ≡ Err (StunWriteError.TooLarge 763 (length name.now)) }
-    ensures err { length name.now ≤ 763 → IfErr result (λ e. e ≡ StunWriteError.OutOfMemory) }
+    ensures large { text_max < length name.now
+        → result ≡ Err (StunWriteError.TooLarge text_max (length name.now)) }
+    ensures err { length name.now ≤ text_max → IfErr result (λ e. e ≡ StunWriteError.OutOfMemory) }
     ensures encoding { IfOk result (λ message. message.items
         ≡ message_encoding 0x0001 id (canonical 0x8022 name.now ∷ [])) }
-    ensures short { IfOk result (λ _. length name.now ≤ 763) }
+    ensures short { IfOk result (λ _. length name.now ≤ text_max) }
     ensures id_fits { IfOk result (λ _. id < 2 ^ 96) }
 {
     // the law by which an encoding with one more attribute appended is an encoding
@@ -63,9 +64,9 @@ pub fn software_message(
     name: &str,
 ) -> Result<Vec<u8>, StunWriteError>
     // the result, by how long the name is
-    ensures large { 763 < length name.now
-        → result ≡ Err (StunWriteError.TooLarge 763 (length name.now)) }
-    ensures err { length name.now ≤ 763 → IfErr result (λ e. e ≡ StunWriteError.OutOfMemory) }
+    ensures large { text_max < length name.now
+        → result ≡ Err (StunWriteError.TooLarge text_max (length name.now)) }
+    ensures err { length name.now ≤ text_max → IfErr result (λ e. e ≡ StunWriteError.OutOfMemory) }
     // the message, and what is read from it
     ensures encoding { IfOk result (λ message. message.items
         ≡ message_encoding 0x0001 id (canonical 0x8022 name.now ∷ [])) }

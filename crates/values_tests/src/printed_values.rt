@@ -16,7 +16,7 @@ use stun_types::message::TransactionId;
 use stun_types::{AddressFamily, TransportType};
 use stun_values::{check_algorithms, print_algorithms_in};
 
-/// A writer that takes so many bytes, and then refuses.
+/// A writer that takes that many bytes, and then refuses.
 #[derive(Drop)]
 struct Room {
     left: usize,

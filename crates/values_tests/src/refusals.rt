@@ -34,7 +34,7 @@ enum Kind {
     Fingerprint,
 }
 
-/// Why nothing is read of a reference to a raw attribute, and of the raw attribute itself.
+/// Why nothing is read from a reference to a raw attribute, and from the raw attribute itself.
 type Refused = (Option<StunParseError>, Option<StunParseError>);
 
 /// Why a raw attribute isn't read as an `A`.
