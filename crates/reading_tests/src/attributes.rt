@@ -35,7 +35,7 @@ fn pads_to_four_bytes(rt: HostRuntime) {
     }
 }
 
-/// Bytes, and the type and the value that are read of them.
+/// Bytes, and the type and the value that are read from them.
 #[rattlefmt::skip]
 static READ: [(&str, &[u8], u16, &[u8]); 4] = [
     ("an empty value", &SOFTWARE, 0x8022, &[]),
@@ -95,7 +95,7 @@ fn makes_raw_attributes(rt: HostRuntime) -> Result<(), Fail> {
     Ok(())
 }
 
-/// A box of so many bytes.
+/// A box of that many bytes.
 fn boxed(alloc: Global, count: usize) -> Result<BoxedSlice<u8>, Fail> {
     let mut bytes = Vec::new(alloc);
     bytes.resize(count, 0x5A)?;

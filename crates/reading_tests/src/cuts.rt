@@ -5,7 +5,7 @@ use std::test::Fail;
 use stun_samples::short_term;
 use stun_types::message::{IntegrityAlgorithm, StunParseError};
 
-/// What is answered to the message of these letters, cut to so many bytes, at least 20, with a
+/// What is answered to the message of these letters, cut to that many bytes, at least 20, with a
 /// length field that says so.
 fn answer(letters: &[Letter], cut: usize) -> Result<(), StunParseError> {
     let mut at = 20;

@@ -95,7 +95,7 @@ static MADE: [(&str, MessageClass, u16, u16, [u8; 2]); 7] = [
     ("more bits than twelve", MessageClass::Request, 0x1001, 0x0001, [0x00, 0x01]),
 ];
 
-/// A type is written as these bytes in front of what stands there, and read of them.
+/// A type is written as these bytes, followed by what was there, and read from them.
 fn assert_written(rt: &impl Abort, case: &str, made: MessageType, [high, low]: [u8; 2]) {
     let mut buffer = [0xFF; 4];
     made.write_into(&mut buffer);

@@ -209,7 +209,7 @@ fn is_made(prefix: &[u8]) -> Result<bool, StunWriteError> {
     )
 }
 
-/// Whether an attribute of this prefix is as its copy.
+/// Whether an attribute of this prefix equals its copy.
 fn is_cloned(prefix: &[u8]) -> Result<bool, Fail> {
     let made = MessageIntegritySha256::new(prefix)?;
     Ok(made == made.clone()?)

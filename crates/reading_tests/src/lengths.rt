@@ -14,7 +14,7 @@ fn refuses_lengths_that_are_far_off(rt: HostRuntime) -> Result<(), Fail> {
     Ok(())
 }
 
-/// A header that tells no attribute, and so many empty SOFTWARE behind it.
+/// A header that counts no attribute, followed by that many empty SOFTWARE.
 fn many(alloc: Global, count: u16) -> Result<Vec<u8>, AllocError> {
     let mut bytes = Vec::from_slice(alloc, &header(0))?;
     for _ in 0..count {

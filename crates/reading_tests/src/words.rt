@@ -79,7 +79,7 @@ impl Word {
     }
 }
 
-/// Sets the length field to what it is for a message of so many bytes, of which fewer than 256
+/// Sets the length field to what it is for a message of that many bytes, of which fewer than 256
 /// stand behind the header.
 pub(crate) fn set_length(bytes: &mut [u8], whole: usize) {
     if let Some(low) = bytes.get_mut(3) {

@@ -1,11 +1,13 @@
 //! A code and a reason as the bytes of a value, made and written (RFC 8489, section 14.8).
 
 ghost use Rattle.std.specs.Prelude.{◌≡◌, ◌+◌, ◌≤◌, ◌<◌, ◌++◌, Some, None, MatchResult, length, drop};
+ghost use Rattle.stun_rules.specs.TextValues.{text_max};
 ghost use Rattle.stun_rules.specs.ErrorValues.{error_value};
 ghost use Rattle.stun_attributes.specs.MakingErrors.{making_fault};
 
 use stun_attrs::copy_to_start;
 use stun_base::StunWriteError;
+use stun_rules::TEXT_MOST;
 
 /// Writes the value of a code and a reason at the start of `dest`, which has room for it.
 pub(crate) fn write_error(code: u16, reason: &str, dest: &mut [u8])
@@ -26,7 +28,7 @@ pub(crate) fn write_error(code: u16, reason: &str, dest: &mut [u8])
 pub(crate) fn check_making(code: u16, reason: &str) -> Result<(), StunWriteError>
     ensures { MatchResult result
         (λ _. (making_fault code reason.now ≡ None) × (300 ≤ code) × (code ≤ 699)
-        × (length reason.now ≤ 763))
+        × (length reason.now ≤ text_max))
         (λ e. making_fault code reason.now ≡ Some e) }
 {
     if !(300..=699).contains(&code) {
@@ -36,9 +38,9 @@ pub(crate) fn check_making(code: u16, reason: &str) -> Result<(), StunWriteError
             max: 699,
         });
     }
-    if reason.len() > 763 {
+    if reason.len() > TEXT_MOST as usize {
         return Err(StunWriteError::TooLarge {
-            expected: 763,
+            expected: TEXT_MOST as usize,
             actual: reason.len(),
         });
     }

@@ -32,10 +32,6 @@ pub use password_algorithm::PasswordAlgorithm;
 pub use password_algorithms::PasswordAlgorithms;
 pub use realm::Realm;
 pub use software::Software;
-pub use stun_rules::{
-    PasswordAlgorithmValue, check_algorithms, print_algorithm, print_algorithms,
-    print_algorithms_in, print_error, print_types,
-};
 pub use text::TextAttribute;
 pub use unknown_attributes::UnknownAttributes;
 pub use username::Username;

@@ -20,6 +20,5 @@ pub use encoding::{EncodeValue, copy_to_start, to_owned_raw, write_attribute, wr
 pub use owned::owned_attribute;
 pub use printed::print_malformed;
 pub use raw::RawAttribute;
-pub use stun_rules::{check_length, check_range};
 pub use typed::{ReadValue, TypedAttribute, is_read_back};
 pub use walk::attribute_at;

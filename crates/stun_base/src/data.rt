@@ -10,7 +10,7 @@ use std::boxed::BoxedSlice;
 use std::fmt;
 use stun_grammar::StunWriteError;
 
-/// Writes a name, and a value in parentheses behind it, as a derived `Debug` does.
+/// Writes a name, and a value in parentheses after it, as a derived `Debug` does.
 fn write_variant<T: fmt::Debug, W: fmt::Write>(
     f: &mut fmt::Formatter<W>,
     name: &str,

@@ -27,6 +27,9 @@ impl Model for MessageHeader {
     ghost view = { λ h. record { type = h.mtype; length = h.length; id = h.transaction_id } };
 }
 
+/// The greatest length of a message: a header, and as many bytes as its length field can state.
+pub const GREATEST_LENGTH: usize = 65555;
+
 /// Whether the first byte, if there is one, can be that of a header.
 fn first_may_begin(bytes: &[u8]) -> bool
     ensures { result ≡ list_all (λ first. nat_lt first 64) (take 1 bytes.now) }

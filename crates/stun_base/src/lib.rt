@@ -14,7 +14,7 @@ mod transport;
 
 pub use attribute_header::{AttributeHeader, pad_attribute_len};
 pub use data::{Data, DataOwned, DataSlice};
-pub use header::{MessageHeader, check_header, number_at, read_header};
+pub use header::{GREATEST_LENGTH, MessageHeader, check_header, number_at, read_header};
 pub use hex::Hex;
 pub use laws::{binding_request, one_message_type};
 pub use message_type::{BINDING, MessageClass, MessageType, Method};

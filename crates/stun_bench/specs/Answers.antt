@@ -14,13 +14,13 @@ abbrev pub first_byte : List ℕ → ℕ
 first_byte [] = 0
 first_byte (byte ∷ bytes) = byte
 
--- what was made of the attributes before, mixed with one more, in 64 bits
+-- the number that the attributes before gave, mixed with one more, in 64 bits
 abbrev pub mixed : ℕ → Shown → ℕ
 mixed sum attribute =
     (sum * 31 + attribute.offset + attribute.type * 2 ^ 20
     + length attribute.value * 2 ^ 40 + first_byte attribute.value) % 2 ^ 64
 
--- what a workload returns that can't be run
+-- what a workload returns if it can't be run
 abbrev pub none : ℕ
 none = 2 ^ 64 - 1
 
@@ -35,7 +35,7 @@ verdict_number (Err (Parse _)) = 4
 abbrev pub algorithm_of : ℕ → IntegrityAlgorithm
 algorithm_of number = if number == 2 then Sha256 else Sha1
 
--- the first four bytes, as one number, of the HMAC that an integrity attribute holds behind d
+-- the first four bytes, as one number, of the HMAC that an integrity attribute holds after d
 abbrev pub hmac_number : IntegrityAlgorithm → List ℕ → List ℕ → ℕ
 hmac_number algorithm key d =
     number (take 4 (hmac algorithm key (covered_bytes d (length d) (digest_length algorithm))))

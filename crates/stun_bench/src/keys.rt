@@ -15,7 +15,7 @@ use stun_types::message::keys::{
 };
 use stun_types::message::{Message, StunWriteError, ValidateError};
 
-/// What a workload returns that can't be run.
+/// What a workload returns if it can't be run.
 pub const NONE: u64 = u64::MAX;
 
 /// Bytes as a string, or `None` where they aren't UTF-8 or an allocation failed.
@@ -159,7 +159,7 @@ pub extern "C" fn stun_bench_validate(
     sum
 }
 
-/// The first four bytes, as one number, of the HMAC that an integrity attribute holds behind
+/// The first four bytes, as one number, of the HMAC that an integrity attribute holds after
 /// `message`.
 fn hmac_behind(message: &[u8], key: &IntegrityKey, algorithm: IntegrityAlgorithm) -> u32
     requires { 20 ≤ length message.now }
@@ -173,7 +173,7 @@ fn hmac_behind(message: &[u8], key: &IntegrityKey, algorithm: IntegrityAlgorithm
 }
 
 /// Makes the short-term key of a password, computes `rounds` times the HMAC that an integrity
-/// attribute of an algorithm holds behind a message, and returns the sum of their first four bytes,
+/// attribute of an algorithm holds after a message, and returns the sum of their first four bytes,
 /// each as one number.
 #[unsafe(no_mangle)]
 pub extern "C" fn stun_bench_hmac(

@@ -38,7 +38,7 @@ pub extern "C" fn stun_bench_parse(message: &[u8]) -> u64
     }
 }
 
-/// Mixes one more attribute into what was made of those before.
+/// Mixes one more attribute into the number that those before it gave.
 fn mix(sum: u64, offset: usize, attribute: &RawAttribute<'_>) -> u64
     ensures { result ≡ mixed sum (record {
       offset = offset;

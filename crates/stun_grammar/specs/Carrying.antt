@@ -24,8 +24,8 @@ pub record CarriesPrefix (d c key : List ℕ) (algorithm : IntegrityAlgorithm) :
   pub whole : d ≡ slice_range c 0 2 ++ (field ++ (drop 4 c
       ++ (encoding (checked c key algorithm) ++ others)))
 
--- and a MESSAGE-INTEGRITY is not followed at once by a MESSAGE-INTEGRITY-SHA256, which would be
--- checked in its place
+-- and a MESSAGE-INTEGRITY is not directly followed by a MESSAGE-INTEGRITY-SHA256, which would be
+-- checked instead
 pub record Carries (d c key : List ℕ) (algorithm : IntegrityAlgorithm) : Type 0 where
   pub carried : CarriesPrefix d c key algorithm
   pub alone : algorithm ≡ Sha1

@@ -10,11 +10,16 @@ use Rattle.stun_grammar.specs.Chains.{Shown}
 use Rattle.stun_grammar.specs.AttributeTypes.{FINGERPRINT}
 use Rattle.stun_grammar.specs.Lengths.{exact_fault}
 
+-- the length field of a message that ends with an attribute of size bytes at an offset: the low
+-- sixteen bits of what it counts
+abbrev pub ending_length_field : ℕ → ℕ → ℕ
+ending_length_field offset size = (offset + size - 20) % 2 ^ 16
+
 -- the message before an offset, with the length field of a message that ends with an attribute of
 -- size bytes there
 unfoldable pub message_before : List ℕ → ℕ → ℕ → List ℕ
 message_before d offset size =
-    slice_range d 0 2 ++ (be16 ((offset + size - 20) % 2 ^ 16) ++ slice_range d 4 offset)
+    slice_range d 0 2 ++ (be16 (ending_length_field offset size) ++ slice_range d 4 offset)
 
 -- a checksum as it is sent: XORed with a number that sets it apart from other checksums, in four
 -- bytes

@@ -4,8 +4,8 @@ use Rattle.stun_grammar.specs.declared.error.StunParseError.TheVariants.{NotStun
 use Rattle.stun_grammar.specs.declared.error.StunWriteError.{StunWriteError}
 use Rattle.stun_grammar.specs.declared.error.StunWriteError.TheVariants as Write
 
--- the error of writing that says the same; where the bytes are not what they are to be, which is no
--- matter of writing, a failed integrity
+-- the error of writing that says the same; `IntegrityFailed` where the bytes are not valid, for
+-- which writing has no error
 abbrev pub write_error : StunParseError → StunWriteError
 write_error (TooLarge expected actual) = Write.TooLarge expected actual
 write_error (Truncated expected actual) = Write.TooSmall expected actual

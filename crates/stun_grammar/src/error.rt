@@ -108,7 +108,7 @@ pub enum StunWriteError {
 /// `TooLarge` and `OutOfMemory` are kept with their fields, and `Truncated` becomes `TooSmall` with
 /// the same fields. `AttributeAfterIntegrity` becomes `MessageIntegrityExists`, and
 /// `AttributeAfterFingerprint` becomes `FingerprintExists`. The others say that the bytes are not
-/// what they are to be, and become `IntegrityFailed`.
+/// valid, and become `IntegrityFailed`.
 impl From<StunParseError> for StunWriteError {
     ghost use Rattle.std.specs.Prelude.{◌≡◌};
     ghost use Rattle.stun_grammar.specs.WriteErrors.{write_error};

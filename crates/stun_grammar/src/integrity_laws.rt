@@ -56,8 +56,8 @@ pub fn integrity_is_local()
 {}
 
 /// A message that parses validates with given covered bytes exactly if it carries those bytes and
-/// their HMAC. Only what follows the integrity attribute that was checked is free, and with it the
-/// length field, which counts it.
+/// their HMAC. Only what follows the integrity attribute that was checked, and the length field,
+/// can be changed.
 pub fn integrity_is_exact()
     ensures { (key : IntegrityAlgorithm → List ℕ) (d c : List ℕ) (a : IntegrityAlgorithm)
         → IsBytes d → parse_fault d ≡ None
@@ -65,7 +65,7 @@ pub fn integrity_is_exact()
 {}
 
 /// The same for validation with a key, of the attributes shown up to and including the one that was
-/// checked. With a key that was made for no one algorithm that is the last integrity attribute.
+/// checked. With a key that has no algorithm, that is the last integrity attribute.
 pub fn integrity_is_local_with_key()
     // type, transaction ID and the attributes shown through the one that was checked
     ensures told { (made_for : Option IntegrityAlgorithm) (key : IntegrityAlgorithm → List ℕ)

@@ -99,6 +99,7 @@ pub fn written_is_read_back()
         → parse_fault (message_encoding type id attributes) ≡ None }
     ensures shows { (type id : ℕ) (attributes : List Attribute) → IsWritable type id attributes
         → shown (message_encoding type id attributes) ≡ placed 20 attributes }
+    // the fields of the header
     ensures kind { (type id : ℕ) (attributes : List Attribute) → IsWritable type id attributes
         → type_field (message_encoding type id attributes) ≡ type }
     ensures field { (type id : ℕ) (attributes : List Attribute) → IsWritable type id attributes
@@ -118,7 +119,7 @@ pub fn encoding_grows()
         ++ (drop 4 old ++ encoding a)) }
 {}
 
-/// A FINGERPRINT that was computed over the message before it is accepted, whatever follows it.
+/// A FINGERPRINT that was computed over the message before it is right, whatever follows it.
 pub fn right_fingerprint()
     ensures { (type id : ℕ) (before behind : List Attribute)
         → has FINGERPRINT (types before) ≡ false

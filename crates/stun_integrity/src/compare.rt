@@ -6,11 +6,11 @@ ghost use Rattle.std.specs.Prelude.{◌≡◌, ◌*◌, length, nat_eq};
 use byteorder::{ByteOrder, LittleEndian};
 
 /// Whether two slices are equal, as `==` answers: first by words of four bytes, then by the bytes
-/// behind the last whole word.
+/// after the last whole word.
 ///
-/// Slices of unequal lengths are told apart at once. Otherwise nothing ends the comparison: what is
-/// behind a byte that differs is compared too. That it takes equal time is not claimed: no contract
-/// speaks of time, and the compiler is free in what it makes of this.
+/// Slices of different lengths are unequal at once. Otherwise nothing ends the comparison early:
+/// the bytes after a difference are compared too. Constant time is not claimed: no contract speaks
+/// of time, and the compiler is free in how it compiles this.
 pub fn same_bytes(left: &[u8], right: &[u8]) -> bool
     ensures { result ≡ pointwise nat_eq left.now right.now }
 {

@@ -2,10 +2,10 @@
 //! 14.7). They are passed to the digests in two pieces: the first four bytes, which have another
 //! length field, and from there on the message itself.
 
-ghost use Rattle.std.specs.Prelude.{◌≡◌, ℕ, ◌+◌, ◌-◌, ◌%◌, ◌^◌, ◌≤◌, ◌++◌, length, map, slice_range};
+ghost use Rattle.std.specs.Prelude.{◌≡◌, ℕ, ◌≤◌, ◌++◌, length, map, slice_range};
 ghost use Rattle.std.specs.List.{concat};
 ghost use Rattle.stun_grammar.specs.Numbers.{be16, padded_length};
-ghost use Rattle.stun_grammar.specs.Fingerprints.{message_before, fingerprint_value};
+ghost use Rattle.stun_grammar.specs.Fingerprints.{ending_length_field, message_before, fingerprint_value};
 ghost use Rattle.stun_grammar.specs.Hmac.{hmac};
 ghost use Rattle.stun_grammar.specs.Verdicts.{covered_bytes};
 ghost use Rattle.stun_keys.specs.Keys.{key_bytes};
@@ -23,7 +23,7 @@ fn beginning(bytes: &[u8], offset: usize, size: usize) -> [u8; 4]
     requires header { 20 ≤ offset }
     requires within { offset ≤ length bytes.now }
     requires short { size ≤ 65540 }
-    ensures { result ≡ slice_range bytes.now 0 2 ++ be16 ((offset + size - 20) % 2 ^ 16) }
+    ensures { result ≡ slice_range bytes.now 0 2 ++ be16 (ending_length_field offset size) }
 {
     let counted = (offset + size - 20) % 65536;
     let [high, low] = (counted as u16).to_be_bytes();
@@ -35,7 +35,7 @@ fn pieces_before<'a>(bytes: &'a [u8], offset: usize, beginning: &'a [u8; 4]) -> 
     requires header { 20 ≤ offset }
     requires within { offset ≤ length bytes.now }
     ensures { (size : ℕ)
-        → beginning.now ≡ slice_range bytes.now 0 2 ++ be16 ((offset + size - 20) % 2 ^ 16)
+        → beginning.now ≡ slice_range bytes.now 0 2 ++ be16 (ending_length_field offset size)
         → concat (map (λ piece. piece.now) result) ≡ message_before bytes.now offset size }
 {
     [beginning, &bytes[4..offset]]

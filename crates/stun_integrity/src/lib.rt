@@ -1,7 +1,6 @@
 //! The attributes that protect a message: MESSAGE-INTEGRITY, MESSAGE-INTEGRITY-SHA256 and
 //! FINGERPRINT; and USERHASH. The rules of integrity are here, each in one place: which bytes of a
-//! message an HMAC covers, how long the value of an integrity attribute may be, and what a
-//! FINGERPRINT holds. Reading, validation and writing use them.
+//! message an HMAC covers, and what a FINGERPRINT holds. Reading, validation and writing use them.
 #![tactic(auto)]
 
 mod compare;
@@ -21,5 +20,4 @@ pub use laws::{
 };
 pub use message_integrity::MessageIntegrity;
 pub use message_integrity_sha256::MessageIntegritySha256;
-pub use stun_rules::{check_hmac_length, hmac_length, print_hex};
 pub use userhash::Userhash;

@@ -3,8 +3,8 @@ use std::alloc::Global;
 use std::fmt;
 use stun_attrs::{Attribute, EncodeValue, ReadValue, TypedAttribute, copy_to_start};
 use stun_base::{StunParseError, StunWriteError};
-use stun_grammar::attribute_types;
-use stun_keys::keys::{IntegrityAlgorithm, IntegrityKey};
+use stun_grammar::{IntegrityAlgorithm, attribute_types};
+use stun_keys::keys::IntegrityKey;
 use stun_rules::{check_sha1_length, print_hex};
 
 /// MESSAGE-INTEGRITY: the HMAC-SHA1 of the message before it, 20 bytes (RFC 8489, section 14.5).
@@ -46,10 +46,10 @@ impl MessageIntegrity {
     }
 
     /// Whether `expected` is the HMAC-SHA1 of the pieces, joined, under a key that was made for
-    /// `Sha1` or for no one algorithm. With a key that was made for `Sha256` the result is `false`.
+    /// `Sha1` or has no algorithm. With a key that was made for `Sha256` the result is `false`.
     ///
-    /// It takes no memory. All 20 bytes are compared, also behind one that differs; that this takes
-    /// equal time is not claimed.
+    /// It takes no memory. All 20 bytes are compared, even after a difference; constant time is not
+    /// claimed.
     pub fn verify(pieces: &[&[u8]], key: &IntegrityKey, expected: &[u8; 20]) -> bool
         ensures { IsTrue result
             ↔ (serves (key_algorithm key.now) IntegrityAlgorithm.Sha1 ≡ true)

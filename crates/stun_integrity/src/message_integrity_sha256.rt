@@ -5,8 +5,8 @@ use std::alloc::{AllocError, Global};
 use std::fmt;
 use stun_attrs::{Attribute, EncodeValue, ReadValue, TypedAttribute, copy_to_start};
 use stun_base::{StunParseError, StunWriteError};
-use stun_grammar::attribute_types;
-use stun_keys::keys::{IntegrityAlgorithm, IntegrityKey};
+use stun_grammar::{IntegrityAlgorithm, attribute_types};
+use stun_keys::keys::IntegrityKey;
 use stun_rules::{check_sha256_length, print_hex};
 
 /// Whether the bytes are a nonempty prefix of an HMAC.
@@ -89,13 +89,12 @@ impl MessageIntegritySha256 {
     }
 
     /// Whether `expected` is the HMAC-SHA256 of the pieces, joined, or a nonempty prefix of it,
-    /// under a key that was made for `Sha256` or for no one algorithm. With a key that was made for
+    /// under a key that was made for `Sha256` or has no algorithm. With a key that was made for
     /// `Sha1` the result is `false`.
     ///
-    /// A prefix of any length is accepted, a single byte too: the lengths that the attribute may
-    /// have are tested by [`MessageIntegritySha256::new`] and by reading. It takes no memory. All
-    /// bytes of the prefix are compared, also behind one that differs; that this takes equal time
-    /// is not claimed.
+    /// A prefix of any length will do, even a single byte: the lengths that the attribute may have
+    /// are tested by [`MessageIntegritySha256::new`] and by reading. It takes no memory. All bytes
+    /// of the prefix are compared, even after a difference; constant time is not claimed.
     pub fn verify(pieces: &[&[u8]], key: &IntegrityKey, expected: &[u8]) -> bool
         ensures { IsTrue result
             ↔ (serves (key_algorithm key.now) IntegrityAlgorithm.Sha256 ≡ true)

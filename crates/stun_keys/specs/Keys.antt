@@ -60,14 +60,14 @@ key_bytes key = boxed_slice_items key.bytes
 abbrev pub key_algorithm : IntegrityKey → Option IntegrityAlgorithm
 key_algorithm key = key.algorithm
 
--- a key that was made for this algorithm, or for none, with these bytes
+-- a key that was made for this algorithm, or with none, with these bytes
 pub record IsKey (algorithm : Option IntegrityAlgorithm) (bytes : List ℕ)
     (key : IntegrityKey) : Type 0 where
   pub algorithm_is : key_algorithm key ≡ algorithm
   pub bytes_are : key_bytes key ≡ bytes
 
--- whether a key that was made for one algorithm serves another: a key that was made for none serves
--- both
+-- whether a key that was made for one algorithm works with another: a key with no algorithm works
+-- with both
 abbrev pub serves : Option IntegrityAlgorithm → IntegrityAlgorithm → Bool
 serves None algorithm = true
 serves (Some Sha1) Sha1 = true
@@ -91,7 +91,7 @@ credentials_key (LongTerm credentials) algorithm =
     long_term_key algorithm (long_term_username credentials) (long_term_realm credentials)
     (long_term_password credentials)
 
--- the algorithm that this key is made for: a short-term key is made for none
+-- the algorithm that this key is made for: a short-term key has none
 abbrev pub credentials_algorithm : MessageIntegrityCredentials → IntegrityAlgorithm
     → Option IntegrityAlgorithm
 credentials_algorithm (ShortTerm credentials) algorithm = None

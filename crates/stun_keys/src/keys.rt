@@ -17,4 +17,3 @@ pub use integrity_key::IntegrityKey;
 pub use long_term::LongTermCredentials;
 pub use long_term_key::LongTermKeyCredentials;
 pub use short_term::ShortTermCredentials;
-pub use stun_grammar::IntegrityAlgorithm;

@@ -5,7 +5,7 @@ use Rattle.stun_grammar.specs.Chains.{Shown}
 use Rattle.stun_grammar.specs.Verdicts.{algorithm_of, is_wanted, last_shown, hmac_fault}
 use Rattle.stun_read.specs.declared.kept.Kept.{Kept}
 
--- an attribute that was read at the offset that was kept of it, as one that is shown
+-- an attribute that was read at the offset that was kept for it, as one that is shown
 abbrev pub shown_kept : Kept → Shown
 shown_kept kept = record { offset = kept.offset; type = kept.atype; value = kept.value.now }
 

@@ -7,10 +7,11 @@ ghost use Rattle.stun_attrs.specs.Raw.{raw_type, raw_value};
 
 use crate::endings::type_number;
 use byteorder::{BigEndian, ByteOrder};
-use stun_attrs::{RawAttribute, check_length};
+use stun_attrs::RawAttribute;
 use stun_base::StunParseError;
 use stun_grammar::attribute_types::FINGERPRINT;
 use stun_integrity::fingerprint_at;
+use stun_rules::check_length;
 
 /// Checks the value of a FINGERPRINT whose header is at `offset`: it has four bytes, and they are
 /// right for the message before it.

@@ -7,7 +7,7 @@ ghost use Rattle.stun_grammar.specs.Showing.{frame_fault};
 use stun_base::{MessageHeader, StunParseError, check_header, number_at};
 use stun_rules::check_length;
 
-/// How many bytes a message has, as the header that it begins with states.
+/// The length of a message, as its header states it.
 fn stated_length(bytes: &[u8]) -> usize
     requires { 20 ≤ length bytes.now }
     ensures { result ≡ 20 + length_field bytes.now }
@@ -27,13 +27,13 @@ pub(crate) fn check_frame(bytes: &[u8]) -> Result<(), StunParseError>
     check_length(bytes, stated_length(bytes))
 }
 
-/// How many bytes the message has that `prefix` begins with: its header, and as many as that
-/// states, 20 to 65555 in all. `None` where fewer than twenty bytes are there, with which a header
-/// may begin. It takes no memory, and looks at the first twenty bytes alone.
+/// The length of the message whose first bytes are `prefix`: its header, and as many bytes as that
+/// states, 20 to 65555 in all. `None` where there are fewer than twenty bytes, and a header may
+/// begin with them. It takes no memory, and looks at the first twenty bytes alone.
 ///
-/// A message is read from exactly so many bytes. Where a buffer may hold more of them, as one that
-/// collects the bytes of a stream does (RFC 8489, section 6.2.2), or one that is longer than the
-/// datagram in it, cut it to this length first: bytes of this length are never refused for it.
+/// A message is read from exactly that many bytes. Where a buffer may hold more, as one that
+/// collects the bytes of a stream (RFC 8489, section 6.2.2) or one that is longer than the datagram
+/// in it, cut it to this length first: bytes of this length are never refused for their length.
 ///
 /// ```
 /// let Some(length) = message_length(buffer)? else {

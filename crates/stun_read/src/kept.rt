@@ -1,4 +1,4 @@
-//! Reading an integrity attribute at the offset that was kept of it.
+//! Reading an integrity attribute at the offset that was kept for it.
 
 ghost use Rattle.std.specs.Prelude.{◌≡◌, ◌≤◌, true, Some, length, is_some, IfSome};
 ghost use Rattle.stun_grammar.specs.Chains.{first_attribute};
@@ -21,7 +21,7 @@ pub(crate) struct Kept<'a> {
 }
 
 /// The value of the attribute that `bytes` begin with. What follows it isn't read, and of its
-/// header the length alone.
+/// header only the length is.
 fn first_value(bytes: &[u8]) -> &[u8]
     requires { is_some (first_attribute bytes.now) ≡ true }
     ensures value { IfSome (first_attribute bytes.now) (λ a. result.now ≡ a.value) }

@@ -13,8 +13,8 @@ ghost use Rattle.stun_grammar.specs.Verdicts.{is_wanted, last_shown};
 ghost use Rattle.stun_grammar.specs.Writing.{message_encoding, IsWritable};
 ghost use Rattle.stun_read.specs.LookingUp.{nth};
 
-/// Where attributes are shown, each of them is found behind as many others of its type as stand
-/// before it, with its value and the offset of its header.
+/// If k attributes of the same type are shown before an attribute that is shown, `nth d type k` is
+/// it, with its value and the offset of its header.
 pub fn shown_is_found()
     ensures found { (d : List ℕ) (before behind : List Attribute) (a : Attribute)
         → shown d ≡ placed 20 (before ++ a ∷ behind)

@@ -14,7 +14,7 @@ use stun_attrs::attribute_at;
 use stun_base::{MessageHeader, StunParseError};
 use stun_grammar::attribute_types::is_ending;
 
-/// Checks the attributes of a message from `start` on, behind ordinary ones: ending types, each at
+/// Checks the attributes of a message from `start` on, after ordinary ones: ending types, each at
 /// most once, and a FINGERPRINT that is right. Returns the offsets of the integrity attributes that
 /// are shown.
 #[inline(never)]

@@ -6,6 +6,7 @@ use Rattle.std.specs.declared.net.socket_addr.SocketAddr.{SocketAddr}
 use Rattle.stun_grammar.specs.declared.attribute_type.AttributeType.{AttributeType}
 use Rattle.stun_grammar.specs.Numbers.{be16}
 use Rattle.stun_grammar.specs.Headers.{magic_cookie, type_field, id_field}
+use Rattle.stun_grammar.specs.Names.{BINDING}
 use Rattle.stun_grammar.specs.AttributeTypes.{XOR_MAPPED_ADDRESS, FINGERPRINT}
 use Rattle.stun_grammar.specs.Attributes.{Attribute, canonical}
 use Rattle.stun_grammar.specs.Fingerprints.{fingerprint_value}
@@ -56,10 +57,6 @@ binding_reply source r =
     option_map_or (response ErrorClass r) (check_reply comprehended [] r)
     (response Success r (success_reply source r))
 
--- the method of binding requests
-abbrev pub BINDING : ℕ
-BINDING = 0x001
-
 -- the reply to a request: 400 where it has another method
 abbrev pub unfinished_reply : SocketAddr → List ℕ → List ℕ
 unfinished_reply source r =
@@ -70,7 +67,7 @@ unfinished_reply source r =
 abbrev pub request_reply : SocketAddr → List ℕ → List ℕ
 request_reply source r = finished r (unfinished_reply source r)
 
--- what has the class of a request is replied to
+-- only a message of the class of a request gets a reply
 abbrev pub reply_by_class : MessageClass → SocketAddr → List ℕ → Option (List ℕ)
 reply_by_class Request source r = Some (request_reply source r)
 reply_by_class _ source r = None

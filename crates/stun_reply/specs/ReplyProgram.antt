@@ -34,7 +34,7 @@ pub record IsSource (address port : List ℕ) (source : SocketAddr) : Type 0 whe
   pub number : IsPortNumber port (socket_port source)
   pub plain : IsPlain source
 
--- the arguments behind the program's name are the address and the port that the datagram came from
+-- the arguments after the program's name are the address and the port that the datagram came from
 abbrev pub Gives : List (List ℕ) → SocketAddr → Type 0
 Gives (name ∷ address ∷ port ∷ []) source = IsSource address port source
 Gives _ source = ⊥
@@ -56,7 +56,7 @@ exit_status Replied = 0
 exit_status NoReply = 1
 exit_status _ = 2
 
--- the line on standard error: of an end that is a failure, but for a failed write
+-- the line on standard error: for each failure, except a failed write
 abbrev pub last_line : RunEnd → List ℕ
 last_line Usage = codes "usage: stun_reply ADDRESS PORT" ++ 10 ∷ []
 last_line TooLong = codes "input too long" ++ 10 ∷ []

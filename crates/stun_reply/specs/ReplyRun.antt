@@ -43,7 +43,7 @@ Ends source ReadFailed left left' held held' = Keeps held held'
 Ends source NoMemory left left' held held' = Keeps held held'
 Ends source Usage left left' held held' = ⊥
 
--- how a run ends that couldn't read its input
+-- how the run ends when reading fails
 abbrev pub end_of_input : InputError → RunEnd
 end_of_input Input.TooLong = TooLong
 end_of_input Input.ReadFailed = ReadFailed

@@ -7,6 +7,7 @@ use crate::reply::reply;
 use std::alloc::Global;
 use std::io::{Read, Write};
 use std::net::SocketAddr;
+use stun_base::GREATEST_LENGTH;
 use stun_streams::{InputError, read_all, write_all};
 
 /// How a run ends.
@@ -28,10 +29,7 @@ pub enum RunEnd {
     NoMemory,
 }
 
-/// The most bytes that are read: as many as a message may have.
-const LONGEST_INPUT: usize = 65_555;
-
-/// How a run ends that couldn't read its input.
+/// How the run ends when reading fails.
 fn end_without_input(e: InputError) -> RunEnd
     ensures { result ≡ end_of_input e }
 {
@@ -63,7 +61,7 @@ pub fn run<R: Read, W: Write>(
         (R.remaining reader.old) (R.remaining reader.new)
         (W.contents writer.old) (W.contents writer.new) }
 {
-    let input = match read_all(alloc, LONGEST_INPUT, reader) {
+    let input = match read_all(alloc, GREATEST_LENGTH, reader) {
         Ok(input) => input,
         Err(e) => return end_without_input(e),
     };

@@ -33,7 +33,7 @@ fn source_in(address: &str, port: &str) -> Option<SocketAddr>
     Some(SocketAddr::new(ip, port))
 }
 
-/// The address that the datagram came from: the IP address and the port behind the program's name.
+/// The address that the datagram came from: the IP address and the port after the program's name.
 /// Without them, or with more arguments, the usage is wrong.
 fn source_of(arguments: Args) -> Result<SocketAddr, RunEnd>
     ensures { MatchResult result
@@ -76,7 +76,7 @@ pub fn run_on<R: Read, W: Write>(
     }
 }
 
-/// How the program ends whose arguments couldn't be read, by the kind of that error.
+/// How the program ends when its arguments can't be read, by the kind of the error.
 pub fn end_without_arguments(kind: ErrorKind) -> RunEnd
     ensures memory { kind ≡ ErrorKind.OutOfMemory → result ≡ RunEnd.NoMemory }
     ensures other { kind ≢ ErrorKind.OutOfMemory → result ≡ RunEnd.Usage }

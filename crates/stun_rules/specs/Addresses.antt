@@ -29,7 +29,7 @@ octets (V6 ip) = ipv6_octets ip
 abbrev pub address_value : SocketAddr → List ℕ
 address_value a = 0 ∷ family (socket_ip a) ∷ (be16 (socket_port a) ++ octets (socket_ip a))
 
--- no flow info and no scope ID, for which a value has no place
+-- flow info and scope ID are 0: the wire format has no field for them
 pub record IsPlain (a : SocketAddr) : Type 0 where
   pub flowinfo : socket_flowinfo a ≡ 0
   pub scope_id : socket_scope_id a ≡ 0

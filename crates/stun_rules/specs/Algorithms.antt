@@ -47,7 +47,7 @@ entries_fault n otherwise =
 abbrev pub one_algorithm_fault : List ℕ → Option StunParseError
 one_algorithm_fault value = entries_fault (length value) (algorithm_fault value)
 
--- the first fault among so many entries
+-- the first fault among that many entries
 unfoldable pub fault_within : ℕ → List ℕ → Option StunParseError
 fault_within zero value = None
 fault_within (suc more) value = option_or (algorithm_fault value) (fault_within more (drop 4 value))
@@ -64,7 +64,7 @@ algorithms_encoding = flat_map algorithm_encoding
 abbrev pub algorithm_at : List ℕ → PasswordAlgorithmValue
 algorithm_at value = if number (slice_range value 0 2) == 1 then MD5 else SHA256
 
--- the algorithms in so many entries, and in a whole value
+-- the algorithms in that many entries, and in a whole value
 abbrev pub algorithms_within : ℕ → List ℕ → List PasswordAlgorithmValue
 algorithms_within zero value = []
 algorithms_within (suc more) value = algorithm_at value ∷ algorithms_within more (drop 4 value)

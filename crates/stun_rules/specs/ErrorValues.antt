@@ -8,6 +8,7 @@ use Rattle.stun_grammar.specs.declared.error.StunParseError.TheVariants.{Invalid
 use Rattle.stun_grammar.specs.AttributeTypes.{ERROR_CODE}
 use Rattle.stun_grammar.specs.Names.{plain_text}
 use Rattle.stun_grammar.specs.Lengths.{range_fault}
+use Rattle.stun_rules.specs.TextValues.{text_max}
 
 -- two zeros, the class of the code (its hundreds) and its number (the rest) in a byte each, and the
 -- reason
@@ -30,7 +31,7 @@ tells_code value =
 -- why a value isn't a code and a reason
 abbrev pub error_fault : List ℕ → Option StunParseError
 error_fault value =
-    option_or (range_fault 4 767 (length value))
+    option_or (range_fault 4 (4 + text_max) (length value))
     (if tells_code value && is_utf8 (drop 4 value) then None else Some InvalidAttributeData)
 
 -- how a code and a reason are printed: the reason stands in quotation marks

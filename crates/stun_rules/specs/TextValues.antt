@@ -6,7 +6,15 @@ use Rattle.stun_grammar.specs.declared.error.StunParseError.{StunParseError}
 use Rattle.stun_grammar.specs.declared.error.StunParseError.TheVariants.{InvalidAttributeData}
 use Rattle.stun_grammar.specs.Lengths.{range_fault}
 
--- why a value isn't a text of at most so many bytes: the length is tested first, and then that it
+-- the most bytes of a USERNAME
+abbrev pub username_max : ℕ
+username_max = 513
+
+-- the most bytes of a REALM, a NONCE, a SOFTWARE, and the reason of an ERROR-CODE: 127 characters
+abbrev pub text_max : ℕ
+text_max = 763
+
+-- why a value isn't a text of at most that many bytes: the length is tested first, and then that it
 -- is UTF-8
 abbrev pub text_fault : ℕ → List ℕ → Option StunParseError
 text_fault most value =

@@ -15,25 +15,25 @@ use Rattle.stun_rules.specs.Addresses.{address_fault, address_in, xored_text}
 use Rattle.stun_rules.specs.Algorithms.{one_algorithm_fault, algorithms_fault, algorithm_at, algorithms_in, algorithm_text, algorithms_text}
 use Rattle.stun_rules.specs.FingerprintValues.{masked_bytes}
 use Rattle.stun_rules.specs.ErrorValues.{error_fault, told_code, error_text}
-use Rattle.stun_rules.specs.TextValues.{text_fault}
+use Rattle.stun_rules.specs.TextValues.{username_max, text_max, text_fault}
 use Rattle.stun_rules.specs.TypeLists.{types_fault}
 
 -- the rule of a type
 unfoldable pub rule_of : ℕ → Option Rule
 rule_of type =
-    if type == USERNAME then Some (Is.Quoted 513) else (
+    if type == USERNAME then Some (Is.Quoted username_max) else (
     if type == MESSAGE_INTEGRITY then Some (Is.Hmac Sha1) else (
     if type == ERROR_CODE then Some Is.ErrorCode else (
     if type == UNKNOWN_ATTRIBUTES then Some Is.Types else (
-    if type == REALM then Some (Is.Plain 763) else (
-    if type == NONCE then Some (Is.Plain 763) else (
+    if type == REALM then Some (Is.Plain text_max) else (
+    if type == NONCE then Some (Is.Plain text_max) else (
     if type == MESSAGE_INTEGRITY_SHA256 then Some (Is.Hmac Sha256) else (
     if type == PASSWORD_ALGORITHM then Some Is.Algorithm else (
     if type == USERHASH then Some Is.Hash else (
     if type == XOR_MAPPED_ADDRESS then Some Is.XorAddress else (
     if type == PASSWORD_ALGORITHMS then Some Is.Algorithms else (
     if type == ALTERNATE_DOMAIN then Some (Is.Plain 65535) else (
-    if type == SOFTWARE then Some (Is.Quoted 763) else (
+    if type == SOFTWARE then Some (Is.Quoted text_max) else (
     if type == ALTERNATE_SERVER then Some Is.Address else (
     if type == FINGERPRINT then Some Is.Checksum else None))))))))))))))
 
@@ -55,7 +55,7 @@ rule_fault Is.Types value = types_fault value
 rule_fault Is.Address value = address_fault value
 rule_fault Is.XorAddress value = address_fault value
 
--- how a value that is what a rule asks for is printed, behind its type; the text of a list of types
+-- how a value that is what a rule asks for is printed, after its type; the text of a list of types
 -- is not stated
 abbrev pub rule_text : Rule → ℕ → List ℕ → Option (List ℕ)
 rule_text (Is.Plain most) type value = Some (plain_text type value)
@@ -74,6 +74,6 @@ rule_text Is.XorAddress type value = Some (plain_text type (xored_text (address_
 abbrev pub value_fault : ℕ → List ℕ → Option (Option StunParseError)
 value_fault type value = option_map (λ rule. rule_fault rule value) (rule_of type)
 
--- how a value of a type that is accepted is printed
+-- how a value of a type is printed where reading accepts it
 abbrev pub value_text : ℕ → List ℕ → Option (List ℕ)
 value_text type value = option_map_or (λ rule. rule_text rule type value) (rule_of type) None

@@ -212,7 +212,7 @@ pub fn check_algorithms(value: &[u8]) -> Result<(), StunParseError>
     check_each(value)
 }
 
-/// Prints a PASSWORD-ALGORITHM of this algorithm: the type, and behind it the algorithm. It takes
+/// Prints a PASSWORD-ALGORITHM of this algorithm: the type, and after it the algorithm. It takes
 /// no memory.
 ///
 /// # Errors
@@ -228,7 +228,7 @@ pub fn print_algorithm<W: fmt::Write>(
     write!(f, "{atype}: {algorithm}")
 }
 
-/// Prints a PASSWORD-ALGORITHMS of these algorithms: the type, and behind it the algorithms in
+/// Prints a PASSWORD-ALGORITHMS of these algorithms: the type, and after it the algorithms in
 /// brackets, with a comma and a space between them. It takes no memory.
 ///
 /// # Errors
@@ -246,7 +246,7 @@ pub fn print_algorithms<W: fmt::Write>(
     write!(f, "]")
 }
 
-/// Prints the same of the value of a PASSWORD-ALGORITHMS that [`check_algorithms`] accepts. It
+/// Prints in the same way the value of a PASSWORD-ALGORITHMS that [`check_algorithms`] accepts. It
 /// takes no memory.
 ///
 /// # Errors

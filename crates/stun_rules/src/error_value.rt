@@ -2,9 +2,10 @@
 
 ghost use Rattle.std.specs.Prelude.{◌≡◌, ◌≤◌, true, false, Some, None, MatchOption, MatchResult, length, drop};
 ghost use Rattle.std.specs.Fmt.{WritesOnOk};
+ghost use Rattle.stun_rules.specs.TextValues.{text_max};
 ghost use Rattle.stun_rules.specs.ErrorValues.{told_code, tells_code, error_fault, error_text};
 
-use crate::check_range;
+use crate::{TEXT_MOST, check_range};
 use std::fmt;
 use stun_base::{AttributeType, StunParseError};
 use stun_grammar::attribute_types;
@@ -41,10 +42,10 @@ pub fn read_error(value: &[u8]) -> Result<(u16, &str), StunParseError>
     ensures { MatchResult result
         (λ told. (error_fault value.now ≡ None) × (told.0 ≡ told_code value.now)
         × (told.1.now ≡ drop 4 value.now) × (300 ≤ told.0) × (told.0 ≤ 699)
-        × (length told.1.now ≤ 763))
+        × (length told.1.now ≤ text_max))
         (λ e. error_fault value.now ≡ Some e) }
 {
-    check_range(value.len(), 4, 767)?;
+    check_range(value.len(), 4, 4 + TEXT_MOST as usize)?;
     let Some(code) = read_code(value) else {
         return Err(StunParseError::InvalidAttributeData);
     };
@@ -55,7 +56,7 @@ pub fn read_error(value: &[u8]) -> Result<(u16, &str), StunParseError>
     }
 }
 
-/// Prints an ERROR-CODE of this code and this reason: the type, and behind it the code in decimal
+/// Prints an ERROR-CODE of this code and this reason: the type, and after it the code in decimal
 /// and the reason between `'` and `'`, as it is. It takes no memory.
 ///
 /// # Errors

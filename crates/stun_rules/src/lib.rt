@@ -29,8 +29,8 @@ pub use lengths::{
 };
 pub use printed::{print_address, print_hex, print_plain, print_quoted, print_xored};
 pub use rule::{
-    ALTERNATE_DOMAIN_MOST, NONCE_MOST, REALM_MOST, Rule, SOFTWARE_MOST, USERNAME_MOST, is_typed,
-    rule_of,
+    ALTERNATE_DOMAIN_MOST, NONCE_MOST, REALM_MOST, Rule, SOFTWARE_MOST, TEXT_MOST, USERNAME_MOST,
+    is_typed, rule_of,
 };
 pub use socket_value::{address_length, read_address, write_address};
 pub use text::read_text;

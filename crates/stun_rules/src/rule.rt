@@ -9,14 +9,18 @@ use stun_grammar::{IntegrityAlgorithm, attribute_types};
 /// The most bytes of a USERNAME (RFC 8489, section 14.3).
 pub const USERNAME_MOST: u16 = 513;
 
+/// The most bytes of a REALM, a NONCE, a SOFTWARE, and the reason of an ERROR-CODE: those of 127
+/// characters.
+pub const TEXT_MOST: u16 = 763;
+
 /// The most bytes of a REALM (RFC 8489, section 14.9).
-pub const REALM_MOST: u16 = 763;
+pub const REALM_MOST: u16 = TEXT_MOST;
 
 /// The most bytes of a NONCE (RFC 8489, section 14.10).
-pub const NONCE_MOST: u16 = 763;
+pub const NONCE_MOST: u16 = TEXT_MOST;
 
 /// The most bytes of a SOFTWARE (RFC 8489, section 14.14).
-pub const SOFTWARE_MOST: u16 = 763;
+pub const SOFTWARE_MOST: u16 = TEXT_MOST;
 
 /// The most bytes of an ALTERNATE-DOMAIN: as many as a value may have.
 pub const ALTERNATE_DOMAIN_MOST: u16 = 65535;
@@ -24,9 +28,9 @@ pub const ALTERNATE_DOMAIN_MOST: u16 = 65535;
 /// What the value of a typed attribute has to be.
 #[derive(Clone, Copy, Debug, PartialEq, Eq)]
 pub enum Rule {
-    /// A text of at most so many bytes, which is printed as it is.
+    /// A text of at most that many bytes, which is printed as it is.
     Plain(u16),
-    /// A text of at most so many bytes, which is printed in quotation marks.
+    /// A text of at most that many bytes, which is printed in quotation marks.
     Quoted(u16),
     /// A code and a reason.
     ErrorCode,

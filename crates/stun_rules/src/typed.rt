@@ -1,4 +1,4 @@
-//! Values as what they are read as, and printed.
+//! What values are read as, and how they are printed.
 
 ghost use Rattle.std.specs.Prelude.{◌≡◌, ℕ, Some, None, MatchOption, MatchResult};
 ghost use Rattle.std.specs.Fmt.{DisplaysOnOk};
@@ -85,7 +85,7 @@ impl Rule {
 ///
 /// # Errors
 ///
-/// Those of reading the typed attribute, but for another type and want of memory.
+/// Those of reading the typed attribute, except `WrongAttributeImplementation` and `OutOfMemory`.
 pub fn read_value<'a>(
     atype: AttributeType,
     value: &'a [u8],

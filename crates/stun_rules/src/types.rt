@@ -28,7 +28,7 @@ pub fn check_types(value: &[u8]) -> Result<(), StunParseError>
     Ok(())
 }
 
-/// Prints an UNKNOWN-ATTRIBUTES of these types: its own type, and behind it the list of types as
+/// Prints an UNKNOWN-ATTRIBUTES of these types: its own type, and after it the list of types as
 /// `{:?}` prints it. It takes no memory.
 ///
 /// # Errors
@@ -54,8 +54,8 @@ pub fn print_types<W: fmt::Write, I: Iterator<Item = AttributeType>>(
     write!(f, "]")
 }
 
-/// Prints the same of the value of an UNKNOWN-ATTRIBUTES that [`check_types`] accepts. It takes no
-/// memory.
+/// Prints in the same way the value of an UNKNOWN-ATTRIBUTES that [`check_types`] accepts. It takes
+/// no memory.
 ///
 /// # Errors
 ///

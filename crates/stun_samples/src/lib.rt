@@ -73,7 +73,7 @@ pub fn long_term(alloc: Global) -> Result<MessageIntegrityCredentials, AllocErro
     Ok(MessageIntegrityCredentials::from(LongTermKeyCredentials::new(username, password, realm)))
 }
 
-/// A text of so many letters.
+/// A text of that many letters.
 pub fn letters(alloc: Global, count: usize) -> Result<String, AllocError> {
     let mut text = String::new(alloc);
     for _ in 0..count {

@@ -79,16 +79,16 @@ report d password =
     option_map_or refusal_line (parse_fault d)
     (header_line (header_of d) ++ flat_map attribute_line (shown d) ++ integrity_lines d password)
 
--- how a run ends that has shown a message with this verdict
+-- how the run ends once a message with this verdict was shown
 abbrev pub end_of_verdict : Result IntegrityAlgorithm ValidateError → RunEnd
 end_of_verdict (Ok algorithm) = EndsShown
 end_of_verdict (Err e) = EndsRefused
 
--- how a run ends that has shown a message: with a password, by its verdict
+-- how the run ends once a message was shown: with a password, by its verdict
 abbrev pub end_of_message : List ℕ → Option (List ℕ) → RunEnd
 end_of_message d password =
     option_map_or (λ key. end_of_verdict (password_verdict d key)) password EndsShown
 
--- how a run ends that has written the report of d
+-- how the run ends once the report of d was written
 unfoldable pub end_of : List ℕ → Option (List ℕ) → RunEnd
 end_of d password = if is_some (parse_fault d) then EndsRefused else end_of_message d password

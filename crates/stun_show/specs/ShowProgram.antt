@@ -5,8 +5,8 @@ use Rattle.stun_show.specs.declared.engine.RunEnd.TheVariants.{Shown, Refused, U
 use Rattle.stun_show.specs.Report.{line_feed}
 use Rattle.stun_show.specs.ShowRun.{Ends}
 
--- the password that the arguments give: the one behind the program's name, if there is one. More
--- than one are wrong usage
+-- the password that the arguments give: the one after the program's name, if there is one. More
+-- than one is wrong usage
 abbrev pub given_password : List (List ℕ) → Result (Option (List ℕ)) RunEnd
 given_password [] = Ok None
 given_password (name ∷ []) = Ok None
@@ -28,7 +28,7 @@ exit_status Shown = 0
 exit_status Refused = 1
 exit_status _ = 2
 
--- the line that is printed last: of an end without a report, but for a failed write
+-- the line that is printed last: for each end without a report, except a failed write
 abbrev pub last_line : RunEnd → List ℕ
 last_line Usage = codes "usage: stun_show [password]" ++ line_feed
 last_line TooLong = codes "input too long" ++ line_feed

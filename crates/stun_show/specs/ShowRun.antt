@@ -39,7 +39,7 @@ Ends password ReadFailed left left' held held' = Keeps held held'
 Ends password NoMemory left left' held held' = Keeps held held'
 Ends password Usage left left' held held' = ⊥
 
--- how a run ends that couldn't read its input
+-- how the run ends when reading fails
 abbrev pub end_of_input : InputError → RunEnd
 end_of_input Input.TooLong = TooLong
 end_of_input Input.ReadFailed = ReadFailed

@@ -32,7 +32,7 @@ pub enum RunEnd {
 /// The most bytes that are read: 128 KiB.
 const LONGEST_INPUT: usize = 131_072;
 
-/// How a run ends that couldn't read its input.
+/// How the run ends when reading fails.
 fn end_without_input(e: InputError) -> RunEnd
     ensures { result ≡ end_of_input e }
 {

@@ -11,7 +11,7 @@ use std::alloc::Global;
 use std::env::Args;
 use std::io::{ErrorKind, Read, Write};
 
-/// The password that the arguments give: the one behind the program's name, if there is one. With
+/// The password that the arguments give: the one after the program's name, if there is one. With
 /// more than one the usage is wrong.
 #[tactic(auto, using(crate::proofs::ShowProgramLemmas::none_left))]
 fn password_of(arguments: Args) -> Result<Option<String>, RunEnd>
@@ -51,7 +51,7 @@ pub fn run_on<R: Read, W: Write>(
     }
 }
 
-/// How the program ends whose arguments couldn't be read, by the kind of that error.
+/// How the program ends when its arguments can't be read, by the kind of the error.
 pub fn end_without_arguments(kind: ErrorKind) -> RunEnd
     ensures memory { kind ≡ ErrorKind.OutOfMemory → result ≡ RunEnd.NoMemory }
     ensures other { kind ≢ ErrorKind.OutOfMemory → result ≡ RunEnd.Usage }

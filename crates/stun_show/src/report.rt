@@ -128,7 +128,7 @@ fn line_of(answer: Result<IntegrityAlgorithm, ValidateError>) -> &'static str
     }
 }
 
-/// How a run ends that has shown a message with this result.
+/// How the run ends once a message with this result was shown.
 fn end_with(answer: Result<IntegrityAlgorithm, ValidateError>) -> RunEnd
     ensures { result ≡ end_of_verdict answer }
 {
@@ -159,7 +159,7 @@ fn write_integrity(
     Ok(end_with(answer))
 }
 
-/// The report of bytes, and how a run ends that has written it; the error says that an allocation
+/// The report of bytes, and how the run ends once it is written; the error says that an allocation
 /// failed.
 pub fn report(
     alloc: Global,

@@ -73,7 +73,7 @@ is_unknown supported type = nat_lt type.0 0x8000 && not (has type.0 (numbers sup
 abbrev pub unknown_types : List AttributeType → List ℕ → List AttributeType
 unknown_types supported r = filter (is_unknown supported) (shown_types r)
 
--- whether r shows one of the required types not at all
+-- whether r lacks one of the required types
 abbrev pub lacks : List AttributeType → List ℕ → Bool
 lacks required r = list_any (λ type. not (is_some (nth r type.0 0))) required
 

@@ -4,10 +4,11 @@ pub mod typed;
 
 pub use stun_attrs::{
     Attribute, AttributeFromRaw, AttributeStaticType, AttributeWrite, EncodeValue, RawAttribute,
-    ReadValue, TypedAttribute, check_length, is_read_back,
+    ReadValue, TypedAttribute, is_read_back,
 };
 pub use stun_base::{AttributeHeader, AttributeType, pad_attribute_len};
 pub use stun_registry::AttributeDisplay;
+pub use stun_rules::check_length;
 pub use typed::{
     AlternateDomain, AlternateServer, ErrorCode, ErrorCodeBuilder, Fingerprint, MappedSocketAddr,
     MessageIntegrity, MessageIntegritySha256, Nonce, PasswordAlgorithm, PasswordAlgorithmValue,

@@ -5,7 +5,7 @@ use Rattle.stun_grammar.specs.Attributes.{canonical, attribute_length}
 use Rattle.stun_grammar.specs.Writing.{message_encoding}
 use Rattle.stun_write.specs.Writers.{Writer}
 
--- a binding request with one SOFTWARE is written, or its header alone; what stands behind it stays
+-- a binding request with one SOFTWARE is written, or its header alone; what follows it stays
 pub record WritesSoftware (result : Result (Unit {0}) StunWriteError)
     (old new : Writer) (id : ℕ) (text : List ℕ) : Type 0 where
   pub encoding : OnOk result (new.bytes ≡ message_encoding 0x0001 id (canonical 0x8022 text ∷ []))

@@ -1,4 +1,4 @@
--- Whose message it is that validates (RFC 8489, sections 14.5 and 14.6).
+-- Who sent a message that validates (RFC 8489, sections 14.5 and 14.6).
 use Rattle.std.specs.Prelude.{ℕ, ◌⊎◌, List, ◌∷◌, Option}
 use Rattle.std.specs.List.{AllByRecursion}
 use Rattle.stun_grammar.specs.declared.integrity_algorithm.IntegrityAlgorithm.{IntegrityAlgorithm}

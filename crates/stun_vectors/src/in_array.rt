@@ -23,10 +23,12 @@ pub fn steps_in_array<const N: usize>(
     verdicts: &mut [Result<(), StunWriteError>],
     write: &mut WriteFixed<N>,
 ) -> Result<(), StunWriteError>
+    // the array is empty, and has room for a header
     requires empty { (⟦<WriteFixed<N> as MessageWrite>⟧.state write.old).bytes ≡ [] }
     requires ready { 20 ≤ (⟦<WriteFixed<N> as MessageWrite>⟧.state write.old).ready_bytes }
     requires count { length verdicts.old ≡ length steps.now }
     requires ordinary { All (AddsOrdinary (λ o. atype o.now)) steps.now }
+    // the run never fails
     ensures ok { IsOk result }
     ensures writes { Writes (λ o. atype o.now) (λ o. value o.now)
         (⟦<WriteFixed<N> as MessageWrite>⟧.state write.old)

@@ -8,6 +8,7 @@ ghost use Rattle.stun_attributes.specs.Texts.{text_bytes};
 ghost use Rattle.stun_grammar.specs.Adding.{Fits, appended, whole, room_refusal, add_refusal, IsAddAnswer};
 ghost use Rattle.stun_write.specs.Writers.{Allocates};
 ghost use Rattle.stun_vectors.specs.InSlice.{WritesSoftware};
+ghost use Rattle.stun_rules.specs.TextValues.{text_max};
 
 use std::alloc::Global;
 use stun_base::binding_request;
@@ -23,12 +24,14 @@ fn add_software<B: MessageWrite>(software: &Software, message: &mut B) -> Result
         (B.state message.old).types (length (B.state message.old).bytes)
         (B.state message.old).greatest)
         (Allocates (B.state message.old) (length (text_bytes software.now))) result }
+    // what is appended after Ok
     ensures bytes { OnOk result ((B.state message.new).bytes
         ≡ appended (B.state message.old).bytes 0x8022 (text_bytes software.now)) }
     ensures length { OnOk result (length (B.state message.new).bytes
         ≡ whole (length (B.state message.old).bytes) (length (text_bytes software.now))) }
     ensures rest { OnOk result ((B.state message.new).rest
         ≡ drop (attribute_length (length (text_bytes software.now))) (B.state message.old).rest) }
+    // what stays
     ensures same { OnErr result ((B.state message.new).bytes ≡ (B.state message.old).bytes) }
     ensures same_rest { OnErr result ((B.state message.new).rest ≡ (B.state message.old).rest) }
     ensures place { (B.state message.new).place ≡ (B.state message.old).place }
@@ -43,9 +46,11 @@ fn write_software<B: MessageWrite>(
     software: &Software,
     message: &mut B,
 ) -> Result<(), StunWriteError>
+    // the writer is empty, and has twenty bytes ready
     requires empty { (B.state message.old).bytes ≡ [] }
     requires room { Fits (B.state message.old).greatest 20 }
     requires ready { 20 ≤ (B.state message.old).ready_bytes }
+    // the header is always written, and the SOFTWARE where there is room
     ensures answer { IsAddAnswer
         (room_refusal 20 (B.state message.old).greatest
         (20 + attribute_length (length (text_bytes software.now))))
@@ -54,7 +59,7 @@ fn write_software<B: MessageWrite>(
         ⊎ (B.state message.old).ready_types < 1) result }
     ensures writes { WritesSoftware result (B.state message.old) (B.state message.new) id
         (text_bytes software.now) }
-    ensures short { length (text_bytes software.now) ≤ 763 }
+    ensures short { length (text_bytes software.now) ≤ text_max }
 {
     // the law by which an encoding with one more attribute appended is an encoding
     message_grows();
@@ -77,6 +82,7 @@ pub fn software_in_slice(
     software: &Software,
     buf: &mut [u8],
 ) -> Result<usize, StunWriteError>
+    // the result, by how long the slice is
     ensures no_header { length buf.old < 20
         → result ≡ Err (StunWriteError.TooSmall 20 (length buf.old)) }
     ensures no_room { 20 ≤ length buf.old
@@ -85,6 +91,7 @@ pub fn software_in_slice(
         (20 + attribute_length (length (text_bytes software.now))) (length buf.old)) }
     ensures written { 20 + attribute_length (length (text_bytes software.now)) ≤ length buf.old
         → result ≡ Ok (20 + attribute_length (length (text_bytes software.now))) }
+    // what the slice holds then
     ensures encoding { OnOk result (buf.new
         ≡ message_encoding 0x0001 id (canonical 0x8022 (text_bytes software.now) ∷ [])
         ++ drop (20 + attribute_length (length (text_bytes software.now))) buf.old) }

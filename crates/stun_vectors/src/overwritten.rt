@@ -5,8 +5,8 @@ ghost use Rattle.std.specs.Prelude.{◌≡◌, length, replicate};
 use stun_types::message::MessageWriteVec;
 use stun_types::prelude::*;
 
-/// Overwrites all bytes that are written into a vector. What attributes there are and how much is
-/// ready stays as it was, so that they bar what they barred.
+/// Overwrites all bytes that are written into a vector. The attributes and the ready room stay as
+/// they were, so the attributes bar what they barred before.
 pub fn overwrite(byte: u8, message: &mut MessageWriteVec)
     ensures bytes { (⟦<MessageWriteVec as MessageWrite>⟧.state message.new).bytes ≡ replicate
         (length (⟦<MessageWriteVec as MessageWrite>⟧.state message.old).bytes) byte }

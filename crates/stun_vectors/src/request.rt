@@ -7,6 +7,7 @@ ghost use Rattle.stun_grammar.specs.Showing.{shown};
 ghost use Rattle.stun_grammar.specs.Writing.{message_encoding};
 ghost use Rattle.stun_attributes.specs.Texts.{text_bytes};
 ghost use Rattle.stun_grammar.specs.Adding.{appended};
+ghost use Rattle.stun_rules.specs.TextValues.{text_max};
 
 use std::alloc::Global;
 use stun_base::binding_request;
@@ -19,25 +20,26 @@ use stun_types::prelude::*;
 /// Adds a SOFTWARE to a message that is a header alone, in a writer without a bound.
 #[tactic(auto, using(crate::proofs::AddsLemmas::short_add, crate::proofs::AddsLemmas::nothing_before))]
 fn add_software<B: MessageWrite>(software: &Software, message: &mut B) -> Result<(), StunWriteError>
+    // the message is a header alone
     requires header { length (B.state message.old).bytes ≡ 20 }
     requires alone { (B.state message.old).types ≡ [] }
     requires unbounded { (B.state message.old).greatest ≡ None }
     ensures bytes { OnOk result ((B.state message.new).bytes
         ≡ appended (B.state message.old).bytes 0x8022 (text_bytes software.now)) }
     ensures err { IfErr result (λ e. e ≡ StunWriteError.OutOfMemory) }
-    ensures short { length (text_bytes software.now) ≤ 763 }
+    ensures short { length (text_bytes software.now) ≤ text_max }
 {
     message.add_attribute(software)
 }
 
 /// Writes a binding request with this transaction ID and one SOFTWARE of this name.
 fn write_request(alloc: Global, id: TransactionId, name: &str) -> Result<Vec<u8>, StunWriteError>
-    ensures large { 763 < length name.now
-        → result ≡ Err (StunWriteError.TooLarge 763 (length name.now)) }
-    ensures err { length name.now ≤ 763 → IfErr result (λ e. e ≡ StunWriteError.OutOfMemory) }
+    ensures large { text_max < length name.now
+        → result ≡ Err (StunWriteError.TooLarge text_max (length name.now)) }
+    ensures err { length name.now ≤ text_max → IfErr result (λ e. e ≡ StunWriteError.OutOfMemory) }
     ensures encoding { IfOk result (λ message. message.items
         ≡ message_encoding 0x0001 id (canonical 0x8022 name.now ∷ [])) }
-    ensures short { IfOk result (λ _. length name.now ≤ 763) }
+    ensures short { IfOk result (λ _. length name.now ≤ text_max) }
     ensures id_fits { IfOk result (λ _. id < 2 ^ 96) }
 {
     // the law by which an encoding with one more attribute appended is an encoding
@@ -61,9 +63,11 @@ pub fn software_message(
     id: TransactionId,
     name: &str,
 ) -> Result<Vec<u8>, StunWriteError>
-    ensures large { 763 < length name.now
-        → result ≡ Err (StunWriteError.TooLarge 763 (length name.now)) }
-    ensures err { length name.now ≤ 763 → IfErr result (λ e. e ≡ StunWriteError.OutOfMemory) }
+    // the result, by how long the name is
+    ensures large { text_max < length name.now
+        → result ≡ Err (StunWriteError.TooLarge text_max (length name.now)) }
+    ensures err { length name.now ≤ text_max → IfErr result (λ e. e ≡ StunWriteError.OutOfMemory) }
+    // the message, and what is read from it
     ensures encoding { IfOk result (λ message. message.items
         ≡ message_encoding 0x0001 id (canonical 0x8022 name.now ∷ [])) }
     ensures parses { IfOk result (λ message. parse_fault message.items ≡ None) }

@@ -1,4 +1,4 @@
-//! Whose message it is that validates.
+//! Who sent a message that validates.
 
 ghost use Rattle.std.specs.Prelude.{◌≡◌, All, IfOk, length};
 ghost use Rattle.stun_keys.specs.Keys.{key_bytes, key_algorithm};

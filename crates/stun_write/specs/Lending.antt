@@ -7,7 +7,7 @@ use Rattle.std.proofs.Common.{refl, sym, ap, ◌∙◌, arith}
 use Rattle.stun_write.specs.declared.vec.MessageWriteVec.{MessageWriteVec}
 use Rattle.stun_write.specs.contracts.vec.MessageWriteVec.{the_row}
 
--- as many bytes as there were are none only where there were none
+-- as many bytes as before: there are none only where there were none
 nothing_there : (xs : List ℕ) → length xs ≡ 0 → xs ≡ []
 nothing_there [] e = refl
 nothing_there (x ∷ xs) e = absurd (omega (arith, e))
@@ -26,6 +26,6 @@ overwritten w given = record {
       w.no_types (none_before w.output.len w.output.items given w.output.ok.0 e);
 }
 
--- once the slice has come back, the writer is `overwritten` with the bytes that it had last
+-- once the borrow ends, the writer is `overwritten` with the bytes that the slice had last
 abbrev pub LendsBytes : MutBor MessageWriteVec → MutBor (List ℕ) → Fml
 LendsBytes write slice = Lends the_row (Array u8 0) write slice (overwritten write.now)

@@ -55,7 +55,7 @@ pub record Keeps (old new : Writer) (bytes attributes : ℕ) : Type 0 where
   pub ready_bytes : old.ready_bytes ≤ new.ready_bytes + bytes
   pub ready_types : old.ready_types ≤ new.ready_types + attributes
 
--- the header stays one, with the same message type and the same transaction ID
+-- the bytes still begin with a header, with the same message type and the same transaction ID
 pub record KeepsHeader (old new : List ℕ) : Type 0 where
   pub header : is_header old ≡ true → is_header new ≡ true
   pub type : type_field new ≡ type_field old

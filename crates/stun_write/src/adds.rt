@@ -22,8 +22,8 @@ use stun_base::{
     MessageClass, MessageType, Method, StunWriteError, TransactionId, pad_attribute_len,
 };
 use stun_grammar::IntegrityAlgorithm;
-use stun_integrity::hmac_length;
 use stun_keys::keys::{IntegrityKey, MessageIntegrityCredentials};
+use stun_rules::hmac_length;
 
 /// Adds attributes to a message that is being written, and reads its header (RFC 8489, sections 5
 /// and 14). Every [`MessageWrite`] has these methods.

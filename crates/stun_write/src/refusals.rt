@@ -8,7 +8,7 @@ ghost use Rattle.stun_grammar.specs.Adding.{first_of, Fits, exists_refusal, orde
 ghost use Rattle.stun_write.specs.Additions.{step_of};
 
 use crate::MessageWrite;
-use stun_base::{AttributeType, StunWriteError};
+use stun_base::{AttributeType, GREATEST_LENGTH, StunWriteError};
 use stun_grammar::IntegrityAlgorithm;
 use stun_grammar::attribute_types::{FINGERPRINT, MESSAGE_INTEGRITY, MESSAGE_INTEGRITY_SHA256};
 
@@ -99,9 +99,9 @@ fn check_room<W: MessageWrite>(write: &W, added: usize) -> Result<(), StunWriteE
             actual: most,
         });
     }
-    if whole > 65555 {
+    if whole > GREATEST_LENGTH {
         return Err(StunWriteError::TooLarge {
-            expected: 65555,
+            expected: GREATEST_LENGTH,
             actual: whole,
         });
     }

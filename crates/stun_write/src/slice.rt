@@ -12,7 +12,7 @@ use stun_base::{AttributeType, StunWriteError, pad_attribute_len};
 /// follows the bytes written stays as it was.
 ///
 /// Each call writes straight into the slice. A writer that is dropped without
-/// [`MessageWrite::finish`] leaves there what was written so far, and behind it what was there
+/// [`MessageWrite::finish`] leaves there what was written so far, followed by what was there
 /// before.
 ///
 /// The bytes never need memory. The types of sixteen attributes don't either; those of more are

@@ -70,6 +70,7 @@ pub fn write_steps_into<B: MessageWrite>(
     verdicts: &mut [Result<(), StunWriteError>],
     write: &mut B,
 ) -> Result<(), StunWriteError>
+    // a verdict for each step, an empty writer with room for a header, and ordinary attributes
     requires count { length verdicts.old ≡ length steps.now }
     requires empty { (B.state write.old).bytes ≡ [] }
     requires room { Fits (B.state write.old).greatest 20 }
@@ -108,9 +109,9 @@ pub fn write_steps_into<B: MessageWrite>(
 ///
 /// What is written is the message of the accepted steps. It parses, and shows their attributes in
 /// order, a FINGERPRINT among them with the right value. It validates with the key of the last step
-/// that signs, and with the key of each step that signs, made for the step's algorithm. And it is a
-/// message as the law `integrity_has_origin` wants it in the list of those that were sent, by which
-/// that law tells whose message validates.
+/// that signs, and with the key of each step that signs, made for the step's algorithm. And it may
+/// stand in the list of messages that were sent, from which the law `integrity_has_origin` tells
+/// who sent a message that validates.
 ///
 /// # Errors
 ///
@@ -128,6 +129,7 @@ pub fn write_steps<B: MessageWrite + Drop>(
     verdicts: &mut [Result<(), StunWriteError>],
     mut write: B,
 ) -> Result<B, StunWriteError>
+    // a verdict for each step, an empty writer with room for a header, and ordinary attributes
     requires count { length verdicts.old ≡ length steps.now }
     requires empty { (B.state write).bytes ≡ [] }
     requires room { Fits (B.state write).greatest 20 }

@@ -16,8 +16,8 @@ use std::marker::Model;
 use stun_base::{AttributeType, StunWriteError};
 use stun_grammar::attribute_types::is_ending;
 
-/// The types of the attributes written, in order. As long as no ending type is among them, looking
-/// for one takes no look at the others, so that many adds take no longer each than few.
+/// The types of the attributes written, in order. While no ending type is written, an add takes
+/// constant time.
 ///
 /// In contracts it is the list of the types and how many of them need no allocation. The types of
 /// sixteen attributes need no memory.

@@ -88,8 +88,8 @@ impl MessageWrite for MessageWriteVec {
         &self.output
     }
 
-    /// The bytes written, mutable. Afterwards the writer is as it was, but for the bytes, of which
-    /// there are as many.
+    /// The bytes written, mutable. Afterwards only the bytes have changed, and there are as many of
+    /// them.
     fn mut_data(&mut self) -> &mut [u8]
         ensures* writes_back { sem 𝓛 (LendsBytes self.entry result) }
         ensures value { result.now

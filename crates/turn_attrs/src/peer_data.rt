@@ -111,9 +111,9 @@ impl EncodeValue for ShortData<'_> {
     }
 }
 
-/// Reading refuses another type, as `WrongAttributeImplementation`, and no value. `from_raw` keeps
-/// the value as it is, so that one that is borrowed stays borrowed, and takes no memory;
-/// `from_raw_ref` copies it into memory that `alloc` gives, or answers `OutOfMemory`.
+/// Reading refuses another type, as `WrongAttributeImplementation`, and accepts every value.
+/// `from_raw` keeps the value as it is, so that one that is borrowed stays borrowed, and takes no
+/// memory; `from_raw_ref` copies it into memory that `alloc` gives, or answers `OutOfMemory`.
 impl<'a> AttributeFromRaw<'a> for PeerData<'a> {
     ghost use Rattle.turn_attrs.specs.Turn.{ReadsData, ReadsDataInMemory};
 

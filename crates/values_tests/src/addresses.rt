@@ -37,7 +37,7 @@ static IPV6_XORED: [u8; 20] = [
     0x00, 0x00, 0x56, 0x79,
 ];
 
-/// Whether an address is written as this value in front of what stands there.
+/// Whether an address is written as this value, followed by what was there.
 fn writes_mapped(mapped: &MappedSocketAddr, value: &[u8]) -> bool {
     let length = usize::from(mapped.length());
     if length != value.len() || length >= 24 {
@@ -53,7 +53,7 @@ fn is_raw(raw: &RawAttribute<'_>, number: u16, value: &[u8]) -> bool {
     raw.header().get_type().value() == number && raw.value().as_bytes() == value
 }
 
-/// Whether an address is the raw attribute with this value, and read of it.
+/// Whether an address is the raw attribute with this value, and read from it.
 fn gives_mapped(
     alloc: Global,
     mapped: &MappedSocketAddr,
@@ -108,7 +108,7 @@ fn owns_raw_addresses(rt: HostRuntime) -> Result<(), Fail> {
     Ok(())
 }
 
-/// Whether an address is written XORed as this value in front of what stands there.
+/// Whether an address is written XORed as this value, followed by what was there.
 fn writes_xored(xored: &XorSocketAddr, value: &[u8]) -> bool {
     let length = usize::from(xored.length());
     if length != value.len() || length >= 24 {
@@ -119,7 +119,7 @@ fn writes_xored(xored: &XorSocketAddr, value: &[u8]) -> bool {
     dest.starts_with(value) && dest[length] == 0xFF
 }
 
-/// Whether an address is XORed the raw attribute with this value, and read of it.
+/// Whether an address is XORed the raw attribute with this value, and read from it.
 fn gives_xored(
     alloc: Global,
     xored: &XorSocketAddr,
@@ -141,7 +141,7 @@ fn is_xored(raw: &RawAttribute<'_>, address: SocketAddr) -> bool {
     }
 }
 
-/// Whether this value is written of an address plain, and read of it; and the other one XORed.
+/// Whether this value is written for an address plain, and read as it; and the other one XORed.
 fn is_both(
     alloc: Global,
     address: SocketAddr,

@@ -19,7 +19,7 @@ static MADE: [(u16, usize, Option<StunWriteError>); 7] = [
     (u16::MAX, 0, Some(StunWriteError::OutOfRange { value: 65535, min: 300, max: 699 })),
 ];
 
-/// Why no error is made of a code and a reason of so many letters.
+/// Why no error is made of a code and a reason of that many letters.
 fn refused(alloc: Global, code: u16, length: usize) -> Result<Option<StunWriteError>, AllocError> {
     let reason = letters(alloc, length)?;
     Ok(ErrorCode::new(alloc, code, &reason).err())

@@ -61,7 +61,7 @@ fn lists_unknown_types(rt: HostRuntime) -> Result<(), Fail> {
     Ok(())
 }
 
-/// Whether a list is the raw attribute of this value, and read of it.
+/// Whether a list is the raw attribute of this value, and read from it.
 fn is_raw(alloc: Global, unknown: &UnknownAttributes, value: &[u8]) -> Result<bool, Fail> {
     let raw = unknown.to_raw(alloc)?;
     let read = UnknownAttributes::from_raw_ref(alloc, &raw)?;
@@ -101,7 +101,7 @@ const FULL: StunWriteError = StunWriteError::TooLarge {
     actual: 32768,
 };
 
-/// Whether a list of so many types is refused, all 0x0001.
+/// Whether a list of that many types is refused, all 0x0001.
 fn refuses(alloc: Global, types: &[AttributeType]) -> bool {
     UnknownAttributes::new(alloc, types).err() == Some(FULL)
 }

@@ -14,9 +14,9 @@ use stun_types::attribute::{
 };
 use stun_types::message::TransactionId;
 use stun_types::{AddressFamily, TransportType};
-use stun_attributes::{check_algorithms, print_algorithms_in};
+use stun_rules::{check_algorithms, print_algorithms_in};
 
-/// A writer that takes so many bytes, and then refuses.
+/// A writer that takes that many bytes, and then refuses.
 #[derive(Drop)]
 struct Room {
     left: usize,

@@ -34,7 +34,7 @@ enum Kind {
     Fingerprint,
 }
 
-/// Why nothing is read of a reference to a raw attribute, and of the raw attribute itself.
+/// Why nothing is read from a reference to a raw attribute, and from the raw attribute itself.
 type Refused = (Option<StunParseError>, Option<StunParseError>);
 
 /// Why a raw attribute isn't read as an `A`.
@@ -124,8 +124,8 @@ static VALUES: [(Kind, u16, &[u8], Told); 14] = [
     (Kind::Nonce, 0x0015, &[0x61, 0xFF], Told::Invalid),
 ];
 
-/// Values of no address, and what is told of each that is read as an address, plain or XORed, or as
-/// an ALTERNATE-SERVER.
+/// Values that are no address, and why each is not read as one, plain or XORed, or as an
+/// ALTERNATE-SERVER.
 #[rattlefmt::skip]
 static ADDRESSES: [(&[u8], Told); 6] = [
     (&[0x00, 0x00], Told::Few(4, 2)),

@@ -1,4 +1,4 @@
-//! Names and functions that a user registers, what is printed by them, and what a want of memory
+//! Names and functions that a user registers, what they print, and what an allocation that fails
 //! leaves.
 
 use std::alloc::Global;
@@ -165,8 +165,8 @@ fn written(rt: &impl Abort, registry: &Registry) -> Result<Option<usize>, Fail> 
     Ok(Some(count.taken))
 }
 
-/// Each call is refused for want of memory alone, as by an allocator that refuses the first, the
-/// second or a later allocation of the test, and then leaves the registry as it was.
+/// Each call fails only where an allocation fails, be it the first, the second or a later one of
+/// the test, and then leaves the registry as it was.
 #[test]
 fn refused_calls_change_nothing(rt: HostRuntime) -> Result<(), Fail> {
     let mut registry = Registry::new(rt.alloc());

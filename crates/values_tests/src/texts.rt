@@ -66,7 +66,7 @@ fn keeps(text: Text, alloc: Global, of: &str) -> Result<bool, StunWriteError> {
     }
 }
 
-/// What is told of an attribute that is made of a text of so many letters.
+/// What is told of an attribute that is made of a text of that many letters.
 fn kept(text: Text, alloc: Global, count: usize) -> Result<bool, StunWriteError> {
     let Ok(of) = letters(alloc, count) else {
         return Err(StunWriteError::OutOfMemory);

@@ -1,4 +1,4 @@
-//! What each type of attribute is written as, and read of.
+//! What each type of attribute is written as, and read from.
 
 use std::alloc::Global;
 use std::net::{IpAddr, Ipv4Addr, SocketAddr};
@@ -17,7 +17,7 @@ use stun_types::message::{
 };
 use stun_types::prelude::*;
 
-/// Whether an attribute is written as these bytes in front of what stands there.
+/// Whether an attribute is written as these bytes, followed by what was there.
 fn writes<A: AttributeWrite>(attribute: &A, written: &[u8]) -> bool {
     let mut dest = [0xFF; 48];
     attribute.write_into(&mut dest) == Ok(written.len())
@@ -34,7 +34,7 @@ fn has_bytes(
     Ok(raw.to_bytes(alloc)?.as_slice() == written)
 }
 
-/// Whether an attribute is the raw attribute of these bytes, and read of it.
+/// Whether an attribute is the raw attribute of these bytes, and read from it.
 fn gives<'a, A: AttributeWrite + AttributeFromRaw<'a> + PartialEq + Drop>(
     alloc: Global,
     attribute: &'a A,
@@ -45,7 +45,7 @@ fn gives<'a, A: AttributeWrite + AttributeFromRaw<'a> + PartialEq + Drop>(
     Ok(read == *attribute && has_bytes(alloc, &raw, written)?)
 }
 
-/// Whether an attribute is read of these bytes.
+/// Whether an attribute is read from these bytes.
 fn reads<'a, A: AttributeFromRaw<'a> + PartialEq + Drop>(
     alloc: Global,
     attribute: &A,
@@ -55,7 +55,7 @@ fn reads<'a, A: AttributeFromRaw<'a> + PartialEq + Drop>(
     Ok(A::from_raw(alloc, raw)? == *attribute)
 }
 
-/// Whether an attribute is written as these bytes, in a slice and as a raw attribute, and read of
+/// Whether an attribute is written as these bytes, in a slice and as a raw attribute, and read from
 /// them.
 fn is_attribute<'a, A: AttributeWrite + AttributeFromRaw<'a> + PartialEq + Drop>(
     alloc: Global,
@@ -162,7 +162,7 @@ fn writes_an_integrity_attribute(rt: HostRuntime) -> Result<(), Fail> {
     Ok(())
 }
 
-/// Whether the attribute of this HMAC is written as these bytes, and read of them.
+/// Whether the attribute of this HMAC is written as these bytes, and read from them.
 fn is_sha256(alloc: Global, hmac: &[u8], written: &[u8]) -> Result<bool, Fail> {
     let sha256 = MessageIntegritySha256::new(hmac)?;
     is_attribute(alloc, &sha256, written)

@@ -242,7 +242,7 @@ fn stops_where_a_slice_ends(rt: HostRuntime) -> Result<(), StunParseError> {
     Ok(())
 }
 
-/// A reply with so many types: what is answered, and the length of what is written.
+/// A reply with that many types: what is answered, and the length of what is written.
 fn too_many(alloc: Global, count: usize) -> Result<(Result<(), StunWriteError>, usize), Fail> {
     let request = request(&ONE_ALGORITHM)?;
     let types = vec![in alloc; ALGORITHM; count]?;

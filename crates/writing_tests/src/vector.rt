@@ -65,7 +65,7 @@ fn shows_what_is_written(rt: HostRuntime) -> Result<(), StunParseError> {
     Ok(())
 }
 
-/// The SOFTWARE is told, and nothing else.
+/// The SOFTWARE is shown, and nothing else.
 pub(crate) fn assert_software<W: MessageWrite>(rt: &impl Abort, message: &W) {
     assert!(rt; message.has_attribute(AttributeType(0x8022)));
     assert!(rt; !message.has_attribute(AttributeType(0x0022)));
@@ -145,7 +145,7 @@ fn is_frugal(message: MessageWriteVec) -> bool {
     bytes.capacity().saturating_sub(bytes.len()) <= bytes.len() + 64
 }
 
-/// A request with a text as its SOFTWARE, so many times.
+/// A request with a text as its SOFTWARE, that many times.
 fn repeated(alloc: Global, text: &str, count: usize) -> Result<MessageWriteVec, StunWriteError> {
     let software = Software::new(alloc, text)?;
     let mut message = request(alloc)?;

@@ -10,7 +10,7 @@ use std::boxed::BoxedSlice;
 use stun_grammar::{IntegrityAlgorithm, StunWriteError};
 
 /// The key of an HMAC: any number of bytes, and the algorithm that it was made for, if it was made
-/// for one. A key that was made for none serves both.
+/// for one. A key with no algorithm works with both.
 ///
 /// Beside its bytes it keeps, for each of the two digests, the block of 64 bytes with which an HMAC
 /// under it begins, and from the first HMAC on the hashers that have taken that block in. They take
@@ -43,7 +43,7 @@ impl IntegrityKey {
     ghost use Rattle.stun_grammar.specs.Hmac.{hmac};
     ghost use Rattle.stun_keys.specs.Keys.{key_bytes, key_algorithm, serves, IsKey};
 
-    /// The key with these bytes, made for an algorithm or for none. The bytes are copied into
+    /// The key with these bytes, made for an algorithm or with none. The bytes are copied into
     /// memory that `alloc` gives.
     ///
     /// A server that keeps no passwords makes the keys of long-term credentials by it: for `Sha1`
@@ -108,14 +108,14 @@ impl IntegrityKey {
         &self.bytes
     }
 
-    /// The algorithm that the key was made for, or `None` where it was made for none.
+    /// The algorithm that the key was made for, or `None` for a key with no algorithm.
     pub fn algorithm(&self) -> Option<IntegrityAlgorithm>
         ensures { result ≡ key_algorithm self.now }
     {
         self.algorithm
     }
 
-    /// Whether the key serves an algorithm: it was made for that one, or for none.
+    /// Whether the key works with an algorithm: it was made for that one, or has none.
     pub fn serves(&self, algorithm: IntegrityAlgorithm) -> bool
         ensures { result ≡ serves (key_algorithm self.now) algorithm }
     {

@@ -42,8 +42,8 @@ impl ShortTermCredentials {
         self.password.as_str()
     }
 
-    /// The key, in memory that `alloc` gives: the bytes of the password. It is made for no one
-    /// algorithm, and so serves both (RFC 8489, section 9.1.1).
+    /// The key, in memory that `alloc` gives: the bytes of the password. It has no algorithm, and
+    /// so works with both (RFC 8489, section 9.1.1).
     ///
     /// # Errors
     ///

@@ -26,8 +26,8 @@ pub(super) fn algorithm_for(atype: u16) -> IntegrityAlgorithm
 }
 
 /// Whether the value of an integrity attribute is a prefix of the HMAC of the bytes that it covers.
-/// The attribute's header is at `offset`. All bytes of the value are compared, also behind one that
-/// differs.
+/// The attribute's header is at `offset`. All bytes of the value are compared, even after a
+/// difference.
 fn is_right(
     bytes: &[u8],
     offset: usize,

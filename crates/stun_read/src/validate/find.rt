@@ -12,7 +12,7 @@ use crate::kept::Kept;
 use stun_base::{AttributeType, StunParseError, ValidateError};
 use stun_grammar::IntegrityAlgorithm;
 use stun_grammar::attribute_types::MESSAGE_INTEGRITY;
-use stun_integrity::check_hmac_length;
+use stun_rules::check_hmac_length;
 
 /// The attribute that is checked. Its value has a lawful length.
 pub(super) fn checked(

@@ -1,6 +1,7 @@
 //! Credentials, and the keys that they give for the integrity attributes.
 
+pub use stun_grammar::IntegrityAlgorithm;
 pub use stun_keys::keys::{
-    IntegrityAlgorithm, IntegrityKey, LongTermCredentials, LongTermKeyCredentials,
-    MessageIntegrityCredentials, ShortTermCredentials,
+    IntegrityKey, LongTermCredentials, LongTermKeyCredentials, MessageIntegrityCredentials,
+    ShortTermCredentials,
 };

@@ -41,9 +41,9 @@ impl<'a> Message<'a> {
     /// of `bytes` (RFC 8489, sections 5, 6.3 and 14). The message borrows `bytes`. Parsing takes no
     /// memory and copies nothing.
     ///
-    /// `bytes` are the message and nothing else, so at most 65555 of them are accepted. Where there
-    /// may be more, as in a buffer for the bytes of a stream (TCP or TLS) or in one that is longer
-    /// than the datagram that was received into it, cut them first to as many as
+    /// `bytes` are the message and nothing else, so more than 65555 of them never parse. Where
+    /// there may be more, as in a buffer for the bytes of a stream (TCP or TLS) or in one that is
+    /// longer than the datagram that was received into it, cut them first to the length that
     /// [`message_length`](crate::message::message_length) tells.
     ///
     /// ```
@@ -82,8 +82,8 @@ impl<'a> Message<'a> {
         Ok(Message { bytes, offsets })
     }
 
-    /// The bytes that it was parsed from. [`Message::from_bytes`] accepts them: whoever is handed a
-    /// message need not parse its bytes again.
+    /// The bytes that it was parsed from. They parse: a function that is handed a message need not
+    /// parse its bytes again.
     pub fn as_bytes(&self) -> &'a [u8]
         ensures value { result.now ≡ message_bytes self.now }
         ensures accepted { parse_fault (message_bytes self.now) ≡ None }

@@ -140,7 +140,7 @@ fn unknown_types_of(
     Ok(found)
 }
 
-/// Whether the message shows one of the required types not at all.
+/// Whether the message lacks one of the required types.
 fn lacks_one(message: &Message<'_>, required: &[AttributeType]) -> bool
     ensures { result ≡ lacks required.now (message_bytes message.now) }
 {
@@ -413,9 +413,11 @@ impl Message<'_> {
         required: &[AttributeType],
         mut write: B,
     ) -> Result<Option<B>, StunWriteError>
+        // a request, and an empty writer with room for a header
         requires request { class_of (type_field (message_bytes msg.now)) ≡ Request }
         requires empty { (B.state write).bytes ≡ [] }
         requires room { Fits (B.state write).greatest 20 }
+        // no reply exactly where the definition has none; else the reply that it has
         ensures none { check_reply supported.now required.now (message_bytes msg.now) ≡ None
             → result ≡ Ok None }
         ensures answer { IfSome (check_reply supported.now required.now (message_bytes msg.now))
@@ -445,9 +447,11 @@ impl Message<'_> {
         required: &[AttributeType],
         write: &mut B,
     ) -> Result<bool, StunWriteError>
+        // a request, and an empty writer with room for a header
         requires request { class_of (type_field (message_bytes msg.now)) ≡ Request }
         requires empty { (B.state write.old).bytes ≡ [] }
         requires room { Fits (B.state write.old).greatest 20 }
+        // no reply exactly where the definition has none; else the reply that it has
         ensures none { check_reply supported.now required.now (message_bytes msg.now) ≡ None
             → (result ≡ Ok false) × IsUnchanged (B.state write.old) (B.state write.new) }
         ensures told { IfOk result (λ written. written
