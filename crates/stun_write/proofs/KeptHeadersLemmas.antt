@@ -3,14 +3,15 @@ use Rattle.std.proofs.Common.{◌≡◌, ℕ, ◌/◌, ◌%◌, ◌<◌, ◌≤�
 use Rattle.std.specs.Prelude.{OnOk, OnErr}
 use Rattle.std.proofs.lemmas.List.{take-append-le}
 use Rattle.std.specs.Int.{byte_at, bytes_high_first}
+use Rattle.stun_grammar.specs.declared.error.StunWriteError.{StunWriteError}
 use Rattle.stun_grammar.specs.Numbers.{number, be96}
-use Rattle.stun_grammar.specs.Attributes.{Attribute, attribute_encoding, attribute_length}
+use Rattle.stun_grammar.specs.Attributes.{Attribute, attribute_encoding}
 use Rattle.stun_grammar.specs.Headers.{is_header, type_field, id_field}
 use Rattle.stun_grammar.specs.Writing.{message_encoding}
 use Rattle.stun_grammar.specs.Adding.{appended}
 use Rattle.stun_grammar.proofs.AddingLemmas.{appended_begins}
 use Rattle.stun_grammar.proofs.WritingLemmas.{type-message, id-message}
-use Rattle.stun_write.specs.Writers.{Writer, IsUnchanged, Keeps, KeepsHeader, Gains, Adds}
+use Rattle.stun_write.specs.Writers.{Writer, IsUnchanged, KeepsHeader, Gains, PushesAttribute, Adds}
 
 appended_type : (message : List ℕ) (type : ℕ) (value : List ℕ) → 20 ≤ length message → type_field (appended message type value) ≡ type_field message
 unfolding appended
@@ -44,10 +45,10 @@ kept {E} (Err e) old new type value long ok err =
     record { header = λ (h : is_header old.bytes ≡ true). subst (λ (b : List ℕ). is_header b ≡ true) (sym err.bytes) h; type = ap type_field err.bytes; id = ap id_field err.bytes }
 
 -- a push that appends the attribute or changes nothing
-pub pushed : {E : Type 0} (result : Result (Unit {0}) E) (old new : Writer) (type : ℕ) (given value : List ℕ) → 20 ≤ length old.bytes → given ≡ value
-    → OnOk result (Gains old new type given) → OnErr result (IsUnchanged old new) → Keeps old new (attribute_length (length given)) 1 → Adds result old new type value
-pushed result old new type given value long same ok err keeps =
-    subst (λ (v : List ℕ). Adds result old new type v) same (record { ok = ok; err = err; keeps = keeps; header = kept result old new type given long ok err })
+pub pushed : (result : Result (Unit {0}) StunWriteError) (old new : Writer) (type : ℕ) (given value : List ℕ) → 20 ≤ length old.bytes → given ≡ value
+    → PushesAttribute result old new type given → Adds result old new type value
+pushed result old new type given value long same pushes =
+    subst (λ (v : List ℕ). Adds result old new type v) same (record { ok = pushes.ok; err = pushes.same; spends = pushes.spends; header = kept result old new type given long pushes.ok pushes.same })
 
 -- the encoding of a message has its type and its transaction ID in the header
 pub encoding_type : (type id : ℕ) (attributes : List Attribute) → type < 2 ^ 14 → type_field (message_encoding type id attributes) ≡ type

@@ -20,7 +20,7 @@ use Rattle.stun_write.specs.declared.steps.Step.{Step}
 use Rattle.stun_write.specs.declared.steps.Step.TheVariants.{Add, Sign, SignKey, Finger}
 use Rattle.stun_grammar.specs.Adding.{appended, whole, add_refusal, IsAddAnswer}
 use Rattle.stun_write.specs.Runs.{AddsOrdinary, MakesKey, plain, accepted, sent, IsVerdict, AreVerdicts, ValidatesLast, ValidatesEach, Writes}
-use Rattle.stun_write.specs.Writers.{Writer, Keeps, Adds}
+use Rattle.stun_write.specs.Writers.{Writer, Spends, Adds}
 use Rattle.stun_grammar.proofs.AddingLemmas.{message_more}
 use Rattle.stun_grammar.proofs.AddingRefusedLemmas.{accepted_by_any}
 
@@ -239,7 +239,7 @@ module _ {O : Type 0} (T : O → ℕ) (V : O → List ℕ) where
     pub types : new.types ≡ types (body (sent T V type id steps verdicts))
     pub accepted : IsAccepted (sent T V type id steps verdicts)
     pub rest : new.rest ≡ drop (length new.bytes) old.rest
-    pub keeps : Keeps old new (length new.bytes) (length new.types)
+    pub spends : Spends old new (length new.bytes) (length new.types)
 
   -- and at the end of the list
   pub writes_all : (old new : Writer) (type id : ℕ) (xs : List (Step O)) (vs : List (Result Unit StunWriteError)) (i : ℕ) → length xs ≤ i → length vs ≡ length xs
@@ -255,7 +255,7 @@ module _ {O : Type 0} (T : O → ℕ) (V : O → List ℕ) where
         bytes = all.bytes;
         types = all.types;
         rest = all.rest;
-        keeps = all.keeps;
+        spends = all.spends;
         parses = read.parses;
         shows = read.shows;
         fingerprint = read.fingerprint;
@@ -287,8 +287,8 @@ leaves {E} (Ok u) old new type value adds =
       same_types = tt;
       rest = adds.ok.rest ∙ ap (λ (n : ℕ). drop n old.rest) (sym added);
       grows = omega (arith, size);
-      ready_bytes = omega (arith, size, adds.keeps.ready_bytes);
-      ready_types = omega (arith, count, adds.keeps.ready_types);
+      ready_bytes = omega (arith, size, adds.spends.ready_bytes);
+      ready_types = omega (arith, count, adds.spends.ready_types);
     }
 leaves {E} (Err e) old new type value adds =
     let size : length new.bytes ≡ length old.bytes = ap length adds.err.bytes in

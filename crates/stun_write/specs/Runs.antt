@@ -14,7 +14,7 @@ use Rattle.stun_grammar.specs.Chains.{placed}
 use Rattle.stun_grammar.specs.Showing.{shown}
 use Rattle.stun_grammar.specs.Parsing.{parse_fault}
 use Rattle.stun_grammar.specs.Fingerprints.{first_fingerprint_fault}
-use Rattle.stun_write.specs.Writers.{Writer, Keeps}
+use Rattle.stun_write.specs.Writers.{Writer, Spends}
 use Rattle.stun_keys.specs.Keys.{key_bytes, credentials_key}
 use Rattle.stun_grammar.specs.Adding.{whole, add_refusal, IsAddAnswer}
 use Rattle.stun_grammar.specs.AttributeTypes.{IsOrdinary}
@@ -106,7 +106,7 @@ module _ {O : Type 0} (type_of : O → ℕ) (value_of : O → List ℕ) where
     pub bytes : new.bytes ≡ message_encoding type id (body (sent type id steps verdicts))
     pub types : new.types ≡ types (body (sent type id steps verdicts))
     pub rest : new.rest ≡ drop (length new.bytes) old.rest
-    pub keeps : Keeps old new (length new.bytes) (length new.types)
+    pub spends : Spends old new (length new.bytes) (length new.types)
     pub parses : parse_fault new.bytes ≡ None
     pub shows : shown new.bytes ≡ placed 20 (body (sent type id steps verdicts))
     pub fingerprint : first_fingerprint_fault new.bytes (shown new.bytes) ≡ None

@@ -49,11 +49,21 @@ with_bytes w given = record w { bytes = given }
 
 -- the bound and the borrowed slice stay, and at most so many bytes and attributes of the ready room
 -- are used up
-pub record Keeps (old new : Writer) (bytes attributes : ℕ) : Type 0 where
+pub record Spends (old new : Writer) (bytes attributes : ℕ) : Type 0 where
   pub greatest : new.greatest ≡ old.greatest
   pub place : new.place ≡ old.place
   pub ready_bytes : old.ready_bytes ≤ new.ready_bytes + bytes
   pub ready_types : old.ready_types ≤ new.ready_types + attributes
+
+-- a push writes what `Done` says, or an allocation failed and nothing changed; it uses up at most so
+-- many bytes and attributes of the ready room, and where as many are ready it succeeds
+pub record Pushes (result : Result (Unit {0}) StunWriteError)
+    (old new : Writer) (bytes attributes : ℕ) (Done : Type 0) : Type 0 where
+  pub ok : OnOk result Done
+  pub same : OnErr result (IsUnchanged old new)
+  pub spends : Spends old new bytes attributes
+  pub err : IfErr result (λ e. e ≡ OutOfMemory)
+  pub succeeds : bytes ≤ old.ready_bytes → attributes ≤ old.ready_types → IsOk result
 
 -- the bytes still begin with a header, with the same message type and the same transaction ID
 pub record KeepsHeader (old new : List ℕ) : Type 0 where
@@ -78,7 +88,7 @@ pub record IsBegun (old new : Writer) (type id : ℕ) : Type 0 where
   pub transaction_id : id_field new.bytes ≡ id
   pub types : new.types ≡ []
   pub rest : new.rest ≡ drop 20 old.rest
-  pub keeps : Keeps old new 20 0
+  pub spends : Spends old new 20 0
 
 -- a call begins a message, and `writer` is the writer by what the call returns; or an allocation
 -- failed, which happens only where fewer than twenty bytes are ready
@@ -95,10 +105,16 @@ pub record Gains (old new : Writer) (type : ℕ) (value : List ℕ) : Type 0 whe
   pub types : new.types ≡ old.types ++ type ∷ []
   pub rest : new.rest ≡ drop (attribute_length (length value)) old.rest
 
+-- an attribute is pushed
+abbrev pub PushesAttribute :
+    Result (Unit {0}) StunWriteError → Writer → Writer → ℕ → List ℕ → Type 0
+PushesAttribute result old new type value =
+    Pushes result old new (attribute_length (length value)) 1 (Gains old new type value)
+
 -- the attribute is appended whole or not at all, and the header stays
 pub record Adds {E : Type 0} (result : Result (Unit {0}) E)
     (old new : Writer) (type : ℕ) (value : List ℕ) : Type 0 where
   pub ok : OnOk result (Gains old new type value)
   pub err : OnErr result (IsUnchanged old new)
-  pub keeps : Keeps old new (attribute_length (length value)) 1
+  pub spends : Spends old new (attribute_length (length value)) 1
   pub header : KeepsHeader old.bytes new.bytes

@@ -135,9 +135,7 @@ pub trait MessageWriteExt: MessageWrite {
         ensures adds { Adds result (Self.state self.old) (Self.state self.new)
             (type_of_algorithm algorithm)
             (integrity_value (Self.state self.old).bytes
-            (credentials_key credentials.now algorithm) algorithm) }
-        ensures size { OnOk result (length (Self.state self.new).bytes
-            ≡ whole (length (Self.state self.old).bytes) (digest_length algorithm)) };
+            (credentials_key credentials.now algorithm) algorithm) };
 
     /// As [`MessageWriteExt::add_message_integrity`], with a key, whichever algorithm the key was
     /// made for.
@@ -158,9 +156,7 @@ pub trait MessageWriteExt: MessageWrite {
             (Allocates (Self.state self.old) (digest_length algorithm)) result }
         ensures adds { Adds result (Self.state self.old) (Self.state self.new)
             (type_of_algorithm algorithm)
-            (integrity_value (Self.state self.old).bytes (key_bytes key.now) algorithm) }
-        ensures size { OnOk result (length (Self.state self.new).bytes
-            ≡ whole (length (Self.state self.old).bytes) (digest_length algorithm)) };
+            (integrity_value (Self.state self.old).bytes (key_bytes key.now) algorithm) };
 
     /// As [`MessageWriteExt::add_message_integrity_with_key`], without its checks: no attribute
     /// bars the addition, and there is room for it.
@@ -177,14 +173,11 @@ pub trait MessageWriteExt: MessageWrite {
         requires { add_refusal (sign algorithm (key_bytes key.now))
             (Self.state self.old).types (length (Self.state self.old).bytes)
             (Self.state self.old).greatest ≡ None }
+        ensures answer { IsAddAnswer None
+            (Allocates (Self.state self.old) (digest_length algorithm)) result }
         ensures adds { Adds result (Self.state self.old) (Self.state self.new)
             (type_of_algorithm algorithm)
-            (integrity_value (Self.state self.old).bytes (key_bytes key.now) algorithm) }
-        ensures size { OnOk result (length (Self.state self.new).bytes
-            ≡ whole (length (Self.state self.old).bytes) (digest_length algorithm)) }
-        ensures err { IfErr result (λ e. e ≡ StunWriteError.OutOfMemory) }
-        ensures succeeds { 4 + digest_length algorithm ≤ (Self.state self.old).ready_bytes
-            → 1 ≤ (Self.state self.old).ready_types → IsOk result };
+            (integrity_value (Self.state self.old).bytes (key_bytes key.now) algorithm) };
 
     /// Adds a FINGERPRINT (0x8028). Its value has four bytes: the CRC-32 of the message before it,
     /// with a length field that counts the attribute, XORed with 0x5354554E
@@ -205,9 +198,7 @@ pub trait MessageWriteExt: MessageWrite {
             (Allocates (Self.state self.old) 4) result }
         ensures adds { Adds result (Self.state self.old) (Self.state self.new) FINGERPRINT
             (fingerprint_value (Self.state self.old).bytes
-            (length (Self.state self.old).bytes)) }
-        ensures size { OnOk result (length (Self.state self.new).bytes
-            ≡ whole (length (Self.state self.old).bytes) 4) };
+            (length (Self.state self.old).bytes)) };
 
     /// As [`MessageWriteExt::add_fingerprint`], without its checks: no FINGERPRINT is written, and
     /// there is room for one.
@@ -220,14 +211,10 @@ pub trait MessageWriteExt: MessageWrite {
         requires { add_refusal finger
             (Self.state self.old).types (length (Self.state self.old).bytes)
             (Self.state self.old).greatest ≡ None }
+        ensures answer { IsAddAnswer None (Allocates (Self.state self.old) 4) result }
         ensures adds { Adds result (Self.state self.old) (Self.state self.new) FINGERPRINT
             (fingerprint_value (Self.state self.old).bytes
-            (length (Self.state self.old).bytes)) }
-        ensures size { OnOk result (length (Self.state self.new).bytes
-            ≡ whole (length (Self.state self.old).bytes) 4) }
-        ensures err { IfErr result (λ e. e ≡ StunWriteError.OutOfMemory) }
-        ensures succeeds { 8 ≤ (Self.state self.old).ready_bytes
-            → 1 ≤ (Self.state self.old).ready_types → IsOk result };
+            (length (Self.state self.old).bytes)) };
 }
 
 impl<W: MessageWrite> MessageWriteExt for W {

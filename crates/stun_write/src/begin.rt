@@ -1,9 +1,9 @@
 //! Beginning a message.
 
-ghost use Rattle.std.specs.Prelude.{◌≡◌, ◌^◌, ◌<◌, [], OnErr};
+ghost use Rattle.std.specs.Prelude.{◌≡◌, ◌^◌, ◌<◌, []};
 ghost use Rattle.stun_grammar.specs.Writing.{message_encoding};
 ghost use Rattle.stun_grammar.specs.Adding.{Fits};
-ghost use Rattle.stun_write.specs.Writers.{BeginsMessage, IsUnchanged, Keeps};
+ghost use Rattle.stun_write.specs.Writers.{BeginsMessage, IsBegun, Pushes};
 
 use crate::MessageWrite;
 use byteorder::{BigEndian, ByteOrder};
@@ -61,10 +61,8 @@ pub fn begin_message_into<B: MessageWrite>(
 ) -> Result<(), StunWriteError>
     requires empty { (B.state write.old).bytes ≡ [] }
     requires room { Fits (B.state write.old).greatest 20 }
-    ensures begins { BeginsMessage (λ _. B.state write.new) result (B.state write.old)
-        mtype transaction_id }
-    ensures same { OnErr result (IsUnchanged (B.state write.old) (B.state write.new)) }
-    ensures keeps { Keeps (B.state write.old) (B.state write.new) 20 0 }
+    ensures { Pushes result (B.state write.old) (B.state write.new) 20 0
+        (IsBegun (B.state write.old) (B.state write.new) mtype transaction_id) }
 {
     // by the contract of `data`, a writer without bytes has no attributes
     let _no_types = write.data();

@@ -1,16 +1,16 @@
 //! Computing the attributes that protect a message, over the bytes written so far, and appending
 //! them (RFC 8489, sections 14.5 to 14.7).
 
-ghost use Rattle.std.specs.Prelude.{◌≡◌, ◌+◌, ◌≤◌, [], ◌∷◌, ◌++◌, IsOk, IfErr, OnOk, OnErr, length, drop};
+ghost use Rattle.std.specs.Prelude.{None, length};
 ghost use Rattle.stun_grammar.specs.Hmac.{hmac, digest_length};
 ghost use Rattle.stun_grammar.specs.Verdicts.{covered_bytes, type_of_algorithm};
 ghost use Rattle.stun_grammar.specs.Fingerprints.{fingerprint_value};
 ghost use Rattle.stun_grammar.specs.Writing.{greatest_length};
-ghost use Rattle.stun_grammar.specs.Adding.{whole};
+ghost use Rattle.stun_grammar.specs.Adding.{IsAddAnswer};
 ghost use Rattle.stun_keys.specs.Keys.{key_bytes};
 ghost use Rattle.stun_grammar.specs.AttributeTypes.{FINGERPRINT as FINGERPRINT_TYPE};
 ghost use Rattle.stun_grammar.specs.Steps.{integrity_value};
-ghost use Rattle.stun_write.specs.Writers.{HasRoomFor, Adds};
+ghost use Rattle.stun_write.specs.Writers.{HasRoomFor, Allocates, Adds};
 
 use crate::MessageWrite;
 use stun_base::{AttributeType, StunWriteError};
@@ -26,13 +26,9 @@ pub(crate) fn push_sha1<W: MessageWrite>(
     key: &IntegrityKey,
 ) -> Result<(), StunWriteError>
     requires { HasRoomFor (W.state write.old) 20 }
+    ensures answer { IsAddAnswer None (Allocates (W.state write.old) 20) result }
     ensures adds { Adds result (W.state write.old) (W.state write.new) 0x0008
         (integrity_value (W.state write.old).bytes (key_bytes key.now) IntegrityAlgorithm.Sha1) }
-    ensures size { OnOk result (length (W.state write.new).bytes
-        ≡ whole (length (W.state write.old).bytes) 20) }
-    ensures err { IfErr result (λ e. e ≡ StunWriteError.OutOfMemory) }
-    ensures succeeds { 4 + 20 ≤ (W.state write.old).ready_bytes
-        → 1 ≤ (W.state write.old).ready_types → IsOk result }
 {
     let bytes = write.data();
     let hmac = hmac_sha1_at(key, bytes, bytes.len(), 20);
@@ -46,13 +42,9 @@ pub(crate) fn push_sha256<W: MessageWrite>(
     key: &IntegrityKey,
 ) -> Result<(), StunWriteError>
     requires { HasRoomFor (W.state write.old) 32 }
+    ensures answer { IsAddAnswer None (Allocates (W.state write.old) 32) result }
     ensures adds { Adds result (W.state write.old) (W.state write.new) 0x001C
         (integrity_value (W.state write.old).bytes (key_bytes key.now) IntegrityAlgorithm.Sha256) }
-    ensures size { OnOk result (length (W.state write.new).bytes
-        ≡ whole (length (W.state write.old).bytes) 32) }
-    ensures err { IfErr result (λ e. e ≡ StunWriteError.OutOfMemory) }
-    ensures succeeds { 4 + 32 ≤ (W.state write.old).ready_bytes
-        → 1 ≤ (W.state write.old).ready_types → IsOk result }
 {
     let bytes = write.data();
     let hmac = hmac_sha256_at(key, bytes, bytes.len(), 32);
@@ -66,13 +58,10 @@ pub(crate) fn push_integrity<W: MessageWrite>(
     algorithm: IntegrityAlgorithm,
 ) -> Result<(), StunWriteError>
     requires { HasRoomFor (W.state write.old) (digest_length algorithm) }
+    ensures answer { IsAddAnswer None
+        (Allocates (W.state write.old) (digest_length algorithm)) result }
     ensures adds { Adds result (W.state write.old) (W.state write.new) (type_of_algorithm algorithm)
         (integrity_value (W.state write.old).bytes (key_bytes key.now) algorithm) }
-    ensures size { OnOk result (length (W.state write.new).bytes
-        ≡ whole (length (W.state write.old).bytes) (digest_length algorithm)) }
-    ensures err { IfErr result (λ e. e ≡ StunWriteError.OutOfMemory) }
-    ensures succeeds { 4 + digest_length algorithm ≤ (W.state write.old).ready_bytes
-        → 1 ≤ (W.state write.old).ready_types → IsOk result }
 {
     match algorithm {
         IntegrityAlgorithm::Sha1 => push_sha1(write, key),
@@ -84,13 +73,9 @@ pub(crate) fn push_integrity<W: MessageWrite>(
 #[tactic(auto, using(stun_grammar::proofs::AddingLemmas::appended_length, crate::proofs::KeptHeadersLemmas::pushed, stun_grammar::proofs::AddingLemmas::fingerprint_length))]
 pub(crate) fn push_fingerprint<W: MessageWrite>(write: &mut W) -> Result<(), StunWriteError>
     requires { HasRoomFor (W.state write.old) 4 }
+    ensures answer { IsAddAnswer None (Allocates (W.state write.old) 4) result }
     ensures adds { Adds result (W.state write.old) (W.state write.new) FINGERPRINT_TYPE
         (fingerprint_value (W.state write.old).bytes (length (W.state write.old).bytes)) }
-    ensures size { OnOk result (length (W.state write.new).bytes
-        ≡ whole (length (W.state write.old).bytes) 4) }
-    ensures err { IfErr result (λ e. e ≡ StunWriteError.OutOfMemory) }
-    ensures succeeds { 4 + 4 ≤ (W.state write.old).ready_bytes
-        → 1 ≤ (W.state write.old).ready_types → IsOk result }
 {
     let bytes = write.data();
     let value = fingerprint_at(bytes, bytes.len());

@@ -1,11 +1,10 @@
 //! Where a message is written to.
 
-ghost use Rattle.std.specs.Prelude.{◌≡◌, ◌+◌, ◌^◌, ◌<◌, ◌≤◌, [], IsOk, IfErr, OnOk, OnErr, length};
+ghost use Rattle.std.specs.Prelude.{◌≡◌, ◌+◌, ◌^◌, ◌<◌, ◌≤◌, [], length};
 ghost use Rattle.std.specs.Option.{option_map};
 ghost use Rattle.stun_grammar.specs.ScannedOrder.{has};
-ghost use Rattle.stun_grammar.specs.Attributes.{attribute_length};
 ghost use Rattle.stun_grammar.specs.Adding.{numbers, first_of, Fits};
-ghost use Rattle.stun_write.specs.Writers.{Writer, HasRoomFor, Extends, Gains, IsUnchanged, Keeps};
+ghost use Rattle.stun_write.specs.Writers.{Writer, HasRoomFor, Extends, Pushes, PushesAttribute};
 
 use stun_attrs::AttributeWrite;
 use stun_base::{AttributeType, StunWriteError};
@@ -74,11 +73,8 @@ pub trait MessageWrite {
     fn push_data(&mut self, more: &[u8]) -> Result<(), StunWriteError>
         requires { Fits (state self.old).greatest
             (length (state self.old).bytes + length more.now) }
-        ensures ok { OnOk result (Extends (state self.old) (state self.new) more.now) }
-        ensures same { OnErr result (IsUnchanged (state self.old) (state self.new)) }
-        ensures keeps { Keeps (state self.old) (state self.new) (length more.now) 0 }
-        ensures err { IfErr result (λ e. e ≡ StunWriteError.OutOfMemory) }
-        ensures succeeds { length more.now ≤ (state self.old).ready_bytes → IsOk result };
+        ensures { Pushes result (state self.old) (state self.new) (length more.now) 0
+            (Extends (state self.old) (state self.new) more.now) };
 
     /// Appends an attribute: its type, length, value and zero padding (RFC 8489, section 14), and
     /// sets the length field of the header to count them (section 5). At least twenty bytes are
@@ -93,15 +89,8 @@ pub trait MessageWrite {
         attribute: &dyn AttributeWrite,
     ) -> Result<(), StunWriteError>
         requires { HasRoomFor (state self.old) (length (value attribute.now)) }
-        ensures ok { OnOk result
-            (Gains (state self.old) (state self.new) (atype attribute.now) (value attribute.now)) }
-        ensures same { OnErr result (IsUnchanged (state self.old) (state self.new)) }
-        ensures keeps { Keeps (state self.old) (state self.new)
-            (attribute_length (length (value attribute.now))) 1 }
-        ensures err { IfErr result (λ e. e ≡ StunWriteError.OutOfMemory) }
-        ensures succeeds { attribute_length (length (value attribute.now))
-            ≤ (state self.old).ready_bytes
-            → 1 ≤ (state self.old).ready_types → IsOk result };
+        ensures { PushesAttribute result (state self.old) (state self.new)
+            (atype attribute.now) (value attribute.now) };
 
     /// As [`MessageWrite::push_attribute_unchecked`], with a type and a value of at most 65535
     /// bytes.
@@ -116,13 +105,7 @@ pub trait MessageWrite {
     ) -> Result<(), StunWriteError>
         requires value { length more.now ≤ 65535 }
         requires room { HasRoomFor (state self.old) (length more.now) }
-        ensures ok { OnOk result (Gains (state self.old) (state self.new) atype.0 more.now) }
-        ensures same { OnErr result (IsUnchanged (state self.old) (state self.new)) }
-        ensures keeps { Keeps (state self.old) (state self.new)
-            (attribute_length (length more.now)) 1 }
-        ensures err { IfErr result (λ e. e ≡ StunWriteError.OutOfMemory) }
-        ensures succeeds { attribute_length (length more.now) ≤ (state self.old).ready_bytes
-            → 1 ≤ (state self.old).ready_types → IsOk result };
+        ensures { PushesAttribute result (state self.old) (state self.new) atype.0 more.now };
 
     /// Ends the writing, and returns what was written or how much.
     fn finish(self) -> Self::Output

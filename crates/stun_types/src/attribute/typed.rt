@@ -3,8 +3,8 @@
 
 pub use stun_attributes::{
     AlternateDomain, AlternateServer, ErrorCode, ErrorCodeBuilder, MappedSocketAddr, Nonce,
-    PasswordAlgorithm, PasswordAlgorithms, Realm, Software, TextAttribute,
-    UnknownAttributes, Username, XorMappedAddress, XorSocketAddr,
+    PasswordAlgorithm, PasswordAlgorithms, Realm, Software, TextAttribute, UnknownAttributes,
+    Username, XorMappedAddress, XorSocketAddr,
 };
 pub use stun_integrity::{Fingerprint, MessageIntegrity, MessageIntegritySha256, Userhash};
 pub use stun_rules::PasswordAlgorithmValue;

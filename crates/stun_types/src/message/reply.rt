@@ -22,8 +22,8 @@ ghost use Rattle.stun_types.specs.Replies.{Answers, response_type, own_software,
 
 use super::Message;
 use std::alloc::Global;
-use stun_base::{AttributeType, MessageClass, MessageType, StunWriteError};
 use stun_attributes::{ErrorCode, Software, UnknownAttributes};
+use stun_base::{AttributeType, MessageClass, MessageType, StunWriteError};
 use stun_write::{MessageWrite, MessageWriteExt, is_among};
 
 /// Adds a SOFTWARE.

@@ -8,7 +8,7 @@ use Rattle.stun_write.proofs.steps.write_steps_into.Goals as goal
 
 pub loop-i-init : goal.loop-i-init
 loop-i-init g c =
-    let begun = c.in_ok-begin_message_into.ensures.begins.begun in
+    let begun = c.in_ok-begin_message_into.ensures.ok in
     let none = sym (body_none c.args.mtype c.args.id []) in
     record {
       so_far = record {
@@ -17,11 +17,11 @@ loop-i-init g c =
         types = begun.types ∙ ap types none;
         accepted = accepted_none c.args.mtype c.args.id begun.type_fits begun.id_fits;
         rest = begun.rest ∙ ap (λ (k : ℕ). drop k (g.B.MessageWrite.state c.args.write.now).rest) (sym begun.size);
-        keeps = record {
-          greatest = begun.keeps.greatest;
-          place = begun.keeps.place;
-          ready_bytes = omega (arith, begun.size, begun.keeps.ready_bytes);
-          ready_types = omega (arith, begun.keeps.ready_types);
+        spends = record {
+          greatest = begun.spends.greatest;
+          place = begun.spends.place;
+          ready_bytes = omega (arith, begun.size, begun.spends.ready_bytes);
+          ready_types = omega (arith, begun.spends.ready_types);
         };
       };
       count = c.requires.count;
@@ -35,7 +35,7 @@ loop-i-preserved g c =
     let left = leaves _ _ _ _ _ step.adds in
     let within : c.loop-i.i < length c.args.steps.now = omega arith in
     let start = g.B.MessageWrite.state c.args.write.now in
-    let on = verdict_at _ _ _ _ start _ _ _ _ _ _ _ _ now.bytes now.types now.keeps.greatest now.keeps.ready_bytes now.keeps.ready_types step.answer in
+    let on = verdict_at _ _ _ _ start _ _ _ _ _ _ _ _ now.bytes now.types now.spends.greatest now.spends.ready_bytes now.spends.ready_types step.answer in
     record {
       so_far = record {
         each = verdicts_more _ _ _ _ _ _ c.loop-i.i _ _ within count c.index-steps-i.is start now.each on;
@@ -43,11 +43,11 @@ loop-i-preserved g c =
         types = listed_more _ _ _ _ _ _ c.loop-i.i _ _ within count c.index-steps-i.is _ _ _ now.bytes now.types left.types left.same_types;
         accepted = accepted_more _ _ _ _ _ _ c.loop-i.i _ _ within count c.index-steps-i.is start now.accepted step.lawful c.requires.ordinary on;
         rest = rw (left.rest, now.rest, drop-drop) (grind (arith, left.grows));
-        keeps = record {
-          greatest = step.adds.keeps.greatest ∙ now.keeps.greatest;
-          place = step.adds.keeps.place ∙ now.keeps.place;
-          ready_bytes = omega (arith, left.ready_bytes, now.keeps.ready_bytes);
-          ready_types = omega (arith, left.ready_types, now.keeps.ready_types);
+        spends = record {
+          greatest = step.adds.spends.greatest ∙ now.spends.greatest;
+          place = step.adds.spends.place ∙ now.spends.place;
+          ready_bytes = omega (arith, left.ready_bytes, now.spends.ready_bytes);
+          ready_types = omega (arith, left.ready_types, now.spends.ready_types);
         };
       };
       count = grind (arith, common_steps);
