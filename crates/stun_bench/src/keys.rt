@@ -2,7 +2,7 @@
 
 ghost use Rattle.std.specs.Prelude.{◌≡◌, ◌≤◌, ◌*◌, ◌%◌, ◌^◌, true, ◌⊎◌, None, IfOk, IfSome, length, string_bytes};
 ghost use Rattle.stun_grammar.specs.declared.integrity_algorithm.IntegrityAlgorithm.{IntegrityAlgorithm};
-ghost use Rattle.stun_grammar.specs.Verdicts.{is_wanted, verdict};
+ghost use Rattle.stun_grammar.specs.Verdicts.{is_checked_type, verdict};
 ghost use Rattle.stun_keys.specs.Keys.{IsKey, key_bytes, credentials_key, credentials_algorithm};
 ghost use Rattle.stun_bench.specs.Answers.{none, algorithm_of as algorithm_told, hmac_number, verdict_number};
 
@@ -143,7 +143,7 @@ pub extern "C" fn stun_bench_validate(
     rounds: u64,
 ) -> u64
     ensures { (result ≡ none) ⊎ (result
-        ≡ (rounds * verdict_number (verdict (is_wanted None) (λ _. password.now) message.now))
+        ≡ (rounds * verdict_number (verdict (is_checked_type None) (λ _. password.now) message.now))
         % 2 ^ 64) }
 {
     let Ok(parsed) = Message::from_bytes(message) else {

@@ -18,7 +18,7 @@ use Rattle.stun_grammar.specs.AttributeTypes.{FINGERPRINT}
 use Rattle.stun_grammar.specs.Parsing.{parse_fault}
 use Rattle.stun_grammar.specs.Showing.{shown}
 use Rattle.stun_grammar.specs.Fingerprints.{fingerprint_value}
-use Rattle.stun_grammar.specs.Verdicts.{last_shown, verdict, is_wanted, Validates}
+use Rattle.stun_grammar.specs.Verdicts.{last_shown, verdict, is_checked_type, Validates}
 use Rattle.stun_grammar.specs.Authentic.{IsLocal, Content, content, authentic, checked, authentic_fingerprint, authentic_shown, shows_fingerprint, content_through, through_last}
 use Rattle.stun_grammar.proofs.ChainsLemmas.{chain-encodings}
 use Rattle.stun_grammar.proofs.ParsingLemmas.{placed-append, is_fingerprint, find_none}
@@ -52,13 +52,13 @@ pub shown_split : (m : Option IntegrityAlgorithm) (key : IntegrityAlgorithm → 
 shown_split m key d c a v = v.there.shows.shown_is ∙ ap (placed 20) v.there.splits.whole
 
 -- type, transaction ID and what is shown through the checked attribute are determined
-pub local_through : (m : Option IntegrityAlgorithm) (key : IntegrityAlgorithm → List ℕ) (d c : List ℕ) (a : IntegrityAlgorithm) → IsBytes d → Validates m key d c a → content_through (is_wanted m) d ≡ authentic c (key a) a
+pub local_through : (m : Option IntegrityAlgorithm) (key : IntegrityAlgorithm → List ℕ) (d c : List ℕ) (a : IntegrityAlgorithm) → IsBytes d → Validates m key d c a → content_through (is_checked_type m) d ≡ authentic c (key a) a
 unfolding authentic
 local_through m key d c a bytes v =
     let k = checks m key d c a bytes v in
     let split = k.there.splits in
     same_content _ _ _ _ _ _ (sym (ap number k.head_is)) (sym (ap number k.id_is))
-    (ap (through_last (is_wanted m)) (shown_split m key d c a k) ∙ through_at (is_wanted m) 20 split.before split.attribute split.behind split.passes split.last ∙ sym (told_attributes m key d c a k))
+    (ap (through_last (is_checked_type m)) (shown_split m key d c a k) ∙ through_at (is_checked_type m) 20 split.before split.attribute split.behind split.passes split.last ∙ sym (told_attributes m key d c a k))
 
 -- ---- A FINGERPRINT after it
 
@@ -167,7 +167,7 @@ module _ (key : IntegrityAlgorithm → List ℕ) (d c : List ℕ) (a : Integrity
 pub local : (key : IntegrityAlgorithm → List ℕ) (d c : List ℕ) (a : IntegrityAlgorithm) → IsBytes d → Validates None key d c a → content d ≡ authentic c (key a) a
 local key d c a bytes v = local_checked key d c a bytes (checks None key d c a bytes v)
 
-pub verdict_local : (key : IntegrityAlgorithm → List ℕ) (d : List ℕ) (a : IntegrityAlgorithm) → IsBytes d → verdict (is_wanted None) key d ≡ Ok a → IsLocal d (key a) a
+pub verdict_local : (key : IntegrityAlgorithm → List ℕ) (d : List ℕ) (a : IntegrityAlgorithm) → IsBytes d → verdict (is_checked_type None) key d ≡ Ok a → IsLocal d (key a) a
 verdict_local key d a bytes e =
     let found = validates None key d a e in
     (found.0, found.1.covers, local key d found.0 a bytes found.1)
@@ -206,6 +206,6 @@ same_shown key d e c a p q r s v w same = all_told key d c a p r v ∙ ap (authe
 
 -- where no integrity attribute is shown after the one that a key wants, wanting both types finds
 -- the same one
-pub as_both : (m : Option IntegrityAlgorithm) (key : IntegrityAlgorithm → List ℕ) (d c : List ℕ) (a : IntegrityAlgorithm) → last_shown both d ≡ last_shown (is_wanted m) d → Validates m key d c a → Validates None key d c a
+pub as_both : (m : Option IntegrityAlgorithm) (key : IntegrityAlgorithm → List ℕ) (d c : List ℕ) (a : IntegrityAlgorithm) → last_shown both d ≡ last_shown (is_checked_type m) d → Validates m key d c a → Validates None key d c a
 unfolding verdict
 as_both m key d c a same v = record { answers = rw same v.answers; covers = rw same v.covers }

@@ -11,7 +11,7 @@ use Rattle.stun_grammar.specs.Attributes.{Attribute, IsAttribute, canonical, enc
 use Rattle.stun_grammar.specs.Chains.{Shown, placed}
 use Rattle.stun_grammar.specs.ShownOrder.{in_order, optional, without}
 use Rattle.stun_grammar.specs.AttributeTypes.{MESSAGE_INTEGRITY_SHA256, FINGERPRINT}
-use Rattle.stun_grammar.specs.Verdicts.{type_of_algorithm, algorithm_of, last_shown, hmac_fault, covered_bytes, verdict, is_wanted, Validates}
+use Rattle.stun_grammar.specs.Verdicts.{type_of_algorithm, algorithm_of, last_shown, hmac_fault, covered_bytes, verdict, is_checked_type, Validates}
 use Rattle.stun_grammar.specs.Authentic.{stated_hmac_length, checked, through_last}
 use Rattle.stun_grammar.specs.Hmac.{hmac}
 use Rattle.stun_grammar.proofs.ShownOrderLemmas.{in_order-integrity, in_order-sha256}
@@ -29,29 +29,29 @@ right_or : (p q : Bool) → q ≡ true → (p || q) ≡ true
 right_or true q e = refl
 right_or false q e = e
 
-pub wanted_both : (m : Option IntegrityAlgorithm) (k : ℕ) → is_wanted m k ≡ true → both k ≡ true
+pub wanted_both : (m : Option IntegrityAlgorithm) (k : ℕ) → is_checked_type m k ≡ true → both k ≡ true
 wanted_both None k e = e
 wanted_both (Some Sha1) k e = left_or (eqb k 0x0008) (eqb k 0x001C) e
 wanted_both (Some Sha256) k e = right_or (eqb k 0x0008) (eqb k 0x001C) e
 
 -- with a key that was made for an algorithm the verdict is of that one only
-pub wanted_algorithm : (a : IntegrityAlgorithm) (k : ℕ) → is_wanted (Some a) k ≡ true → algorithm_of k ≡ a
+pub wanted_algorithm : (a : IntegrityAlgorithm) (k : ℕ) → is_checked_type (Some a) k ≡ true → algorithm_of k ≡ a
 wanted_algorithm Sha1 k e = ap algorithm_of (eqb-true k 0x0008 e)
 wanted_algorithm Sha256 k e = ap algorithm_of (eqb-true k 0x001C e)
 
-pub wanted_own : (a : IntegrityAlgorithm) → is_wanted (Some a) (type_of_algorithm a) ≡ true
+pub wanted_own : (a : IntegrityAlgorithm) → is_checked_type (Some a) (type_of_algorithm a) ≡ true
 wanted_own Sha1 = refl
 wanted_own Sha256 = refl
 
 -- no ending type occurs twice in order
-pub none_same : (a : IntegrityAlgorithm) (ks : List ℕ) → in_order (type_of_algorithm a ∷ ks) ≡ true → list_any (is_wanted (Some a)) ks ≡ false
+pub none_same : (a : IntegrityAlgorithm) (ks : List ℕ) → in_order (type_of_algorithm a ∷ ks) ≡ true → list_any (is_checked_type (Some a)) ks ≡ false
 none_same Sha1 ks e =
     let b = maybe MESSAGE_INTEGRITY_SHA256 ks in
     let c = maybe FINGERPRINT (without MESSAGE_INTEGRITY_SHA256 ks) in
     let end = empty (without FINGERPRINT (without MESSAGE_INTEGRITY_SHA256 ks)) (sym (in_order-integrity ks) ∙ e) in
-    ap (list_any (is_wanted (Some Sha1))) (b.1 ∙ ap (λ (x : List ℕ). optional b.0 MESSAGE_INTEGRITY_SHA256 ++ x) (c.1 ∙ ap (λ (x : List ℕ). optional c.0 FINGERPRINT ++ x) end)) ∙ neither b.0 c.0
+    ap (list_any (is_checked_type (Some Sha1))) (b.1 ∙ ap (λ (x : List ℕ). optional b.0 MESSAGE_INTEGRITY_SHA256 ++ x) (c.1 ∙ ap (λ (x : List ℕ). optional c.0 FINGERPRINT ++ x) end)) ∙ neither b.0 c.0
   where
-    neither : (p q : Bool) → list_any (is_wanted (Some Sha1)) (optional p MESSAGE_INTEGRITY_SHA256 ++ (optional q FINGERPRINT ++ [])) ≡ false
+    neither : (p q : Bool) → list_any (is_checked_type (Some Sha1)) (optional p MESSAGE_INTEGRITY_SHA256 ++ (optional q FINGERPRINT ++ [])) ≡ false
     neither true true = refl
     neither true false = refl
     neither false true = refl
@@ -59,9 +59,9 @@ none_same Sha1 ks e =
 none_same Sha256 ks e =
     let c = maybe FINGERPRINT ks in
     let end = empty (without FINGERPRINT ks) (sym (in_order-sha256 ks) ∙ e) in
-    ap (list_any (is_wanted (Some Sha256))) (c.1 ∙ ap (λ (x : List ℕ). optional c.0 FINGERPRINT ++ x) end) ∙ neither c.0
+    ap (list_any (is_checked_type (Some Sha256))) (c.1 ∙ ap (λ (x : List ℕ). optional c.0 FINGERPRINT ++ x) end) ∙ neither c.0
   where
-    neither : (q : Bool) → list_any (is_wanted (Some Sha256)) (optional q FINGERPRINT ++ []) ≡ false
+    neither : (q : Bool) → list_any (is_checked_type (Some Sha256)) (optional q FINGERPRINT ++ []) ≡ false
     neither true = refl
     neither false = refl
 
@@ -79,9 +79,9 @@ no_padding a ok fours =
 
 pub record Checks (m : Option IntegrityAlgorithm) (key : IntegrityAlgorithm → List ℕ) (d c : List ℕ) (a : IntegrityAlgorithm) : Type 0 where
   pub x : Shown
-  pub last_is : last_shown (is_wanted m) d ≡ Some x
+  pub last_is : last_shown (is_checked_type m) d ≡ Some x
   pub covers : covered_bytes d x.offset (length x.value) ≡ c
-  pub there : Stands (is_wanted m) d x
+  pub there : Stands (is_checked_type m) d x
   pub answered : a ≡ algorithm_of x.type
   pub long : length c ≡ x.offset
   pub prefix_is : drop 20 c ≡ encodings there.splits.before
@@ -95,11 +95,11 @@ pub record Checks (m : Option IntegrityAlgorithm) (key : IntegrityAlgorithm → 
   pub is_attribute : IsAttribute there.splits.attribute
   pub written : there.splits.attribute ≡ checked c (key a) a
 
-checks_covered : (m : Option IntegrityAlgorithm) (key : IntegrityAlgorithm → List ℕ) (d : List ℕ) (a : IntegrityAlgorithm) (bytes : IsBytes d) (acc : Accepts (is_wanted m) key d a)
+checks_covered : (m : Option IntegrityAlgorithm) (key : IntegrityAlgorithm → List ℕ) (d : List ℕ) (a : IntegrityAlgorithm) (bytes : IsBytes d) (acc : Accepts (is_checked_type m) key d a)
     → Checks m key d (covered_bytes d acc.x.offset (length acc.x.value)) a
 checks_covered m key d a bytes acc =
     let x = acc.x in
-    let there = stands (is_wanted m) d x bytes acc.last_is in
+    let there = stands (is_checked_type m) d x bytes acc.last_is in
     let split = there.splits in
     let n : ℕ = length x.value in
     let c = covered_bytes d x.offset n in
@@ -136,7 +136,7 @@ checks_covered m key d a bytes acc =
 
 pub checks : (m : Option IntegrityAlgorithm) (key : IntegrityAlgorithm → List ℕ) (d c : List ℕ) (a : IntegrityAlgorithm) → IsBytes d → Validates m key d c a → Checks m key d c a
 checks m key d c a bytes v =
-    let acc = accepted (is_wanted m) key d a v.answers in
+    let acc = accepted (is_checked_type m) key d a v.answers in
     let same : covered_bytes d acc.x.offset (length acc.x.value) ≡ c = some_is _ _ (sym (rw acc.last_is refl) ∙ v.covers) in
     subst (λ (t : List ℕ). Checks m key d t a) same (checks_covered m key d a bytes acc)
   where
@@ -186,7 +186,7 @@ own_algorithm b key d c a bytes v =
     k.answered ∙ ap (λ (y : Shown). algorithm_of y.type) k.there.splits.is ∙ wanted_algorithm b k.there.splits.attribute.type k.there.splits.passes
 
 -- where the verdict is Ok, there are covered bytes
-pub validates : (m : Option IntegrityAlgorithm) (key : IntegrityAlgorithm → List ℕ) (d : List ℕ) (a : IntegrityAlgorithm) → verdict (is_wanted m) key d ≡ Ok a → (c : List ℕ) × Validates m key d c a
+pub validates : (m : Option IntegrityAlgorithm) (key : IntegrityAlgorithm → List ℕ) (d : List ℕ) (a : IntegrityAlgorithm) → verdict (is_checked_type m) key d ≡ Ok a → (c : List ℕ) × Validates m key d c a
 validates m key d a e =
-    let acc = accepted (is_wanted m) key d a e in
+    let acc = accepted (is_checked_type m) key d a e in
     (covered_bytes d acc.x.offset (length acc.x.value), record { answers = e; covers = rw acc.last_is refl })

@@ -17,7 +17,7 @@ use Rattle.stun_grammar.specs.Prefixes.{longest_prefix}
 use Rattle.stun_grammar.specs.AttributeTypes.{MESSAGE_INTEGRITY_SHA256}
 use Rattle.stun_grammar.specs.Showing.{frame_fault, shown_prefix}
 use Rattle.stun_grammar.specs.Fingerprints.{message_before}
-use Rattle.stun_grammar.specs.Verdicts.{type_of_algorithm, algorithm_of, last_shown, hmac_fault, covered_bytes, is_wanted, Validates}
+use Rattle.stun_grammar.specs.Verdicts.{type_of_algorithm, algorithm_of, last_shown, hmac_fault, covered_bytes, is_checked_type, Validates}
 use Rattle.stun_grammar.specs.Authentic.{stated_hmac_length, checked}
 use Rattle.stun_grammar.specs.Carrying.{CarriesPrefix, Carries}
 use Rattle.stun_grammar.specs.Hmac.{hmac}
@@ -119,8 +119,8 @@ behind_checked : (d c key : List ℕ) (algorithm : IntegrityAlgorithm) → Carri
 behind_checked d c key algorithm f = longest_prefix (λ q. test ((chain (drop 20 c) ++ checked c key algorithm ∷ []) ++ q)) (chain f.others)
 
 carried_prefix : (m : Option IntegrityAlgorithm) (key : IntegrityAlgorithm → List ℕ) (d c : List ℕ) (algorithm : IntegrityAlgorithm) → IsBytes d → frame_fault d ≡ None
-    → (f : CarriesPrefix d c (key algorithm) algorithm) → is_wanted m (type_of_algorithm algorithm) ≡ true
-    → (in_order (type_of_algorithm algorithm ∷ types (behind_checked d c (key algorithm) algorithm f)) ≡ true → list_any (is_wanted m) (types (behind_checked d c (key algorithm) algorithm f)) ≡ false)
+    → (f : CarriesPrefix d c (key algorithm) algorithm) → is_checked_type m (type_of_algorithm algorithm) ≡ true
+    → (in_order (type_of_algorithm algorithm ∷ types (behind_checked d c (key algorithm) algorithm f)) ≡ true → list_any (is_checked_type m) (types (behind_checked d c (key algorithm) algorithm f)) ≡ false)
     → Validates m key d c algorithm
 unfolding behind_checked
 carried_prefix m key-of d c algorithm bytes frame f asked quiet =
@@ -157,9 +157,9 @@ carried_prefix m key-of d c algorithm bytes frame f asked quiet =
     let whole-order : in_order (types before ++ type_of_algorithm algorithm ∷ types behind) ≡ true =
     ap in_order (sym (ap types shown-prefix ∙ types-append before (w ∷ behind))) ∙ s.ordered in
     let tail-order = (order_split (types before) (type_of_algorithm algorithm) (types behind) whole-order).1 in
-    let none : list_any (is_wanted m) (types behind) ≡ false = quiet tail-order in
+    let none : list_any (is_checked_type m) (types behind) ≡ false = quiet tail-order in
     let x : Shown = shown_as (20 + length (encodings before)) (type_of_algorithm algorithm) value in
-    let last : last_shown (is_wanted m) d ≡ Some x = ap (λ (xs : List Shown). find (at_type (is_wanted m)) (reverse xs)) (s.shown_is ∙ ap (placed 20) shown-prefix) ∙ last_at (is_wanted m) 20 before w behind asked none in
+    let last : last_shown (is_checked_type m) d ≡ Some x = ap (λ (xs : List Shown). find (at_type (is_checked_type m)) (reverse xs)) (s.shown_is ∙ ap (placed 20) shown-prefix) ∙ last_at (is_checked_type m) 20 before w behind asked none in
     -- what is covered
     let offset : 20 + length (encodings before) ≡ length c = omega (arith, ap length prefix-is, length-drop 20 c, f.header) in
     let d2 : slice_range d 0 2 ≡ slice_range c 0 2 = ap (take 2) f.whole ∙ take_at (slice_range c 0 2) (f.field ++ (drop 4 c ++ (encoding w ++ others))) 2 two-is in
@@ -174,7 +174,7 @@ carried_prefix m key-of d c algorithm bytes frame f asked quiet =
     ∙ ap (λ (t : List ℕ). take (length value) (hmac algorithm key t)) covers ∙ ap (λ (k : ℕ). take k (hmac algorithm key c)) value-length) in
     let passed : value_test key-of d x ≡ true = (slice_eq-Decides Decides-eqb value (take (length value) (hmac (algorithm_of (type_of_algorithm algorithm)) (key-of (algorithm_of (type_of_algorithm algorithm))) (covered_bytes d (20 + length (encodings before)) (length value)))) _ refl).1 right in
     record {
-      answers = verdict_ok (is_wanted m) key-of d x last lawful-is passed ∙ ap Ok same;
+      answers = verdict_ok (is_checked_type m) key-of d x last lawful-is passed ∙ ap Ok same;
       covers = ap (λ (o : Option Shown). option_map (λ y. covered_bytes d y.offset (length y.value)) o) last ∙ ap Some covers;
     }
 

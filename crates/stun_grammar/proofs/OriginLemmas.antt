@@ -13,7 +13,7 @@ use Rattle.stun_grammar.specs.Numbers.{IsBytes}
 use Rattle.stun_grammar.specs.Attributes.{Attribute, IsAttribute}
 use Rattle.stun_grammar.specs.Chains.{placed}
 use Rattle.stun_grammar.specs.Hmac.{digest_length}
-use Rattle.stun_grammar.specs.Verdicts.{type_of_algorithm, covered_bytes, is_wanted, Validates}
+use Rattle.stun_grammar.specs.Verdicts.{type_of_algorithm, covered_bytes, is_checked_type, Validates}
 use Rattle.stun_grammar.specs.Authentic.{Content, content, content_through, authentic}
 use Rattle.stun_grammar.specs.Writing.{message_encoding}
 use Rattle.stun_grammar.specs.Steps.{Step, add, sign, finger, appended_by, with_step, IsLawful}
@@ -107,7 +107,7 @@ pub origin : (key : IntegrityAlgorithm → List ℕ) (d c : List ℕ) (a : Integ
 origin key d c a sent bytes lawful v = comes_from sent (key a) a c _ _ (local key d c a bytes v) (search_sent (key a) a c sent lawful)
 
 pub origin_through : (m : Option IntegrityAlgorithm) (key : IntegrityAlgorithm → List ℕ) (d c : List ℕ) (a : IntegrityAlgorithm) (sent : List Sent) → IsBytes d → AllByRecursion IsLawfulSent sent → Validates m key d c a
-    → IsUnsigned sent (key a) a c ⊎ ComesFrom sent (key a) a c (content_through (is_wanted m) d)
+    → IsUnsigned sent (key a) a c ⊎ ComesFrom sent (key a) a c (content_through (is_checked_type m) d)
 origin_through m key d c a sent bytes lawful v = comes_from sent (key a) a c _ _ (local_through m key d c a bytes v) (search_sent (key a) a c sent lawful)
 
 -- every message in which the covered bytes are signed has the content

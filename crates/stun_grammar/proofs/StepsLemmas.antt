@@ -18,7 +18,7 @@ use Rattle.stun_grammar.specs.ShownOrder.{in_order, optional}
 use Rattle.stun_grammar.specs.Parsing.{parse_fault}
 use Rattle.stun_grammar.specs.Showing.{shown}
 use Rattle.stun_grammar.specs.Fingerprints.{fingerprint_fault, first_fingerprint_fault}
-use Rattle.stun_grammar.specs.Verdicts.{type_of_algorithm, is_wanted, verdict}
+use Rattle.stun_grammar.specs.Verdicts.{type_of_algorithm, is_checked_type, verdict}
 use Rattle.stun_grammar.specs.Writing.{message_encoding, IsWritable}
 use Rattle.stun_grammar.specs.Steps.{Step, add, sign, finger, appended_by, with_step, IsLawful, IsOrdinaryStep, barring_types, value_length, is_signing}
 use Rattle.stun_grammar.specs.Sending.{body_from, Sent, body, sent_encoding, MayFollow, EachMayFollow, IsAccepted}
@@ -309,11 +309,11 @@ own_type Sha256 = refl
 
 -- a message validates with the key of the last step that signs
 pub last_validates : (sent : Sent) (before behind : List Step) (a : IntegrityAlgorithm) (key : IntegrityAlgorithm → List ℕ) → IsAccepted sent
-    → sent.steps ≡ before ++ sign a (key a) ∷ behind → list_any is_signing behind ≡ false → verdict (is_wanted None) key (sent_encoding sent) ≡ Ok a
+    → sent.steps ≡ before ++ sign a (key a) ∷ behind → list_any is_signing behind ≡ false → verdict (is_checked_type None) key (sent_encoding sent) ≡ Ok a
 last_validates sent before behind a key ok e none =
     let at = signed_at sent.type sent.id sent.steps before a (key a) behind e in
     let plain : AllByRecursion IsOrdinaryStep behind = (AllByRecursion-behind IsOrdinaryStep before (sign a (key a) ∷ behind) (subst (AllByRecursion IsOrdinaryStep) e ok.ordinary)).1 in
-    validates_at sent (body sent) a key behind (is_wanted None) at (is_writable sent ok) (own_type a) (at.quiet none plain)
+    validates_at sent (body sent) a key behind (is_checked_type None) at (is_writable sent ok) (own_type a) (at.quiet none plain)
 
 sign_type : (message : List ℕ) (b : IntegrityAlgorithm) (k : List ℕ) → (appended_by (sign b k) message).type ≡ type_of_algorithm b
 unfolding appended_by
@@ -321,11 +321,11 @@ sign_type message b k = refl
 
 -- a message validates with a key that was made for the algorithm of any step that signs
 pub each_validates : (sent : Sent) (before behind : List Step) (a : IntegrityAlgorithm) (key : IntegrityAlgorithm → List ℕ) → IsAccepted sent
-    → sent.steps ≡ before ++ sign a (key a) ∷ behind → verdict (is_wanted (Some a)) key (sent_encoding sent) ≡ Ok a
+    → sent.steps ≡ before ++ sign a (key a) ∷ behind → verdict (is_checked_type (Some a)) key (sent_encoding sent) ≡ Ok a
 each_validates sent before behind a key ok e =
     let at = signed_at sent.type sent.id sent.steps before a (key a) behind e in
     let so = is_writable sent ok in
     let own = sign_type (message_encoding sent.type sent.id at.before) a (key a) in
     let order : in_order (types at.before ++ type_of_algorithm a ∷ types at.more) ≡ true =
     ap (λ (k : ℕ). in_order (types at.before ++ k ∷ types at.more)) (sym own) ∙ ap in_order (sym (ap types at.is ∙ map-append (λ x. x.type) at.before _)) ∙ so.ordered in
-    validates_at sent (body sent) a key behind (is_wanted (Some a)) at so (wanted_own a) (none_same a (types at.more) (order_split (types at.before) (type_of_algorithm a) (types at.more) order).1)
+    validates_at sent (body sent) a key behind (is_checked_type (Some a)) at so (wanted_own a) (none_same a (types at.more) (order_split (types at.before) (type_of_algorithm a) (types at.more) order).1)

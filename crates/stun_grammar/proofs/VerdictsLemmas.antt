@@ -22,7 +22,7 @@ use Rattle.stun_grammar.specs.ScannedOrder.{has}
 use Rattle.stun_grammar.specs.AttributeTypes.{FINGERPRINT}
 use Rattle.stun_grammar.specs.Showing.{frame_fault, shown_prefix}
 use Rattle.stun_grammar.specs.Fingerprints.{message_before}
-use Rattle.stun_grammar.specs.Verdicts.{type_of_algorithm, algorithm_of, is_wanted, last_shown, hmac_fault, covered_bytes, verdict_on, verdict}
+use Rattle.stun_grammar.specs.Verdicts.{type_of_algorithm, algorithm_of, is_checked_type, last_shown, hmac_fault, covered_bytes, verdict_on, verdict}
 use Rattle.stun_grammar.specs.Lengths.{range_fault}
 use Rattle.stun_grammar.specs.Authentic.{stated_hmac_length}
 use Rattle.stun_grammar.specs.Hmac.{digest_length, hmac}
@@ -52,7 +52,7 @@ order_split (b ∷ (b' ∷ bs)) k cs e =
     (ap (λ (t : Bool). t || has FINGERPRINT (b' ∷ bs)) parts.0 ∙ behind.0, behind.1)
 
 abbrev pub both : ℕ → Bool
-both = is_wanted None
+both = is_checked_type None
 
 both-integrity : both 0x0008 ≡ true
 both-integrity = refl

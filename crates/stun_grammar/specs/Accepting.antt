@@ -5,7 +5,7 @@ use Rattle.stun_grammar.specs.declared.integrity_algorithm.IntegrityAlgorithm.{I
 use Rattle.stun_grammar.specs.Numbers.{IsBytes}
 use Rattle.stun_grammar.specs.AttributeTypes.{FINGERPRINT}
 use Rattle.stun_grammar.specs.Showing.{shown}
-use Rattle.stun_grammar.specs.Verdicts.{is_wanted, last_shown, covered, Validates}
+use Rattle.stun_grammar.specs.Verdicts.{is_checked_type, last_shown, covered, Validates}
 use Rattle.stun_grammar.specs.Authentic.{content, content_through, authentic, authentic_fingerprint}
 use Rattle.stun_grammar.specs.Sending.{Sent, IsLawfulSent}
 use Rattle.stun_grammar.specs.Origin.{IsUnsigned, ComesFrom}
@@ -22,14 +22,14 @@ FingerprintIsAuthentic d c key algorithm =
 -- bytes, or the content is that of a message in which they were signed
 pub record IsAuthentic (key : IntegrityAlgorithm → List ℕ) (d : List ℕ)
     (algorithm : IntegrityAlgorithm) : Type 0 where
-  pub covers : (c : List ℕ) × (covered (is_wanted None) d ≡ Some c)
-  pub told : (c : List ℕ) → covered (is_wanted None) d ≡ Some c
+  pub covers : (c : List ℕ) × (covered (is_checked_type None) d ≡ Some c)
+  pub told : (c : List ℕ) → covered (is_checked_type None) d ≡ Some c
       → content d ≡ authentic c (key algorithm) algorithm
-  pub fingerprint : (c : List ℕ) → covered (is_wanted None) d ≡ Some c
+  pub fingerprint : (c : List ℕ) → covered (is_checked_type None) d ≡ Some c
       → FingerprintIsAuthentic d c (key algorithm) algorithm
-  pub same : (c e : List ℕ) → covered (is_wanted None) d ≡ Some c → IsBytes e
+  pub same : (c e : List ℕ) → covered (is_checked_type None) d ≡ Some c → IsBytes e
       → Validates None key e c algorithm → content d ≡ content e
-  pub origin : (c : List ℕ) (sent : List Sent) → covered (is_wanted None) d ≡ Some c
+  pub origin : (c : List ℕ) (sent : List Sent) → covered (is_checked_type None) d ≡ Some c
       → AllByRecursion IsLawfulSent sent
       → IsUnsigned sent (key algorithm) algorithm c
       ⊎ ComesFrom sent (key algorithm) algorithm c (content d)
@@ -41,19 +41,19 @@ pub record IsAuthenticThrough (made_for : Option IntegrityAlgorithm)
     (key : IntegrityAlgorithm → List ℕ) (d : List ℕ)
     (algorithm : IntegrityAlgorithm) : Type 0 where
   pub own : IfSome made_for (λ served. algorithm ≡ served)
-  pub covers : (c : List ℕ) × (covered (is_wanted made_for) d ≡ Some c)
-  pub told : (c : List ℕ) → covered (is_wanted made_for) d ≡ Some c
-      → content_through (is_wanted made_for) d ≡ authentic c (key algorithm) algorithm
-  pub fingerprint : (c : List ℕ) → covered (is_wanted made_for) d ≡ Some c
-      → last_shown (is_wanted None) d ≡ last_shown (is_wanted made_for) d
+  pub covers : (c : List ℕ) × (covered (is_checked_type made_for) d ≡ Some c)
+  pub told : (c : List ℕ) → covered (is_checked_type made_for) d ≡ Some c
+      → content_through (is_checked_type made_for) d ≡ authentic c (key algorithm) algorithm
+  pub fingerprint : (c : List ℕ) → covered (is_checked_type made_for) d ≡ Some c
+      → last_shown (is_checked_type None) d ≡ last_shown (is_checked_type made_for) d
       → FingerprintIsAuthentic d c (key algorithm) algorithm
-  pub whole : (c : List ℕ) → covered (is_wanted made_for) d ≡ Some c
-      → last_shown (is_wanted None) d ≡ last_shown (is_wanted made_for) d
+  pub whole : (c : List ℕ) → covered (is_checked_type made_for) d ≡ Some c
+      → last_shown (is_checked_type None) d ≡ last_shown (is_checked_type made_for) d
       → content d ≡ authentic c (key algorithm) algorithm
-  pub same : (c e : List ℕ) → covered (is_wanted made_for) d ≡ Some c → IsBytes e
+  pub same : (c e : List ℕ) → covered (is_checked_type made_for) d ≡ Some c → IsBytes e
       → Validates made_for key e c algorithm
-      → content_through (is_wanted made_for) d ≡ content_through (is_wanted made_for) e
-  pub origin : (c : List ℕ) (sent : List Sent) → covered (is_wanted made_for) d ≡ Some c
+      → content_through (is_checked_type made_for) d ≡ content_through (is_checked_type made_for) e
+  pub origin : (c : List ℕ) (sent : List Sent) → covered (is_checked_type made_for) d ≡ Some c
       → AllByRecursion IsLawfulSent sent
       → IsUnsigned sent (key algorithm) algorithm c
-      ⊎ ComesFrom sent (key algorithm) algorithm c (content_through (is_wanted made_for) d)
+      ⊎ ComesFrom sent (key algorithm) algorithm c (content_through (is_checked_type made_for) d)

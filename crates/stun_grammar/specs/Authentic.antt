@@ -9,7 +9,7 @@ use Rattle.stun_grammar.specs.AttributeTypes.{FINGERPRINT}
 use Rattle.stun_grammar.specs.Showing.{shown}
 use Rattle.stun_grammar.specs.Fingerprints.{fingerprint_value}
 use Rattle.stun_grammar.specs.Hmac.{hmac}
-use Rattle.stun_grammar.specs.Verdicts.{type_of_algorithm, is_wanted, covered}
+use Rattle.stun_grammar.specs.Verdicts.{type_of_algorithm, is_checked_type, covered}
 
 -- ---- The content of a message
 
@@ -85,4 +85,5 @@ authentic_shown c key algorithm fingerprint =
 -- the content of d is what the bytes determine that its last integrity attribute covers
 abbrev pub IsLocal : List ℕ → List ℕ → IntegrityAlgorithm → Type 0
 IsLocal d key algorithm =
-    (c : List ℕ) × (covered (is_wanted None) d ≡ Some c) × (content d ≡ authentic c key algorithm)
+    (c : List ℕ) × (covered (is_checked_type None) d ≡ Some c)
+    × (content d ≡ authentic c key algorithm)

@@ -27,11 +27,11 @@ type_of_algorithm Sha256 = MESSAGE_INTEGRITY_SHA256
 abbrev pub algorithm_of : ℕ → IntegrityAlgorithm
 algorithm_of type = if type == MESSAGE_INTEGRITY then Sha1 else Sha256
 
--- whether attributes of this type are wanted: both integrity attributes are, but with a key that
+-- whether attributes of this type are checked: both integrity attributes are, but with a key that
 -- was made for one algorithm only the attribute of that algorithm
-abbrev pub is_wanted : Option IntegrityAlgorithm → ℕ → Bool
-is_wanted None type = (type == MESSAGE_INTEGRITY) || (type == MESSAGE_INTEGRITY_SHA256)
-is_wanted (Some algorithm) type = type == type_of_algorithm algorithm
+abbrev pub is_checked_type : Option IntegrityAlgorithm → ℕ → Bool
+is_checked_type None type = (type == MESSAGE_INTEGRITY) || (type == MESSAGE_INTEGRITY_SHA256)
+is_checked_type (Some algorithm) type = type == type_of_algorithm algorithm
 
 -- the last attribute shown of a wanted type
 abbrev pub last_shown : (ℕ → Bool) → List ℕ → Option Shown
@@ -77,5 +77,5 @@ covered wanted d = option_map (λ x. covered_bytes d x.offset (length x.value)) 
 -- d validates with an algorithm, and c are the covered bytes
 pub record Validates (made_for : Option IntegrityAlgorithm) (key : IntegrityAlgorithm → List ℕ)
     (d c : List ℕ) (algorithm : IntegrityAlgorithm) : Type 0 where
-  pub answers : verdict (is_wanted made_for) key d ≡ Ok algorithm
-  pub covers : covered (is_wanted made_for) d ≡ Some c
+  pub answers : verdict (is_checked_type made_for) key d ≡ Ok algorithm
+  pub covers : covered (is_checked_type made_for) d ≡ Some c

@@ -15,7 +15,7 @@ ghost use Rattle.stun_grammar.specs.AttributeTypes.{FINGERPRINT};
 ghost use Rattle.stun_grammar.specs.Parsing.{parse_fault};
 ghost use Rattle.stun_grammar.specs.Showing.{shown};
 ghost use Rattle.stun_grammar.specs.Fingerprints.{first_fingerprint_fault};
-ghost use Rattle.stun_grammar.specs.Verdicts.{type_of_algorithm, is_wanted, last_shown, verdict, Validates};
+ghost use Rattle.stun_grammar.specs.Verdicts.{type_of_algorithm, is_checked_type, last_shown, verdict, Validates};
 ghost use Rattle.stun_grammar.specs.Authentic.{IsLocal, content, content_through, shows_fingerprint, authentic, authentic_fingerprint, authentic_shown};
 ghost use Rattle.stun_grammar.specs.Carrying.{Carries, CarriesPrefix};
 ghost use Rattle.stun_grammar.specs.Writing.{message_encoding, IsWritable};
@@ -33,7 +33,7 @@ pub fn integrity_is_local()
         → IsBytes d → Validates None key d c a → content d ≡ authentic c (key a) a }
     // the same from the verdict alone: where it is Ok, some bytes were covered
     ensures verdict { (key : IntegrityAlgorithm → List ℕ) (d : List ℕ) (a : IntegrityAlgorithm)
-        → IsBytes d → verdict (is_wanted None) key d ≡ Ok a → IsLocal d (key a) a }
+        → IsBytes d → verdict (is_checked_type None) key d ≡ Ok a → IsLocal d (key a) a }
     // a FINGERPRINT that is shown
     ensures fingerprint { (key : IntegrityAlgorithm → List ℕ) (d c : List ℕ)
         (a : IntegrityAlgorithm)
@@ -71,12 +71,12 @@ pub fn integrity_is_local_with_key()
     ensures told { (made_for : Option IntegrityAlgorithm) (key : IntegrityAlgorithm → List ℕ)
         (d c : List ℕ) (a : IntegrityAlgorithm)
         → IsBytes d → Validates made_for key d c a
-        → content_through (is_wanted made_for) d ≡ authentic c (key a) a }
+        → content_through (is_checked_type made_for) d ≡ authentic c (key a) a }
     // a FINGERPRINT, where no integrity attribute is shown after the one that was checked
     ensures fingerprint { (made_for : Option IntegrityAlgorithm) (key : IntegrityAlgorithm → List ℕ)
         (d c : List ℕ) (a : IntegrityAlgorithm)
         → IsBytes d → parse_fault d ≡ None
-        → last_shown (is_wanted None) d ≡ last_shown (is_wanted made_for) d
+        → last_shown (is_checked_type None) d ≡ last_shown (is_checked_type made_for) d
         → Validates made_for key d c a
         → IfSome (find (λ x. x.type == FINGERPRINT) (shown d))
         (λ x. x ≡ authentic_fingerprint c (key a) a) }
@@ -85,7 +85,8 @@ pub fn integrity_is_local_with_key()
         (d e c : List ℕ) (a : IntegrityAlgorithm)
         → IsBytes d → IsBytes e
         → Validates made_for key d c a → Validates made_for key e c a
-        → content_through (is_wanted made_for) d ≡ content_through (is_wanted made_for) e }
+        → content_through (is_checked_type made_for) d
+        ≡ content_through (is_checked_type made_for) e }
 {}
 
 /// A key that was made for one algorithm validates with that algorithm only, and validates exactly
@@ -112,7 +113,7 @@ pub fn integrity_has_origin()
         (d c : List ℕ) (a : IntegrityAlgorithm) (sent : List Sent)
         → IsBytes d → AllByRecursion IsLawfulSent sent → Validates made_for key d c a
         → IsUnsigned sent (key a) a c
-        ⊎ ComesFrom sent (key a) a c (content_through (is_wanted made_for) d) }
+        ⊎ ComesFrom sent (key a) a c (content_through (is_checked_type made_for) d) }
     // every signature over the covered bytes gives this content
     ensures each { (key : IntegrityAlgorithm → List ℕ) (d c : List ℕ) (a : IntegrityAlgorithm)
         (sender : Sent)
@@ -155,10 +156,10 @@ pub fn steps_are_read_back()
         (key : IntegrityAlgorithm → List ℕ)
         → IsAccepted sent → sent.steps ≡ before ++ sign a (key a) ∷ behind
         → list_any is_signing behind ≡ false
-        → verdict (is_wanted None) key (sent_encoding sent) ≡ Ok a }
+        → verdict (is_checked_type None) key (sent_encoding sent) ≡ Ok a }
     // with a key that was made for the algorithm of any step that signs
     ensures own { (sent : Sent) (before behind : List Step) (a : IntegrityAlgorithm)
         (key : IntegrityAlgorithm → List ℕ)
         → IsAccepted sent → sent.steps ≡ before ++ sign a (key a) ∷ behind
-        → verdict (is_wanted (Some a)) key (sent_encoding sent) ≡ Ok a }
+        → verdict (is_checked_type (Some a)) key (sent_encoding sent) ≡ Ok a }
 {}

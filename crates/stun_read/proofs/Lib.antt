@@ -1,11 +1,11 @@
 mod FramesLemmas
 mod EndingsLemmas
-mod KeepingLemmas
+mod IntegrityScanLemmas
 mod ScanningLemmas
 mod OrdinaryLemmas
 mod IteratingLemmas
 pub mod ItemsLemmas
-mod KeptOffsetsLemmas
+mod IntegrityAtLemmas
 mod ValidatingLemmas
 mod LookingUpLemmas
 mod FindingLemmas

@@ -20,10 +20,10 @@ use Rattle.stun_attrs.specs.declared.raw.RawAttribute.{RawAttribute}
 use Rattle.stun_attrs.specs.Raw.{Finds, raw_type}
 use Rattle.stun_read.specs.declared.endings.Seen.{Seen}
 use Rattle.stun_read.specs.declared.offsets.IntegrityOffsets.{IntegrityOffsets}
-use Rattle.stun_read.specs.declared.offsets.Keeping.{Keeping}
+use Rattle.stun_read.specs.declared.offsets.IntegrityScan.{IntegrityScan}
 use Rattle.stun_read.specs.Endings.{Tracks, IsOrdinaryTo}
-use Rattle.stun_read.specs.Keeping.{KeepsOffsets, Keeps}
-use Rattle.stun_read.proofs.KeepingLemmas.{starts, kept_at_end}
+use Rattle.stun_read.specs.Offsets.{OffsetsOf, HasScanned}
+use Rattle.stun_read.proofs.IntegrityScanLemmas.{starts, kept_at_end}
 use Rattle.stun_read.proofs.ScanningLemmas.{Scanned}
 
 abbrev NoneEnds : List Attribute → Type 0
@@ -90,8 +90,8 @@ ordinary_next x behind offset d type o found type-is ends within =
     }
 
 -- a scan that goes on behind ordinary attributes
-pub behind_ordinary : (seen : Seen) (keeping : Keeping) (d : List ℕ) (offset : ℕ) → Tracks seen [] → ((taken : List Attribute) → NoneEnds taken → Keeps keeping taken) → IsOrdinaryTo d offset → Scanned seen keeping d offset
-behind_ordinary seen keeping d offset tracks keeps o =
+pub behind_ordinary : (seen : Seen) (scan : IntegrityScan) (d : List ℕ) (offset : ℕ) → Tracks seen [] → ((taken : List Attribute) → NoneEnds taken → HasScanned scan taken) → IsOrdinaryTo d offset → Scanned seen scan d offset
+behind_ordinary seen scan d offset tracks keeps o =
     let none = has_none (types o.taken) (no_endings o.taken o.none_ends) in
     record {
       taken = o.taken;
@@ -105,8 +105,8 @@ behind_ordinary seen keeping d offset tracks keeps o =
     }
 
 -- where all attributes are ordinary, there is no offset to keep
-pub ordinary_kept : (offsets : IntegrityOffsets) (d : List ℕ) (offset : ℕ) → offsets.integrity ≡ None → offsets.sha256 ≡ None → frame_fault d ≡ None → IsOrdinaryTo d offset → first_attribute (drop offset d) ≡ None → KeepsOffsets offsets d
+pub ordinary_kept : (offsets : IntegrityOffsets) (d : List ℕ) (offset : ℕ) → offsets.integrity ≡ None → offsets.sha256 ≡ None → frame_fault d ≡ None → IsOrdinaryTo d offset → first_attribute (drop offset d) ≡ None → OffsetsOf offsets d
 ordinary_kept offsets d offset none-integrity none-sha256 frame o none =
-    let keeping : Keeping = record { offsets = offsets; last = 0 } in
-    kept_at_end keeping d o.taken frame (starts keeping o.taken none-integrity none-sha256 refl o.none_ends)
+    let scan : IntegrityScan = record { offsets = offsets; last = 0 } in
+    kept_at_end scan d o.taken frame (starts scan o.taken none-integrity none-sha256 refl o.none_ends)
     (o.chain_is ∙ ap (λ (xs : List Attribute). o.taken ++ xs) (chain-none (drop offset d) none) ∙ append-nil o.taken)

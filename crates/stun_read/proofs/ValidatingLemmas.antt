@@ -14,7 +14,7 @@ use Rattle.stun_grammar.specs.declared.error.ValidateError.TheVariants.{Parse, I
 use Rattle.stun_grammar.specs.declared.integrity_algorithm.IntegrityAlgorithm.{IntegrityAlgorithm}
 use Rattle.stun_grammar.specs.declared.integrity_algorithm.IntegrityAlgorithm.TheVariants.{Sha1, Sha256}
 use Rattle.stun_grammar.specs.Hmac.{hmac}
-use Rattle.stun_grammar.specs.Verdicts.{algorithm_of, hmac_fault, covered_bytes, verdict_on, verdict, last_shown, is_wanted}
+use Rattle.stun_grammar.specs.Verdicts.{type_of_algorithm, algorithm_of, hmac_fault, covered_bytes, verdict_on, verdict, last_shown, is_checked_type}
 use Rattle.stun_grammar.specs.Lengths.{range_fault}
 use Rattle.stun_grammar.proofs.HmacLemmas.{hmac_has_length}
 use Rattle.stun_grammar.proofs.VerdictsLemmas.{lawful, some_not, stands, verdict_missing, verdict_unlawful}
@@ -29,10 +29,18 @@ all_bytes (x ∷ d) each = (each 0, all_bytes d (λ i. each (suc i)))
 
 -- the attribute's header is after the message's header, and within the message
 pub past_header : (m : Option IntegrityAlgorithm) (d : List ℕ) (x : Shown) → ((i : ℕ) → get_or d i 0 < 256) → IsChecked m d x → 20 ≤ x.offset
-past_header m d x each checked = (stands (is_wanted m) d x (all_bytes d each) checked.last_is).header
+past_header m d x each checked = (stands (is_checked_type m) d x (all_bytes d each) checked.last_is).header
 
 pub before_end : (m : Option IntegrityAlgorithm) (d : List ℕ) (x : Shown) → ((i : ℕ) → get_or d i 0 < 256) → IsChecked m d x → x.offset ≤ length d
-before_end m d x each checked = omega (arith, (stands (is_wanted m) d x (all_bytes d each) checked.last_is).within)
+before_end m d x each checked = omega (arith, (stands (is_checked_type m) d x (all_bytes d each) checked.last_is).within)
+
+-- the type of an algorithm's attribute tells that algorithm
+pub own_algorithm : (algorithm : IntegrityAlgorithm) → algorithm ≡ algorithm_of (type_of_algorithm algorithm)
+own_algorithm Sha1 = refl
+own_algorithm Sha256 = refl
+
+pub lawful_own : (algorithm : IntegrityAlgorithm) (n : ℕ) → hmac_fault algorithm n ≡ None → hmac_fault (algorithm_of (type_of_algorithm algorithm)) n ≡ None
+lawful_own algorithm n e = ap (λ (a : IntegrityAlgorithm). hmac_fault a n) (sym (own_algorithm algorithm)) ∙ e
 
 -- ---- Lengths
 
@@ -91,10 +99,10 @@ whole_digest value right key d offset same e right-is same-is =
 pub missing : (wanted : ℕ → Bool) (keys : IntegrityAlgorithm → List ℕ) (d : List ℕ) (told : AttributeType) → told.0 ≡ 0x0008 → last_shown wanted d ≡ None → verdict wanted keys d ≡ Err (Parse (MissingAttribute told))
 missing wanted keys d told type-is none = verdict_missing wanted keys d none ∙ ap (λ (n : ℕ). Err (Parse (MissingAttribute (record { 0 = n })))) (sym type-is)
 
-pub unlawful : (wanted : ℕ → Bool) (keys : IntegrityAlgorithm → List ℕ) (d : List ℕ) (x : Shown) (read : List ℕ) (algorithm : IntegrityAlgorithm) (told : StunParseError) → last_shown wanted d ≡ Some x → read ≡ x.value → algorithm ≡ algorithm_of x.type → hmac_fault algorithm (length read) ≡ Some told
+pub unlawful : (wanted : ℕ → Bool) (keys : IntegrityAlgorithm → List ℕ) (d : List ℕ) (x : Shown) (algorithm : IntegrityAlgorithm) (told : StunParseError) → last_shown wanted d ≡ Some x → algorithm ≡ algorithm_of x.type → hmac_fault algorithm (length x.value) ≡ Some told
     → verdict wanted keys d ≡ Err (Parse told)
-unlawful wanted keys d x read algorithm told last value-is algorithm-is fault =
-    let at : hmac_fault (algorithm_of x.type) (length x.value) ≡ Some told = rw (value-is, algorithm-is) at fault in
+unlawful wanted keys d x algorithm told last algorithm-is fault =
+    let at : hmac_fault (algorithm_of x.type) (length x.value) ≡ Some told = rw algorithm-is at fault in
     verdict_unlawful wanted keys d x told last at
 
 -- ---- The verdict on the attribute that is checked
@@ -102,19 +110,21 @@ unlawful wanted keys d x read algorithm told last value-is algorithm-is fault =
 abbrev pub is_code : IntegrityAlgorithm → List ℕ → List ℕ → ℕ → List ℕ → Bool
 is_code algorithm key d offset value = pointwise nat_eq value (take (length value) (hmac algorithm key (covered_bytes d offset (length value))))
 
-pub on_failed : (key d : List ℕ) (x : Shown) (read : List ℕ) (told : IntegrityAlgorithm) → hmac_fault (algorithm_of x.type) (length x.value) ≡ None → read ≡ x.value → told ≡ algorithm_of x.type → is_code told key d x.offset read ≡ false
+pub on_failed : (key d : List ℕ) (x : Shown) (algorithm : IntegrityAlgorithm) → algorithm ≡ algorithm_of x.type → hmac_fault algorithm (length x.value) ≡ None → is_code algorithm key d x.offset x.value ≡ false
     → verdict_on (λ _. key) d x ≡ Err IntegrityFailed
 unfolding verdict_on
-on_failed key d x read told lawful-is value-is algorithm-is test =
-    let tested : is_code (algorithm_of x.type) key d x.offset x.value ≡ false = rw (value-is, algorithm-is) at test in
-    rw (lawful-is, tested) refl
+on_failed key d x algorithm algorithm-is lawful-is test =
+    let lawful-at : hmac_fault (algorithm_of x.type) (length x.value) ≡ None = rw algorithm-is at lawful-is in
+    let tested : is_code (algorithm_of x.type) key d x.offset x.value ≡ false = rw algorithm-is at test in
+    rw (lawful-at, tested) refl
 
-pub on_ok : (key d : List ℕ) (x : Shown) (read : List ℕ) (told : IntegrityAlgorithm) → hmac_fault (algorithm_of x.type) (length x.value) ≡ None → read ≡ x.value → told ≡ algorithm_of x.type → is_code told key d x.offset read ≡ true
-    → verdict_on (λ _. key) d x ≡ Ok told
+pub on_ok : (key d : List ℕ) (x : Shown) (algorithm : IntegrityAlgorithm) → algorithm ≡ algorithm_of x.type → hmac_fault algorithm (length x.value) ≡ None → is_code algorithm key d x.offset x.value ≡ true
+    → verdict_on (λ _. key) d x ≡ Ok algorithm
 unfolding verdict_on
-on_ok key d x read told lawful-is value-is algorithm-is test =
-    let tested : is_code (algorithm_of x.type) key d x.offset x.value ≡ true = rw (value-is, algorithm-is) at test in
-    rw (lawful-is, tested, algorithm-is) refl
+on_ok key d x algorithm algorithm-is lawful-is test =
+    let lawful-at : hmac_fault (algorithm_of x.type) (length x.value) ≡ None = rw algorithm-is at lawful-is in
+    let tested : is_code (algorithm_of x.type) key d x.offset x.value ≡ true = rw algorithm-is at test in
+    rw (lawful-at, tested, algorithm-is) refl
 
 -- the verdict is that on the last attribute of the wanted types, and only the key of its algorithm
 -- matters

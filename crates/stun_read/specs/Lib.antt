@@ -3,4 +3,4 @@ pub mod Endings
 pub mod Validating
 pub mod LookingUp
 pub mod PrintedMessages
-pub mod Keeping
+pub mod Offsets

@@ -2,17 +2,22 @@
 use Rattle.std.specs.Prelude.{◌≡◌, ℕ, List, Option, Some, None, length}
 use Rattle.stun_grammar.specs.declared.integrity_algorithm.IntegrityAlgorithm.{IntegrityAlgorithm}
 use Rattle.stun_grammar.specs.Chains.{Shown}
-use Rattle.stun_grammar.specs.Verdicts.{algorithm_of, is_wanted, last_shown, hmac_fault}
-use Rattle.stun_read.specs.declared.kept.Kept.{Kept}
+use Rattle.stun_grammar.specs.Verdicts.{type_of_algorithm, algorithm_of, is_checked_type, last_shown, hmac_fault}
+use Rattle.stun_read.specs.declared.integrity_at.IntegrityAt.{IntegrityAt}
 
--- an attribute that was read at the offset that was kept for it, as one that is shown
-abbrev pub shown_kept : Kept → Shown
-shown_kept kept = record { offset = kept.offset; type = kept.atype; value = kept.value.now }
+-- an integrity attribute that was read at its offset, as one that is shown
+abbrev pub shown_integrity : IntegrityAt → Shown
+shown_integrity found =
+    record {
+      offset = found.offset;
+      type = type_of_algorithm found.algorithm;
+      value = found.value.now;
+    }
 
 -- x is the last attribute shown of the wanted types, and its value has a length that its type
 -- allows
 pub record IsChecked (made_for : Option IntegrityAlgorithm) (d : List ℕ) (x : Shown) : Type 0 where
-  pub last_is : last_shown (is_wanted made_for) d ≡ Some x
+  pub last_is : last_shown (is_checked_type made_for) d ≡ Some x
   pub lawful : hmac_fault (algorithm_of x.type) (length x.value) ≡ None
 
 -- d shows an integrity attribute, and the value of the last one has a lawful length

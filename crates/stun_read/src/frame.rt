@@ -1,9 +1,11 @@
-//! The header of a message, and the length that it states.
+//! The header of a message, the length that it states, and the attributes behind it.
 
-ghost use Rattle.std.specs.Prelude.{◌≡◌, ◌+◌, ◌<◌, ◌≤◌, length, MatchResult, MatchOption, None, Some};
+ghost use Rattle.std.specs.Prelude.{◌≡◌, ◌+◌, ◌^◌, ◌<◌, ◌≤◌, length, MatchResult, MatchOption, None, Some};
 ghost use Rattle.stun_grammar.specs.Headers.{Begins, length_field};
-ghost use Rattle.stun_grammar.specs.Showing.{frame_fault};
+ghost use Rattle.stun_grammar.specs.Showing.{frame_fault, shown};
+ghost use Rattle.stun_read.specs.Iterating.{items_left, borrowed};
 
+use crate::MessageAttributesIter;
 use stun_base::{MessageHeader, StunParseError, check_header, number_at};
 use stun_rules::check_length;
 
@@ -56,5 +58,19 @@ pub fn message_length(prefix: &[u8]) -> Result<Option<usize>, StunParseError>
             StunParseError::NotStun => Err(refused),
             _ => Ok(None),
         },
+    }
+}
+
+/// As [`MessageAttributesIter::new`], but without checking the header again: `bytes` begin with a
+/// header, and as many bytes follow it as its length field states.
+pub fn iter_framed<'a>(bytes: &'a [u8]) -> MessageAttributesIter<'a>
+    requires { frame_fault bytes.now ≡ None }
+    ensures items { items_left result ≡ borrowed (shown bytes.now) }
+    ensures bound { length (items_left result) < 2 ^ 64 }
+{
+    MessageAttributesIter {
+        bytes,
+        offset: MessageHeader::LENGTH,
+        last: 0,
     }
 }

@@ -4,9 +4,8 @@ ghost use Rattle.std.specs.Prelude.{◌≡◌, ◌≤◌, length};
 ghost use Rattle.stun_grammar.specs.Showing.{shown};
 
 use crate::endings::{follows, type_number};
-use crate::frame::check_frame;
+use crate::frame::{check_frame, iter_framed};
 use stun_attrs::{RawAttribute, attribute_at};
-use stun_base::MessageHeader;
 use stun_grammar::attribute_types::FINGERPRINT;
 
 /// An iterator over the attributes that a message shows, in order, each with the offset of its
@@ -18,15 +17,14 @@ use stun_grammar::attribute_types::FINGERPRINT;
 /// the iterator returns `None` forever.
 #[derive(Debug, Drop)]
 pub struct MessageAttributesIter<'a> {
-    bytes: &'a [u8],
-    offset: usize,
-    last: u16,
+    pub(crate) bytes: &'a [u8],
+    pub(crate) offset: usize,
+    pub(crate) last: u16,
     ghost within: { offset ≤ length bytes.now },
 }
 
 impl<'a> MessageAttributesIter<'a> {
-    ghost use Rattle.std.specs.Prelude.{◌≡◌, ◌^◌, ◌<◌, None};
-    ghost use Rattle.stun_grammar.specs.Showing.{frame_fault};
+    ghost use Rattle.std.specs.Prelude.{◌≡◌, ◌^◌, ◌<◌};
     ghost use Rattle.stun_read.specs.Iterating.{items_left, borrowed};
 
     /// Iterates over the attributes that `bytes` show, whatever they are. They show none where they
@@ -43,21 +41,7 @@ impl<'a> MessageAttributesIter<'a> {
                 last: FINGERPRINT,
             };
         };
-        Self::behind_header(bytes)
-    }
-
-    /// As [`MessageAttributesIter::new`], but without checking the header again: `bytes` begin with
-    /// a header, and as many bytes follow it as its length field states.
-    pub(crate) fn behind_header(bytes: &'a [u8]) -> MessageAttributesIter<'a>
-        requires { frame_fault bytes.now ≡ None }
-        ensures items { items_left result ≡ borrowed (shown bytes.now) }
-        ensures bound { length (items_left result) < 2 ^ 64 }
-    {
-        MessageAttributesIter {
-            bytes,
-            offset: MessageHeader::LENGTH,
-            last: 0,
-        }
+        iter_framed(bytes)
     }
 }
 

@@ -9,7 +9,7 @@ ghost use Rattle.stun_grammar.specs.Attributes.{Attribute, encodings, types};
 ghost use Rattle.stun_grammar.specs.Chains.{Shown, chain, first_attribute, placed, rest};
 ghost use Rattle.stun_grammar.specs.ScannedOrder.{has};
 ghost use Rattle.stun_grammar.specs.Showing.{shown};
-ghost use Rattle.stun_grammar.specs.Verdicts.{is_wanted, last_shown};
+ghost use Rattle.stun_grammar.specs.Verdicts.{is_checked_type, last_shown};
 ghost use Rattle.stun_grammar.specs.Writing.{message_encoding, IsWritable};
 ghost use Rattle.stun_read.specs.LookingUp.{nth};
 
@@ -69,11 +69,11 @@ pub fn walks_from_there()
         (λ a. (a.type ≡ x.type) × (a.value ≡ x.value)) }
     // of the two integrity attributes the last is MESSAGE-INTEGRITY-SHA256, where it is shown
     ensures last { (d : List ℕ)
-        → last_shown (is_wanted None) d
-        ≡ option_or (last_shown (is_wanted (Some Sha256)) d)
-        (last_shown (is_wanted (Some Sha1)) d) }
+        → last_shown (is_checked_type None) d
+        ≡ option_or (last_shown (is_checked_type (Some Sha256)) d)
+        (last_shown (is_checked_type (Some Sha1)) d) }
     // and no more than one of each is shown: the last is the first
     ensures once { (d : List ℕ)
-        → (nth d 0x0008 0 ≡ last_shown (is_wanted (Some Sha1)) d)
-        × (nth d 0x001C 0 ≡ last_shown (is_wanted (Some Sha256)) d) }
+        → (nth d 0x0008 0 ≡ last_shown (is_checked_type (Some Sha1)) d)
+        × (nth d 0x001C 0 ≡ last_shown (is_checked_type (Some Sha256)) d) }
 {}

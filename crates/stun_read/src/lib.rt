@@ -6,9 +6,8 @@
 mod endings;
 mod fingerprint;
 mod frame;
-mod framed;
+mod integrity_at;
 mod iterate;
-mod kept;
 mod laws;
 mod look_up;
 mod offsets;
@@ -16,8 +15,7 @@ mod parse;
 mod printed;
 mod validate;
 
-pub use frame::message_length;
-pub use framed::iter_framed;
+pub use frame::{iter_framed, message_length};
 pub use iterate::MessageAttributesIter;
 pub use laws::{found_has_its_type, shown_is_found, walks_from_there};
 pub use look_up::nth_raw;

@@ -2,11 +2,11 @@
 
 ghost use Rattle.std.specs.Prelude.{◌≡◌, None};
 ghost use Rattle.stun_grammar.specs.Showing.{frame_fault};
-ghost use Rattle.stun_read.specs.Keeping.{KeepsOffsets};
+ghost use Rattle.stun_read.specs.Offsets.{OffsetsOf};
 ghost use Rattle.stun_read.specs.LookingUp.{nth, IsFound};
 
 use crate::endings::type_number;
-use crate::kept::integrity_raw;
+use crate::integrity_at::integrity_raw;
 use crate::{IntegrityOffsets, iter_framed};
 use stun_attrs::RawAttribute;
 use stun_base::AttributeType;
@@ -28,7 +28,7 @@ pub fn nth_raw<'a>(
     n: usize,
 ) -> Option<(usize, RawAttribute<'a>)>
     requires frame { frame_fault bytes.now ≡ None }
-    requires offsets { KeepsOffsets offsets bytes.now }
+    requires offsets { OffsetsOf offsets bytes.now }
     ensures { IsFound (nth bytes.now atype.0 n) result }
 {
     let wanted = atype.value();

@@ -15,8 +15,8 @@ pub struct IntegrityOffsets {
 
 impl IntegrityOffsets {
     ghost use Rattle.std.specs.Prelude.{◌≡◌, ℕ, List, None, Some, MatchOption};
-    ghost use Rattle.stun_grammar.specs.Verdicts.{is_wanted, last_shown};
-    ghost use Rattle.stun_read.specs.Keeping.{KeepsOffsets, IsKept};
+    ghost use Rattle.stun_grammar.specs.Verdicts.{type_of_algorithm, is_checked_type, last_shown};
+    ghost use Rattle.stun_read.specs.Offsets.{OffsetsOf, IsIntegrityAt};
 
     /// Those of a message that shows neither.
     pub(crate) fn none() -> IntegrityOffsets
@@ -29,24 +29,29 @@ impl IntegrityOffsets {
         }
     }
 
-    /// The type of the integrity attribute of an algorithm, and its offset.
-    fn of(&self, algorithm: IntegrityAlgorithm) -> Option<(u16, usize)>
-        ensures { (d : List ℕ) → KeepsOffsets self.now d
-            → MatchOption result (last_shown (is_wanted (Some algorithm)) d ≡ None)
-            (λ found. IsKept (is_wanted (Some algorithm)) d found.0 found.1) }
+    /// The algorithm, and the offset of its integrity attribute.
+    fn of(&self, algorithm: IntegrityAlgorithm) -> Option<(IntegrityAlgorithm, usize)>
+        ensures { (d : List ℕ) → OffsetsOf self.now d
+            → MatchOption result (last_shown (is_checked_type (Some algorithm)) d ≡ None)
+            (λ found. IsIntegrityAt (is_checked_type (Some algorithm)) d
+            (type_of_algorithm found.0) found.1) }
     {
         match algorithm {
-            IntegrityAlgorithm::Sha1 => Some((MESSAGE_INTEGRITY, self.integrity?)),
-            IntegrityAlgorithm::Sha256 => Some((MESSAGE_INTEGRITY_SHA256, self.sha256?)),
+            IntegrityAlgorithm::Sha1 => Some((algorithm, self.integrity?)),
+            IntegrityAlgorithm::Sha256 => Some((algorithm, self.sha256?)),
         }
     }
 
-    /// The type of the last integrity attribute, and its offset; with an algorithm, those of the
-    /// one of that algorithm. Where both are shown, MESSAGE-INTEGRITY-SHA256 is the last.
-    pub(crate) fn last(&self, made_for: Option<IntegrityAlgorithm>) -> Option<(u16, usize)>
-        ensures { (d : List ℕ) → KeepsOffsets self.now d
-            → MatchOption result (last_shown (is_wanted made_for) d ≡ None)
-            (λ found. IsKept (is_wanted made_for) d found.0 found.1) }
+    /// The algorithm of the last integrity attribute, and its offset; with an algorithm, those of
+    /// the one of that algorithm. Where both are shown, MESSAGE-INTEGRITY-SHA256 is the last.
+    pub(crate) fn last(
+        &self,
+        made_for: Option<IntegrityAlgorithm>,
+    ) -> Option<(IntegrityAlgorithm, usize)>
+        ensures { (d : List ℕ) → OffsetsOf self.now d
+            → MatchOption result (last_shown (is_checked_type made_for) d ≡ None)
+            (λ found. IsIntegrityAt (is_checked_type made_for) d
+            (type_of_algorithm found.0) found.1) }
     {
         match made_for {
             Some(algorithm) => self.of(algorithm),
@@ -60,24 +65,24 @@ impl IntegrityOffsets {
 
 /// What a scan keeps of the attributes that it has met.
 #[derive(Clone, Copy, Drop)]
-pub(crate) struct Keeping {
+pub(crate) struct IntegrityScan {
     offsets: IntegrityOffsets,
     last: u16,
 }
 
-impl Keeping {
+impl IntegrityScan {
     ghost use Rattle.std.specs.Prelude.{◌≡◌, ◌+◌, ℕ, List, [], ◌∷◌, ◌++◌, length, false};
     ghost use Rattle.std.specs.List.{AllByRecursion};
     ghost use Rattle.stun_grammar.specs.AttributeTypes.{is_ending};
     ghost use Rattle.stun_grammar.specs.Attributes.{Attribute, encodings};
-    ghost use Rattle.stun_read.specs.Keeping.{Keeps};
+    ghost use Rattle.stun_read.specs.Offsets.{HasScanned};
 
     /// What is kept of ordinary attributes.
-    pub(crate) fn none() -> Keeping
+    pub(crate) fn none() -> IntegrityScan
         ensures { (taken : List Attribute)
-            → AllByRecursion (λ a. is_ending a.type ≡ false) taken → Keeps result taken }
+            → AllByRecursion (λ a. is_ending a.type ≡ false) taken → HasScanned result taken }
     {
-        Keeping {
+        IntegrityScan {
             offsets: IntegrityOffsets::none(),
             last: 0,
         }
@@ -87,9 +92,9 @@ impl Keeping {
     /// shown and is an integrity attribute, the offset is kept. Where it isn't shown, no attribute
     /// after it is, as none is after a FINGERPRINT.
     pub(crate) fn meet(&mut self, atype: u16, offset: usize)
-        ensures { (taken : List Attribute) (a : Attribute) → Keeps self.old taken
+        ensures { (taken : List Attribute) (a : Attribute) → HasScanned self.old taken
             → atype ≡ a.type → offset ≡ 20 + length (encodings taken)
-            → Keeps self.new (taken ++ a ∷ []) }
+            → HasScanned self.new (taken ++ a ∷ []) }
     {
         if atype == FINGERPRINT {
             self.last = FINGERPRINT;

@@ -4,12 +4,12 @@ ghost use Rattle.std.specs.Prelude.{◌≡◌, MatchResult, None, Some, IfOk};
 ghost use Rattle.stun_grammar.specs.Parsing.{body_fault, parse_fault};
 ghost use Rattle.stun_grammar.specs.Showing.{frame_fault};
 ghost use Rattle.stun_read.specs.Endings.{IsOrdinaryTo};
-ghost use Rattle.stun_read.specs.Keeping.{KeepsOffsets};
+ghost use Rattle.stun_read.specs.Offsets.{OffsetsOf};
 
 use crate::endings::{Seen, type_number};
 use crate::fingerprint::check_scanned;
 use crate::frame::check_frame;
-use crate::offsets::{IntegrityOffsets, Keeping};
+use crate::offsets::{IntegrityOffsets, IntegrityScan};
 use stun_attrs::attribute_at;
 use stun_base::{MessageHeader, StunParseError};
 use stun_grammar::attribute_types::is_ending;
@@ -24,21 +24,21 @@ fn check_endings(bytes: &[u8], start: usize) -> Result<IntegrityOffsets, StunPar
     ensures fault { MatchResult result
         (λ _. body_fault bytes.now ≡ None)
         (λ e. body_fault bytes.now ≡ Some e) }
-    ensures offsets { IfOk result (λ offsets. KeepsOffsets offsets bytes.now) }
+    ensures offsets { IfOk result (λ offsets. OffsetsOf offsets bytes.now) }
 {
     let mut seen = Seen::none();
-    let mut keeping = Keeping::none();
+    let mut scan = IntegrityScan::none();
     let mut offset = start;
-    'scan: while let Some((attribute, behind)) = attribute_at(bytes, offset)? {
+    'walk: while let Some((attribute, behind)) = attribute_at(bytes, offset)? {
         let atype = type_number(&attribute);
         if !seen.admits(atype) {
-            return Ok(keeping.offsets());
+            return Ok(scan.offsets());
         }
         check_scanned(bytes, offset, &attribute)?;
-        keeping.meet(atype, offset);
+        scan.meet(atype, offset);
         offset = behind;
     }
-    Ok(keeping.offsets())
+    Ok(scan.offsets())
 }
 
 /// Checks that `bytes` are a message: a header, as many bytes after it as its length field states,
@@ -54,7 +54,7 @@ pub fn check_message(bytes: &[u8]) -> Result<IntegrityOffsets, StunParseError>
     ensures fault { MatchResult result
         (λ _. parse_fault bytes.now ≡ None)
         (λ e. parse_fault bytes.now ≡ Some e) }
-    ensures offsets { IfOk result (λ offsets. KeepsOffsets offsets bytes.now) }
+    ensures offsets { IfOk result (λ offsets. OffsetsOf offsets bytes.now) }
 {
     check_frame(bytes)?;
     let mut offset = MessageHeader::LENGTH;

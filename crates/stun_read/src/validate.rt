@@ -2,17 +2,17 @@
 
 ghost use Rattle.std.specs.Prelude.{◌≡◌, ◌≢◌, None, Err, IfOk, IfErr};
 ghost use Rattle.stun_grammar.specs.Numbers.{IsBytes};
-ghost use Rattle.stun_grammar.specs.Verdicts.{is_wanted, verdict};
+ghost use Rattle.stun_grammar.specs.Verdicts.{is_checked_type, verdict};
 ghost use Rattle.stun_keys.specs.Keys.{key_bytes, key_algorithm, credentials_key};
-ghost use Rattle.stun_read.specs.Keeping.{KeepsOffsets};
+ghost use Rattle.stun_read.specs.Offsets.{OffsetsOf};
 ghost use Rattle.stun_read.specs.Validating.{ShowsLawful};
 
 mod compare;
 mod find;
 
 use crate::IntegrityOffsets;
-use compare::{algorithm_for, compared};
-use find::checked;
+use compare::compare_hmac;
+use find::find_checked;
 use std::alloc::Global;
 use stun_base::{StunParseError, ValidateError};
 use stun_grammar::IntegrityAlgorithm;
@@ -48,17 +48,17 @@ pub fn validate_bytes(
     alloc: Global,
     credentials: &MessageIntegrityCredentials,
 ) -> Result<IntegrityAlgorithm, ValidateError>
-    requires { KeepsOffsets offsets bytes.now }
+    requires { OffsetsOf offsets bytes.now }
     ensures verdict { result ≢ Err (ValidateError.Parse StunParseError.OutOfMemory)
-        → result ≡ verdict (is_wanted None) (credentials_key credentials.now) bytes.now }
+        → result ≡ verdict (is_checked_type None) (credentials_key credentials.now) bytes.now }
     ensures memory { result ≡ Err (ValidateError.Parse StunParseError.OutOfMemory)
         → ShowsLawful bytes.now }
     // each number in the slice is below 256, which the laws on what an HMAC authenticates require
     ensures bytes { IsBytes bytes.now }
 {
-    let kept = checked(bytes, offsets, None)?;
-    let key = key_for(alloc, credentials, algorithm_for(kept.atype))?;
-    compared(bytes, kept, &key)
+    let found = find_checked(bytes, offsets, None)?;
+    let key = key_for(alloc, credentials, found.algorithm)?;
+    compare_hmac(bytes, found, &key)
 }
 
 /// Checks an integrity attribute with a key, and returns its algorithm: the last one that is shown
@@ -74,12 +74,12 @@ pub fn validate_bytes_with_key(
     offsets: IntegrityOffsets,
     key: &IntegrityKey,
 ) -> Result<IntegrityAlgorithm, ValidateError>
-    requires { KeepsOffsets offsets bytes.now }
+    requires { OffsetsOf offsets bytes.now }
     ensures verdict { result
-        ≡ verdict (is_wanted (key_algorithm key.now)) (λ _. key_bytes key.now) bytes.now }
+        ≡ verdict (is_checked_type (key_algorithm key.now)) (λ _. key_bytes key.now) bytes.now }
     // each number in the slice is below 256, which the laws on what an HMAC authenticates require
     ensures bytes { IsBytes bytes.now }
 {
-    let kept = checked(bytes, offsets, key.algorithm())?;
-    compared(bytes, kept, key)
+    let found = find_checked(bytes, offsets, key.algorithm())?;
+    compare_hmac(bytes, found, key)
 }

@@ -9,7 +9,7 @@ use Rattle.stun_grammar.specs.declared.error.ValidateError.{ValidateError}
 use Rattle.stun_grammar.specs.declared.error.ValidateError.TheVariants.{Parse, IntegrityFailed}
 use Rattle.stun_grammar.specs.declared.integrity_algorithm.IntegrityAlgorithm.{IntegrityAlgorithm}
 use Rattle.stun_grammar.specs.declared.integrity_algorithm.IntegrityAlgorithm.TheVariants.{Sha1, Sha256}
-use Rattle.stun_grammar.specs.Verdicts.{verdict, is_wanted}
+use Rattle.stun_grammar.specs.Verdicts.{verdict, is_checked_type}
 use Rattle.stun_grammar.specs.Numbers.{be16}
 use Rattle.stun_grammar.specs.Names.{hex}
 use Rattle.stun_grammar.specs.Chains.{Shown}
@@ -53,7 +53,7 @@ refusal_line _ = []
 
 -- the verdict on a message with a password as its short-term key
 abbrev pub password_verdict : List ℕ → List ℕ → Result IntegrityAlgorithm ValidateError
-password_verdict d password = verdict (is_wanted None) (λ _. password) d
+password_verdict d password = verdict (is_checked_type None) (λ _. password) d
 
 -- a verdict in one word
 abbrev pub integrity_word : Result IntegrityAlgorithm ValidateError → List ℕ

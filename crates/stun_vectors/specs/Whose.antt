@@ -2,7 +2,7 @@
 use Rattle.std.specs.Prelude.{ℕ, ◌⊎◌, List, ◌∷◌, Option}
 use Rattle.std.specs.List.{AllByRecursion}
 use Rattle.stun_grammar.specs.declared.integrity_algorithm.IntegrityAlgorithm.{IntegrityAlgorithm}
-use Rattle.stun_grammar.specs.Verdicts.{is_wanted, Validates}
+use Rattle.stun_grammar.specs.Verdicts.{is_checked_type, Validates}
 use Rattle.stun_grammar.specs.Authentic.{content_through}
 use Rattle.stun_grammar.specs.Sending.{Sent, sent_encoding, IsLawfulSent}
 use Rattle.stun_grammar.specs.Origin.{IsUnsigned, ComesFrom}
@@ -16,4 +16,4 @@ HasOrigin message made_for key algorithm =
     (c : List ℕ) × Validates made_for (λ _. key) d c algorithm
     × ((others : List Sent) → AllByRecursion IsLawfulSent others
     → IsUnsigned (message ∷ others) key algorithm c
-    ⊎ ComesFrom (message ∷ others) key algorithm c (content_through (is_wanted made_for) d))
+    ⊎ ComesFrom (message ∷ others) key algorithm c (content_through (is_checked_type made_for) d))

@@ -6,7 +6,7 @@ use Rattle.stun_grammar.specs.declared.error.StunWriteError.{StunWriteError}
 use Rattle.stun_grammar.specs.declared.error.StunWriteError.TheVariants.{OutOfMemory}
 use Rattle.stun_grammar.specs.declared.integrity_algorithm.IntegrityAlgorithm.{IntegrityAlgorithm}
 use Rattle.stun_grammar.specs.Attributes.{Attribute, types}
-use Rattle.stun_grammar.specs.Verdicts.{is_wanted, verdict}
+use Rattle.stun_grammar.specs.Verdicts.{is_checked_type, verdict}
 use Rattle.stun_grammar.specs.Writing.{message_encoding}
 use Rattle.stun_grammar.specs.Steps.{Step as Plain, add, sign, finger, with_step, value_length, is_signing}
 use Rattle.stun_grammar.specs.Sending.{Sent, body, IsLawfulSent}
@@ -41,7 +41,7 @@ ValidatesLast steps d =
     (before behind : List Plain) (algorithm : IntegrityAlgorithm)
     (key : IntegrityAlgorithm → List ℕ)
     → steps ≡ before ++ sign algorithm (key algorithm) ∷ behind → list_any is_signing behind ≡ false
-    → verdict (is_wanted None) key d ≡ Ok algorithm
+    → verdict (is_checked_type None) key d ≡ Ok algorithm
 
 -- with the key of each step that signs, made for that step's algorithm, d validates by that
 -- algorithm
@@ -50,7 +50,7 @@ ValidatesEach steps d =
     (before behind : List Plain) (algorithm : IntegrityAlgorithm)
     (key : IntegrityAlgorithm → List ℕ)
     → steps ≡ before ++ sign algorithm (key algorithm) ∷ behind
-    → verdict (is_wanted (Some algorithm)) key d ≡ Ok algorithm
+    → verdict (is_checked_type (Some algorithm)) key d ≡ Ok algorithm
 
 module _ {O : Type 0} (type_of : O → ℕ) (value_of : O → List ℕ) where
   -- a step in the grammar's terms: an attribute's type and value, an algorithm and the bytes of a

@@ -3,27 +3,15 @@
 ghost use Rattle.std.specs.Cmp.Lexicographic.{pointwise};
 ghost use Rattle.std.specs.Prelude.{◌≡◌, ◌≤◌, None, length, take, nat_eq};
 ghost use Rattle.stun_grammar.specs.Hmac.{hmac};
-ghost use Rattle.stun_grammar.specs.Verdicts.{algorithm_of, hmac_fault, covered_bytes, verdict_on};
+ghost use Rattle.stun_grammar.specs.Verdicts.{hmac_fault, covered_bytes, verdict_on};
 ghost use Rattle.stun_keys.specs.Keys.{key_bytes};
-ghost use Rattle.stun_read.specs.Validating.{shown_kept};
+ghost use Rattle.stun_read.specs.Validating.{shown_integrity};
 
-use crate::kept::Kept;
+use crate::integrity_at::IntegrityAt;
 use stun_base::ValidateError;
 use stun_grammar::IntegrityAlgorithm;
-use stun_grammar::attribute_types::MESSAGE_INTEGRITY;
 use stun_integrity::{hmac_sha1_at, hmac_sha256_at, same_bytes};
 use stun_keys::keys::IntegrityKey;
-
-/// The algorithm of the integrity attribute of a type.
-pub(super) fn algorithm_for(atype: u16) -> IntegrityAlgorithm
-    ensures { result ≡ algorithm_of atype }
-{
-    if atype == MESSAGE_INTEGRITY {
-        IntegrityAlgorithm::Sha1
-    } else {
-        IntegrityAlgorithm::Sha256
-    }
-}
 
 /// Whether the value of an integrity attribute is a prefix of the HMAC of the bytes that it covers.
 /// The attribute's header is at `offset`. All bytes of the value are compared, even after a
@@ -57,19 +45,19 @@ fn is_right(
 
 /// Compares the value of an integrity attribute with the HMAC of the bytes that it covers, and
 /// returns its algorithm.
-pub(super) fn compared(
+pub(super) fn compare_hmac(
     bytes: &[u8],
-    kept: Kept<'_>,
+    found: IntegrityAt<'_>,
     key: &IntegrityKey,
 ) -> Result<IntegrityAlgorithm, ValidateError>
-    requires header { 20 ≤ kept.offset }
-    requires within { kept.offset ≤ length bytes.now }
-    requires lawful { hmac_fault (algorithm_of kept.atype) (length kept.value.now) ≡ None }
-    ensures { result ≡ verdict_on (λ _. key_bytes key.now) bytes.now (shown_kept kept.entry) }
+    requires header { 20 ≤ found.offset }
+    requires within { found.offset ≤ length bytes.now }
+    requires lawful { hmac_fault found.algorithm (length found.value.now) ≡ None }
+    ensures { result ≡ verdict_on (λ _. key_bytes key.now) bytes.now
+        (shown_integrity found.entry) }
 {
-    let algorithm = algorithm_for(kept.atype);
-    if !is_right(bytes, kept.offset, kept.value, algorithm, key) {
+    if !is_right(bytes, found.offset, found.value, found.algorithm, key) {
         return Err(ValidateError::IntegrityFailed);
     }
-    Ok(algorithm)
+    Ok(found.algorithm)
 }

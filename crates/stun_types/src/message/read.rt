@@ -2,7 +2,7 @@
 
 ghost use Rattle.std.specs.Prelude.{◌≡◌, None};
 ghost use Rattle.stun_grammar.specs.Parsing.{parse_fault};
-ghost use Rattle.stun_read.specs.Keeping.{KeepsOffsets};
+ghost use Rattle.stun_read.specs.Offsets.{OffsetsOf};
 
 use std::fmt;
 use stun_base::{
@@ -24,7 +24,7 @@ pub struct Message<'a> {
     #[derive_where(skip)]
     offsets: IntegrityOffsets,
     ghost parsed: { parse_fault bytes.now ≡ None },
-    ghost keeps: { KeepsOffsets offsets bytes.now },
+    ghost keeps: { OffsetsOf offsets bytes.now },
 }
 
 impl<'a> Message<'a> {
@@ -35,7 +35,7 @@ impl<'a> Message<'a> {
     ghost use Rattle.stun_base.specs.MessageTypes.{class_of, method_of, header_of, is_response as responds};
     ghost use Rattle.stun_types.specs.Message.{message_bytes};
     ghost use Rattle.stun_read.specs.Iterating.{items_left, borrowed};
-    ghost use Rattle.stun_read.specs.Keeping.{KeepsOffsets};
+    ghost use Rattle.stun_read.specs.Offsets.{OffsetsOf};
 
     /// Parses a message: a header of twenty bytes, and the attributes that follow it up to the end
     /// of `bytes` (RFC 8489, sections 5, 6.3 and 14). The message borrows `bytes`. Parsing takes no
@@ -93,7 +93,7 @@ impl<'a> Message<'a> {
 
     /// The offsets of the integrity attributes that it shows.
     pub(super) fn integrity_offsets(&self) -> IntegrityOffsets
-        ensures { KeepsOffsets result (message_bytes self.now) }
+        ensures { OffsetsOf result (message_bytes self.now) }
     {
         self.offsets
     }

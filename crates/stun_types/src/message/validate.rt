@@ -2,7 +2,7 @@
 
 ghost use Rattle.std.specs.Prelude.{◌≡◌, ◌≢◌, ◌↔◌, ℕ, List, None, Some, Ok, Err, IfOk};
 ghost use Rattle.stun_grammar.specs.declared.integrity_algorithm.IntegrityAlgorithm.{IntegrityAlgorithm};
-ghost use Rattle.stun_grammar.specs.Verdicts.{is_wanted, verdict, covered};
+ghost use Rattle.stun_grammar.specs.Verdicts.{is_checked_type, verdict, covered};
 ghost use Rattle.stun_grammar.specs.Carrying.{Carries, CarriesPrefix};
 ghost use Rattle.stun_grammar.specs.Accepting.{IsAuthentic, IsAuthenticThrough};
 ghost use Rattle.stun_keys.specs.Keys.{key_bytes, key_algorithm, credentials_key};
@@ -54,7 +54,8 @@ impl Message<'_> {
     ) -> Result<IntegrityAlgorithm, ValidateError>
         ensures verdict { result ≢ Err (ValidateError.Parse StunParseError.OutOfMemory)
             → result
-            ≡ verdict (is_wanted None) (credentials_key credentials.now) (message_bytes self.now) }
+            ≡ verdict (is_checked_type None) (credentials_key credentials.now)
+            (message_bytes self.now) }
         ensures memory { result ≡ Err (ValidateError.Parse StunParseError.OutOfMemory)
             → ShowsLawful (message_bytes self.now) }
         ensures accepted { IfOk result
@@ -62,7 +63,7 @@ impl Message<'_> {
         // it is Ok, and the bytes c are covered, exactly where the message carries c and its HMAC
         ensures carried { (c : List ℕ) (a : IntegrityAlgorithm)
             → result ≢ Err (ValidateError.Parse StunParseError.OutOfMemory)
-            → ((result ≡ Ok a) × (covered (is_wanted None) (message_bytes self.now) ≡ Some c))
+            → ((result ≡ Ok a) × (covered (is_checked_type None) (message_bytes self.now) ≡ Some c))
             ↔ Carries (message_bytes self.now) c (credentials_key credentials.now a) a }
     {
         validate_bytes(
@@ -97,18 +98,19 @@ impl Message<'_> {
         key: &IntegrityKey,
     ) -> Result<IntegrityAlgorithm, ValidateError>
         ensures verdict { result
-            ≡ verdict (is_wanted (key_algorithm key.now)) (λ _. key_bytes key.now)
+            ≡ verdict (is_checked_type (key_algorithm key.now)) (λ _. key_bytes key.now)
             (message_bytes self.now) }
         ensures accepted { IfOk result
             (IsAuthenticThrough (key_algorithm key.now) (λ _. key_bytes key.now)
             (message_bytes self.now)) }
         // it is Ok, and the bytes c are covered, exactly where the message carries c and its HMAC
         ensures carried { (c : List ℕ) (a : IntegrityAlgorithm) → key_algorithm key.now ≡ None
-            → ((result ≡ Ok a) × (covered (is_wanted None) (message_bytes self.now) ≡ Some c))
+            → ((result ≡ Ok a) × (covered (is_checked_type None) (message_bytes self.now) ≡ Some c))
             ↔ Carries (message_bytes self.now) c (key_bytes key.now) a }
         // the same with a key that was made for an algorithm, whatever follows the HMAC
         ensures carried_own { (c : List ℕ) (a : IntegrityAlgorithm) → key_algorithm key.now ≡ Some a
-            → ((result ≡ Ok a) × (covered (is_wanted (Some a)) (message_bytes self.now) ≡ Some c))
+            → ((result ≡ Ok a)
+            × (covered (is_checked_type (Some a)) (message_bytes self.now) ≡ Some c))
             ↔ CarriesPrefix (message_bytes self.now) c (key_bytes key.now) a }
     {
         validate_bytes_with_key(self.as_bytes(), self.integrity_offsets(), key)

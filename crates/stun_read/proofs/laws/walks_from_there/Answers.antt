@@ -1,5 +1,5 @@
 use Rattle.stun_grammar.specs.declared.integrity_algorithm.IntegrityAlgorithm.TheVariants.{Sha1, Sha256}
-use Rattle.stun_read.proofs.KeptOffsetsLemmas.{walk_at, read_there, last_is_either, first_of_algorithm}
+use Rattle.stun_read.proofs.IntegrityAtLemmas.{walk_at, read_there, last_is_either, first_of_algorithm}
 use Rattle.stun_read.proofs.laws.walks_from_there.Goals as goal
 
 pub returns-clause-walk : goal.returns-clause-walk

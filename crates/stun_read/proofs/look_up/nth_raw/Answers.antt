@@ -6,7 +6,7 @@ use Rattle.stun_grammar.specs.Chains.{Shown}
 use Rattle.stun_grammar.specs.Showing.{shown}
 use Rattle.stun_read.specs.Iterating.{items_left, item_view, borrowed}
 use Rattle.stun_read.specs.LookingUp.{nth}
-use Rattle.stun_read.proofs.KeptOffsetsLemmas.{found_kept}
+use Rattle.stun_read.proofs.IntegrityAtLemmas.{found_kept}
 use Rattle.stun_read.proofs.LookingUpLemmas.{found_borrowed, found_item}
 use Rattle.stun_read.proofs.look_up.nth_raw.Goals as goal
 

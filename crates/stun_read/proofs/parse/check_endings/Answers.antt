@@ -4,56 +4,56 @@ use Rattle.stun_read.proofs.ScanningLemmas.{ends, ends_kept, stops, stops_kept, 
 use Rattle.stun_read.proofs.OrdinaryLemmas.{behind_ordinary}
 use Rattle.stun_read.proofs.parse.check_endings.Goals as goal
 
-pub scan-init : goal.scan-init
-scan-init c = record {
+pub walk-init : goal.walk-init
+walk-init c = record {
   header = omega (arith, c.requires.ordinary.offset_is);
   within = c.requires.ordinary.within;
-  scanned = behind_ordinary c.none-seen.result c.none-keeping.result c.args.bytes.now c.args.start c.none-seen.ensures c.none-keeping.ensures c.requires.ordinary;
+  scanned = behind_ordinary c.none-seen.result c.none-scan.result c.args.bytes.now c.args.start c.none-seen.ensures c.none-scan.ensures c.requires.ordinary;
 }
 
 pub returns-in_err-attribute-clause-fault : goal.returns-in_err-attribute-clause-fault
 returns-in_err-attribute-clause-fault c =
     let p = err_from_is_err_and c.from_residual.result c.from_residual.ensures.1 in
     let told = c.in_err-attribute.ensures in
-    rw (p.1, p.2) (ends c.scan.seen c.scan.keeping c.args.bytes.now c.scan.offset c.scan.invariant.scanned _ told.0 told.1)
+    rw (p.1, p.2) (ends c.walk.seen c.walk.scan c.args.bytes.now c.walk.offset c.walk.invariant.scanned _ told.0 told.1)
 
 pub returns-then-not-admits-clause-fault : goal.returns-then-not-admits-clause-fault
 returns-then-not-admits-clause-fault c =
     let found = (rw c.in-Some.is at c.in_ok-attribute.ensures).1 in
-    stops c.scan.seen c.scan.keeping c.args.bytes.now c.scan.offset c.scan.invariant.scanned c.in-Some.attribute c.in-Some.behind found c.type_number-atype.result c.type_number-atype.ensures c.admits.result c.admits.new.self c.admits.ensures c.if-not-admits.true
+    stops c.walk.seen c.walk.scan c.args.bytes.now c.walk.offset c.walk.invariant.scanned c.in-Some.attribute c.in-Some.behind found c.type_number-atype.result c.type_number-atype.ensures c.admits.result c.admits.new.self c.admits.ensures c.if-not-admits.true
 
 pub returns-then-not-admits-clause-offsets : goal.returns-then-not-admits-clause-offsets
 returns-then-not-admits-clause-offsets c =
     let found = (rw c.in-Some.is at c.in_ok-attribute.ensures).1 in
-    rw c.offsets.ensures (stops_kept c.scan.seen c.scan.keeping c.args.bytes.now c.scan.offset c.scan.invariant.scanned c.in-Some.attribute c.in-Some.behind found c.type_number-atype.result c.type_number-atype.ensures c.admits.result c.admits.new.self c.admits.ensures c.requires.frame c.if-not-admits.true)
+    rw c.offsets.ensures (stops_kept c.walk.seen c.walk.scan c.args.bytes.now c.walk.offset c.walk.invariant.scanned c.in-Some.attribute c.in-Some.behind found c.type_number-atype.result c.type_number-atype.ensures c.admits.result c.admits.new.self c.admits.ensures c.requires.frame c.if-not-admits.true)
 
 pub returns-in_err-check_scanned-clause-fault : goal.returns-in_err-check_scanned-clause-fault
 returns-in_err-check_scanned-clause-fault c =
     let found = (rw c.in-Some.is at c.in_ok-attribute.ensures).1 in
     let p = err_from_is_err_and c.from_residual-in_err-check_scanned.result c.from_residual-in_err-check_scanned.ensures.1 in
     let told = c.in_err-check_scanned.ensures in
-    rw (p.1, p.2) (refuses c.scan.seen c.scan.keeping c.args.bytes.now c.scan.offset c.scan.invariant.scanned c.in-Some.attribute c.in-Some.behind found c.type_number-atype.result c.type_number-atype.ensures c.admits.result c.admits.new.self c.admits.ensures c.in_err-check_scanned.field-0.0 c.if-not-admits.false told.0 told.1)
+    rw (p.1, p.2) (refuses c.walk.seen c.walk.scan c.args.bytes.now c.walk.offset c.walk.invariant.scanned c.in-Some.attribute c.in-Some.behind found c.type_number-atype.result c.type_number-atype.ensures c.admits.result c.admits.new.self c.admits.ensures c.in_err-check_scanned.field-0.0 c.if-not-admits.false told.0 told.1)
 
-pub scan-smaller : goal.scan-smaller
-scan-smaller c =
+pub walk-smaller : goal.walk-smaller
+walk-smaller c =
     let told = rw c.in-Some.is at c.in_ok-attribute.ensures in
-    omega (arith, told.0, behind_more_than c.in-Some.attribute c.in-Some.behind c.scan.offset c.args.bytes.now told.1)
+    omega (arith, told.0, behind_more_than c.in-Some.attribute c.in-Some.behind c.walk.offset c.args.bytes.now told.1)
 
-pub scan-preserved : goal.scan-preserved
-scan-preserved c =
+pub walk-preserved : goal.walk-preserved
+walk-preserved c =
     let told = rw c.in-Some.is at c.in_ok-attribute.ensures in
     record {
-      header = omega (arith, c.scan.invariant.header, behind_more_than c.in-Some.attribute c.in-Some.behind c.scan.offset c.args.bytes.now told.1);
+      header = omega (arith, c.walk.invariant.header, behind_more_than c.in-Some.attribute c.in-Some.behind c.walk.offset c.args.bytes.now told.1);
       within = told.0;
-      scanned = on c.scan.seen c.scan.keeping c.args.bytes.now c.scan.offset c.scan.invariant.scanned c.in-Some.attribute c.in-Some.behind told.1 c.type_number-atype.result c.type_number-atype.ensures c.admits.result c.admits.new.self c.admits.ensures c.meet.new.self c.meet.ensures c.if-not-admits.false c.in_ok-check_scanned.ensures;
+      scanned = on c.walk.seen c.walk.scan c.args.bytes.now c.walk.offset c.walk.invariant.scanned c.in-Some.attribute c.in-Some.behind told.1 c.type_number-atype.result c.type_number-atype.ensures c.admits.result c.admits.new.self c.admits.ensures c.meet.new.self c.meet.ensures c.if-not-admits.false c.in_ok-check_scanned.ensures;
     }
 
 pub returns-clause-fault : goal.returns-clause-fault
 returns-clause-fault c =
     let told = rw c.in_default.is at c.in_ok-attribute.ensures in
-    ends c.scan.seen c.scan.keeping c.args.bytes.now c.scan.offset c.scan.invariant.scanned None told.0 told.1
+    ends c.walk.seen c.walk.scan c.args.bytes.now c.walk.offset c.walk.invariant.scanned None told.0 told.1
 
 pub returns-clause-offsets : goal.returns-clause-offsets
 returns-clause-offsets c =
     let told = rw c.in_default.is at c.in_ok-attribute.ensures in
-    rw c.offsets-2.ensures (ends_kept c.scan.seen c.scan.keeping c.args.bytes.now c.scan.offset c.scan.invariant.scanned c.requires.frame told.0)
+    rw c.offsets-2.ensures (ends_kept c.walk.seen c.walk.scan c.args.bytes.now c.walk.offset c.walk.invariant.scanned c.requires.frame told.0)

@@ -1,5 +1,5 @@
 use Rattle.stun_grammar.specs.declared.integrity_algorithm.IntegrityAlgorithm.TheVariants.{Sha1, Sha256}
-use Rattle.stun_read.proofs.KeptOffsetsLemmas.{kept_there}
+use Rattle.stun_read.proofs.IntegrityAtLemmas.{kept_there}
 use Rattle.stun_read.proofs.offsets.IntegrityOffsets.of.Goals as goal
 
 pub returns-in_ok-self-in-Sha1 : goal.returns-in_ok-self-in-Sha1

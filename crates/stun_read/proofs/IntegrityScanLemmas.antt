@@ -15,15 +15,15 @@ use Rattle.stun_grammar.specs.ShownOrder.{in_order}
 use Rattle.stun_grammar.specs.ScannedOrder.{in_any_order}
 use Rattle.stun_grammar.specs.Prefixes.{longest_prefix}
 use Rattle.stun_grammar.specs.Showing.{frame_fault, shown, shown_prefix}
-use Rattle.stun_grammar.specs.Verdicts.{is_wanted}
+use Rattle.stun_grammar.specs.Verdicts.{is_checked_type}
 use Rattle.stun_grammar.proofs.ParsingLemmas.{placed-append}
 use Rattle.stun_grammar.proofs.PrefixesLemmas.{IsClosed, longest-nil, longest-cons, longest_all}
 use Rattle.stun_grammar.proofs.ShowingLemmas.{shown_as, at_type, none_last}
 use Rattle.stun_grammar.proofs.ShownOrderCutLemmas.{in_any_order-from}
 use Rattle.stun_grammar.proofs.ShownOrderLemmas.{in_order-cons, in_order-one, in_order-nil, in_order-ordinary, in_order_closed, pair-fingerprint}
 use Rattle.stun_read.specs.declared.offsets.IntegrityOffsets.{IntegrityOffsets}
-use Rattle.stun_read.specs.declared.offsets.Keeping.{Keeping}
-use Rattle.stun_read.specs.Keeping.{offset_among, AreOffsets, KeepsOffsets, Keeps}
+use Rattle.stun_read.specs.declared.offsets.IntegrityScan.{IntegrityScan}
+use Rattle.stun_read.specs.Offsets.{offset_among, AreOffsets, OffsetsOf, HasScanned}
 
 -- ---- One more type
 
@@ -101,11 +101,11 @@ skip_ordinary : (taken : List Attribute) (ts : List ℕ) → NoneEnds taken → 
 skip_ordinary [] ts all = refl
 skip_ordinary (x ∷ taken) ts all = in_order-ordinary x.type (types taken ++ ts) all.0 ∙ skip_ordinary taken ts all.1
 
-not_wanted : (algorithm : IntegrityAlgorithm) (k : ℕ) → is_ending k ≡ false → is_wanted (Some algorithm) k ≡ false
+not_wanted : (algorithm : IntegrityAlgorithm) (k : ℕ) → is_ending k ≡ false → is_checked_type (Some algorithm) k ≡ false
 not_wanted Sha1 k e = (or_parts (eqb k 0x0008) (eqb k 0x001C || eqb k 0x8028) e).0
 not_wanted Sha256 k e = (or_parts (eqb k 0x001C) (eqb k 0x8028) (or_parts (eqb k 0x0008) (eqb k 0x001C || eqb k 0x8028) e).1).0
 
-none_wanted : (algorithm : IntegrityAlgorithm) (taken : List Attribute) → NoneEnds taken → list_any (is_wanted (Some algorithm)) (types taken) ≡ false
+none_wanted : (algorithm : IntegrityAlgorithm) (taken : List Attribute) → NoneEnds taken → list_any (is_checked_type (Some algorithm)) (types taken) ≡ false
 none_wanted algorithm [] all = refl
 none_wanted algorithm (x ∷ taken) all = or_from _ _ (not_wanted algorithm x.type all.0) (none_wanted algorithm taken all.1)
 
@@ -113,13 +113,13 @@ in_order_all : (taken : List Attribute) → NoneEnds taken → in_order (types t
 in_order_all taken all = ap in_order (sym (append-nil (types taken))) ∙ skip_ordinary taken [] all ∙ in_order-nil
 
 -- they have no offset to keep
-no_offset : (algorithm : IntegrityAlgorithm) (taken : List Attribute) → NoneEnds taken → offset_among (is_wanted (Some algorithm)) (placed 20 (shown_prefix taken)) ≡ None
+no_offset : (algorithm : IntegrityAlgorithm) (taken : List Attribute) → NoneEnds taken → offset_among (is_checked_type (Some algorithm)) (placed 20 (shown_prefix taken)) ≡ None
 no_offset algorithm taken all =
-    ap (λ (xs : List Attribute). offset_among (is_wanted (Some algorithm)) (placed 20 xs)) (shown_whole taken (in_order_all taken all))
-    ∙ ap (option_map (λ (y : Shown). y.offset)) (none_last (is_wanted (Some algorithm)) 20 taken (none_wanted algorithm taken all))
+    ap (λ (xs : List Attribute). offset_among (is_checked_type (Some algorithm)) (placed 20 xs)) (shown_whole taken (in_order_all taken all))
+    ∙ ap (option_map (λ (y : Shown). y.offset)) (none_last (is_checked_type (Some algorithm)) 20 taken (none_wanted algorithm taken all))
 
-pub starts : (keeping : Keeping) (taken : List Attribute) → keeping.offsets.integrity ≡ None → keeping.offsets.sha256 ≡ None → keeping.last ≡ 0 → NoneEnds taken → Keeps keeping taken
-starts keeping taken none-integrity none-sha256 last-is all = record {
+pub starts : (scan : IntegrityScan) (taken : List Attribute) → scan.offsets.integrity ≡ None → scan.offsets.sha256 ≡ None → scan.last ≡ 0 → NoneEnds taken → HasScanned scan taken
+starts scan taken none-integrity none-sha256 last-is all = record {
   offsets = record {
     integrity = none-integrity ∙ sym (no_offset Sha1 taken all);
     sha256 = none-sha256 ∙ sym (no_offset Sha256 taken all);
@@ -130,28 +130,28 @@ starts keeping taken none-integrity none-sha256 last-is all = record {
 -- ---- One more attribute
 
 -- it is shown, and its offset is kept where it is an integrity attribute
-pub met : (keeping after : Keeping) (type offset : ℕ) (taken : List Attribute) (a : Attribute) → Keeps keeping taken → type ≡ a.type → offset ≡ 20 + length (encodings taken)
-    → in_order (keeping.last ∷ (type ∷ [])) ≡ true → after.last ≡ type
-    → after.offsets.integrity ≡ cond (eqb type 0x0008) (Some offset) keeping.offsets.integrity
-    → after.offsets.sha256 ≡ cond (eqb type 0x001C) (Some offset) keeping.offsets.sha256
-    → Keeps after (taken ++ a ∷ [])
-met keeping after type offset taken a keeps type-is offset-is goes last-is integrity-is sha256-is =
+pub met : (scan after : IntegrityScan) (type offset : ℕ) (taken : List Attribute) (a : Attribute) → HasScanned scan taken → type ≡ a.type → offset ≡ 20 + length (encodings taken)
+    → in_order (scan.last ∷ (type ∷ [])) ≡ true → after.last ≡ type
+    → after.offsets.integrity ≡ cond (eqb type 0x0008) (Some offset) scan.offsets.integrity
+    → after.offsets.sha256 ≡ cond (eqb type 0x001C) (Some offset) scan.offsets.sha256
+    → HasScanned after (taken ++ a ∷ [])
+met scan after type offset taken a keeps type-is offset-is goes last-is integrity-is sha256-is =
     let fits : in_order (types taken ++ a.type ∷ []) ≡ true = ap (λ (k : ℕ). in_order (types taken ++ k ∷ [])) (sym type-is) ∙ keeps.next type ∙ goes in
     let made : (wanted : ℕ → Bool) (before : Option ℕ) → before ≡ offset_among wanted (placed 20 (shown_prefix taken))
     → cond (wanted type) (Some offset) before ≡ offset_among wanted (placed 20 (shown_prefix (taken ++ a ∷ []))) =
     λ wanted before e. rw (type-is, offset-is, e) (sym (offset_more wanted taken a fits)) in
     record {
       offsets = record {
-        integrity = integrity-is ∙ made (is_wanted (Some Sha1)) keeping.offsets.integrity keeps.offsets.integrity;
-        sha256 = sha256-is ∙ made (is_wanted (Some Sha256)) keeping.offsets.sha256 keeps.offsets.sha256;
+        integrity = integrity-is ∙ made (is_checked_type (Some Sha1)) scan.offsets.integrity keeps.offsets.integrity;
+        sha256 = sha256-is ∙ made (is_checked_type (Some Sha256)) scan.offsets.sha256 keeps.offsets.sha256;
       };
       next = λ j. next_more taken a j ∙ ap (λ (t : Bool). t && in_order (a.type ∷ (j ∷ []))) fits ∙ ap (λ (l : ℕ). in_order (l ∷ (j ∷ []))) (sym (last-is ∙ type-is));
     }
 
 -- it breaks the order, and nothing is shown after it
-pub met_broken : (keeping after : Keeping) (type : ℕ) (taken : List Attribute) (a : Attribute) → Keeps keeping taken → type ≡ a.type → in_order (keeping.last ∷ (type ∷ [])) ≡ false
-    → after.offsets ≡ keeping.offsets → after.last ≡ FINGERPRINT → Keeps after (taken ++ a ∷ [])
-met_broken keeping after type taken a keeps type-is stops offsets-is last-is =
+pub met_broken : (scan after : IntegrityScan) (type : ℕ) (taken : List Attribute) (a : Attribute) → HasScanned scan taken → type ≡ a.type → in_order (scan.last ∷ (type ∷ [])) ≡ false
+    → after.offsets ≡ scan.offsets → after.last ≡ FINGERPRINT → HasScanned after (taken ++ a ∷ [])
+met_broken scan after type taken a keeps type-is stops offsets-is last-is =
     let broken : in_order (types taken ++ a.type ∷ []) ≡ false = ap (λ (k : ℕ). in_order (types taken ++ k ∷ [])) (sym type-is) ∙ keeps.next type ∙ stops in
     let same : shown_prefix (taken ++ a ∷ []) ≡ shown_prefix taken = shown_cut taken a [] broken in
     record {
@@ -160,14 +160,14 @@ met_broken keeping after type taken a keeps type-is stops offsets-is last-is =
     }
 
 -- it is a FINGERPRINT, whether or not it is shown
-pub met_fingerprint : (keeping after : Keeping) (type offset : ℕ) (taken : List Attribute) (a : Attribute) → Keeps keeping taken → type ≡ a.type → offset ≡ 20 + length (encodings taken)
-    → type ≡ FINGERPRINT → after.offsets ≡ keeping.offsets → after.last ≡ FINGERPRINT → Keeps after (taken ++ a ∷ [])
-met_fingerprint keeping after type offset taken a keeps type-is offset-is is offsets-is last-is = elim (cases_Bool (in_order (keeping.last ∷ (type ∷ [])))) [
+pub met_fingerprint : (scan after : IntegrityScan) (type offset : ℕ) (taken : List Attribute) (a : Attribute) → HasScanned scan taken → type ≡ a.type → offset ≡ 20 + length (encodings taken)
+    → type ≡ FINGERPRINT → after.offsets ≡ scan.offsets → after.last ≡ FINGERPRINT → HasScanned after (taken ++ a ∷ [])
+met_fingerprint scan after type offset taken a keeps type-is offset-is is offsets-is last-is = elim (cases_Bool (in_order (scan.last ∷ (type ∷ [])))) [
   | inl goes ↦
-      met keeping after type offset taken a keeps type-is offset-is goes (last-is ∙ sym is)
+      met scan after type offset taken a keeps type-is offset-is goes (last-is ∙ sym is)
       (ap (λ (o : IntegrityOffsets). o.integrity) offsets-is ∙ sym (rw is refl))
       (ap (λ (o : IntegrityOffsets). o.sha256) offsets-is ∙ sym (rw is refl))
-  | inr stops ↦ met_broken keeping after type taken a keeps type-is stops offsets-is last-is
+  | inr stops ↦ met_broken scan after type taken a keeps type-is stops offsets-is last-is
 ]
 
 -- ---- The end of the scan
@@ -176,19 +176,19 @@ shown_of : (d : List ℕ) (all taken : List Attribute) → frame_fault d ≡ Non
 unfolding shown
 shown_of d all taken frame e same = rw (frame, e, same) refl
 
-told : (keeping : Keeping) (d : List ℕ) (taken : List Attribute) → Keeps keeping taken → shown d ≡ placed 20 (shown_prefix taken) → KeepsOffsets keeping.offsets d
-told keeping d taken keeps e = subst (AreOffsets keeping.offsets) (sym e) keeps.offsets
+told : (scan : IntegrityScan) (d : List ℕ) (taken : List Attribute) → HasScanned scan taken → shown d ≡ placed 20 (shown_prefix taken) → OffsetsOf scan.offsets d
+told scan d taken keeps e = subst (AreOffsets scan.offsets) (sym e) keeps.offsets
 
 -- all attributes were scanned
-pub kept_at_end : (keeping : Keeping) (d : List ℕ) (taken : List Attribute) → frame_fault d ≡ None → Keeps keeping taken → chain (drop 20 d) ≡ taken → KeepsOffsets keeping.offsets d
-kept_at_end keeping d taken frame keeps e = told keeping d taken keeps (shown_of d taken taken frame e refl)
+pub kept_at_end : (scan : IntegrityScan) (d : List ℕ) (taken : List Attribute) → frame_fault d ≡ None → HasScanned scan taken → chain (drop 20 d) ≡ taken → OffsetsOf scan.offsets d
+kept_at_end scan d taken frame keeps e = told scan d taken keeps (shown_of d taken taken frame e refl)
 
 -- the next one breaks the order of what is scanned, and so that of what is shown
-pub kept_at_stop : (keeping : Keeping) (d : List ℕ) (taken : List Attribute) (a : Attribute) (behind : List Attribute) → frame_fault d ≡ None → Keeps keeping taken
-    → chain (drop 20 d) ≡ taken ++ a ∷ behind → in_any_order (types taken ++ a.type ∷ []) ≡ false → KeepsOffsets keeping.offsets d
-kept_at_stop keeping d taken a behind frame keeps e stops =
+pub kept_at_stop : (scan : IntegrityScan) (d : List ℕ) (taken : List Attribute) (a : Attribute) (behind : List Attribute) → frame_fault d ≡ None → HasScanned scan taken
+    → chain (drop 20 d) ≡ taken ++ a ∷ behind → in_any_order (types taken ++ a.type ∷ []) ≡ false → OffsetsOf scan.offsets d
+kept_at_stop scan d taken a behind frame keeps e stops =
     let broken : in_order (types taken ++ a.type ∷ []) ≡ false = elim (cases_Bool (in_order (types taken ++ a.type ∷ []))) [
       | inl passed ↦ absurd (cc (stops, in_any_order-from (types taken ++ a.type ∷ []) passed))
       | inr failed ↦ failed
     ] in
-    told keeping d taken keeps (shown_of d (taken ++ a ∷ behind) taken frame e (shown_cut taken a behind broken))
+    told scan d taken keeps (shown_of d (taken ++ a ∷ behind) taken frame e (shown_cut taken a behind broken))

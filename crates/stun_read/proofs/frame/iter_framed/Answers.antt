@@ -2,7 +2,7 @@ use Rattle.stun_grammar.proofs.HeadersLemmas.{header_there, frame_there}
 use Rattle.std.proofs.Common.{ap, arith}
 use Rattle.stun_read.specs.Iterating.{borrowed}
 use Rattle.stun_read.proofs.IteratingLemmas.{from_start, length-items}
-use Rattle.stun_read.proofs.iterate.MessageAttributesIter.behind_header.Goals as goal
+use Rattle.stun_read.proofs.frame.iter_framed.Goals as goal
 
 pub invariant_of-result : goal.invariant_of-result
 invariant_of-result c = record { within = (header_there c.args.bytes.now (frame_there c.args.bytes.now c.requires)).0 }

@@ -14,7 +14,7 @@ use Rattle.stun_grammar.specs.Chains.{Shown, first_attribute, chain, rest, place
 use Rattle.stun_grammar.specs.ShownOrder.{in_order, endings, optional, without}
 use Rattle.stun_grammar.specs.ScannedOrder.{in_any_order, distinct, has}
 use Rattle.stun_grammar.specs.Showing.{frame_fault, shown, shown_prefix}
-use Rattle.stun_grammar.specs.Verdicts.{type_of_algorithm, is_wanted, last_shown}
+use Rattle.stun_grammar.specs.Verdicts.{type_of_algorithm, is_checked_type, last_shown}
 use Rattle.stun_grammar.proofs.AttributesLemmas.{length-encoding, first_attribute_some}
 use Rattle.stun_grammar.proofs.ChainsLemmas.{none_or_some, chain-none, chain-some, rest-some, length-first_attribute}
 use Rattle.stun_grammar.proofs.PrefixesLemmas.{longest_exists}
@@ -22,12 +22,9 @@ use Rattle.stun_grammar.proofs.ShowingLemmas.{shown_as, at_type, find-reverse-co
 use Rattle.stun_grammar.proofs.ShownOrderCutLemmas.{maybe, empty, in_any_order-from}
 use Rattle.stun_grammar.proofs.ShownOrderLemmas.{which, integrity, sha256, fingerprint, ordinary, in_order-nil, in_order-sha256}
 use Rattle.stun_grammar.proofs.VerdictsLemmas.{order_pair}
-use Rattle.stun_attrs.specs.Raw.{Borrows}
 use Rattle.stun_attrs.specs.declared.raw.RawAttribute.{RawAttribute}
-use Rattle.stun_read.specs.Keeping.{offset_among, IsKept}
+use Rattle.stun_read.specs.Offsets.{offset_among, IsIntegrityAt}
 use Rattle.stun_read.specs.LookingUp.{nth, IsFound}
-use Rattle.stun_read.specs.Validating.{shown_kept}
-use Rattle.stun_read.specs.declared.kept.Kept.{Kept}
 
 -- ---- The walk from there
 
@@ -69,7 +66,7 @@ shown_is : (d : List ℕ) → frame_fault d ≡ None → shown d ≡ placed 20 (
 unfolding shown
 shown_is d frame = rw frame refl
 
-kept_at : (wanted : ℕ → Bool) (d : List ℕ) (x : Shown) → frame_fault d ≡ None → last_shown wanted d ≡ Some x → (a : Attribute) × (wanted a.type ≡ true) × IsKept wanted d a.type x.offset
+kept_at : (wanted : ℕ → Bool) (d : List ℕ) (x : Shown) → frame_fault d ≡ None → last_shown wanted d ≡ Some x → (a : Attribute) × (wanted a.type ≡ true) × IsIntegrityAt wanted d a.type x.offset
 kept_at wanted d x frame last =
     let all = chain (drop 20 d) in
     let prefix = longest_exists (λ q. in_order (types q)) all in_order-nil in
@@ -92,7 +89,7 @@ kept_at wanted d x frame last =
     )
 
 abbrev IsThere : (ℕ → Bool) → List ℕ → ℕ → Type 0
-IsThere wanted d offset = (a : Attribute) × (wanted a.type ≡ true) × IsKept wanted d a.type offset
+IsThere wanted d offset = (a : Attribute) × (wanted a.type ≡ true) × IsIntegrityAt wanted d a.type offset
 
 there : (wanted : ℕ → Bool) (d : List ℕ) (offset : ℕ) → offset_among wanted (shown d) ≡ Some offset → IsThere wanted d offset
 there wanted d offset e = elim (none_or_some (last_shown wanted d)) [
@@ -118,13 +115,10 @@ none_there wanted d e = elim (none_or_some (last_shown wanted d)) [
 ]
 
 -- of the attribute of an algorithm
-pub kept_there : (algorithm : IntegrityAlgorithm) (d : List ℕ) (offset : ℕ) (kept : Option ℕ) → kept ≡ offset_among (is_wanted (Some algorithm)) (shown d) → kept ≡ Some offset → IsKept (is_wanted (Some algorithm)) d (type_of_algorithm algorithm) offset
+pub kept_there : (algorithm : IntegrityAlgorithm) (d : List ℕ) (offset : ℕ) (kept : Option ℕ) → kept ≡ offset_among (is_checked_type (Some algorithm)) (shown d) → kept ≡ Some offset → IsIntegrityAt (is_checked_type (Some algorithm)) d (type_of_algorithm algorithm) offset
 kept_there algorithm d offset kept e is =
-    let (a, passes, at) = there (is_wanted (Some algorithm)) d offset (sym e ∙ is) in
-    subst (λ (k : ℕ). IsKept (is_wanted (Some algorithm)) d k offset) (eqb-true a.type (type_of_algorithm algorithm) passes) at
-
-pub none_kept : (algorithm : IntegrityAlgorithm) (d : List ℕ) (kept : Option ℕ) → kept ≡ offset_among (is_wanted (Some algorithm)) (shown d) → kept ≡ None → last_shown (is_wanted (Some algorithm)) d ≡ None
-none_kept algorithm d kept e is = none_there (is_wanted (Some algorithm)) d (sym e ∙ is)
+    let (a, passes, at) = there (is_checked_type (Some algorithm)) d offset (sym e ∙ is) in
+    subst (λ (k : ℕ). IsIntegrityAt (is_checked_type (Some algorithm)) d k offset) (eqb-true a.type (type_of_algorithm algorithm) passes) at
 
 -- its bytes are all there
 pub first_long : (b : List ℕ) → is_some (first_attribute b) ≡ true → 4 + stated_length b ≤ length b
@@ -141,23 +135,6 @@ first_read b n read n-is read-is = elim (none_or_some (first_attribute b)) [
       let value-is : read ≡ a.value = read-is ∙ ap (λ (k : ℕ). take k (drop 4 b)) count ∙ sym (ap (λ (x : Attribute). x.value) (first_attribute_some b a some).1) in
       rw some value-is
 ]
-
--- there is one at a kept offset, and what is read there is that attribute
-pub kept_begins : (wanted : ℕ → Bool) (d : List ℕ) (type offset : ℕ) → IsKept wanted d type offset → is_some (first_attribute (drop offset d)) ≡ true
-kept_begins wanted d type offset kept = rw kept.first_is refl
-
-pub kept_is : (wanted : ℕ → Bool) (d : List ℕ) (type offset : ℕ) (read : List ℕ) → IsKept wanted d type offset → IfSome (first_attribute (drop offset d)) (λ a. read ≡ a.value) → last_shown wanted d ≡ Some (shown_as offset type read)
-kept_is wanted d type offset read kept found =
-    let value-is : read ≡ kept.attribute.value = rw kept.first_is at found in rw (kept.type_is, value-is) kept.last_is
-
--- as a raw attribute
-pub raw_found : (x : Option Shown) (kept : Kept) (type : ℕ) (raw : RawAttribute) → x ≡ Some (shown_kept kept) → type ≡ kept.atype → Borrows type kept.value.now raw → IsFound x (Some (kept.offset, raw))
-raw_found x kept type raw last type-is borrows =
-    let borrows-it : Borrows kept.atype kept.value.now raw = subst (λ (k : ℕ). Borrows k kept.value.now raw) type-is borrows in
-    rw last (refl, borrows-it)
-
-pub none_found : (x : Option Shown) → x ≡ None → IsFound x None
-none_found x e = rw e refl
 
 pub read_there : (wanted : ℕ → Bool) (d : List ℕ) (x : Shown) → last_shown wanted d ≡ Some x → IsSomeAnd (first_attribute (drop x.offset d)) (λ a. (a.type ≡ x.type) × (a.value ≡ x.value))
 read_there wanted d x last =
@@ -197,25 +174,25 @@ order_behind k [] e = in_order-nil
 order_behind k (l ∷ ks) e = (order_pair k l ks e).2
 
 -- no MESSAGE-INTEGRITY follows a MESSAGE-INTEGRITY-SHA256
-none_behind : (ks : List ℕ) → in_order (0x001C ∷ ks) ≡ true → list_any (is_wanted (Some Sha1)) ks ≡ false
+none_behind : (ks : List ℕ) → in_order (0x001C ∷ ks) ≡ true → list_any (is_checked_type (Some Sha1)) ks ≡ false
 none_behind ks e =
     let c = maybe FINGERPRINT ks in
     let end = empty (without FINGERPRINT ks) (sym (in_order-sha256 ks) ∙ e) in
-    ap (list_any (is_wanted (Some Sha1))) (c.1 ∙ ap (λ (x : List ℕ). optional c.0 FINGERPRINT ++ x) end) ∙ neither c.0
+    ap (list_any (is_checked_type (Some Sha1))) (c.1 ∙ ap (λ (x : List ℕ). optional c.0 FINGERPRINT ++ x) end) ∙ neither c.0
   where
-    neither : (q : Bool) → list_any (is_wanted (Some Sha1)) (optional q FINGERPRINT ++ []) ≡ false
+    neither : (q : Bool) → list_any (is_checked_type (Some Sha1)) (optional q FINGERPRINT ++ []) ≡ false
     neither true = refl
     neither false = refl
 
 abbrev Either : ℕ → List Attribute → Type 0
-Either offset xs = last_of (is_wanted None) offset xs ≡ option_or (last_of (is_wanted (Some Sha256)) offset xs) (last_of (is_wanted (Some Sha1)) offset xs)
+Either offset xs = last_of (is_checked_type None) offset xs ≡ option_or (last_of (is_checked_type (Some Sha256)) offset xs) (last_of (is_checked_type (Some Sha1)) offset xs)
 
 join_last : (A B here : Option Shown) (s t : Option Shown) → option_or (option_or A B) here ≡ option_or (option_or A s) (option_or B t) → (l m n : Option Shown)
     → l ≡ option_or (option_or A B) here → m ≡ option_or A s → n ≡ option_or B t → l ≡ option_or m n
 join_last A B here s t e l m n p q r = p ∙ e ∙ sym (ap (λ (o : Option Shown). option_or o n) q ∙ ap (option_or (option_or A s)) r)
 
 either_at : (offset k : ℕ) (value : List ℕ) (A B : Option Shown) → (k ≡ 0x001C → B ≡ None)
-    → (let at = (λ (w : ℕ → Bool). cond (w k) (Some (shown_as offset k value)) None) in option_or (option_or A B) (at (is_wanted None)) ≡ option_or (option_or A (at (is_wanted (Some Sha256)))) (option_or B (at (is_wanted (Some Sha1)))))
+    → (let at = (λ (w : ℕ → Bool). cond (w k) (Some (shown_as offset k value)) None) in option_or (option_or A B) (at (is_checked_type None)) ≡ option_or (option_or A (at (is_checked_type (Some Sha256)))) (option_or B (at (is_checked_type (Some Sha1)))))
 either_at offset k value A B late = elim (which k) [
   | integrity is ↦ rw is (or_assoc A B (Some (shown_as offset 0x0008 value)) ∙ ap (λ (l : Option Shown). option_or l (option_or B (Some (shown_as offset 0x0008 value)))) (sym (or_none A)))
   | sha256 is ↦ rw is (or_late A B (shown_as offset 0x001C value) (late is))
@@ -231,18 +208,18 @@ unfolding placed last_of
 last_either offset [] e = refl
 last_either offset (x ∷ xs) e =
     let o : ℕ = offset + length (encoding x) in
-    let A = last_of (is_wanted (Some Sha256)) o xs in
-    let B = last_of (is_wanted (Some Sha1)) o xs in
+    let A = last_of (is_checked_type (Some Sha256)) o xs in
+    let B = last_of (is_checked_type (Some Sha1)) o xs in
     let y : Shown = shown_as offset x.type x.value in
     let at : (w : ℕ → Bool) → Option Shown = λ w. cond (w x.type) (Some y) None in
     let behind = last_either o xs (order_behind x.type (types xs) e) in
-    let whole : last_of (is_wanted None) offset (x ∷ xs) ≡ option_or (option_or A B) (at (is_wanted None)) = last_cons (is_wanted None) offset x xs ∙ ap (λ (l : Option Shown). option_or l (at (is_wanted None))) behind in
-    let by : option_or (option_or A B) (at (is_wanted None)) ≡ option_or (option_or A (at (is_wanted (Some Sha256)))) (option_or B (at (is_wanted (Some Sha1)))) → Either offset (x ∷ xs) =
-    λ h. join_last A B (at (is_wanted None)) (at (is_wanted (Some Sha256))) (at (is_wanted (Some Sha1))) h _ _ _ whole (last_cons (is_wanted (Some Sha256)) offset x xs) (last_cons (is_wanted (Some Sha1)) offset x xs) in
-    by (either_at offset x.type x.value A B (λ is. none_last (is_wanted (Some Sha1)) o xs (none_behind (types xs) (ap (λ (k : ℕ). in_order (k ∷ types xs)) (sym is) ∙ e))))
+    let whole : last_of (is_checked_type None) offset (x ∷ xs) ≡ option_or (option_or A B) (at (is_checked_type None)) = last_cons (is_checked_type None) offset x xs ∙ ap (λ (l : Option Shown). option_or l (at (is_checked_type None))) behind in
+    let by : option_or (option_or A B) (at (is_checked_type None)) ≡ option_or (option_or A (at (is_checked_type (Some Sha256)))) (option_or B (at (is_checked_type (Some Sha1)))) → Either offset (x ∷ xs) =
+    λ h. join_last A B (at (is_checked_type None)) (at (is_checked_type (Some Sha256))) (at (is_checked_type (Some Sha1))) h _ _ _ whole (last_cons (is_checked_type (Some Sha256)) offset x xs) (last_cons (is_checked_type (Some Sha1)) offset x xs) in
+    by (either_at offset x.type x.value A B (λ is. none_last (is_checked_type (Some Sha1)) o xs (none_behind (types xs) (ap (λ (k : ℕ). in_order (k ∷ types xs)) (sym is) ∙ e))))
 
 -- MESSAGE-INTEGRITY-SHA256 where it is shown, else MESSAGE-INTEGRITY
-pub last_is_either : (d : List ℕ) → last_shown (is_wanted None) d ≡ option_or (last_shown (is_wanted (Some Sha256)) d) (last_shown (is_wanted (Some Sha1)) d)
+pub last_is_either : (d : List ℕ) → last_shown (is_checked_type None) d ≡ option_or (last_shown (is_checked_type (Some Sha256)) d) (last_shown (is_checked_type (Some Sha1)) d)
 unfolding last_of
 last_is_either d = elim (none_or_some (frame_fault d)) [
   | inl frame ↦
@@ -252,32 +229,32 @@ last_is_either d = elim (none_or_some (frame_fault d)) [
 ]
 
 -- the same of what was kept
-pub either_kept : (d : List ℕ) (type offset : ℕ) → IsKept (is_wanted (Some Sha256)) d type offset → IsKept (is_wanted None) d type offset
+pub either_kept : (d : List ℕ) (type offset : ℕ) → IsIntegrityAt (is_checked_type (Some Sha256)) d type offset → IsIntegrityAt (is_checked_type None) d type offset
 either_kept d type offset kept = record {
   attribute = kept.attribute;
   type_is = kept.type_is;
   within = kept.within;
   first_is = kept.first_is;
-  last_is = last_is_either d ∙ ap (λ (o : Option Shown). option_or o (last_shown (is_wanted (Some Sha1)) d)) kept.last_is;
+  last_is = last_is_either d ∙ ap (λ (o : Option Shown). option_or o (last_shown (is_checked_type (Some Sha1)) d)) kept.last_is;
 }
 
-other_kept : (d : List ℕ) (type offset : ℕ) → last_shown (is_wanted (Some Sha256)) d ≡ None → IsKept (is_wanted (Some Sha1)) d type offset → IsKept (is_wanted None) d type offset
+other_kept : (d : List ℕ) (type offset : ℕ) → last_shown (is_checked_type (Some Sha256)) d ≡ None → IsIntegrityAt (is_checked_type (Some Sha1)) d type offset → IsIntegrityAt (is_checked_type None) d type offset
 other_kept d type offset none kept = record {
   attribute = kept.attribute;
   type_is = kept.type_is;
   within = kept.within;
   first_is = kept.first_is;
-  last_is = last_is_either d ∙ ap (λ (o : Option Shown). option_or o (last_shown (is_wanted (Some Sha1)) d)) none ∙ kept.last_is;
+  last_is = last_is_either d ∙ ap (λ (o : Option Shown). option_or o (last_shown (is_checked_type (Some Sha1)) d)) none ∙ kept.last_is;
 }
 
-neither_kept : (d : List ℕ) → last_shown (is_wanted (Some Sha256)) d ≡ None → last_shown (is_wanted (Some Sha1)) d ≡ None → last_shown (is_wanted None) d ≡ None
-neither_kept d none other = last_is_either d ∙ ap (λ (o : Option Shown). option_or o (last_shown (is_wanted (Some Sha1)) d)) none ∙ other
+neither_kept : (d : List ℕ) → last_shown (is_checked_type (Some Sha256)) d ≡ None → last_shown (is_checked_type (Some Sha1)) d ≡ None → last_shown (is_checked_type None) d ≡ None
+neither_kept d none other = last_is_either d ∙ ap (λ (o : Option Shown). option_or o (last_shown (is_checked_type (Some Sha1)) d)) none ∙ other
 
-pub other_found : (d : List ℕ) (kept : Option (ℕ × ℕ)) → last_shown (is_wanted (Some Sha256)) d ≡ None
-    → MatchOption kept (last_shown (is_wanted (Some Sha1)) d ≡ None) (λ found. IsKept (is_wanted (Some Sha1)) d found.0 found.1)
-    → MatchOption kept (last_shown (is_wanted None) d ≡ None) (λ found. IsKept (is_wanted None) d found.0 found.1)
+pub other_found : (d : List ℕ) (kept : Option (IntegrityAlgorithm × ℕ)) → last_shown (is_checked_type (Some Sha256)) d ≡ None
+    → MatchOption kept (last_shown (is_checked_type (Some Sha1)) d ≡ None) (λ found. IsIntegrityAt (is_checked_type (Some Sha1)) d (type_of_algorithm found.0) found.1)
+    → MatchOption kept (last_shown (is_checked_type None) d ≡ None) (λ found. IsIntegrityAt (is_checked_type None) d (type_of_algorithm found.0) found.1)
 other_found d None none other = neither_kept d none other
-other_found d (Some found) none other = other_kept d found.0 found.1 none other
+other_found d (Some found) none other = other_kept d (type_of_algorithm found.0) found.1 none other
 
 -- ---- No more than one of each
 
@@ -290,7 +267,7 @@ once k ks ends e =
     not-true _ (and_parts _ _ (and_parts _ _ parts).1).0
 
 first_is_last : (algorithm : IntegrityAlgorithm) (offset : ℕ) (xs : List Attribute) → in_order (types xs) ≡ true
-    → slice_get (filter (λ (a : Shown). eqb a.type (type_of_algorithm algorithm)) (placed offset xs)) 0 ≡ last_of (is_wanted (Some algorithm)) offset xs
+    → slice_get (filter (λ (a : Shown). eqb a.type (type_of_algorithm algorithm)) (placed offset xs)) 0 ≡ last_of (is_checked_type (Some algorithm)) offset xs
 unfolding placed last_of
 first_is_last algorithm offset [] e = refl
 first_is_last algorithm offset (x ∷ xs) e =
@@ -302,24 +279,24 @@ first_is_last algorithm offset (x ∷ xs) e =
     elim (cases_Bool (eqb x.type k)) [
       | inl same ↦
           let is : x.type ≡ k = eqb-true x.type k same in
-          let none : last_of (is_wanted (Some algorithm)) o xs ≡ None = none_last (is_wanted (Some algorithm)) o xs (once k (types xs) (ends algorithm) (ap (λ (t : ℕ). in_order (t ∷ types xs)) (sym is) ∙ e)) in
+          let none : last_of (is_checked_type (Some algorithm)) o xs ≡ None = none_last (is_checked_type (Some algorithm)) o xs (once k (types xs) (ends algorithm) (ap (λ (t : ℕ). in_order (t ∷ types xs)) (sym is) ∙ e)) in
           ap (λ (ys : List Shown). slice_get ys 0) (cond-true (eqb x.type k) (y ∷ rest-is) rest-is same)
-          ∙ sym (last_cons (is_wanted (Some algorithm)) offset x xs
+          ∙ sym (last_cons (is_checked_type (Some algorithm)) offset x xs
           ∙ ap (λ (o : Option Shown). option_or o (cond (eqb x.type k) (Some y) None)) none
           ∙ cond-true (eqb x.type k) (Some y) None same)
       | inr differs ↦
           ap (λ (ys : List Shown). slice_get ys 0) (cond-false (eqb x.type k) (y ∷ rest-is) rest-is differs)
           ∙ behind
-          ∙ sym (last_cons (is_wanted (Some algorithm)) offset x xs
-          ∙ ap (option_or (last_of (is_wanted (Some algorithm)) o xs)) (cond-false (eqb x.type k) (Some y) None differs)
-          ∙ or_none (last_of (is_wanted (Some algorithm)) o xs))
+          ∙ sym (last_cons (is_checked_type (Some algorithm)) offset x xs
+          ∙ ap (option_or (last_of (is_checked_type (Some algorithm)) o xs)) (cond-false (eqb x.type k) (Some y) None differs)
+          ∙ or_none (last_of (is_checked_type (Some algorithm)) o xs))
     ]
   where
     ends : (a : IntegrityAlgorithm) → is_ending (type_of_algorithm a) ≡ true
     ends Sha1 = refl
     ends Sha256 = refl
 
-pub first_of_algorithm : (algorithm : IntegrityAlgorithm) (d : List ℕ) → nth d (type_of_algorithm algorithm) 0 ≡ last_shown (is_wanted (Some algorithm)) d
+pub first_of_algorithm : (algorithm : IntegrityAlgorithm) (d : List ℕ) → nth d (type_of_algorithm algorithm) 0 ≡ last_shown (is_checked_type (Some algorithm)) d
 unfolding last_of
 first_of_algorithm algorithm d = elim (none_or_some (frame_fault d)) [
   | inl frame ↦
@@ -329,5 +306,5 @@ first_of_algorithm algorithm d = elim (none_or_some (frame_fault d)) [
 ]
 
 -- so the one that was kept is what a look-up of its type finds
-pub found_kept : (algorithm : IntegrityAlgorithm) (d : List ℕ) (type n : ℕ) (item : Option (ℕ × RawAttribute)) → type ≡ type_of_algorithm algorithm → n ≡ 0 → IsFound (last_shown (is_wanted (Some algorithm)) d) item → IsFound (nth d type n) item
+pub found_kept : (algorithm : IntegrityAlgorithm) (d : List ℕ) (type n : ℕ) (item : Option (ℕ × RawAttribute)) → type ≡ type_of_algorithm algorithm → n ≡ 0 → IsFound (last_shown (is_checked_type (Some algorithm)) d) item → IsFound (nth d type n) item
 found_kept algorithm d type n item type-is n-is found = rw (type-is, n-is, first_of_algorithm algorithm d) found

@@ -2,20 +2,22 @@
 
 ghost use Rattle.std.specs.Prelude.{◌≡◌, ◌≤◌, true, Some, length, is_some, IfSome};
 ghost use Rattle.stun_grammar.specs.Chains.{first_attribute};
-ghost use Rattle.stun_grammar.specs.Verdicts.{is_wanted, last_shown};
-ghost use Rattle.stun_read.specs.Keeping.{KeepsOffsets};
+ghost use Rattle.stun_grammar.specs.Verdicts.{type_of_algorithm, is_checked_type, last_shown};
+ghost use Rattle.stun_read.specs.Offsets.{OffsetsOf};
 ghost use Rattle.stun_read.specs.LookingUp.{IsFound};
 
 use crate::IntegrityOffsets;
 use stun_attrs::{RawAttribute, borrowed_attribute};
 use stun_base::{AttributeType, number_at};
 use stun_grammar::IntegrityAlgorithm;
+use stun_grammar::attribute_types::{MESSAGE_INTEGRITY, MESSAGE_INTEGRITY_SHA256};
 
-/// An attribute that was read at an offset: that of its header, its type, and its value.
+/// An integrity attribute that was read at an offset: that of its header, its algorithm, and its
+/// value.
 #[derive(Clone, Copy, Drop)]
-pub(crate) struct Kept<'a> {
+pub(crate) struct IntegrityAt<'a> {
     pub(crate) offset: usize,
-    pub(crate) atype: u16,
+    pub(crate) algorithm: IntegrityAlgorithm,
     pub(crate) value: &'a [u8],
     ghost short: { length value.now ≤ 65535 },
 }
@@ -31,9 +33,9 @@ fn first_value(bytes: &[u8]) -> &[u8]
     &bytes[4..4 + length]
 }
 
-impl<'a> Kept<'a> {
+impl<'a> IntegrityAt<'a> {
     ghost use Rattle.std.specs.Prelude.{◌≡◌, MatchOption, None, Some};
-    ghost use Rattle.stun_read.specs.Validating.{shown_kept};
+    ghost use Rattle.stun_read.specs.Validating.{shown_integrity};
 
     /// The last integrity attribute that is shown or, with an algorithm, the one of that algorithm.
     /// It is read at its offset, and no other attribute is.
@@ -42,17 +44,28 @@ impl<'a> Kept<'a> {
         offsets: IntegrityOffsets,
         made_for: Option<IntegrityAlgorithm>,
     ) -> Option<Self>
-        requires { KeepsOffsets offsets bytes.now }
-        ensures { MatchOption result (last_shown (is_wanted made_for) bytes.now ≡ None)
-            (λ kept. last_shown (is_wanted made_for) bytes.now ≡ Some (shown_kept kept)) }
+        requires { OffsetsOf offsets bytes.now }
+        ensures { MatchOption result (last_shown (is_checked_type made_for) bytes.now ≡ None)
+            (λ found. last_shown (is_checked_type made_for) bytes.now
+            ≡ Some (shown_integrity found)) }
     {
-        let (atype, offset) = offsets.last(made_for)?;
+        let (algorithm, offset) = offsets.last(made_for)?;
         let value = first_value(&bytes[offset..]);
-        Some(Kept {
+        Some(IntegrityAt {
             offset,
-            atype,
+            algorithm,
             value,
         })
+    }
+}
+
+/// The type of the integrity attribute of an algorithm.
+fn type_for(algorithm: IntegrityAlgorithm) -> u16
+    ensures { result ≡ type_of_algorithm algorithm }
+{
+    match algorithm {
+        IntegrityAlgorithm::Sha1 => MESSAGE_INTEGRITY,
+        IntegrityAlgorithm::Sha256 => MESSAGE_INTEGRITY_SHA256,
     }
 }
 
@@ -62,10 +75,10 @@ pub(crate) fn integrity_raw<'a>(
     offsets: IntegrityOffsets,
     algorithm: IntegrityAlgorithm,
 ) -> Option<(usize, RawAttribute<'a>)>
-    requires { KeepsOffsets offsets bytes.now }
-    ensures { IsFound (last_shown (is_wanted (Some algorithm)) bytes.now) result }
+    requires { OffsetsOf offsets bytes.now }
+    ensures { IsFound (last_shown (is_checked_type (Some algorithm)) bytes.now) result }
 {
-    let kept = Kept::last_integrity(bytes, offsets, Some(algorithm))?;
-    let raw = borrowed_attribute(AttributeType::new(kept.atype), kept.value);
-    Some((kept.offset, raw))
+    let found = IntegrityAt::last_integrity(bytes, offsets, Some(algorithm))?;
+    let raw = borrowed_attribute(AttributeType::new(type_for(found.algorithm)), found.value);
+    Some((found.offset, raw))
 }

@@ -6,9 +6,9 @@ use Rattle.stun_grammar.specs.Attributes.{Attribute, types}
 use Rattle.stun_grammar.specs.Chains.{Shown, first_attribute, placed}
 use Rattle.stun_grammar.specs.ShownOrder.{in_order}
 use Rattle.stun_grammar.specs.Showing.{shown, shown_prefix}
-use Rattle.stun_grammar.specs.Verdicts.{is_wanted, last_shown}
+use Rattle.stun_grammar.specs.Verdicts.{is_checked_type, last_shown}
 use Rattle.stun_read.specs.declared.offsets.IntegrityOffsets.{IntegrityOffsets}
-use Rattle.stun_read.specs.declared.offsets.Keeping.{Keeping}
+use Rattle.stun_read.specs.declared.offsets.IntegrityScan.{IntegrityScan}
 
 -- the offset of the last attribute of a wanted type among these
 abbrev pub offset_among : (ℕ → Bool) → List Shown → Option ℕ
@@ -17,16 +17,16 @@ offset_among wanted attributes =
 
 -- the offsets of the two integrity attributes among these, each only where it is one of them
 pub record AreOffsets (offsets : IntegrityOffsets) (attributes : List Shown) : Type 0 where
-  pub integrity : offsets.integrity ≡ offset_among (is_wanted (Some Sha1)) attributes
-  pub sha256 : offsets.sha256 ≡ offset_among (is_wanted (Some Sha256)) attributes
+  pub integrity : offsets.integrity ≡ offset_among (is_checked_type (Some Sha1)) attributes
+  pub sha256 : offsets.sha256 ≡ offset_among (is_checked_type (Some Sha256)) attributes
 
 -- the offsets of the two integrity attributes of d, each only where d shows that attribute
-abbrev pub KeepsOffsets : IntegrityOffsets → List ℕ → Type 0
-KeepsOffsets offsets d = AreOffsets offsets (shown d)
+abbrev pub OffsetsOf : IntegrityOffsets → List ℕ → Type 0
+OffsetsOf offsets d = AreOffsets offsets (shown d)
 
 -- the last attribute of a wanted type that d shows has this type and this offset, and is the first
 -- one that is read from there on
-pub record IsKept (wanted : ℕ → Bool) (d : List ℕ) (type offset : ℕ) : Type 0 where
+pub record IsIntegrityAt (wanted : ℕ → Bool) (d : List ℕ) (type offset : ℕ) : Type 0 where
   pub attribute : Attribute
   pub type_is : type ≡ attribute.type
   pub within : offset ≤ length d
@@ -36,7 +36,7 @@ pub record IsKept (wanted : ℕ → Bool) (d : List ℕ) (type offset : ℕ) : T
 
 -- a scan has met these attributes, and kept the offsets of those integrity attributes among them
 -- that are shown; one more attribute is shown exactly where its type follows `last`
-pub record Keeps (keeping : Keeping) (taken : List Attribute) : Type 0 where
-  pub offsets : AreOffsets keeping.offsets (placed 20 (shown_prefix taken))
+pub record HasScanned (scan : IntegrityScan) (taken : List Attribute) : Type 0 where
+  pub offsets : AreOffsets scan.offsets (placed 20 (shown_prefix taken))
   pub next : (type : ℕ)
-      → in_order (types taken ++ type ∷ []) ≡ in_order (keeping.last ∷ (type ∷ []))
+      → in_order (types taken ++ type ∷ []) ≡ in_order (scan.last ∷ (type ∷ []))

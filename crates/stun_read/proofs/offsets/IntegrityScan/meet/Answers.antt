@@ -1,7 +1,7 @@
 use Rattle.std.proofs.Common.{eqb, refl, sym, ◌∙◌}
 use Rattle.std.proofs.lemmas.Bool.{eq-eqb, ne_eqb, cond-true, cond-false}
-use Rattle.stun_read.proofs.KeepingLemmas.{met, met_broken, met_fingerprint}
-use Rattle.stun_read.proofs.offsets.Keeping.meet.Goals as goal
+use Rattle.stun_read.proofs.IntegrityScanLemmas.{met, met_broken, met_fingerprint}
+use Rattle.stun_read.proofs.offsets.IntegrityScan.meet.Goals as goal
 
 -- a FINGERPRINT is no integrity attribute, and nothing is shown after it
 pub returns-then-atype-eq-FINGERPRINT : goal.returns-then-atype-eq-FINGERPRINT

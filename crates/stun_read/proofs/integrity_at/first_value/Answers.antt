@@ -1,7 +1,7 @@
 use Rattle.std.proofs.Common.{◌+◌, ◌-◌, drop, refl, arith}
 use Rattle.std.proofs.lemmas.List.{length-take}
-use Rattle.stun_read.proofs.KeptOffsetsLemmas.{first_long, first_read}
-use Rattle.stun_read.proofs.kept.first_value.Goals as goal
+use Rattle.stun_read.proofs.IntegrityAtLemmas.{first_long, first_read}
+use Rattle.stun_read.proofs.integrity_at.first_value.Goals as goal
 
 pub number_at-length-requires : goal.number_at-length-requires
 number_at-length-requires c = omega (arith, first_long c.args.bytes.now c.requires)
