@@ -6,6 +6,7 @@ ghost use Rattle.std.specs.List.{concat};
 ghost use Rattle.stun_grammar.specs.Checksums.{shifted_by, after_byte, crc};
 
 mod crc_tables;
+mod hash_function;
 mod hmac;
 mod kept;
 

@@ -2,15 +2,12 @@
 
 ghost use Rattle.std.specs.Prelude.{◌≡◌, ℕ, ◌≤◌, ◌-◌, List, ◌++◌, length, map, replicate};
 ghost use Rattle.std.specs.List.{concat};
-ghost use Rattle.sha1.specs.Sha1.{Holds, sha1};
-ghost use Rattle.sha2.specs.Hashers.{Holds256};
-ghost use Rattle.sha2.specs.Sha256.{sha256};
-ghost use Rattle.stun_grammar.specs.Hmac.{hmac, block_of_key, padded_with};
+ghost use Rattle.stun_grammar.specs.Hmac.{hmac, digest_of, block_of_key, padded_with};
 ghost use Rattle.stun_keys.specs.Blocks.{AreBlocksOf};
-ghost use Rattle.stun_keys.specs.Hashers.{Holds-prop, Holds256-prop};
 
+use super::hash_function::HashFunction;
 use sha1::Sha1;
-use sha2::{Digest, Sha256};
+use sha2::Sha256;
 use std::alloc::AllocError;
 use stun_grammar::IntegrityAlgorithm;
 
@@ -44,23 +41,22 @@ fn padded(block: &[u8; 64], pad: u8) -> [u8; 64]
     bytes
 }
 
-/// The block of a key for SHA-1: a key longer than a block is digested first.
-fn sha1_block(key: &[u8]) -> [u8; 64]
-    ensures { result ≡ block_of_key sha1 key.now }
+/// The digest of a text.
+fn digest<const N: usize, H: HashFunction<N>>(text: &[u8]) -> [u8; N]
+    ensures { result ≡ digest_of H.algorithm text.now }
 {
-    if key.len() > BLOCK {
-        in_block(&Sha1::digest(key))
-    } else {
-        in_block(key)
-    }
+    let mut hasher = H::start();
+    hasher.take(text);
+    hasher.finish()
 }
 
-/// The block of a key for SHA-256: a key longer than a block is digested first.
-fn sha256_block(key: &[u8]) -> [u8; 64]
-    ensures { result ≡ block_of_key sha256 key.now }
+/// The block of a key: a key longer than a block is digested first.
+fn key_block<const N: usize, H: HashFunction<N>>(key: &[u8]) -> [u8; 64]
+    requires { N ≤ 64 }
+    ensures { result ≡ block_of_key (digest_of H.algorithm) key.now }
 {
     if key.len() > BLOCK {
-        in_block(&Sha256::digest(key))
+        in_block(&digest::<N, H>(key))
     } else {
         in_block(key)
     }
@@ -85,81 +81,74 @@ fn blocks_of(block: &[u8; 64]) -> HmacBlocks
     }
 }
 
-/// The blocks of a key of any length for SHA-1.
-pub(super) fn sha1_blocks(key: &[u8]) -> HmacBlocks
-    ensures { AreBlocksOf sha1 key.now result }
+/// The blocks of a key of any length.
+pub(super) fn key_blocks<const N: usize, H: HashFunction<N>>(key: &[u8]) -> HmacBlocks
+    requires { N ≤ 64 }
+    ensures { AreBlocksOf (digest_of H.algorithm) key.now result }
 {
-    blocks_of(&sha1_block(key))
-}
-
-/// The blocks of a key of any length for SHA-256.
-pub(super) fn sha256_blocks(key: &[u8]) -> HmacBlocks
-    ensures { AreBlocksOf sha256 key.now result }
-{
-    blocks_of(&sha256_block(key))
+    blocks_of(&key_block::<N, H>(key))
 }
 
 /// A hasher that has taken in a block.
-fn sha1_keyed(block: &[u8; 64]) -> Sha1
-    ensures { Holds result block.now }
+fn keyed<const N: usize, H: HashFunction<N>>(block: &[u8; 64]) -> H
+    ensures { H.holds result block.now }
 {
-    let mut hasher = Sha1::new();
-    hasher.update(block);
+    let mut hasher = H::start();
+    hasher.take(block);
     hasher
 }
 
-/// The SHA-1 of what a hasher has taken in and the pieces after it, joined.
-fn sha1_after(keyed: &Sha1, pieces: &[&[u8]]) -> [u8; 20]
-    ensures { (before : List ℕ) → Holds keyed.now before
-        → result ≡ sha1 (before ++ concat (map (λ piece. piece.now) pieces.now)) }
+/// The digest of what a hasher has taken in and the pieces after it, joined.
+fn digest_after<const N: usize, H: HashFunction<N>>(keyed: &H, pieces: &[&[u8]]) -> [u8; N]
+    ensures { (before : List ℕ) → H.holds keyed.now before
+        → result ≡ digest_of H.algorithm (before ++ concat (map (λ piece. piece.now) pieces.now)) }
 {
-    let mut hasher = keyed.clone().unwrap();
+    let mut hasher = keyed.copy();
     for piece in pieces {
-        hasher.update(piece);
+        hasher.take(piece);
     }
-    hasher.finalize()
+    hasher.finish()
 }
 
-/// The two hashers of an HMAC-SHA1, and the block that each of them has taken in.
+/// The two hashers of an HMAC, and the block that each of them has taken in.
 #[derive(Drop)]
-pub(super) struct KeyedSha1 {
+pub(super) struct KeyedHashers<const N: usize, H: HashFunction<N>> {
     pub(super) blocks: HmacBlocks,
-    inner: Sha1,
-    outer: Sha1,
-    ghost inner_holds: { Holds inner blocks.inner } by { Holds-prop _ _ },
-    ghost outer_holds: { Holds outer blocks.outer } by { Holds-prop _ _ },
+    inner: H,
+    outer: H,
+    ghost inner_holds: { ∥ H.holds inner blocks.inner ∥₁ },
+    ghost outer_holds: { ∥ H.holds outer blocks.outer ∥₁ },
 }
 
 #[tactic(auto, unfolding(stun_grammar::specs::Hmac::hmac, stun_grammar::specs::Hmac::hmac_over))]
-impl KeyedSha1 {
+impl<const N: usize, H: HashFunction<N>> KeyedHashers<N, H> {
     /// For the keys that have these blocks.
-    pub(super) fn new(blocks: &HmacBlocks) -> KeyedSha1
+    pub(super) fn new(blocks: &HmacBlocks) -> Self
         ensures { result.blocks ≡ blocks.now }
     {
-        KeyedSha1 {
+        KeyedHashers {
             blocks: *blocks,
-            inner: sha1_keyed(&blocks.inner),
-            outer: sha1_keyed(&blocks.outer),
+            inner: keyed(&blocks.inner),
+            outer: keyed(&blocks.outer),
         }
     }
 
-    /// HMAC-SHA1 of the pieces, joined.
-    pub(super) fn hmac(&self, pieces: &[&[u8]]) -> [u8; 20]
-        ensures { (key : List ℕ) → AreBlocksOf sha1 key self.now.blocks
-            → result ≡ hmac IntegrityAlgorithm.Sha1 key
-            (concat (map (λ piece. piece.now) pieces.now)) }
+    /// The HMAC of the pieces, joined.
+    pub(super) fn hmac(&self, pieces: &[&[u8]]) -> [u8; N]
+        ensures { (key : List ℕ) → AreBlocksOf (digest_of H.algorithm) key self.now.blocks
+            → result ≡ hmac H.algorithm key (concat (map (λ piece. piece.now) pieces.now)) }
     {
-        let inner = sha1_after(&self.inner, pieces);
-        sha1_after(&self.outer, &[&inner])
+        let inner = digest_after(&self.inner, pieces);
+        digest_after(&self.outer, &[&inner])
     }
 }
 
-impl Clone for KeyedSha1 {
+impl<const N: usize, H: HashFunction<N>> Clone for KeyedHashers<N, H> {
     fn clone(&self) -> Result<Self, AllocError> {
-        Ok(KeyedSha1 {
+        Ok(KeyedHashers {
             blocks: self.blocks,
-            inner: self.inner.clone()?,
-            outer: self.outer.clone()?,
+            inner: self.inner.copy(),
+            outer: self.outer.copy(),
         })
     }
 }
@@ -172,72 +161,7 @@ pub fn hmac_sha1(key: &[u8], pieces: &[&[u8]]) -> [u8; 20]
     ensures { result
         ≡ hmac IntegrityAlgorithm.Sha1 key.now (concat (map (λ piece. piece.now) pieces.now)) }
 {
-    KeyedSha1::new(&sha1_blocks(key)).hmac(pieces)
-}
-
-/// A hasher that has taken in a block.
-fn sha256_keyed(block: &[u8; 64]) -> Sha256
-    ensures { Holds256 result block.now }
-{
-    let mut hasher = Sha256::new();
-    hasher.update(block);
-    hasher
-}
-
-/// The SHA-256 of what a hasher has taken in and the pieces after it, joined.
-fn sha256_after(keyed: &Sha256, pieces: &[&[u8]]) -> [u8; 32]
-    ensures { (before : List ℕ) → Holds256 keyed.now before
-        → result ≡ sha256 (before ++ concat (map (λ piece. piece.now) pieces.now)) }
-{
-    let mut hasher = keyed.clone().unwrap();
-    for piece in pieces {
-        hasher.update(*piece);
-    }
-    hasher.finalize()
-}
-
-/// The two hashers of an HMAC-SHA256, and the block that each of them has taken in.
-#[derive(Drop)]
-pub(super) struct KeyedSha256 {
-    pub(super) blocks: HmacBlocks,
-    inner: Sha256,
-    outer: Sha256,
-    ghost inner_holds: { Holds256 inner blocks.inner } by { Holds256-prop _ _ },
-    ghost outer_holds: { Holds256 outer blocks.outer } by { Holds256-prop _ _ },
-}
-
-#[tactic(auto, unfolding(stun_grammar::specs::Hmac::hmac, stun_grammar::specs::Hmac::hmac_over))]
-impl KeyedSha256 {
-    /// For the keys that have these blocks.
-    pub(super) fn new(blocks: &HmacBlocks) -> KeyedSha256
-        ensures { result.blocks ≡ blocks.now }
-    {
-        KeyedSha256 {
-            blocks: *blocks,
-            inner: sha256_keyed(&blocks.inner),
-            outer: sha256_keyed(&blocks.outer),
-        }
-    }
-
-    /// HMAC-SHA256 of the pieces, joined.
-    pub(super) fn hmac(&self, pieces: &[&[u8]]) -> [u8; 32]
-        ensures { (key : List ℕ) → AreBlocksOf sha256 key self.now.blocks
-            → result ≡ hmac IntegrityAlgorithm.Sha256 key
-            (concat (map (λ piece. piece.now) pieces.now)) }
-    {
-        let inner = sha256_after(&self.inner, pieces);
-        sha256_after(&self.outer, &[&inner])
-    }
-}
-
-impl Clone for KeyedSha256 {
-    fn clone(&self) -> Result<Self, AllocError> {
-        Ok(KeyedSha256 {
-            blocks: self.blocks,
-            inner: self.inner.clone()?,
-            outer: self.outer.clone()?,
-        })
-    }
+    KeyedHashers::<20, Sha1>::new(&key_blocks::<20, Sha1>(key)).hmac(pieces)
 }
 
 /// HMAC-SHA256 of the pieces, joined, under a key of any length: 32 bytes.
@@ -248,5 +172,5 @@ pub fn hmac_sha256(key: &[u8], pieces: &[&[u8]]) -> [u8; 32]
     ensures { result
         ≡ hmac IntegrityAlgorithm.Sha256 key.now (concat (map (λ piece. piece.now) pieces.now)) }
 {
-    KeyedSha256::new(&sha256_blocks(key)).hmac(pieces)
+    KeyedHashers::<32, Sha256>::new(&key_blocks::<32, Sha256>(key)).hmac(pieces)
 }

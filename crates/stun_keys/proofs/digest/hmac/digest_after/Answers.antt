@@ -1,14 +1,14 @@
 use Rattle.std.proofs.Common.{◌≡◌, [], take, arith}
 use Rattle.std.proofs.lemmas.List.{take_more, take_all, map-append, append-nil, append_assoc}
 use Rattle.std.proofs.lemmas.List.Folds.{concat-append}
-use Rattle.stun_keys.proofs.digest.hmac.sha256_after.Goals as goal
+use Rattle.stun_keys.proofs.digest.hmac.digest_after.Goals as goal
 
 pub loop-piece-preserved : goal.loop-piece-preserved
-loop-piece-preserved c = λ before held.
+loop-piece-preserved g c = λ before held.
     rw (take_more c.args.pieces.now c.loop-piece.piece-index (record { ref_ptr = (0, 0); now = [] }) c.loop-piece-test.true, map-append, concat-append, append-nil, ← append_assoc)
-    (c.update.ensures _ (c.loop-piece.invariant before held))
+    (c.take.ensures _ (c.loop-piece.invariant before held))
 
 pub returns : goal.returns
-returns c = λ before held.
+returns g c = λ before held.
     let all : take c.loop-piece.piece-index c.args.pieces.now ≡ c.args.pieces.now = take_all c.loop-piece.piece-index c.args.pieces.now (omega arith) in
-    c.finalize.ensures _ (rw all at c.loop-piece.invariant before held)
+    c.finish.ensures _ (rw all at c.loop-piece.invariant before held)

@@ -1,8 +1,0 @@
-use Rattle.std.proofs.Common.{List, ℕ, map, take, ◌++◌}
-use Rattle.std.specs.List.{concat}
-use Rattle.sha1.specs.Sha1.{Holds}
-use Rattle.stun_keys.proofs.digest.hmac.sha1_after.Given as goal
-
--- whatever the hasher held, it holds that and the pieces so far
-abbrev pub invariant-loop-piece : goal.invariant-loop-piece
-invariant-loop-piece l = (before : List ℕ) → Holds l.keyed before → Holds l.hasher (before ++ concat (map (λ piece. piece.now) (take l.piece-index l.pieces)))
