@@ -1,9 +1,9 @@
 -- A reply is written attribute by attribute, up to a refusal.
-use Rattle.std.proofs.Common.{◌≡◌, ℕ, ◌+◌, ◌*◌, ◌/◌, ◌%◌, ◌^◌, ◌<◌, ◌≤◌, ◌⊎◌, true, List, [], ◌∷◌, ◌++◌, length, drop, Option, Some, None, Result, Ok, Err, refl, sym, ap, subst, ◌∙◌, append_assoc, arith, inl, inr}
+use Rattle.std.proofs.Common.{◌≡◌, ℕ, ◌+◌, ◌*◌, ◌/◌, ◌%◌, ◌^◌, ◌<◌, ◌≤◌, ◌⊎◌, true, List, [], ◌∷◌, ◌++◌, length, take, drop, map, get_or, Option, Some, None, Result, Ok, Err, refl, sym, ap, subst, ◌∙◌, append_assoc, arith, inl, inr}
 use Rattle.std.specs.Prelude.{◌≢◌, IsOk, OnOk, IfErr, MatchOption, MatchResult, is_some, if◌then◌else◌}
 use Rattle.std.specs.Option.{option_or}
 use Rattle.std.proofs.lemmas.Bool.{cases_lt, lt-ltb, le-ltb}
-use Rattle.std.proofs.lemmas.List.{length-append, map-append, append-nil, drop-drop}
+use Rattle.std.proofs.lemmas.List.{length-append, map-append, append-nil, drop-drop, take_more, drop_more, drop_all}
 use Rattle.stun_grammar.specs.declared.error.StunWriteError.{StunWriteError}
 use Rattle.stun_grammar.specs.declared.error.StunWriteError.TheVariants.{TooLarge, OutOfMemory}
 use Rattle.stun_grammar.specs.declared.attribute_type.AttributeType.{AttributeType}
@@ -29,8 +29,10 @@ use Rattle.stun_attributes.specs.MakingErrors.{making_fault}
 use Rattle.stun_attributes.specs.ErrorCodes.{error_code, error_reason, IsError, MakesError}
 use Rattle.stun_rules.specs.TypeLists.{type_encoding, types_encoding}
 use Rattle.std.specs.Prelude.{codes}
-use Rattle.stun_write.specs.Writers.{Writer, IsBegun, IsUnchanged, Keeps, Gains, Adds}
-use Rattle.stun_types.specs.Replies.{Answers, response_type, own_software, error_attribute, unknown_listed, unknown_reply, making_refusal, refusal, first_refusal, accepted, IsReply, IsPartOfReply, Replies, AddsMade}
+use Rattle.stun_write.specs.Writers.{Writer, IsBegun, IsUnchanged, Spends, Gains, Adds}
+use Rattle.stun_types.specs.Replies.{Answers, response_type, own_software, error_attribute, unknown_listed, unknown_reply, making_refusal, refusal, first_refusal, accepted, IsReply, IsPartOfReply, Replies, attribute_of, AddsMade}
+use Rattle.stun_types.specs.declared.message.reply.ReplyPart.{ReplyPart}
+use Rattle.stun_types.specs.declared.message.reply.ReplyPart.TheVariants.{Software, Error, Types}
 
 -- ---- A reply and its header
 
@@ -67,13 +69,13 @@ answers_request class r attributes responds so =
 -- what is written of a message that may be written is a reply
 reply_from : (old new : Writer) (r : List ℕ) (attributes : List Attribute) → IsWritable (response_type ErrorClass r) (id_field r) attributes
     → new.bytes ≡ message_encoding (response_type ErrorClass r) (id_field r) attributes → new.types ≡ types attributes → new.rest ≡ drop (length new.bytes) old.rest
-    → Keeps old new (length new.bytes) (length new.types) → IsReply old new r attributes
-reply_from old new r attributes so bytes kinds rest keeps = record {
+    → Spends old new (length new.bytes) (length new.types) → IsReply old new r attributes
+reply_from old new r attributes so bytes kinds rest spends = record {
   bytes = bytes;
   header = subst (λ (b : List ℕ). is_header b ≡ true) (sym bytes) (encoding_begins (response_type ErrorClass r) (id_field r) attributes so.type_fits);
   types = kinds;
   rest = rest;
-  keeps = keeps;
+  spends = spends;
   parses = subst (λ (b : List ℕ). parse_fault b ≡ None) (sym bytes) (parse-message (response_type ErrorClass r) (id_field r) attributes so);
   shows = subst (λ (b : List ℕ). shown b ≡ placed 20 attributes) (sym bytes) (shown-message (response_type ErrorClass r) (id_field r) attributes so);
   answers = subst (λ (b : List ℕ). Answers b r) (sym bytes) (answers_request ErrorClass r attributes refl so);
@@ -84,10 +86,10 @@ pub begun_reply : (old new : Writer) (r : List ℕ) → IsBegun old new (respons
 begun_reply old new r begun =
     reply_from old new r [] (none_writable (response_type ErrorClass r) (id_field r) begun.type_fits begun.id_fits) begun.bytes begun.types (begun.rest ∙ ap (λ (n : ℕ). drop n old.rest) (sym begun.size))
     (record {
-      greatest = begun.keeps.greatest;
-      place = begun.keeps.place;
-      ready_bytes = omega (arith, begun.size, begun.keeps.ready_bytes);
-      ready_types = omega (arith, begun.keeps.ready_types);
+      greatest = begun.spends.greatest;
+      place = begun.spends.place;
+      ready_bytes = omega (arith, begun.size, begun.spends.ready_bytes);
+      ready_types = omega (arith, begun.spends.ready_types);
     })
 
 -- ---- One more attribute
@@ -98,7 +100,7 @@ refusal_at : (old mid : Writer) (r : List ℕ) (before : List Attribute) (a : At
 unfolding refusal
 refusal_at old mid r before a reply =
     let size : length mid.bytes ≡ 20 + length (encodings before) = ap length reply.bytes ∙ length-message (response_type ErrorClass r) (id_field r) before in
-    rw (reply.types, size, reply.keeps.greatest) refl
+    rw (reply.types, size, reply.spends.greatest) refl
 
 second : {A : Type 0} (o p : Option A) → option_or o p ≡ None → p ≡ None
 second None p e = e
@@ -106,10 +108,10 @@ second (Some x) p e = absurd cc
 
 -- the reply with one more attribute
 pub reply_more : (old mid new : Writer) (r : List ℕ) (before : List Attribute) (type : ℕ) (value : List ℕ) → IsReply old mid r before → type < 2 ^ 16 → length value < 2 ^ 16 → IsOrdinary type
-    → refusal old.greatest before (canonical type value) ≡ None → Gains mid new type value → Keeps mid new (attribute_length (length value)) 1
+    → refusal old.greatest before (canonical type value) ≡ None → Gains mid new type value → Spends mid new (attribute_length (length value)) 1
     → IsReply old new r (before ++ canonical type value ∷ [])
 unfolding appended_by
-reply_more old mid new r before type value reply t v ordinary none gains keeps =
+reply_more old mid new r before type value reply t v ordinary none gains spends =
     let kind = response_type ErrorClass r in
     let id = id_field r in
     let free : add_refusal (add type value) mid.types (length mid.bytes) mid.greatest ≡ None = second (making_refusal value) _ (refusal_at old mid r before (canonical type value) reply ∙ none) in
@@ -124,23 +126,23 @@ reply_more old mid new r before type value reply t v ordinary none gains keeps =
     (gains.types ∙ ap (λ (ts : List ℕ). ts ++ type ∷ []) reply.types ∙ sym (map-append (λ (x : Attribute). x.type) before (canonical type value ∷ [])))
     (gains.rest ∙ ap (drop (attribute_length (length value))) reply.rest ∙ drop-drop (attribute_length (length value)) (length mid.bytes) old.rest ∙ ap (λ (n : ℕ). drop n old.rest) (sym size))
     (record {
-      greatest = keeps.greatest ∙ reply.keeps.greatest;
-      place = keeps.place ∙ reply.keeps.place;
-      ready_bytes = omega (arith, size, keeps.ready_bytes, reply.keeps.ready_bytes);
-      ready_types = omega (arith, count, keeps.ready_types, reply.keeps.ready_types);
+      greatest = spends.greatest ∙ reply.spends.greatest;
+      place = spends.place ∙ reply.spends.place;
+      ready_bytes = omega (arith, size, spends.ready_bytes, reply.spends.ready_bytes);
+      ready_types = omega (arith, count, spends.ready_types, reply.spends.ready_types);
     })
 
 -- where nothing changes, the reply stays
-reply_same : (old mid new : Writer) (r : List ℕ) (before : List Attribute) (n : ℕ) → IsReply old mid r before → IsUnchanged mid new → Keeps mid new n 1 → IsReply old new r before
-reply_same old mid new r before n reply same keeps =
+reply_same : (old mid new : Writer) (r : List ℕ) (before : List Attribute) (n : ℕ) → IsReply old mid r before → IsUnchanged mid new → Spends mid new n 1 → IsReply old new r before
+reply_same old mid new r before n reply same spends =
     let size : length new.bytes ≡ length mid.bytes = ap length same.bytes in
     let count : length new.types ≡ length mid.types = ap length same.types in
     reply_from old new r before reply.writable (same.bytes ∙ reply.bytes) (same.types ∙ reply.types) (same.rest ∙ reply.rest ∙ ap (λ (n : ℕ). drop n old.rest) (sym size))
     (record {
-      greatest = keeps.greatest ∙ reply.keeps.greatest;
-      place = keeps.place ∙ reply.keeps.place;
-      ready_bytes = omega (arith, size, same.ready_bytes, reply.keeps.ready_bytes);
-      ready_types = omega (arith, count, same.ready_types, reply.keeps.ready_types);
+      greatest = spends.greatest ∙ reply.spends.greatest;
+      place = spends.place ∙ reply.spends.place;
+      ready_bytes = omega (arith, size, same.ready_bytes, reply.spends.ready_bytes);
+      ready_types = omega (arith, count, same.ready_types, reply.spends.ready_types);
     })
 
 -- ---- The attributes from one on
@@ -150,10 +152,10 @@ pub record Reaches {T : Type 0} (result : Result T StunWriteError) (old new : Wr
   pub answer : result ≢ Err OutOfMemory → MatchOption (first_refusal old.greatest before attributes) (IsOk result) (λ e. result ≡ Err e)
   pub ok : OnOk result (IsReply old new r (before ++ attributes))
   pub err : IfErr result (λ e. (e ≢ OutOfMemory → IsReply old new r (before ++ accepted old.greatest before attributes)) × (e ≡ OutOfMemory → IsUnchanged old new ⊎ IsPartOfReply old new r (before ++ attributes)))
-  pub keeps : Keeps old new (length new.bytes) (length new.types)
+  pub spends : Spends old new (length new.bytes) (length new.types)
 
 pub reaches_all : {T : Type 0} (result : Result T StunWriteError) (old new : Writer) (r : List ℕ) (attributes : List Attribute) → Reaches result old new r [] attributes → Replies result old new r attributes
-reaches_all result old new r attributes all = record { answer = all.answer; ok = all.ok; err = all.err; keeps = all.keeps }
+reaches_all result old new r attributes all = record { answer = all.answer; ok = all.ok; err = all.err; spends = all.spends }
 
 abbrev done : Result (Unit {0}) StunWriteError
 done = Ok tt
@@ -168,17 +170,7 @@ reaches_end x old new r before holds = record {
   answer = λ _. refl;
   ok = subst (IsReply old new r) (sym (append-nil before)) holds;
   err = tt;
-  keeps = holds.keeps;
-}
-
--- out of memory, and nothing is written
-pub reaches_nothing : {T : Type 0} (old new : Writer) (r : List ℕ) (attributes : List Attribute) → IsUnchanged old new → Keeps old new (length new.bytes) (length new.types)
-    → Reaches (fails T OutOfMemory) old new r [] attributes
-reaches_nothing old new r attributes same keeps = record {
-  answer = λ not. absurd (not refl);
-  ok = tt;
-  err = (λ not. absurd (not refl), λ _. inl same);
-  keeps = keeps;
+  spends = holds.spends;
 }
 
 -- where an attribute is refused, its refusal is that of the list, and those before it are written
@@ -190,7 +182,7 @@ refused_here {T} e old new r before a attributes None is answer holds = record {
   answer = λ not. absurd (nothing not);
   ok = tt;
   err = (λ not. absurd (nothing (λ same. not (cc same))), λ _. inr (record { written = before; others = a ∷ attributes; whole = refl; reply = holds }));
-  keeps = holds.keeps;
+  spends = holds.spends;
 }
   where
     nothing : ((fails T e) ≢ Err OutOfMemory) → ⊥
@@ -202,7 +194,7 @@ refused_here {T} e old new r before a attributes (Some x) is answer holds = reco
     λ not. subst (λ (o : Option StunWriteError). IsReply old new r (before ++ (if is_some o then [] else a ∷ accepted old.greatest (before ++ a ∷ []) attributes))) is (subst (IsReply old new r) (sym (append-nil before)) holds),
     λ _. inr (record { written = before; others = a ∷ attributes; whole = refl; reply = holds }),
   );
-  keeps = holds.keeps;
+  spends = holds.spends;
 }
 
 -- an attribute that is made, added and accepted, and then those behind it
@@ -219,7 +211,7 @@ reaches_more result old new r before a attributes none more =
       ok = subst (λ (xs : List Attribute). OnOk result (IsReply old new r xs)) whole more.ok;
       err = subst (λ (xs : List Attribute). IfErr result (λ e. (e ≢ OutOfMemory → IsReply old new r (before ++ accepted old.greatest before (a ∷ attributes))) × (e ≡ OutOfMemory → IsUnchanged old new ⊎ IsPartOfReply old new r xs))) whole
           (subst (λ (xs : List Attribute). IfErr result (λ e. (e ≢ OutOfMemory → IsReply old new r xs) × (e ≡ OutOfMemory → IsUnchanged old new ⊎ IsPartOfReply old new r (next ++ attributes)))) reached more.err);
-      keeps = more.keeps;
+      spends = more.spends;
     }
 
 -- ---- One attribute that is made and added
@@ -231,16 +223,15 @@ short_enough : (value : List ℕ) → length value < 2 ^ 16 → making_refusal v
 short_enough value short = rw (le-ltb 65535 (length value) (omega (arith, short))) refl
 
 -- an attribute that was made, by what adding it answers
-pub adds_made : (P : Type 0) (result : Result (Unit {0}) StunWriteError) (old new : Writer) (type : ℕ) (value text : List ℕ) → value ≡ text
+pub adds_made : (P : Type 0) (result : Result (Unit {0}) StunWriteError) (old new : Writer) (type : ℕ) (value : List ℕ)
     → IsAddAnswer (add_refusal (add type value) old.types (length old.bytes) old.greatest) P result → Adds result old new type value → length value < 2 ^ 16
-    → AddsMade result old new (canonical type text)
-adds_made P result old new type value text is answer adds fits =
-    subst (λ (v : List ℕ). AddsMade result old new (canonical type v)) is (record {
-      answer = λ not. subst (λ (o : Option StunWriteError). MatchOption (option_or o (add_refusal (add type value) old.types (length old.bytes) old.greatest)) (IsOk result) (λ e. result ≡ Err e)) (sym (short_enough value fits))
-          (go (add_refusal (add type value) old.types (length old.bytes) old.greatest) result not answer);
-      adds = adds;
-      fits = always result;
-    })
+    → AddsMade result old new (canonical type value)
+adds_made P result old new type value answer adds fits = record {
+  answer = λ not. subst (λ (o : Option StunWriteError). MatchOption (option_or o (add_refusal (add type value) old.types (length old.bytes) old.greatest)) (IsOk result) (λ e. result ≡ Err e)) (sym (short_enough value fits))
+      (go (add_refusal (add type value) old.types (length old.bytes) old.greatest) result not answer);
+  adds = adds;
+  fits = always result;
+}
   where
     go : (why : Option StunWriteError) (r : Result (Unit {0}) StunWriteError) → r ≢ Err OutOfMemory → IsAddAnswer why P r → MatchOption why (IsOk r) (λ e. r ≡ Err e)
     go None (Ok u) not a = refl
@@ -264,12 +255,19 @@ length_of_types : (types : List AttributeType) → length (types_encoding types)
 length_of_types [] = refl
 length_of_types (type ∷ types) = omega (arith, length_of_types types, length-append (type_encoding type) (types_encoding types))
 
+-- a part whose value is made is the attribute
+pub made_is : (part : ReplyPart) (result : Result (Unit {0}) StunWriteError) (old new : Writer) (type : ℕ) (value text : List ℕ) → value ≡ text → attribute_of part ≡ canonical type text
+    → AddsMade result old new (canonical type value) → AddsMade result old new (attribute_of part)
+made_is part result old new type value text same is adds = subst (AddsMade result old new) (ap (canonical type) same ∙ sym is) adds
+
 -- an UNKNOWN-ATTRIBUTES that isn't made
-pub not_made : (result : Result (Unit {0}) StunWriteError) (w : Writer) (types : List AttributeType) (x : StunWriteError) → result ≡ Err x
+pub not_made : (result : Result (Unit {0}) StunWriteError) (w : Writer) (part : ReplyPart) (types : List AttributeType) (x : StunWriteError)
+    → attribute_of part ≡ canonical UNKNOWN_ATTRIBUTES (types_encoding types) → result ≡ Err x
     → (32767 < length types → x ≡ TooLarge 32767 (length types)) → (length types ≤ 32767 → x ≡ OutOfMemory)
-    → AddsMade result w w (canonical UNKNOWN_ATTRIBUTES (types_encoding types))
-not_made result w types x is large small =
-    subst (λ (q : Result (Unit {0}) StunWriteError). AddsMade q w w (canonical UNKNOWN_ATTRIBUTES (types_encoding types))) (sym is) (record {
+    → AddsMade result w w (attribute_of part)
+not_made result w part types x part-is is large small =
+    subst (AddsMade result w w) (sym part-is)
+    (subst (λ (q : Result (Unit {0}) StunWriteError). AddsMade q w w (canonical UNKNOWN_ATTRIBUTES (types_encoding types))) (sym is) (record {
       answer = λ not. elim (cases_lt 32767 (length types)) [
         | inl many ↦ subst (λ (o : Option StunWriteError). MatchOption (option_or o (add_refusal (add UNKNOWN_ATTRIBUTES (types_encoding types)) w.types (length w.bytes) w.greatest)) (IsOk (fails (Unit {0}) x)) (λ e. fails (Unit {0}) x ≡ Err e)) (sym (too_many many)) (ap Err (large many))
         | inr few ↦ absurd (not (ap Err (small few)))
@@ -277,11 +275,11 @@ not_made result w types x is large small =
       adds = record {
         ok = tt;
         err = record { bytes = refl; types = refl; rest = refl; ready_bytes = omega arith; ready_types = omega arith };
-        keeps = record { greatest = refl; place = refl; ready_bytes = omega arith; ready_types = omega arith };
+        spends = record { greatest = refl; place = refl; ready_bytes = omega arith; ready_types = omega arith };
         header = record { header = λ e. e; type = refl; id = refl };
       };
       fits = tt;
-    })
+    }))
   where
     too_many : 32767 < length types → making_refusal (types_encoding types) ≡ Some (TooLarge 32767 (length types))
     too_many many =
@@ -306,7 +304,7 @@ pub accepts : (old mid new : Writer) (r : List ℕ) (before : List Attribute) (t
 accepts old mid new r before type value (Ok u) t ordinary holds adds ok =
     let none = sym (refusal_at old mid r before (canonical type value) holds) ∙ free_of (Ok u) _ ok adds.answer in
     record {
-      holds = reply_more old mid new r before type value holds t adds.fits ordinary none adds.adds.ok adds.adds.keeps;
+      holds = reply_more old mid new r before type value holds t adds.fits ordinary none adds.adds.ok adds.adds.spends;
       none = none;
     }
 accepts old mid new r before type value (Err e) t ordinary holds adds ok = absurd cc
@@ -317,99 +315,78 @@ pub refused : {T : Type 0} (old mid new : Writer) (r : List ℕ) (before : List 
 refused old mid new r before a attributes (Ok u) e holds adds is = absurd cc
 refused {T} old mid new r before a attributes (Err x) e holds adds is =
     subst (λ (y : StunWriteError). Reaches (fails T y) old new r before (a ∷ attributes)) (cc is)
-    (refused_here x old new r before a attributes _ (refusal_at old mid r before a holds) adds.answer (reply_same old mid new r before _ holds adds.adds.err adds.adds.keeps))
-
--- the answer of the last attribute is that of the list
-pub last_one : (old mid new : Writer) (r : List ℕ) (before : List Attribute) (type : ℕ) (value : List ℕ) (made : Result (Unit {0}) StunWriteError) → type < 2 ^ 16 → IsOrdinary type
-    → IsReply old mid r before → AddsMade made mid new (canonical type value) → Reaches made old new r before (canonical type value ∷ [])
-last_one old mid new r before type value (Ok u) t ordinary holds adds =
-    let on = accepts old mid new r before type value (Ok u) t ordinary holds adds refl in
-    reaches_more (Ok u) old new r before (canonical type value) [] on.none (reaches_end u old new r (before ++ canonical type value ∷ []) on.holds)
-last_one old mid new r before type value (Err e) t ordinary holds adds =
-    refused old mid new r before (canonical type value) [] (Err e) e holds adds refl
+    (refused_here x old new r before a attributes _ (refusal_at old mid r before a holds) adds.answer (reply_same old mid new r before _ holds adds.adds.err adds.adds.spends))
 
 -- ---- The replies
 
-software_ordinary : IsOrdinary SOFTWARE
-software_ordinary = (λ e. absurd (omega (arith, e)), λ e. absurd (omega (arith, e)), λ e. absurd (omega (arith, e)))
+-- each part is of an ordinary type
+part_ordinary : (part : ReplyPart) → IsOrdinary (attribute_of part).type
+part_ordinary Software = (λ e. absurd (omega (arith, e)), λ e. absurd (omega (arith, e)), λ e. absurd (omega (arith, e)))
+part_ordinary (Error code reason) = (λ e. absurd (omega (arith, e)), λ e. absurd (omega (arith, e)), λ e. absurd (omega (arith, e)))
+part_ordinary (Types types) = (λ e. absurd (omega (arith, e)), λ e. absurd (omega (arith, e)), λ e. absurd (omega (arith, e)))
 
-error_ordinary : IsOrdinary ERROR_CODE
-error_ordinary = (λ e. absurd (omega (arith, e)), λ e. absurd (omega (arith, e)), λ e. absurd (omega (arith, e)))
+part_type : (part : ReplyPart) → (attribute_of part).type < 2 ^ 16
+part_type Software = omega arith
+part_type (Error code reason) = omega arith
+part_type (Types types) = omega arith
 
-unknown_ordinary : IsOrdinary UNKNOWN_ATTRIBUTES
-unknown_ordinary = (λ e. absurd (omega (arith, e)), λ e. absurd (omega (arith, e)), λ e. absurd (omega (arith, e)))
+part_canonical : (part : ReplyPart) → attribute_of part ≡ canonical (attribute_of part).type (attribute_of part).value
+part_canonical Software = refl
+part_canonical (Error code reason) = refl
+part_canonical (Types types) = refl
 
-is_ok : (made : Result (Unit {0}) StunWriteError) (u : Unit {0}) → made ≡ Ok u → IsOk made
-is_ok (Ok v) u e = refl
-is_ok (Err x) u e = absurd cc
+module _ (parts : List ReplyPart) where
+  abbrev before : ℕ → List Attribute
+  before i = map attribute_of (take i parts)
 
--- the SOFTWARE is added behind the header
-after_software : (old begun mid : Writer) (r : List ℕ) (made : Result (Unit {0}) StunWriteError) (u : Unit {0}) → IsBegun old begun (response_type ErrorClass r) (id_field r)
-    → AddsMade made begun mid own_software → made ≡ Ok u → Accepts old mid r [] own_software
-after_software old begun mid r made u header adds ok = accepts old begun mid r [] SOFTWARE (codes "stun-types") made (omega arith) software_ordinary (begun_reply old begun r header) adds (is_ok made u ok)
+  abbrev behind : ℕ → List Attribute
+  behind i = map attribute_of (drop i parts)
 
-pub software_refused : {T : Type 0} (result : Result T StunWriteError) (old begun new : Writer) (r : List ℕ) (attributes : List Attribute) (made : Result (Unit {0}) StunWriteError) (e : StunWriteError)
-    → IsBegun old begun (response_type ErrorClass r) (id_field r) → AddsMade made begun new own_software → made ≡ Err e → result ≡ Err e → Replies result old new r (own_software ∷ attributes)
-software_refused {T} result old begun new r attributes made e header adds is same =
-    reaches_all result old new r (own_software ∷ attributes)
-    (subst (λ (q : Result T StunWriteError). Reaches q old new r [] (own_software ∷ attributes)) (sym same) (refused old begun new r [] own_software attributes made e (begun_reply old begun r header) adds is))
+  -- the first i parts are written, and what becomes of the others becomes of all
+  pub record RepliesSoFar (old now : Writer) (r : List ℕ) (i : ℕ) : Type 0 where
+    pub holds : IsReply old now r (before i)
+    pub carries : (result : Result (Unit {0}) StunWriteError) (new : Writer) → Reaches result old new r (before i) (behind i) → Replies result old new r (map attribute_of parts)
 
-module _ (code : ℕ) (reason : List ℕ) where
-  abbrev both : List Attribute
-  both = own_software ∷ error_attribute code reason ∷ []
+  pub replies_begun : (old begun : Writer) (r : List ℕ) → IsBegun old begun (response_type ErrorClass r) (id_field r) → RepliesSoFar old begun r 0
+  replies_begun old begun r is = record { holds = begun_reply old begun r is; carries = λ result new. reaches_all result old new r (map attribute_of parts) }
 
-  pub error_refused : {T : Type 0} (result : Result T StunWriteError) (old begun mid new : Writer) (r : List ℕ) (attributes : List Attribute) (first : Result (Unit {0}) StunWriteError) (u : Unit {0}) (made : Result (Unit {0}) StunWriteError) (e : StunWriteError)
-      → IsBegun old begun (response_type ErrorClass r) (id_field r) → AddsMade first begun mid own_software → first ≡ Ok u
-      → AddsMade made mid new (error_attribute code reason) → made ≡ Err e → result ≡ Err e → Replies result old new r (own_software ∷ error_attribute code reason ∷ attributes)
-  error_refused {T} result old begun mid new r attributes first u made e header software ok adds is same =
-      let on = after_software old begun mid r first u header software ok in
-      let rest : Reaches result old new r (own_software ∷ []) (error_attribute code reason ∷ attributes) =
-      subst (λ (q : Result T StunWriteError). Reaches q old new r (own_software ∷ []) (error_attribute code reason ∷ attributes)) (sym same)
-      (refused old mid new r (own_software ∷ []) (error_attribute code reason) attributes made e on.holds adds is) in
-      reaches_all result old new r (own_software ∷ error_attribute code reason ∷ attributes) (reaches_more result old new r [] own_software (error_attribute code reason ∷ attributes) on.none rest)
+  pub replies_more : (old mid new : Writer) (r : List ℕ) (i : ℕ) (d : ReplyPart) (made : Result (Unit {0}) StunWriteError) → i < length parts
+      → RepliesSoFar old mid r i → AddsMade made mid new (attribute_of (get_or parts i d)) → IsOk made → RepliesSoFar old new r (i + 1)
+  replies_more old mid new r i d made within so_far adds ok =
+      let part = get_or parts i d in
+      let one = attribute_of part in
+      let on : Accepts old new r (before i) one = subst (Accepts old new r (before i)) (sym (part_canonical part))
+          (accepts old mid new r (before i) one.type one.value made (part_type part) (part_ordinary part) so_far.holds (subst (AddsMade made mid new) (part_canonical part) adds) ok) in
+      let front : before (i + 1) ≡ before i ++ one ∷ [] =
+      ap (map attribute_of) (take_more parts i d within) ∙ map-append attribute_of (take i parts) (part ∷ []) in
+      let left : behind i ≡ one ∷ behind (i + 1) = ap (map attribute_of) (drop_more parts i d within) in
+      record {
+        holds = subst (IsReply old new r) (sym front) on.holds;
+        carries = λ result last reaches. so_far.carries result last
+            (subst (Reaches result old last r (before i)) (sym left)
+            (reaches_more result old last r (before i) one (behind (i + 1)) on.none (subst (λ (xs : List Attribute). Reaches result old last r xs (behind (i + 1))) front reaches)));
+      }
 
-  -- the ERROR-CODE is the last attribute
-  pub error_last : (old begun mid new : Writer) (r : List ℕ) (first : Result (Unit {0}) StunWriteError) (u : Unit {0}) (made : Result (Unit {0}) StunWriteError)
-      → IsBegun old begun (response_type ErrorClass r) (id_field r) → AddsMade first begun mid own_software → first ≡ Ok u
-      → AddsMade made mid new (error_attribute code reason) → Replies made old new r both
-  error_last old begun mid new r first u made header software ok adds =
-      let on = after_software old begun mid r first u header software ok in
-      reaches_all made old new r both
-      (reaches_more made old new r [] own_software (error_attribute code reason ∷ []) on.none
-      (last_one old mid new r (own_software ∷ []) ERROR_CODE (error_value code reason) made (omega arith) error_ordinary on.holds adds))
+  pub replies_refused : (old mid new : Writer) (r : List ℕ) (i : ℕ) (d : ReplyPart) (made : Result (Unit {0}) StunWriteError) (e : StunWriteError) → i < length parts
+      → RepliesSoFar old mid r i → AddsMade made mid new (attribute_of (get_or parts i d)) → made ≡ Err e → (result : Result (Unit {0}) StunWriteError) → result ≡ Err e → Replies result old new r (map attribute_of parts)
+  replies_refused old mid new r i d made e within so_far adds fails-with result same =
+      let part = get_or parts i d in
+      let left : behind i ≡ attribute_of part ∷ behind (i + 1) = ap (map attribute_of) (drop_more parts i d within) in
+      so_far.carries result new
+      (subst (λ (q : Result (Unit {0}) StunWriteError). Reaches q old new r (before i) (behind i)) (sym same)
+      (subst (Reaches (fails (Unit {0}) e) old new r (before i)) (sym left)
+      (refused old mid new r (before i) (attribute_of part) (behind (i + 1)) made e so_far.holds adds fails-with)))
 
-  -- and nothing follows it
-  pub error_end : (old begun mid new : Writer) (r : List ℕ) (first : Result (Unit {0}) StunWriteError) (u : Unit {0}) (made : Result (Unit {0}) StunWriteError) (v : Unit {0})
-      → IsBegun old begun (response_type ErrorClass r) (id_field r) → AddsMade first begun mid own_software → first ≡ Ok u
-      → AddsMade made mid new (error_attribute code reason) → made ≡ Ok v → Replies done old new r both
-  error_end old begun mid new r first u made v header software ok adds okay =
-      subst (λ (q : Result (Unit {0}) StunWriteError). Replies q old new r both) okay (error_last old begun mid new r first u made header software ok adds)
+  pub replies_all : (old new : Writer) (r : List ℕ) (i : ℕ) → length parts ≤ i → RepliesSoFar old new r i → Replies done old new r (map attribute_of parts)
+  replies_all old new r i within so_far =
+      so_far.carries done new
+      (subst (λ (xs : List ReplyPart). Reaches done old new r (before i) (map attribute_of xs)) (sym (drop_all i parts within)) (reaches_end tt old new r (before i) so_far.holds))
 
-  -- the UNKNOWN-ATTRIBUTES is the last one
-  pub types_last : (old begun mid third new : Writer) (r : List ℕ) (types : List AttributeType) (first : Result (Unit {0}) StunWriteError) (u : Unit {0}) (next : Result (Unit {0}) StunWriteError) (v : Unit {0}) (made : Result (Unit {0}) StunWriteError)
-      → IsBegun old begun (response_type ErrorClass r) (id_field r) → AddsMade first begun mid own_software → first ≡ Ok u
-      → AddsMade next mid third (error_attribute code reason) → next ≡ Ok v
-      → AddsMade made third new (canonical UNKNOWN_ATTRIBUTES (types_encoding types)) → Replies made old new r (own_software ∷ error_attribute code reason ∷ canonical UNKNOWN_ATTRIBUTES (types_encoding types) ∷ [])
-  types_last old begun mid third new r types first u next v made header software ok error okay adds =
-      let on = after_software old begun mid r first u header software ok in
-      let more = accepts old mid third r (own_software ∷ []) ERROR_CODE (error_value code reason) next (omega arith) error_ordinary on.holds error (is_ok next v okay) in
-      let last = canonical UNKNOWN_ATTRIBUTES (types_encoding types) in
-      reaches_all made old new r (own_software ∷ error_attribute code reason ∷ last ∷ [])
-      (reaches_more made old new r [] own_software (error_attribute code reason ∷ last ∷ []) on.none
-      (reaches_more made old new r (own_software ∷ []) (error_attribute code reason) (last ∷ []) more.none
-      (last_one old third new r both UNKNOWN_ATTRIBUTES (types_encoding types) made (omega arith) unknown_ordinary more.holds adds)))
+-- the parts that say which types weren't understood
+pub unknown_parts : (types : List AttributeType) → length types ≢ 0 → unknown_reply types ≡ own_software ∷ error_attribute 420 (codes "Unknown Attributes") ∷ canonical UNKNOWN_ATTRIBUTES (types_encoding types) ∷ []
+unknown_parts [] some = absurd (some refl)
+unknown_parts (type ∷ types) some = refl
 
-listed_is : (types : List AttributeType) → length types ≢ 0 → unknown_listed types ≡ canonical UNKNOWN_ATTRIBUTES (types_encoding types) ∷ []
-listed_is [] some = absurd (some refl)
-listed_is (type ∷ types) some = refl
-
--- the reply with the types that weren't understood, where there are some
-pub unknown_last : {result : Result (Unit {0}) StunWriteError} {old new : Writer} {r : List ℕ} (types : List AttributeType) → length types ≢ 0
-    → Replies result old new r (own_software ∷ error_attribute 420 (codes "Unknown Attributes") ∷ canonical UNKNOWN_ATTRIBUTES (types_encoding types) ∷ []) → Replies result old new r (unknown_reply types)
-unknown_last {result} {old} {new} {r} types some replies =
-    subst (λ (xs : List Attribute). Replies result old new r (own_software ∷ error_attribute 420 (codes "Unknown Attributes") ∷ xs)) (sym (listed_is types some)) replies
-
-pub none_listed : {result : Result (Unit {0}) StunWriteError} {old new : Writer} {r : List ℕ} (types : List AttributeType) → length types ≡ 0
-    → Replies result old new r (own_software ∷ error_attribute 420 (codes "Unknown Attributes") ∷ []) → Replies result old new r (unknown_reply types)
-none_listed [] none replies = replies
-none_listed (type ∷ types) none replies = absurd (omega (arith, none))
+pub no_unknown_parts : (types : List AttributeType) → length types ≡ 0 → unknown_reply types ≡ own_software ∷ error_attribute 420 (codes "Unknown Attributes") ∷ []
+no_unknown_parts [] none = refl
+no_unknown_parts (type ∷ types) none = absurd (omega (arith, none))

@@ -21,7 +21,10 @@ use Rattle.stun_base.specs.declared.message_type.MessageClass.TheVariants.{Error
 use Rattle.stun_base.specs.MessageTypes.{type_of, class_of, method_of, is_response}
 use Rattle.stun_rules.specs.ErrorValues.{error_value}
 use Rattle.stun_rules.specs.TypeLists.{types_encoding}
-use Rattle.stun_write.specs.Writers.{Writer, IsUnchanged, Keeps, Adds}
+use Rattle.stun_attributes.specs.MakingErrors.{making_fault}
+use Rattle.stun_types.specs.declared.message.reply.ReplyPart.{ReplyPart}
+use Rattle.stun_types.specs.declared.message.reply.ReplyPart.TheVariants.{Software, Error, Types}
+use Rattle.stun_write.specs.Writers.{Writer, IsUnchanged, Spends, Adds}
 
 -- ---- Which response answers a request
 
@@ -120,7 +123,7 @@ pub record IsReply (old new : Writer) (r : List ℕ) (attributes : List Attribut
   pub header : is_header new.bytes ≡ true
   pub types : new.types ≡ types attributes
   pub rest : new.rest ≡ drop (length new.bytes) old.rest
-  pub keeps : Keeps old new (length new.bytes) (length new.types)
+  pub spends : Spends old new (length new.bytes) (length new.types)
   pub parses : parse_fault new.bytes ≡ None
   pub shows : shown new.bytes ≡ placed 20 attributes
   pub answers : Answers new.bytes r
@@ -154,7 +157,19 @@ pub record Replies {T : Type 0} (result : Result T StunWriteError)
   pub answer : IsReplyAnswer old.greatest attributes result
   pub ok : OnOk result (IsReply old new r attributes)
   pub err : IfErr result (Leaves old new r attributes)
-  pub keeps : Keeps old new (length new.bytes) (length new.types)
+  pub spends : Spends old new (length new.bytes) (length new.types)
+
+-- the attribute that a part of a reply becomes
+abbrev pub attribute_of : ReplyPart → Attribute
+attribute_of Software = own_software
+attribute_of (Error code reason) = error_attribute code reason.now
+attribute_of (Types types) = canonical UNKNOWN_ATTRIBUTES (types_encoding types.now)
+
+-- a part can be made, but for its length and for memory
+abbrev pub IsMakeable : ReplyPart → Type 0
+IsMakeable Software = Unit {0}
+IsMakeable (Error code reason) = making_fault code reason.now ≡ None
+IsMakeable (Types types) = Unit {0}
 
 -- an attribute is made and appended, or it is refused and nothing changes
 pub record AddsMade (result : Result (Unit {0}) StunWriteError)

@@ -5,7 +5,7 @@ ghost use Rattle.stun_grammar.specs.Adding.{Fits};
 ghost use Rattle.stun_base.specs.MessageTypes.{type_of};
 ghost use Rattle.stun_base.specs.declared.message_type.MessageClass.TheVariants.{Request, Indication};
 ghost use Rattle.stun_base.specs.Drawing.{drawn_id};
-ghost use Rattle.stun_write.specs.Writers.{BeginsMessage, IsUnchanged, Keeps};
+ghost use Rattle.stun_write.specs.Writers.{BeginsMessage, IsBegun, Pushes};
 
 use super::Message;
 use rand_core::Rng;
@@ -54,10 +54,8 @@ impl Message<'_> {
     ) -> Result<(), StunWriteError>
         requires empty { (B.state write.old).bytes ≡ [] }
         requires room { Fits (B.state write.old).greatest 20 }
-        ensures begins { BeginsMessage (λ _. B.state write.new) result (B.state write.old)
-            mtype transaction_id }
-        ensures same { OnErr result (IsUnchanged (B.state write.old) (B.state write.new)) }
-        ensures keeps { Keeps (B.state write.old) (B.state write.new) 20 0 }
+        ensures { Pushes result (B.state write.old) (B.state write.new) 20 0
+            (IsBegun (B.state write.old) (B.state write.new) mtype transaction_id) }
     {
         begin_message_into(mtype, transaction_id, write)
     }
@@ -96,11 +94,10 @@ impl Message<'_> {
     ) -> Result<(), StunWriteError>
         requires empty { (B.state write.old).bytes ≡ [] }
         requires room { Fits (B.state write.old).greatest 20 }
-        ensures begins { BeginsMessage (λ _. B.state write.new) result (B.state write.old)
-            (type_of Request method) (drawn_id (R.stream rng.old)).0 }
+        ensures begins { Pushes result (B.state write.old) (B.state write.new) 20 0
+            (IsBegun (B.state write.old) (B.state write.new)
+            (type_of Request method) (drawn_id (R.stream rng.old)).0) }
         ensures left { R.stream rng.new ≡ (drawn_id (R.stream rng.old)).1 }
-        ensures same { OnErr result (IsUnchanged (B.state write.old) (B.state write.new)) }
-        ensures keeps { Keeps (B.state write.old) (B.state write.new) 20 0 }
     {
         let mtype = MessageType::from_class_method(MessageClass::Request, method);
         Self::builder_into(mtype, TransactionId::generate(rng), write)
@@ -138,11 +135,10 @@ impl Message<'_> {
     ) -> Result<(), StunWriteError>
         requires empty { (B.state write.old).bytes ≡ [] }
         requires room { Fits (B.state write.old).greatest 20 }
-        ensures begins { BeginsMessage (λ _. B.state write.new) result (B.state write.old)
-            (type_of Indication method) (drawn_id (R.stream rng.old)).0 }
+        ensures begins { Pushes result (B.state write.old) (B.state write.new) 20 0
+            (IsBegun (B.state write.old) (B.state write.new)
+            (type_of Indication method) (drawn_id (R.stream rng.old)).0) }
         ensures left { R.stream rng.new ≡ (drawn_id (R.stream rng.old)).1 }
-        ensures same { OnErr result (IsUnchanged (B.state write.old) (B.state write.new)) }
-        ensures keeps { Keeps (B.state write.old) (B.state write.new) 20 0 }
     {
         let mtype = MessageType::from_class_method(MessageClass::Indication, method);
         Self::builder_into(mtype, TransactionId::generate(rng), write)

@@ -1,8 +1,8 @@
 //! Replies to a request.
 
-ghost use Rattle.std.specs.Prelude.{◌≡◌, ◌≢◌, ◌↔◌, ◌^◌, ◌<◌, ◌≤◌, ℕ, List, length, [], None, Some, Ok, true, false, is_some, IsTrue, IsOk, IfOk, IfErr, IfSome, IsSomeAnd, OnOk, OnErr};
+ghost use Rattle.std.specs.Prelude.{◌≡◌, ◌≢◌, ◌↔◌, ◌^◌, ◌<◌, ◌≤◌, ℕ, List, length, [], None, Ok, true, false, is_some, All, map, IsTrue, IfOk, IfErr, IfSome, IsSomeAnd, OnOk, OnErr};
 ghost use Rattle.stun_grammar.specs.Attributes.{Attribute, canonical, attribute_length};
-ghost use Rattle.stun_grammar.specs.AttributeTypes.{SOFTWARE, ERROR_CODE, UNKNOWN_ATTRIBUTES};
+ghost use Rattle.stun_grammar.specs.AttributeTypes.{SOFTWARE, UNKNOWN_ATTRIBUTES, IsOrdinary};
 ghost use Rattle.stun_grammar.specs.Headers.{is_header, type_field, id_field};
 ghost use Rattle.stun_grammar.specs.Writing.{message_encoding, IsWritable};
 ghost use Rattle.stun_grammar.specs.Steps.{add};
@@ -11,20 +11,43 @@ ghost use Rattle.stun_base.specs.declared.message_type.MessageClass.{MessageClas
 ghost use Rattle.stun_base.specs.declared.message_type.MessageClass.TheVariants.{Request, Success, Error as ErrorClass};
 ghost use Rattle.stun_base.specs.MessageTypes.{class_of, is_response};
 ghost use Rattle.stun_attributes.specs.Texts.{text_bytes};
-ghost use Rattle.stun_rules.specs.ErrorValues.{error_value};
-ghost use Rattle.stun_attributes.specs.MakingErrors.{making_fault};
-ghost use Rattle.stun_attributes.specs.ErrorCodes.{error_code, error_reason};
 ghost use Rattle.stun_rules.specs.TypeLists.{types_encoding};
+ghost use Rattle.stun_attributes.specs.ErrorCodes.{error_code, error_reason};
 ghost use Rattle.stun_attributes.specs.Unknown.{listed};
-ghost use Rattle.stun_write.specs.Writers.{BeginsMessage, IsUnchanged, Keeps, KeepsHeader, Gains, Adds, Allocates};
+ghost use Rattle.stun_write.specs.Writers.{BeginsMessage, IsBegun, IsUnchanged, Spends, KeepsHeader, Gains, Pushes, Allocates};
 ghost use Rattle.stun_types.specs.Message.{message_bytes};
-ghost use Rattle.stun_types.specs.Replies.{Answers, response_type, own_software, error_attribute, bad_reply, unknown_reply, is_unknown, unknown_types, lacks, check_reply, IsReply, IsReplyAnswer, Replies, AddsMade};
+ghost use Rattle.stun_types.specs.Replies.{Answers, response_type, error_attribute, bad_reply, unknown_reply, is_unknown, unknown_types, lacks, check_reply, IsReply, IsReplyAnswer, Replies, attribute_of, IsMakeable, AddsMade};
 
 use super::Message;
 use std::alloc::Global;
 use stun_attributes::{ErrorCode, Software, UnknownAttributes};
+use stun_attrs::AttributeWrite;
 use stun_base::{AttributeType, MessageClass, MessageType, StunWriteError};
 use stun_write::{MessageWrite, MessageWriteExt, is_among};
+
+/// An attribute of a reply.
+#[derive(Clone, Copy)]
+enum ReplyPart<'a> {
+    /// A SOFTWARE with the name of this library.
+    Software,
+    /// An ERROR-CODE with a code from 300 to 699 and a reason of at most 763 bytes.
+    Error(u16, &'a str),
+    /// An UNKNOWN-ATTRIBUTES.
+    Types(&'a [AttributeType]),
+}
+
+/// Adds an attribute that was just made.
+#[tactic(auto, using(crate::proofs::RepliesLemmas::adds_made))]
+fn add_made<B: MessageWrite>(
+    attribute: &dyn AttributeWrite,
+    write: &mut B,
+) -> Result<(), StunWriteError>
+    requires ordinary { IsOrdinary (atype attribute.now) }
+    ensures { AddsMade result (B.state write.old) (B.state write.new)
+        (canonical (atype attribute.now) (value attribute.now)) }
+{
+    write.add_attribute(attribute)
+}
 
 /// Adds a SOFTWARE.
 fn push_software<B: MessageWrite>(attribute: &Software, write: &mut B) -> Result<(), StunWriteError>
@@ -35,7 +58,7 @@ fn push_software<B: MessageWrite>(attribute: &Software, write: &mut B) -> Result
     ensures ok { OnOk result (Gains (B.state write.old) (B.state write.new) SOFTWARE
         (text_bytes attribute.now)) }
     ensures same { OnErr result (IsUnchanged (B.state write.old) (B.state write.new)) }
-    ensures keeps { Keeps (B.state write.old) (B.state write.new)
+    ensures spends { Spends (B.state write.old) (B.state write.new)
         (attribute_length (length (text_bytes attribute.now))) 1 }
     ensures header { KeepsHeader (B.state write.old).bytes (B.state write.new).bytes }
     ensures fits { length (text_bytes attribute.now) < 2 ^ 16 }
@@ -45,17 +68,10 @@ fn push_software<B: MessageWrite>(attribute: &Software, write: &mut B) -> Result
 
 /// Adds an ERROR-CODE.
 fn push_error<B: MessageWrite>(attribute: &ErrorCode, write: &mut B) -> Result<(), StunWriteError>
-    ensures answer { let value = error_value (error_code attribute.now) (error_reason attribute.now)
-        in IsAddAnswer
-        (add_refusal (add ERROR_CODE value) (B.state write.old).types
-        (length (B.state write.old).bytes) (B.state write.old).greatest)
-        (Allocates (B.state write.old) (length value)) result }
-    ensures adds { Adds result (B.state write.old) (B.state write.new) ERROR_CODE
-        (error_value (error_code attribute.now) (error_reason attribute.now)) }
-    ensures fits { let value = error_value (error_code attribute.now) (error_reason attribute.now)
-        in length value < 2 ^ 16 }
+    ensures { AddsMade result (B.state write.old) (B.state write.new)
+        (error_attribute (error_code attribute.now) (error_reason attribute.now)) }
 {
-    write.add_attribute(attribute)
+    add_made(attribute, write)
 }
 
 /// Adds an UNKNOWN-ATTRIBUTES.
@@ -63,52 +79,49 @@ fn push_types<B: MessageWrite>(
     attribute: &UnknownAttributes,
     write: &mut B,
 ) -> Result<(), StunWriteError>
-    ensures answer { IsAddAnswer
-        (add_refusal (add UNKNOWN_ATTRIBUTES (types_encoding (listed attribute.now)))
-        (B.state write.old).types (length (B.state write.old).bytes)
-        (B.state write.old).greatest)
-        (Allocates (B.state write.old) (length (types_encoding (listed attribute.now)))) result }
-    ensures adds { Adds result (B.state write.old) (B.state write.new) UNKNOWN_ATTRIBUTES
-        (types_encoding (listed attribute.now)) }
-    ensures fits { length (types_encoding (listed attribute.now)) < 2 ^ 16 }
+    ensures { AddsMade result (B.state write.old) (B.state write.new)
+        (canonical UNKNOWN_ATTRIBUTES (types_encoding (listed attribute.now))) }
 {
-    write.add_attribute(attribute)
+    add_made(attribute, write)
 }
 
-/// Makes and adds a SOFTWARE with the name of this library.
-fn add_software<B: MessageWrite>(alloc: Global, write: &mut B) -> Result<(), StunWriteError>
-    ensures { AddsMade result (B.state write.old) (B.state write.new) own_software }
-{
-    let software = Software::new(alloc, "stun-types")?;
-    push_software(&software, write)
-}
-
-/// Makes and adds an ERROR-CODE with a code from 300 to 699 and a reason of at most 763 bytes.
-fn add_error<B: MessageWrite>(
+/// Makes and adds an attribute of a reply.
+fn add_part<B: MessageWrite>(
     alloc: Global,
-    code: u16,
-    reason: &str,
+    part: &ReplyPart<'_>,
     write: &mut B,
 ) -> Result<(), StunWriteError>
-    requires making { making_fault code reason.now ≡ None }
-    ensures { AddsMade result (B.state write.old) (B.state write.new)
-        (error_attribute code reason.now) }
+    requires making { IsMakeable part.now }
+    ensures { AddsMade result (B.state write.old) (B.state write.new) (attribute_of part.now) }
 {
-    let error = ErrorCode::new(alloc, code, reason)?;
-    push_error(&error, write)
+    match part {
+        ReplyPart::Software => push_software(&Software::new(alloc, "stun-types")?, write),
+        ReplyPart::Error(code, reason) => push_error(&ErrorCode::new(alloc, *code, reason)?, write),
+        ReplyPart::Types(types) => push_types(&UnknownAttributes::new(alloc, types)?, write),
+    }
 }
 
-/// Makes and adds an UNKNOWN-ATTRIBUTES.
-fn add_types<B: MessageWrite>(
+/// Writes an error response to a request, part by part, each made just before it is added.
+fn write_reply<B: MessageWrite>(
     alloc: Global,
-    types: &[AttributeType],
+    src: &Message<'_>,
+    parts: &[ReplyPart<'_>],
     write: &mut B,
 ) -> Result<(), StunWriteError>
-    ensures { AddsMade result (B.state write.old) (B.state write.new)
-        (canonical UNKNOWN_ATTRIBUTES (types_encoding types.now)) }
+    requires request { class_of (type_field (message_bytes src.now)) ≡ Request }
+    requires empty { (B.state write.old).bytes ≡ [] }
+    requires room { Fits (B.state write.old).greatest 20 }
+    requires making { All IsMakeable parts.now }
+    ensures replies { Replies result (B.state write.old) (B.state write.new)
+        (message_bytes src.now) (map attribute_of parts.now) }
+    ensures header { 20 ≤ (B.state write.old).ready_bytes
+        → is_header (B.state write.new).bytes ≡ true }
 {
-    let unknown = UnknownAttributes::new(alloc, types)?;
-    push_types(&unknown, write)
+    Message::builder_error_into(src, write)?;
+    for i in 0..parts.len() {
+        add_part(alloc, &parts[i], write)?;
+    }
+    Ok(())
 }
 
 /// Whether an attribute of this type must be understood, and isn't.
@@ -140,7 +153,7 @@ fn unknown_types_of(
     Ok(found)
 }
 
-/// Whether the message lacks one of the required types.
+/// Whether the message shows one of the required types not at all.
 fn lacks_one(message: &Message<'_>, required: &[AttributeType]) -> bool
     ensures { result ≡ lacks required.now (message_bytes message.now) }
 {
@@ -206,11 +219,10 @@ impl Message<'_> {
         requires request { class_of (type_field (message_bytes orig.now)) ≡ Request }
         requires empty { (B.state write.old).bytes ≡ [] }
         requires room { Fits (B.state write.old).greatest 20 }
-        ensures begins { let d = message_bytes orig.now in
-            BeginsMessage (λ _. B.state write.new) result (B.state write.old)
-            (response_type Success d) (id_field d) }
-        ensures same { OnErr result (IsUnchanged (B.state write.old) (B.state write.new)) }
-        ensures keeps { Keeps (B.state write.old) (B.state write.new) 20 0 }
+        ensures { let d = message_bytes orig.now in
+            Pushes result (B.state write.old) (B.state write.new) 20 0
+            (IsBegun (B.state write.old) (B.state write.new)
+            (response_type Success d) (id_field d)) }
     {
         let mtype = MessageType::from_class_method(MessageClass::Success, orig.method());
         Self::builder_into(mtype, orig.transaction_id(), write)
@@ -249,11 +261,10 @@ impl Message<'_> {
         requires request { class_of (type_field (message_bytes orig.now)) ≡ Request }
         requires empty { (B.state write.old).bytes ≡ [] }
         requires room { Fits (B.state write.old).greatest 20 }
-        ensures begins { let d = message_bytes orig.now in
-            BeginsMessage (λ _. B.state write.new) result (B.state write.old)
-            (response_type ErrorClass d) (id_field d) }
-        ensures same { OnErr result (IsUnchanged (B.state write.old) (B.state write.new)) }
-        ensures keeps { Keeps (B.state write.old) (B.state write.new) 20 0 }
+        ensures { let d = message_bytes orig.now in
+            Pushes result (B.state write.old) (B.state write.new) 20 0
+            (IsBegun (B.state write.old) (B.state write.new)
+            (response_type ErrorClass d) (id_field d)) }
     {
         let mtype = MessageType::from_class_method(MessageClass::Error, orig.method());
         Self::builder_into(mtype, orig.transaction_id(), write)
@@ -307,9 +318,8 @@ impl Message<'_> {
         ensures header { 20 ≤ (B.state write.old).ready_bytes
             → is_header (B.state write.new).bytes ≡ true }
     {
-        Self::builder_error_into(src, write)?;
-        add_software(alloc, write)?;
-        add_error(alloc, ErrorCode::BAD_REQUEST, "Bad Request", write)
+        let error = ReplyPart::Error(ErrorCode::BAD_REQUEST, "Bad Request");
+        write_reply(alloc, src, &[ReplyPart::Software, error], write)
     }
 
     /// The reply to a request with attributes that weren't understood, whose types are given: an
@@ -369,18 +379,12 @@ impl Message<'_> {
         ensures header { 20 ≤ (B.state write.old).ready_bytes
             → is_header (B.state write.new).bytes ≡ true }
     {
-        Self::builder_error_into(src, write)?;
-        add_software(alloc, write)?;
-        add_error(
-            alloc,
-            ErrorCode::UNKNOWN_ATTRIBUTE,
-            "Unknown Attributes",
-            write,
-        )?;
+        let error = ReplyPart::Error(ErrorCode::UNKNOWN_ATTRIBUTE, "Unknown Attributes");
         if types.is_empty() {
-            return Ok(());
+            return write_reply(alloc, src, &[ReplyPart::Software, error], write);
         }
-        add_types(alloc, types, write)
+        let parts = [ReplyPart::Software, error, ReplyPart::Types(types)];
+        write_reply(alloc, src, &parts, write)
     }
 
     /// Checks the attributes of a request, and writes the reply that it deserves, if it does
@@ -413,11 +417,9 @@ impl Message<'_> {
         required: &[AttributeType],
         mut write: B,
     ) -> Result<Option<B>, StunWriteError>
-        // a request, and an empty writer with room for a header
         requires request { class_of (type_field (message_bytes msg.now)) ≡ Request }
         requires empty { (B.state write).bytes ≡ [] }
         requires room { Fits (B.state write).greatest 20 }
-        // no reply exactly where the definition has none; else the reply that it has
         ensures none { check_reply supported.now required.now (message_bytes msg.now) ≡ None
             → result ≡ Ok None }
         ensures answer { IfSome (check_reply supported.now required.now (message_bytes msg.now))
@@ -447,11 +449,9 @@ impl Message<'_> {
         required: &[AttributeType],
         write: &mut B,
     ) -> Result<bool, StunWriteError>
-        // a request, and an empty writer with room for a header
         requires request { class_of (type_field (message_bytes msg.now)) ≡ Request }
         requires empty { (B.state write.old).bytes ≡ [] }
         requires room { Fits (B.state write.old).greatest 20 }
-        // no reply exactly where the definition has none; else the reply that it has
         ensures none { check_reply supported.now required.now (message_bytes msg.now) ≡ None
             → (result ≡ Ok false) × IsUnchanged (B.state write.old) (B.state write.new) }
         ensures told { IfOk result (λ written. written

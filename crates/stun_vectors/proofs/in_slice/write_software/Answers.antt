@@ -5,10 +5,10 @@ use Rattle.stun_vectors.proofs.in_slice.write_software.Goals as goal
 
 pub returns-clause-answer : goal.returns-clause-answer
 returns-clause-answer g c =
-    let begun = c.in_ok-builder_into.ensures.begins.begun in
+    let begun = c.in_ok-builder_into.ensures.ok in
     first_answer 0x8022 (text_bytes c.args.software.now) (g.B.MessageWrite.state c.builder_into.new.write).types (length (g.B.MessageWrite.state c.builder_into.new.write).bytes) (g.B.MessageWrite.state c.args.message.now).greatest (g.B.MessageWrite.state c.builder_into.new.write).greatest
     (g.B.MessageWrite.state c.args.message.now).ready_bytes (g.B.MessageWrite.state c.builder_into.new.write).ready_bytes (g.B.MessageWrite.state c.args.message.now).ready_types (g.B.MessageWrite.state c.builder_into.new.write).ready_types c.add_software.result
-    begun.types begun.size begun.keeps.greatest begun.keeps.ready_bytes (omega (arith, begun.keeps.ready_types)) c.add_software.ensures.answer
+    begun.types begun.size begun.spends.greatest begun.spends.ready_bytes (omega (arith, begun.spends.ready_types)) c.add_software.ensures.answer
 
 pub returns-clause-writes : goal.returns-clause-writes
 returns-clause-writes g c =
@@ -16,7 +16,7 @@ returns-clause-writes g c =
     record {
       encoding = search rules;
       size = search rules;
-      rest = behind_both c.add_software.result _ (state c.args.message.now).rest (state c.builder_into.new.write).rest (state c.add_software.new.message).rest c.in_ok-builder_into.ensures.begins.begun.rest c.add_software.ensures.rest;
+      rest = behind_both c.add_software.result _ (state c.args.message.now).rest (state c.builder_into.new.write).rest (state c.add_software.new.message).rest c.in_ok-builder_into.ensures.ok.rest c.add_software.ensures.rest;
       header_alone = search rules;
       rest_err = search rules;
       place = search rules;

@@ -19,7 +19,7 @@ returns-clause-room g c n room =
     record {
       header = omega (arith, gain.size, room.header);
       order = ap (order_refusal (add 0x0025 [])) gain.types ∙ order_more 0x0025 [] (g.B.MessageWrite.state c.args.message.now).types room.order;
-      unbounded = all.keeps.greatest ∙ room.unbounded;
-      ready_bytes = omega (arith, all.keeps.ready_bytes, room.ready_bytes);
-      ready_types = omega (arith, all.keeps.ready_types, room.ready_types);
+      unbounded = all.spends.greatest ∙ room.unbounded;
+      ready_bytes = omega (arith, all.spends.ready_bytes, room.ready_bytes);
+      ready_types = omega (arith, all.spends.ready_types, room.ready_types);
     }
