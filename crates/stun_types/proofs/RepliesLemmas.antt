@@ -356,7 +356,7 @@ module _ (parts : List ReplyPart) where
       let part = get_or parts i d in
       let one = attribute_of part in
       let on : Accepts old new r (before i) one = subst (Accepts old new r (before i)) (sym (part_canonical part))
-          (accepts old mid new r (before i) one.type one.value made (part_type part) (part_ordinary part) so_far.holds (subst (AddsMade made mid new) (part_canonical part) adds) ok) in
+      (accepts old mid new r (before i) one.type one.value made (part_type part) (part_ordinary part) so_far.holds (subst (AddsMade made mid new) (part_canonical part) adds) ok) in
       let front : before (i + 1) ≡ before i ++ one ∷ [] =
       ap (map attribute_of) (take_more parts i d within) ∙ map-append attribute_of (take i parts) (part ∷ []) in
       let left : behind i ≡ one ∷ behind (i + 1) = ap (map attribute_of) (drop_more parts i d within) in
