@@ -5,11 +5,11 @@ use std::boxed::BoxedSlice;
 use std::ops::Bound;
 use std::process::Abort;
 use std::test::Fail;
-use stun_samples::SOFTWARE;
 use stun_types::attribute::{AttributeHeader, AttributeType, RawAttribute, pad_attribute_len};
 use stun_types::data::Data;
 use stun_types::message::{StunParseError, StunWriteError};
 use stun_types::prelude::*;
+use test_messages::SOFTWARE;
 
 #[test]
 fn reads_attribute_headers(rt: HostRuntime) -> Result<(), Fail> {

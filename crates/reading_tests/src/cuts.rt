@@ -2,8 +2,8 @@
 
 use crate::words::{Letter, WORDS, Word, message, parse, scanned, set_length, truncated};
 use std::test::Fail;
-use stun_samples::short_term;
 use stun_types::message::{IntegrityAlgorithm, StunParseError};
+use test_messages::short_term;
 
 /// What is answered to the message of these letters, cut to that many bytes, at least 20, with a
 /// length field that says so.

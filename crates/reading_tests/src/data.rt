@@ -1,9 +1,9 @@
 //! Bytes that are borrowed or owned.
 
 use std::test::Fail;
-use stun_samples::{USERNAME, message};
 use stun_types::data::{Data, DataOwned, DataSlice};
 use stun_types::message::Message;
+use test_messages::{USERNAME, message};
 
 #[test]
 fn tells_borrowed_from_owned(rt: HostRuntime) -> Result<(), Fail> {

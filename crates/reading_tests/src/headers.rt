@@ -3,11 +3,11 @@
 use std::alloc::Global;
 use std::process::Abort;
 use std::test::Fail;
-use stun_samples::header;
 use stun_types::message::{
     BINDING, MAGIC_COOKIE, Message, MessageClass, MessageHeader, MessageType, Method,
     StunParseError, TransactionId,
 };
+use test_messages::header;
 
 #[test]
 fn reads_a_header(rt: HostRuntime) -> Result<(), Fail> {

@@ -2,11 +2,11 @@
 
 use std::alloc::Global;
 use std::test::Fail;
-use stun_samples::{long_term, short_term};
 use stun_types::attribute::{MessageIntegrity, MessageIntegritySha256};
 use stun_types::message::StunWriteError;
 use stun_types::message::keys::{IntegrityAlgorithm, IntegrityKey};
 use stun_types::prelude::*;
+use test_messages::{long_term, short_term};
 
 /// Thirty times 10.
 const TENS: [u8; 30] = [10; 30];

@@ -3,11 +3,11 @@
 use std::alloc::Global;
 use std::process::Abort;
 use std::test::Fail;
-use stun_samples::{long_term, short_term};
 use stun_types::message::keys::{
     IntegrityAlgorithm, IntegrityKey, LongTermCredentials, LongTermKeyCredentials,
     MessageIntegrityCredentials, ShortTermCredentials,
 };
+use test_messages::{long_term, short_term};
 
 /// MD5 of `user:realm:pass`.
 #[rattlefmt::skip]

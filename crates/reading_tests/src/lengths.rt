@@ -3,8 +3,8 @@
 use crate::words::{parse, truncated};
 use std::alloc::{AllocError, Global};
 use std::test::Fail;
-use stun_samples::{SOFTWARE, header, message};
 use stun_types::message::StunParseError;
+use test_messages::{SOFTWARE, header, message};
 
 #[test]
 fn refuses_lengths_that_are_far_off(rt: HostRuntime) -> Result<(), Fail> {

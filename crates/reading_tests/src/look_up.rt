@@ -2,12 +2,12 @@
 
 use std::process::Abort;
 use std::test::Fail;
-use stun_samples::{FIRST_FINGERPRINT, SOFTWARE, USERNAME, message};
 use stun_types::attribute::{
     AttributeType, PasswordAlgorithm, PasswordAlgorithmValue, RawAttribute, Software,
 };
 use stun_types::message::{Message, StunParseError};
 use stun_types::prelude::*;
+use test_messages::{FIRST_FINGERPRINT, SOFTWARE, USERNAME, message};
 
 /// An attribute of type 1 with the value 3, and three bytes of padding.
 const THREE: [u8; 8] = [0x00, 0x01, 0x00, 0x01, 0x03, 0x00, 0x00, 0x00];

@@ -4,8 +4,8 @@
 use std::alloc::{AllocError, Global};
 use std::process::Abort;
 use std::test::Fail;
-use stun_samples::{SOFTWARE, Shown, USERNAME, WRONG_FINGERPRINT, header, message, shows};
 use stun_types::message::{Message, MessageAttributesIter, StunParseError, message_length};
+use test_messages::{SOFTWARE, Shown, USERNAME, WRONG_FINGERPRINT, header, message, shows};
 
 #[test]
 fn reads_a_request(rt: HostRuntime) -> Result<(), Fail> {

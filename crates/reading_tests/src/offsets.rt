@@ -3,10 +3,10 @@
 
 use std::process::Abort;
 use std::test::Fail;
-use stun_samples::{FIRST_FINGERPRINT, WRONG_FINGERPRINT, message};
 use stun_types::attribute::AttributeType;
 use stun_types::message::keys::{IntegrityAlgorithm, IntegrityKey};
 use stun_types::message::{Message, StunParseError, ValidateError};
+use test_messages::{FIRST_FINGERPRINT, WRONG_FINGERPRINT, message};
 
 /// The header of a MESSAGE-INTEGRITY, whose value is not right where these are zeros.
 const INTEGRITY: [u8; 4] = [0x00, 0x08, 0x00, 0x14];

@@ -3,12 +3,12 @@
 use crate::words::{Letter, WORDS, Word, message, parse, scanned, shown};
 use std::alloc::Global;
 use std::test::Fail;
-use stun_samples::short_term;
 use stun_types::attribute::{AttributeType, RawAttribute};
 use stun_types::message::{
     IntegrityAlgorithm, IntegrityKey, Message, MessageIntegrityCredentials, StunParseError,
     ValidateError,
 };
+use test_messages::short_term;
 
 /// Whether this is the attribute of a letter at this place of a message.
 fn is_at(

@@ -4,10 +4,10 @@
 use std::alloc::{AllocError, Global};
 use std::process::Abort;
 use std::test::Fail;
-use stun_samples::{FIRST_FINGERPRINT, long_term, message, short_term};
 use stun_types::attribute::AttributeType;
 use stun_types::message::keys::{IntegrityAlgorithm, IntegrityKey, MessageIntegrityCredentials};
 use stun_types::message::{Message, StunParseError, ValidateError};
+use test_messages::{FIRST_FINGERPRINT, long_term, message, short_term};
 
 /// A MESSAGE-INTEGRITY that is right behind the header of [`header`] under the password `pass`.
 #[rattlefmt::skip]

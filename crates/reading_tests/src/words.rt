@@ -2,9 +2,9 @@
 
 use std::alloc::Global;
 use std::test::Fail;
-use stun_samples::header;
 use stun_types::attribute::{Fingerprint, MessageIntegrity, MessageIntegritySha256};
 use stun_types::message::{IntegrityKey, Message, StunParseError};
+use test_messages::header;
 
 /// An attribute of these messages.
 #[derive(Clone, Copy, PartialEq)]

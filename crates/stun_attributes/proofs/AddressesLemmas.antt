@@ -11,7 +11,7 @@ use Rattle.std.specs.declared.net.socket_addr.SocketAddrV6.{SocketAddrV6}
 use Rattle.std.specs.declared.net.socket_addr.SocketAddr.{SocketAddr}
 use Rattle.std.specs.declared.net.socket_addr.SocketAddr.TheVariants.{V4, V6}
 use Rattle.stun_grammar.specs.declared.error.StunParseError.{StunParseError}
-use Rattle.stun_rules.specs.Addresses.{octets, address_value, address_fault, mask, xor_bytes, octets_count, IsPlain, IsInRange, IsXored, Spells}
+use Rattle.stun_values.specs.Addresses.{octets, address_value, address_fault, mask, xor_bytes, octets_count, IsPlain, IsInRange, IsXored, Spells}
 use Rattle.stun_attributes.specs.AddressAttributes.{ReadsAddress}
 
 xor_back : (x m : ℕ) → bit_xor (bit_xor x m) m ≡ x

@@ -5,23 +5,23 @@ use Rattle.std.proofs.lemmas.Bool.{le-ltb}
 use Rattle.std.proofs.lemmas.Str.{IsUtf8-string_bytes}
 use Rattle.stun_grammar.specs.declared.error.StunParseError.{StunParseError}
 use Rattle.stun_grammar.specs.declared.error.StunParseError.TheVariants.{OutOfMemory}
-use Rattle.stun_rules.specs.declared.algorithm.PasswordAlgorithmValue.{PasswordAlgorithmValue}
-use Rattle.stun_rules.specs.declared.algorithm.PasswordAlgorithmValue.TheVariants.{MD5, SHA256}
+use Rattle.stun_values.specs.declared.algorithm.PasswordAlgorithmValue.{PasswordAlgorithmValue}
+use Rattle.stun_values.specs.declared.algorithm.PasswordAlgorithmValue.TheVariants.{MD5, SHA256}
 use Rattle.stun_attributes.specs.declared.password_algorithm.PasswordAlgorithm.{PasswordAlgorithm}
 use Rattle.stun_attributes.specs.declared.password_algorithms.PasswordAlgorithms.{PasswordAlgorithms}
 use Rattle.stun_attributes.specs.declared.error_code.ErrorCode.{ErrorCode}
-use Rattle.stun_rules.specs.Algorithms.{algorithm_encoding, algorithms_encoding, fault_within, one_algorithm_fault, algorithms_fault}
+use Rattle.stun_values.specs.Algorithms.{algorithm_encoding, algorithms_encoding, fault_within, one_algorithm_fault, algorithms_fault}
 use Rattle.stun_attributes.specs.Passwords.{ReadsAlgorithm, ReadsAlgorithms, held_algorithm, held_algorithms}
-use Rattle.stun_rules.specs.ErrorValues.{error_value, told_code, error_fault}
+use Rattle.stun_values.specs.ErrorValues.{error_value, told_code, error_fault}
 use Rattle.stun_attributes.specs.ErrorCodes.{error_code, error_reason, IsError, ReadsError}
 use Rattle.stun_grammar.specs.Lengths.{range_fault}
 use Rattle.stun_grammar.specs.declared.attribute_type.AttributeType.{AttributeType}
 use Rattle.stun_attributes.specs.declared.unknown_attributes.UnknownAttributes.{UnknownAttributes}
-use Rattle.stun_rules.specs.TypeLists.{type_encoding, types_encoding, types_fault, AreTypes}
+use Rattle.stun_values.specs.TypeLists.{type_encoding, types_encoding, types_fault, AreTypes}
 use Rattle.stun_attributes.specs.Unknown.{ReadsTypes, listed}
-use Rattle.stun_rules.proofs.ListsLemmas.{length_of_entries, length_of_twos}
-use Rattle.stun_rules.proofs.AlgorithmsLemmas.{algorithm_one}
-use Rattle.stun_rules.proofs.ErrorValuesLemmas.{tells, is_error}
+use Rattle.stun_values.proofs.ListsLemmas.{length_of_entries, length_of_twos}
+use Rattle.stun_values.proofs.AlgorithmsLemmas.{algorithm_one}
+use Rattle.stun_values.proofs.ErrorValuesLemmas.{tells, is_error}
 
 -- ---- PASSWORD-ALGORITHM
 

@@ -6,8 +6,8 @@ use Rattle.std.proofs.lemmas.Str.{IsUtf8-string_bytes}
 use Rattle.stun_grammar.specs.Lengths.{range_fault}
 use Rattle.stun_grammar.specs.declared.error.StunParseError.{StunParseError}
 use Rattle.stun_grammar.specs.declared.error.StunParseError.TheVariants.{OutOfMemory}
-use Rattle.stun_rules.specs.TextValues as Rules
-use Rattle.stun_rules.proofs.TextValuesLemmas.{is_text}
+use Rattle.stun_values.specs.TextValues as Rules
+use Rattle.stun_values.proofs.TextValuesLemmas.{is_text}
 use Rattle.stun_attributes.specs.Texts.{text_bytes, ReadsText}
 use Rattle.stun_attributes.specs.declared.text.TextAttribute.{TextAttribute}
 

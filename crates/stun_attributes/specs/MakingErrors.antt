@@ -2,7 +2,7 @@
 use Rattle.std.specs.Prelude.{ℕ, ◌&&◌, List, length, codes, Option, Some, None, nat_lt, nat_le, ◌==◌, if◌then◌else◌}
 use Rattle.stun_grammar.specs.declared.error.StunWriteError.{StunWriteError}
 use Rattle.stun_grammar.specs.declared.error.StunWriteError.TheVariants as Write
-use Rattle.stun_rules.specs.TextValues.{text_max}
+use Rattle.stun_values.specs.TextValues.{text_max}
 
 -- why no attribute is made of a code and a reason
 abbrev pub making_fault : ℕ → List ℕ → Option StunWriteError

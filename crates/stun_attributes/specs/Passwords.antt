@@ -2,8 +2,8 @@
 use Rattle.std.specs.Prelude.{◌≡◌, ℕ, List, take, Result}
 use Rattle.stun_grammar.specs.declared.error.StunParseError.{StunParseError}
 use Rattle.stun_attrs.specs.Reading.{Reads, ReadsInMemory}
-use Rattle.stun_rules.specs.Algorithms.{algorithm_encoding, algorithms_encoding, one_algorithm_fault, algorithms_fault}
-use Rattle.stun_rules.specs.declared.algorithm.PasswordAlgorithmValue.{PasswordAlgorithmValue}
+use Rattle.stun_values.specs.Algorithms.{algorithm_encoding, algorithms_encoding, one_algorithm_fault, algorithms_fault}
+use Rattle.stun_values.specs.declared.algorithm.PasswordAlgorithmValue.{PasswordAlgorithmValue}
 use Rattle.stun_attributes.specs.declared.password_algorithm.PasswordAlgorithm.{PasswordAlgorithm}
 use Rattle.stun_attributes.specs.declared.password_algorithms.PasswordAlgorithms.{PasswordAlgorithms}
 

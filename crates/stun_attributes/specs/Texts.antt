@@ -4,7 +4,7 @@ use Rattle.std.specs.String.{string_bytes}
 use Rattle.stun_grammar.specs.declared.error.StunParseError.{StunParseError}
 use Rattle.stun_grammar.specs.AttributeTypes.{USERNAME, SOFTWARE}
 use Rattle.stun_grammar.specs.Names.{plain_text, quoted_text}
-use Rattle.stun_rules.specs.TextValues as Rules
+use Rattle.stun_values.specs.TextValues as Rules
 use Rattle.stun_attrs.specs.Reading.{typed_fault, ReadsInMemory}
 use Rattle.stun_attributes.specs.declared.text.TextAttribute.{TextAttribute}
 

@@ -8,7 +8,7 @@ use std::net::SocketAddr;
 use stun_attrs::{Attribute, EncodeValue, ReadValue, TypedAttribute};
 use stun_base::{AttributeType, StunParseError, StunWriteError};
 use stun_grammar::attribute_types;
-use stun_rules::print_address;
+use stun_values::print_address;
 
 /// ALTERNATE-SERVER: the address of another server that the client is to try (RFC 8489, section
 /// 14.15).
@@ -49,7 +49,7 @@ impl TypedAttribute for AlternateServer {
 }
 
 impl EncodeValue for AlternateServer {
-    ghost use Rattle.stun_rules.specs.Addresses.{address_value};
+    ghost use Rattle.stun_values.specs.Addresses.{address_value};
 
     ghost bytes = { λ server. address_value (server_addr server) };
 

@@ -7,7 +7,7 @@ use std::fmt;
 use stun_attrs::{EncodeValue, ReadValue, TypedAttribute};
 use stun_base::{AttributeType, StunParseError, StunWriteError};
 use stun_grammar::attribute_types;
-use stun_rules::{print_error, read_error};
+use stun_values::{print_error, read_error};
 
 /// ERROR-CODE: why a request failed, as a code of 300 to 699 and a reason of at most 763 bytes of
 /// UTF-8 (RFC 8489, section 14.8).
@@ -198,7 +198,7 @@ impl TypedAttribute for ErrorCode {
 }
 
 impl EncodeValue for ErrorCode {
-    ghost use Rattle.stun_rules.specs.ErrorValues.{error_value};
+    ghost use Rattle.stun_values.specs.ErrorValues.{error_value};
     ghost use Rattle.stun_attributes.specs.ErrorCodes.{error_code, error_reason};
 
     ghost bytes = { λ attribute. error_value (error_code attribute) (error_reason attribute) };
@@ -237,7 +237,7 @@ impl ReadValue for ErrorCode {
 /// The type, the code and the reason: `9(0x9: ERROR-CODE): 420 'Unknown Attribute'`.
 impl fmt::Display for ErrorCode {
     ghost use Rattle.std.specs.Prelude.{Some};
-    ghost use Rattle.stun_rules.specs.ErrorValues.{error_text};
+    ghost use Rattle.stun_values.specs.ErrorValues.{error_text};
     ghost use Rattle.stun_attributes.specs.ErrorCodes.{error_code, error_reason};
 
     ghost output = { λ attribute.

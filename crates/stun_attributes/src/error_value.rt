@@ -1,13 +1,13 @@
 //! A code and a reason as the bytes of a value, made and written (RFC 8489, section 14.8).
 
 ghost use Rattle.std.specs.Prelude.{◌≡◌, ◌+◌, ◌≤◌, ◌<◌, ◌++◌, Some, None, MatchResult, length, drop};
-ghost use Rattle.stun_rules.specs.TextValues.{text_max};
-ghost use Rattle.stun_rules.specs.ErrorValues.{error_value};
+ghost use Rattle.stun_values.specs.TextValues.{text_max};
+ghost use Rattle.stun_values.specs.ErrorValues.{error_value};
 ghost use Rattle.stun_attributes.specs.MakingErrors.{making_fault};
 
 use stun_attrs::copy_to_start;
 use stun_base::StunWriteError;
-use stun_rules::TEXT_MOST;
+use stun_values::TEXT_MAX;
 
 /// Writes the value of a code and a reason at the start of `dest`, which has room for it.
 pub(crate) fn write_error(code: u16, reason: &str, dest: &mut [u8])
@@ -38,9 +38,9 @@ pub(crate) fn check_making(code: u16, reason: &str) -> Result<(), StunWriteError
             max: 699,
         });
     }
-    if reason.len() > TEXT_MOST as usize {
+    if reason.len() > TEXT_MAX as usize {
         return Err(StunWriteError::TooLarge {
-            expected: TEXT_MOST as usize,
+            expected: TEXT_MAX as usize,
             actual: reason.len(),
         });
     }

@@ -1,7 +1,7 @@
 ghost use Rattle.std.specs.Prelude.{◌≡◌, ◌≤◌, ◌++◌, false, length, drop, IfOk, IfErr};
 ghost use Rattle.stun_base.specs.Data.{is_borrowed};
 ghost use Rattle.stun_attrs.specs.Raw.{raw_data, raw_value, IsRawOf};
-ghost use Rattle.stun_rules.specs.Addresses.{address_value};
+ghost use Rattle.stun_values.specs.Addresses.{address_value};
 ghost use Rattle.stun_attributes.specs.AddressAttributes.{mapped_addr, ReadsAddress};
 
 use std::alloc::Global;
@@ -9,7 +9,7 @@ use std::fmt;
 use std::net::SocketAddr;
 use stun_attrs::{EncodeValue, RawAttribute, to_owned_raw};
 use stun_base::{AttributeType, StunParseError, StunWriteError};
-use stun_rules::{address_length, read_address, write_address};
+use stun_values::{address_length, read_address, write_address};
 
 /// An address as it stands in the value of an attribute (RFC 8489, section 14.1): a zero byte, the
 /// family in a byte (1 for IPv4, 2 for IPv6), the port in two bytes, and the address in four or

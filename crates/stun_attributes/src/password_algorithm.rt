@@ -6,7 +6,7 @@ use std::fmt;
 use stun_attrs::{EncodeValue, ReadValue, TypedAttribute};
 use stun_base::{AttributeType, StunParseError, StunWriteError};
 use stun_grammar::attribute_types;
-use stun_rules::{PasswordAlgorithmValue, print_algorithm, read_one, write_algorithm};
+use stun_values::{PasswordAlgorithmValue, print_algorithm, read_one, write_algorithm};
 
 /// PASSWORD-ALGORITHM: the algorithm that a client chose for its password (RFC 8489, section
 /// 14.12).
@@ -45,7 +45,7 @@ impl TypedAttribute for PasswordAlgorithm {
 }
 
 impl EncodeValue for PasswordAlgorithm {
-    ghost use Rattle.stun_rules.specs.Algorithms.{algorithm_encoding};
+    ghost use Rattle.stun_values.specs.Algorithms.{algorithm_encoding};
 
     ghost bytes = { λ attribute. algorithm_encoding (held_algorithm attribute) };
 
@@ -80,7 +80,7 @@ impl ReadValue for PasswordAlgorithm {
 /// The type and the algorithm: `29(0x1d: PASSWORD-ALGORITHM): MD5`.
 impl fmt::Display for PasswordAlgorithm {
     ghost use Rattle.std.specs.Prelude.{Some};
-    ghost use Rattle.stun_rules.specs.Algorithms.{algorithm_text};
+    ghost use Rattle.stun_values.specs.Algorithms.{algorithm_text};
 
     ghost output = { λ attribute. Some (algorithm_text (held_algorithm attribute)) };
 

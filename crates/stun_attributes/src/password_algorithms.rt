@@ -1,12 +1,12 @@
 ghost use Rattle.std.specs.Prelude.{◌≡◌, ◌≤◌, ◌/◌, None, length};
-ghost use Rattle.stun_rules.specs.Algorithms.{algorithms_encoding, fault_within};
+ghost use Rattle.stun_values.specs.Algorithms.{algorithms_encoding, fault_within};
 
 use std::alloc::Global;
 use std::fmt;
 use stun_attrs::{EncodeValue, ReadValue, TypedAttribute};
 use stun_base::{AttributeType, StunParseError, StunWriteError};
 use stun_grammar::attribute_types;
-use stun_rules::{
+use stun_values::{
     PasswordAlgorithmValue, check_algorithms, print_algorithms, read_algorithm, write_algorithms,
 };
 
@@ -104,12 +104,12 @@ impl EncodeValue for PasswordAlgorithms {
 
     ghost bytes = { λ attribute. algorithms_encoding (held_algorithms attribute) };
 
-    #[tactic(auto, using(stun_rules::proofs::ListsLemmas::length_of_entries))]
+    #[tactic(auto, using(stun_values::proofs::ListsLemmas::length_of_entries))]
     fn value_length(&self) -> u16 {
         4 * self.algorithms().len() as u16
     }
 
-    #[tactic(auto, using(stun_rules::proofs::ListsLemmas::length_of_entries))]
+    #[tactic(auto, using(stun_values::proofs::ListsLemmas::length_of_entries))]
     fn write_value(&self, dest: &mut [u8]) {
         write_algorithms(self.algorithms(), dest);
     }
@@ -140,7 +140,7 @@ impl ReadValue for PasswordAlgorithms {
 /// The type and the algorithms: `32770(0x8002: PASSWORD_ALGORITHMS): [MD5, SHA256]`.
 impl fmt::Display for PasswordAlgorithms {
     ghost use Rattle.std.specs.Prelude.{Some};
-    ghost use Rattle.stun_rules.specs.Algorithms.{algorithms_text};
+    ghost use Rattle.stun_values.specs.Algorithms.{algorithms_text};
     ghost use Rattle.stun_attributes.specs.Passwords.{held_algorithms};
 
     ghost output = { λ attribute. Some (algorithms_text (held_algorithms attribute)) };

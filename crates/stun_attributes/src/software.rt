@@ -3,11 +3,11 @@ ghost use Rattle.stun_attributes.specs.Texts.{text_bytes};
 
 use crate::TextAttribute;
 use stun_grammar::attribute_types;
-use stun_rules::SOFTWARE_MOST;
+use stun_values::SOFTWARE_MAX;
 
 /// SOFTWARE: a description of the software that sent the message, of at most 763 bytes (RFC 8489,
 /// section 14.14).
-pub type Software = TextAttribute<{ attribute_types::SOFTWARE }, { SOFTWARE_MOST }>;
+pub type Software = TextAttribute<{ attribute_types::SOFTWARE }, { SOFTWARE_MAX }>;
 
 impl Software {
     /// The text.

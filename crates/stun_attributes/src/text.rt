@@ -6,7 +6,7 @@ use std::fmt;
 use stun_attrs::{Attribute, EncodeValue, ReadValue, TypedAttribute, copy_to_start};
 use stun_base::{AttributeType, StunParseError, StunWriteError};
 use stun_grammar::attribute_types;
-use stun_rules::{print_plain, print_quoted, read_text};
+use stun_values::{print_plain, print_quoted, read_text};
 
 /// An attribute of the type `TYPE` whose value is a text: at most `MAX` bytes of UTF-8, with no
 /// further preparation. Those of RFC 8489 have names of their own, as [`crate::Software`]; another

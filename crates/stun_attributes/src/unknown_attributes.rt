@@ -1,5 +1,5 @@
 ghost use Rattle.std.specs.Prelude.{◌≡◌, ◌*◌, ◌≤◌, ◌++◌, length, drop};
-ghost use Rattle.stun_rules.specs.TypeLists.{types_encoding};
+ghost use Rattle.stun_values.specs.TypeLists.{types_encoding};
 
 use byteorder::{BigEndian, ByteOrder};
 use std::alloc::Global;
@@ -7,7 +7,7 @@ use std::fmt;
 use stun_attrs::{EncodeValue, ReadValue, TypedAttribute};
 use stun_base::{AttributeType, StunParseError, StunWriteError, number_at};
 use stun_grammar::attribute_types;
-use stun_rules::{check_types, print_types};
+use stun_values::{check_types, print_types};
 
 /// Writes two bytes for each type at the start of `dest`, which has room for them, in order.
 fn write_types(types: &[AttributeType], dest: &mut [u8])
@@ -150,12 +150,12 @@ impl EncodeValue for UnknownAttributes {
 
     ghost bytes = { λ attribute. types_encoding (listed attribute) };
 
-    #[tactic(auto, using(stun_rules::proofs::ListsLemmas::length_of_twos))]
+    #[tactic(auto, using(stun_values::proofs::ListsLemmas::length_of_twos))]
     fn value_length(&self) -> u16 {
         2 * self.attributes().len() as u16
     }
 
-    #[tactic(auto, using(stun_rules::proofs::ListsLemmas::length_of_twos))]
+    #[tactic(auto, using(stun_values::proofs::ListsLemmas::length_of_twos))]
     fn write_value(&self, dest: &mut [u8]) {
         write_types(self.attributes(), dest);
     }

@@ -1,4 +1,4 @@
-ghost use Rattle.stun_rules.specs.Addresses.{IsPlain};
+ghost use Rattle.stun_values.specs.Addresses.{IsPlain};
 
 use crate::{MappedSocketAddr, XorSocketAddr};
 use std::alloc::{AllocError, Global};
@@ -7,7 +7,7 @@ use std::net::SocketAddr;
 use stun_attrs::{Attribute, EncodeValue, ReadValue, TypedAttribute};
 use stun_base::{AttributeType, StunParseError, StunWriteError, TransactionId};
 use stun_grammar::attribute_types;
-use stun_rules::print_xored;
+use stun_values::print_xored;
 
 /// XOR-MAPPED-ADDRESS: the address that a request came from, as the server saw it (RFC 8489,
 /// section 14.2).
@@ -21,7 +21,7 @@ impl XorMappedAddress {
     ghost use Rattle.stun_grammar.specs.AttributeTypes.{XOR_MAPPED_ADDRESS};
     ghost use Rattle.std.specs.Prelude.{◌≡◌};
     ghost use Rattle.stun_attrs.specs.Raw.{raw_type, raw_value};
-    ghost use Rattle.stun_rules.specs.Addresses.{IsXored};
+    ghost use Rattle.stun_values.specs.Addresses.{IsXored};
     ghost use Rattle.stun_attributes.specs.AddressAttributes.{ReadsAddress, written_mapped_addr};
 
     /// The attribute of this address in a message with this transaction ID. Flow info and scope ID
@@ -76,7 +76,7 @@ impl TypedAttribute for XorMappedAddress {
 }
 
 impl EncodeValue for XorMappedAddress {
-    ghost use Rattle.stun_rules.specs.Addresses.{address_value};
+    ghost use Rattle.stun_values.specs.Addresses.{address_value};
     ghost use Rattle.stun_attributes.specs.AddressAttributes.{written_mapped_addr};
 
     ghost bytes = { λ mapped. address_value (written_mapped_addr mapped) };
@@ -117,7 +117,7 @@ impl fmt::Display for XorMappedAddress {
     ghost use Rattle.std.specs.Prelude.{Some};
     ghost use Rattle.stun_grammar.specs.AttributeTypes.{XOR_MAPPED_ADDRESS};
     ghost use Rattle.stun_grammar.specs.Names.{plain_text};
-    ghost use Rattle.stun_rules.specs.Addresses.{xored_text};
+    ghost use Rattle.stun_values.specs.Addresses.{xored_text};
     ghost use Rattle.stun_attributes.specs.AddressAttributes.{written_mapped_addr};
 
     ghost output = { λ mapped.

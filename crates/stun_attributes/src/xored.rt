@@ -4,7 +4,7 @@ ghost use Rattle.std.specs.Prelude.{◌≡◌, ◌≤◌, ◌++◌, false, lengt
 ghost use Rattle.std.specs.Net.Socket.{socket_ip};
 ghost use Rattle.stun_base.specs.Data.{is_borrowed};
 ghost use Rattle.stun_attrs.specs.Raw.{raw_data, raw_value, IsRawOf};
-ghost use Rattle.stun_rules.specs.Addresses.{address_value, octets, IsXored};
+ghost use Rattle.stun_values.specs.Addresses.{address_value, octets, IsXored};
 ghost use Rattle.stun_attributes.specs.AddressAttributes.{written_addr, ReadsAddress};
 
 use crate::MappedSocketAddr;
@@ -13,7 +13,7 @@ use std::fmt;
 use std::net::SocketAddr;
 use stun_attrs::RawAttribute;
 use stun_base::{AttributeType, StunParseError, StunWriteError, TransactionId};
-use stun_rules::{write_xored, xor_addr};
+use stun_values::{write_xored, xor_addr};
 
 /// An address as it stands in the value of an XOR-MAPPED-ADDRESS (RFC 8489, section 14.2): in the
 /// form of [`MappedSocketAddr`], its port XORed with the high half of the magic cookie, an IPv4
@@ -118,7 +118,7 @@ impl XorSocketAddr {
 /// `XOR([2112:a442::5679]:9664)`.
 impl fmt::Display for XorSocketAddr {
     ghost use Rattle.std.specs.Prelude.{Some};
-    ghost use Rattle.stun_rules.specs.Addresses.{xored_text};
+    ghost use Rattle.stun_values.specs.Addresses.{xored_text};
 
     ghost output = { λ xored. Some (xored_text (written_addr xored)) };
 

@@ -4,7 +4,7 @@ use Rattle.std.specs.Fmt.{decimal}
 use Rattle.std.specs.List.{flat_map}
 use Rattle.std.specs.Option.{option_map_or}
 use Rattle.stun_grammar.specs.Names.{attribute_type_text, attribute_type_debug}
-use Rattle.stun_rules.specs.Typed.{value_fault, value_text}
+use Rattle.stun_values.specs.Typed.{value_fault, value_text}
 
 -- bytes in decimal, with a comma and a space between them
 abbrev pub bytes_in_decimal : List ℕ → List ℕ

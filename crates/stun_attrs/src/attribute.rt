@@ -41,11 +41,11 @@ pub trait Attribute {
 
 /// An attribute whose Rust type determines its attribute type.
 ///
-/// In contracts the law `tells` says that every value of the Rust type has this type.
+/// In contracts the law `has_that_type` says that every value of the Rust type has this type.
 pub trait AttributeStaticType: Attribute {
     ghost TYPE: { AttributeType };
 
-    ghost tells: { (attribute : Self) → Self.atype attribute ≡ TYPE.0 };
+    ghost has_that_type: { (attribute : Self) → Self.atype attribute ≡ TYPE.0 };
 
     /// The type of every attribute of this Rust type, which is what [`Attribute::get_type`] returns
     /// of each.

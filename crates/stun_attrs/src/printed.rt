@@ -8,7 +8,7 @@ ghost use Rattle.stun_attrs.specs.PrintedAttributes.{data_shown, length_and_data
 use crate::{Attribute, RawAttribute};
 use std::fmt;
 use stun_base::Data;
-use stun_rules::read_value;
+use stun_values::read_value;
 
 /// Writes bytes and whether they are borrowed.
 fn write_data<W: fmt::Write>(f: &mut fmt::Formatter<W>, value: &Data<'_>) -> fmt::Result

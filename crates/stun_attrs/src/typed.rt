@@ -83,7 +83,7 @@ impl<A: TypedAttribute> AttributeStaticType for A {
 
     ghost TYPE = { record { 0 = A.NUMBER } };
 
-    ghost tells = { λ _. refl };
+    ghost has_that_type = { λ _. refl };
 
     const TYPE: AttributeType = AttributeType(A::NUMBER);
 }

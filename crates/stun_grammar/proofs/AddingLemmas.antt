@@ -11,21 +11,21 @@ use Rattle.stun_grammar.specs.Writing.{message_encoding}
 use Rattle.stun_grammar.specs.Headers.{is_header}
 use Rattle.stun_grammar.proofs.HeadersLemmas.{is_header-long, header_length}
 use Rattle.stun_grammar.proofs.WritingLemmas.{length-canonical, length-message, message-more, header-message}
-use Rattle.stun_grammar.specs.Adding.{appended, whole}
+use Rattle.stun_grammar.specs.Adding.{appended, grown_length}
 
 pub appended_length : (message : List ℕ) (type : ℕ) (value : List ℕ) → 4 ≤ length message → type < 2 ^ 16 → length value < 2 ^ 16
-    → length (appended message type value) ≡ whole (length message) (length value)
+    → length (appended message type value) ≡ grown_length (length message) (length value)
 unfolding appended
 appended_length message type value long t v =
     let behind = drop 4 message ++ encoding (canonical type value) in
-    omega (arith, length-take 2 message, length-drop 4 message, length-canonical type value t v, length-append (drop 4 message) (encoding (canonical type value)), length-append (take 2 message) (be16 (whole (length message) (length value) - 20) ++ behind))
+    omega (arith, length-take 2 message, length-drop 4 message, length-canonical type value t v, length-append (drop 4 message) (encoding (canonical type value)), length-append (take 2 message) (be16 (grown_length (length message) (length value) - 20) ++ behind))
 
 pub message_more : (type id : ℕ) (attributes : List Attribute) (atype : ℕ) (value : List ℕ) → atype < 2 ^ 16 → length value < 2 ^ 16
     → appended (message_encoding type id attributes) atype value ≡ message_encoding type id (attributes ++ canonical atype value ∷ [])
 unfolding appended
 message_more type id attributes atype value t v =
     let old = message_encoding type id attributes in
-    let field : whole (length old) (length value) - 20 ≡ length (encodings attributes) + length (encoding (canonical atype value)) = omega (arith, length-message type id attributes, length-canonical atype value t v) in
+    let field : grown_length (length old) (length value) - 20 ≡ length (encodings attributes) + length (encoding (canonical atype value)) = omega (arith, length-message type id attributes, length-canonical atype value t v) in
     ap (λ (n : ℕ). take 2 old ++ (be16 n ++ (drop 4 old ++ encoding (canonical atype value)))) field ∙ sym (message-more type id attributes (canonical atype value))
 
 -- the value of a FINGERPRINT has four bytes

@@ -10,7 +10,7 @@ use Rattle.stun_grammar.specs.Writing.{greatest_length}
 use Rattle.stun_grammar.specs.declared.integrity_algorithm.IntegrityAlgorithm.{IntegrityAlgorithm}
 use Rattle.stun_grammar.specs.declared.integrity_algorithm.IntegrityAlgorithm.TheVariants.{Sha1, Sha256}
 use Rattle.stun_grammar.specs.Steps.{Step, add, sign, value_length, barring_types}
-use Rattle.stun_grammar.specs.Adding.{whole, first_of, Fits, exists_refusal, order_refusal, room_refusal, add_refusal}
+use Rattle.stun_grammar.specs.Adding.{grown_length, first_of, Fits, exists_refusal, order_refusal, room_refusal, add_refusal}
 
 pub ordinary_barred : (type : ℕ) (value types : List ℕ) → order_refusal (add 0 []) types ≡ order_refusal (add type value) types
 unfolding order_refusal
@@ -25,15 +25,15 @@ signing_barred Sha256 key types = refl
 -- length field
 pub record HasRoom (step : Step) (len : ℕ) (greatest : Option ℕ) : Type 0 where
   pub header : 20 ≤ len
-  pub room : Fits greatest (whole len (value_length step))
-  pub fits : whole len (value_length step) ≤ greatest_length
+  pub room : Fits greatest (grown_length len (value_length step))
+  pub fits : grown_length len (value_length step) ≤ greatest_length
 
 pub no_refusal : (step : Step) (types : List ℕ) (len : ℕ) (greatest : Option ℕ) → add_refusal step types len greatest ≡ None → HasRoom step len greatest
 unfolding room_refusal
 no_refusal step types len greatest none = go (order_refusal step types) none
   where
     longer : ℕ
-    longer = whole len (value_length step)
+    longer = grown_length len (value_length step)
 
     second : (o : Option StunWriteError) (p : Option StunWriteError) → option_or o p ≡ None → (o ≡ None) × (p ≡ None)
     second None p e = (refl, e)
@@ -71,13 +71,13 @@ not_barred step types len greatest none = nothing (first_of (barring_types step)
     nothing (Some x) e = absurd cc
 
 -- a writer that takes any number of bytes does not refuse what is not barred and fits a message
-pub accepted_unbounded : (step : Step) (types : List ℕ) (len : ℕ) → first_of (barring_types step) types ≡ None → 20 ≤ len → whole len (value_length step) ≤ greatest_length
+pub accepted_unbounded : (step : Step) (types : List ℕ) (len : ℕ) → first_of (barring_types step) types ≡ None → 20 ≤ len → grown_length len (value_length step) ≤ greatest_length
     → add_refusal step types len None ≡ None
 unfolding order_refusal room_refusal
 accepted_unbounded step types len free header fits =
-    ap (λ (o : Option ℕ). option_or (option_map (exists_refusal step) o) (room_refusal len None (whole len (value_length step)))) free
+    ap (λ (o : Option ℕ). option_or (option_map (exists_refusal step) o) (room_refusal len None (grown_length len (value_length step)))) free
     ∙ cond-false (nat_lt len 20) _ _ (le-ltb len 20 header)
-    ∙ cond-false (nat_lt greatest_length (whole len (value_length step))) _ _ (le-ltb greatest_length (whole len (value_length step)) fits)
+    ∙ cond-false (nat_lt greatest_length (grown_length len (value_length step))) _ _ (le-ltb greatest_length (grown_length len (value_length step)) fits)
 
 -- so what one writer does not refuse, the grammar accepts
 pub accepted_by_any : (step : Step) (types : List ℕ) (len : ℕ) (greatest : Option ℕ) → add_refusal step types len greatest ≡ None → add_refusal step types len None ≡ None

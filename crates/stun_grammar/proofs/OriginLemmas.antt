@@ -16,14 +16,14 @@ use Rattle.stun_grammar.specs.Hmac.{digest_length}
 use Rattle.stun_grammar.specs.Verdicts.{type_of_algorithm, covered_bytes, is_checked_type, Validates}
 use Rattle.stun_grammar.specs.Authentic.{Content, content, content_through, authentic}
 use Rattle.stun_grammar.specs.Writing.{message_encoding}
-use Rattle.stun_grammar.specs.Steps.{Step, add, sign, finger, appended_by, with_step, IsLawful}
-use Rattle.stun_grammar.specs.Sending.{Sent, IsLawfulSent}
+use Rattle.stun_grammar.specs.Steps.{Step, add, sign, finger, appended_by, with_step, IsEncodable}
+use Rattle.stun_grammar.specs.Sending.{Sent, IsEncodableSent}
 use Rattle.stun_grammar.specs.Origin.{Signature, signs, signed_from, signed, told, IsUnsigned, ComesFrom}
 use Rattle.stun_grammar.proofs.ShowingLemmas.{AllByRecursion-append}
 use Rattle.stun_grammar.proofs.AuthenticContentLemmas.{content_of, local, local_through}
 use Rattle.stun_grammar.proofs.StepsSignedLemmas.{appended_is, authentic_encoding}
 
-pub step_each : (type id : ℕ) (before : List Attribute) (step : Step) → AllByRecursion IsAttribute before → IsLawful step → AllByRecursion IsAttribute (with_step type id before step)
+pub step_each : (type id : ℕ) (before : List Attribute) (step : Step) → AllByRecursion IsAttribute before → IsEncodable step → AllByRecursion IsAttribute (with_step type id before step)
 step_each type id before step each lawful =
     let message = message_encoding type id before in
     AllByRecursion-append IsAttribute before (appended_by step message ∷ []) each (appended_is step message lawful, tt)
@@ -43,7 +43,7 @@ signs_is a key b k e =
 
 -- the bytes that a sender signs determine the sender's message through the integrity attribute that
 -- signs them
-pub signed_told : (type id : ℕ) (before : List Attribute) (steps : List Step) (key : List ℕ) (a : IntegrityAlgorithm) → type < 2 ^ 14 → id < 2 ^ 96 → AllByRecursion IsAttribute before → AllByRecursion IsLawful steps
+pub signed_told : (type id : ℕ) (before : List Attribute) (steps : List Step) (key : List ℕ) (a : IntegrityAlgorithm) → type < 2 ^ 14 → id < 2 ^ 96 → AllByRecursion IsAttribute before → AllByRecursion IsEncodable steps
     → AllByRecursion (λ s. authentic s.covered key a ≡ content_of type id (placed 20 s.through)) (signed_from type id before steps key a)
 unfolding signed_from
 signed_told type id before [] key a t i each lawful = tt
@@ -87,7 +87,7 @@ search_signatures P c (x ∷ xs) all =
           ]
     ]
 
-search_sent : (key : List ℕ) (a : IntegrityAlgorithm) (c : List ℕ) (sent : List Sent) → AllByRecursion IsLawfulSent sent → IsUnsigned sent key a c ⊎ ComesFrom sent key a c (authentic c key a)
+search_sent : (key : List ℕ) (a : IntegrityAlgorithm) (c : List ℕ) (sent : List Sent) → AllByRecursion IsEncodableSent sent → IsUnsigned sent key a c ⊎ ComesFrom sent key a c (authentic c key a)
 search_sent key a c [] lawful = inl tt
 search_sent key a c (m ∷ sent) lawful =
     let P : Signature → Type 0 = λ s. authentic s.covered key a ≡ told m s.through in
@@ -102,16 +102,16 @@ search_sent key a c (m ∷ sent) lawful =
 comes_from : (sent : List Sent) (key : List ℕ) (a : IntegrityAlgorithm) (c : List ℕ) (x y : Content) → y ≡ x → IsUnsigned sent key a c ⊎ ComesFrom sent key a c x → IsUnsigned sent key a c ⊎ ComesFrom sent key a c y
 comes_from sent key a c x y e h = subst (λ (z : Content). IsUnsigned sent key a c ⊎ ComesFrom sent key a c z) (sym e) h
 
-pub origin : (key : IntegrityAlgorithm → List ℕ) (d c : List ℕ) (a : IntegrityAlgorithm) (sent : List Sent) → IsBytes d → AllByRecursion IsLawfulSent sent → Validates None key d c a
+pub origin : (key : IntegrityAlgorithm → List ℕ) (d c : List ℕ) (a : IntegrityAlgorithm) (sent : List Sent) → IsBytes d → AllByRecursion IsEncodableSent sent → Validates None key d c a
     → IsUnsigned sent (key a) a c ⊎ ComesFrom sent (key a) a c (content d)
 origin key d c a sent bytes lawful v = comes_from sent (key a) a c _ _ (local key d c a bytes v) (search_sent (key a) a c sent lawful)
 
-pub origin_through : (m : Option IntegrityAlgorithm) (key : IntegrityAlgorithm → List ℕ) (d c : List ℕ) (a : IntegrityAlgorithm) (sent : List Sent) → IsBytes d → AllByRecursion IsLawfulSent sent → Validates m key d c a
+pub origin_through : (m : Option IntegrityAlgorithm) (key : IntegrityAlgorithm → List ℕ) (d c : List ℕ) (a : IntegrityAlgorithm) (sent : List Sent) → IsBytes d → AllByRecursion IsEncodableSent sent → Validates m key d c a
     → IsUnsigned sent (key a) a c ⊎ ComesFrom sent (key a) a c (content_through (is_checked_type m) d)
 origin_through m key d c a sent bytes lawful v = comes_from sent (key a) a c _ _ (local_through m key d c a bytes v) (search_sent (key a) a c sent lawful)
 
 -- every message in which the covered bytes are signed has the content
-pub origin_each : (key : IntegrityAlgorithm → List ℕ) (d c : List ℕ) (a : IntegrityAlgorithm) (m : Sent) → IsBytes d → IsLawfulSent m → Validates None key d c a
+pub origin_each : (key : IntegrityAlgorithm → List ℕ) (d c : List ℕ) (a : IntegrityAlgorithm) (m : Sent) → IsBytes d → IsEncodableSent m → Validates None key d c a
     → AllByRecursion (λ s. s.covered ≡ c → content d ≡ told m s.through) (signed m (key a) a)
 origin_each key d c a m bytes lawful v = each_of (signed m (key a) a) (signed_told m.type m.id [] m.steps (key a) a lawful.type_fits lawful.id_fits tt lawful.steps)
   where

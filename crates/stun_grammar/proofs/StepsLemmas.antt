@@ -20,7 +20,7 @@ use Rattle.stun_grammar.specs.Showing.{shown}
 use Rattle.stun_grammar.specs.Fingerprints.{fingerprint_fault, first_fingerprint_fault}
 use Rattle.stun_grammar.specs.Verdicts.{type_of_algorithm, is_checked_type, verdict}
 use Rattle.stun_grammar.specs.Writing.{message_encoding, IsWritable}
-use Rattle.stun_grammar.specs.Steps.{Step, add, sign, finger, appended_by, with_step, IsLawful, IsOrdinaryStep, barring_types, value_length, is_signing}
+use Rattle.stun_grammar.specs.Steps.{Step, add, sign, finger, appended_by, with_step, IsEncodable, IsOrdinaryStep, barring_types, value_length, is_signing}
 use Rattle.stun_grammar.specs.Sending.{body_from, Sent, body, sent_encoding, MayFollow, EachMayFollow, IsAccepted}
 use Rattle.stun_grammar.proofs.AttributesLemmas.{length-encoding-is}
 use Rattle.stun_grammar.proofs.ShownOrderLemmas.{in_order-nil, is_ending-ordinary}
@@ -188,7 +188,7 @@ step_right type id xs (sign Sha256 key) none plain = without type id xs _ (weake
 step_right type id xs finger none plain = right_where_computed type id xs [] none
 
 -- the length of the message with one more step
-pub length-with_step : (type id : ℕ) (before : List Attribute) (step : Step) → IsLawful step
+pub length-with_step : (type id : ℕ) (before : List Attribute) (step : Step) → IsEncodable step
     → length (message_encoding type id (with_step type id before step)) ≡ length (message_encoding type id before) + (4 + padded_length (value_length step))
 length-with_step type id before step lawful =
     let message = message_encoding type id before in
@@ -204,7 +204,7 @@ length-with_step type id before step lawful =
       length-append (encoding a) [],
     )
 
-pub step_writable : (type id : ℕ) (before : List Attribute) (step : Step) → IsWritable type id before → MayFollow type id before step → IsLawful step → IsOrdinaryStep step → IsWritable type id (with_step type id before step)
+pub step_writable : (type id : ℕ) (before : List Attribute) (step : Step) → IsWritable type id before → MayFollow type id before step → IsEncodable step → IsOrdinaryStep step → IsWritable type id (with_step type id before step)
 step_writable type id before step so may lawful plain =
     let message = message_encoding type id before in
     let none = none_bars step (types before) (not_barred step (types before) (length message) None may) in
@@ -221,7 +221,7 @@ pub none_writable : (type id : ℕ) → type < 2 ^ 14 → id < 2 ^ 96 → IsWrit
 unfolding placed
 none_writable type id t i = record { type_fits = t; id_fits = i; each = tt; length_fits = omega (arith, length-message type id []); ordered = in_order-nil; fingerprint = refl }
 
-writable_from : (type id : ℕ) (before : List Attribute) (steps : List Step) → IsWritable type id before → EachMayFollow type id before steps → AllByRecursion IsLawful steps → AllByRecursion IsOrdinaryStep steps
+writable_from : (type id : ℕ) (before : List Attribute) (steps : List Step) → IsWritable type id before → EachMayFollow type id before steps → AllByRecursion IsEncodable steps → AllByRecursion IsOrdinaryStep steps
     → IsWritable type id (body_from type id before steps)
 unfolding body_from EachMayFollow
 writable_from type id before [] so may lawful plain = so
@@ -229,7 +229,7 @@ writable_from type id before (step ∷ steps) so may lawful plain =
     writable_from type id (with_step type id before step) steps (step_writable type id before step so may.0 lawful.0 plain.0) may.1 lawful.1 plain.1
 
 pub is_writable : (sent : Sent) → IsAccepted sent → IsWritable sent.type sent.id (body sent)
-is_writable sent ok = writable_from sent.type sent.id [] sent.steps (none_writable sent.type sent.id ok.lawful.type_fits ok.lawful.id_fits) ok.accepted ok.lawful.steps ok.ordinary
+is_writable sent ok = writable_from sent.type sent.id [] sent.steps (none_writable sent.type sent.id ok.encodable.type_fits ok.encodable.id_fits) ok.accepted ok.encodable.steps ok.ordinary
 
 pub sent_parses : (sent : Sent) → IsAccepted sent → parse_fault (sent_encoding sent) ≡ None
 sent_parses sent ok = parse-message sent.type sent.id (body sent) (is_writable sent ok)

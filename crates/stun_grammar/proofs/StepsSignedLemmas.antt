@@ -16,7 +16,7 @@ use Rattle.stun_grammar.specs.Hmac.{digest_length, hmac}
 use Rattle.stun_grammar.specs.Verdicts.{type_of_algorithm, algorithm_of, last_shown, hmac_fault, covered_bytes, verdict}
 use Rattle.stun_grammar.specs.Authentic.{stated_hmac_length, checked, authentic}
 use Rattle.stun_grammar.specs.Writing.{message_encoding, IsWritable}
-use Rattle.stun_grammar.specs.Steps.{Step, add, sign, finger, appended_by, with_step, IsLawful, value_length}
+use Rattle.stun_grammar.specs.Steps.{Step, add, sign, finger, appended_by, with_step, IsEncodable, value_length}
 use Rattle.stun_grammar.proofs.ChainsLemmas.{chain-encodings}
 use Rattle.stun_grammar.proofs.ParsingLemmas.{placed-append}
 use Rattle.stun_grammar.proofs.HmacLemmas.{hmac_has_length}
@@ -46,7 +46,7 @@ value_is (sign a key) message = hmac_has_length a key (covered_bytes message (le
 value_is finger message = length-fingerprint message (length message)
 
 -- what a step appends is an attribute
-pub appended_is : (step : Step) (message : List ℕ) → IsLawful step → IsAttribute (appended_by step message)
+pub appended_is : (step : Step) (message : List ℕ) → IsEncodable step → IsAttribute (appended_by step message)
 unfolding appended_by
 appended_is (add type value) message ok = canonical_is type value ok.0 ok.1
 appended_is (sign a key) message ok =

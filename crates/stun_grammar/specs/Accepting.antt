@@ -7,7 +7,7 @@ use Rattle.stun_grammar.specs.AttributeTypes.{FINGERPRINT}
 use Rattle.stun_grammar.specs.Showing.{shown}
 use Rattle.stun_grammar.specs.Verdicts.{is_checked_type, last_shown, covered, Validates}
 use Rattle.stun_grammar.specs.Authentic.{content, content_through, authentic, authentic_fingerprint}
-use Rattle.stun_grammar.specs.Sending.{Sent, IsLawfulSent}
+use Rattle.stun_grammar.specs.Sending.{Sent, IsEncodableSent}
 use Rattle.stun_grammar.specs.Origin.{IsUnsigned, ComesFrom}
 
 -- a FINGERPRINT that d shows is the one that the covered bytes c determine
@@ -30,7 +30,7 @@ pub record IsAuthentic (key : IntegrityAlgorithm → List ℕ) (d : List ℕ)
   pub same : (c e : List ℕ) → covered (is_checked_type None) d ≡ Some c → IsBytes e
       → Validates None key e c algorithm → content d ≡ content e
   pub origin : (c : List ℕ) (sent : List Sent) → covered (is_checked_type None) d ≡ Some c
-      → AllByRecursion IsLawfulSent sent
+      → AllByRecursion IsEncodableSent sent
       → IsUnsigned sent (key algorithm) algorithm c
       ⊎ ComesFrom sent (key algorithm) algorithm c (content d)
 
@@ -54,6 +54,6 @@ pub record IsAuthenticThrough (made_for : Option IntegrityAlgorithm)
       → Validates made_for key e c algorithm
       → content_through (is_checked_type made_for) d ≡ content_through (is_checked_type made_for) e
   pub origin : (c : List ℕ) (sent : List Sent) → covered (is_checked_type made_for) d ≡ Some c
-      → AllByRecursion IsLawfulSent sent
+      → AllByRecursion IsEncodableSent sent
       → IsUnsigned sent (key algorithm) algorithm c
       ⊎ ComesFrom sent (key algorithm) algorithm c (content_through (is_checked_type made_for) d)

@@ -14,13 +14,13 @@ use Rattle.stun_grammar.specs.Attributes.{attribute_encoding, attribute_length}
 -- ---- What is written
 
 -- the length of a message of len bytes with one more attribute, whose value has n bytes
-abbrev pub whole : ℕ → ℕ → ℕ
-whole len n = len + attribute_length n
+abbrev pub grown_length : ℕ → ℕ → ℕ
+grown_length len n = len + attribute_length n
 
 -- a message with one more attribute at its end, which the length field counts in
 unfoldable pub appended : List ℕ → ℕ → List ℕ → List ℕ
 appended message type value =
-    take 2 message ++ (be16 (whole (length message) (length value) - 20)
+    take 2 message ++ (be16 (grown_length (length message) (length value) - 20)
     ++ (drop 4 message ++ attribute_encoding type value))
 
 -- ---- Why an attribute isn't added
@@ -64,7 +64,7 @@ room_refusal len greatest longer =
 abbrev pub add_refusal : Step → List ℕ → ℕ → Option ℕ → Option StunWriteError
 add_refusal step types len greatest =
     option_or (order_refusal step types)
-    (room_refusal len greatest (whole len (value_length step)))
+    (room_refusal len greatest (grown_length len (value_length step)))
 
 -- the result is the refusal; where there is none it is Ok, or `OutOfMemory`, and this only where P
 -- holds

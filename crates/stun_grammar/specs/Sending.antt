@@ -4,7 +4,7 @@ use Rattle.std.specs.Prelude.{◌≡◌, ℕ, ◌^◌, ◌<◌, List, [], ◌∷
 use Rattle.std.specs.List.{AllByRecursion}
 use Rattle.stun_grammar.specs.Attributes.{Attribute, types}
 use Rattle.stun_grammar.specs.Writing.{message_encoding}
-use Rattle.stun_grammar.specs.Steps.{Step, with_step, IsLawful, IsOrdinaryStep}
+use Rattle.stun_grammar.specs.Steps.{Step, with_step, IsEncodable, IsOrdinaryStep}
 use Rattle.stun_grammar.specs.Adding.{add_refusal}
 
 -- the attributes of a message after steps, where it has these already
@@ -41,13 +41,13 @@ EachMayFollow type id before (step ∷ steps) =
 
 -- the type has fourteen bits, the transaction ID ninety-six, and types and lengths of attributes
 -- fit their fields
-pub record IsLawfulSent (sent : Sent) : Type 0 where
+pub record IsEncodableSent (sent : Sent) : Type 0 where
   pub type_fits : sent.type < 2 ^ 14
   pub id_fits : sent.id < 2 ^ 96
-  pub steps : AllByRecursion IsLawful sent.steps
+  pub steps : AllByRecursion IsEncodable sent.steps
 
 -- each added attribute is an ordinary one, and each step is accepted where it is made
 pub record IsAccepted (sent : Sent) : Type 0 where
-  pub lawful : IsLawfulSent sent
+  pub encodable : IsEncodableSent sent
   pub ordinary : AllByRecursion IsOrdinaryStep sent.steps
   pub accepted : EachMayFollow sent.type sent.id [] sent.steps

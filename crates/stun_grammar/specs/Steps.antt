@@ -55,10 +55,10 @@ barring_types (sign Sha256 key) = MESSAGE_INTEGRITY_SHA256 ∷ FINGERPRINT ∷ [
 barring_types finger = FINGERPRINT ∷ []
 
 -- type and length of an added attribute fit in two bytes each
-abbrev pub IsLawful : Step → Type 0
-IsLawful (add type value) = (type < 2 ^ 16) × (length value < 2 ^ 16)
-IsLawful (sign algorithm key) = Unit {0}
-IsLawful finger = Unit {0}
+abbrev pub IsEncodable : Step → Type 0
+IsEncodable (add type value) = (type < 2 ^ 16) × (length value < 2 ^ 16)
+IsEncodable (sign algorithm key) = Unit {0}
+IsEncodable finger = Unit {0}
 
 -- the type of an added attribute is ordinary: the ending ones have steps of their own
 abbrev pub IsOrdinaryStep : Step → Type 0

@@ -19,8 +19,8 @@ ghost use Rattle.stun_grammar.specs.Verdicts.{type_of_algorithm, is_checked_type
 ghost use Rattle.stun_grammar.specs.Authentic.{IsLocal, content, content_through, shows_fingerprint, authentic, authentic_fingerprint, authentic_shown};
 ghost use Rattle.stun_grammar.specs.Carrying.{Carries, CarriesPrefix};
 ghost use Rattle.stun_grammar.specs.Writing.{message_encoding, IsWritable};
-ghost use Rattle.stun_grammar.specs.Steps.{Step, sign, with_step, IsLawful, IsOrdinaryStep, value_length, is_signing};
-ghost use Rattle.stun_grammar.specs.Sending.{Sent, body, sent_encoding, MayFollow, IsLawfulSent, IsAccepted};
+ghost use Rattle.stun_grammar.specs.Steps.{Step, sign, with_step, IsEncodable, IsOrdinaryStep, value_length, is_signing};
+ghost use Rattle.stun_grammar.specs.Sending.{Sent, body, sent_encoding, MayFollow, IsEncodableSent, IsAccepted};
 ghost use Rattle.stun_grammar.specs.Origin.{Signature, signed, told, IsUnsigned, ComesFrom};
 ghost use Rattle.stun_grammar.specs.declared.integrity_algorithm.IntegrityAlgorithm.{IntegrityAlgorithm};
 
@@ -106,18 +106,18 @@ pub fn integrity_is_exact_with_key()
 pub fn integrity_has_origin()
     ensures origin { (key : IntegrityAlgorithm → List ℕ) (d c : List ℕ) (a : IntegrityAlgorithm)
         (sent : List Sent)
-        → IsBytes d → AllByRecursion IsLawfulSent sent → Validates None key d c a
+        → IsBytes d → AllByRecursion IsEncodableSent sent → Validates None key d c a
         → IsUnsigned sent (key a) a c ⊎ ComesFrom sent (key a) a c (content d) }
     // after validation with a key: the content through the attribute that was checked
     ensures with_key { (made_for : Option IntegrityAlgorithm) (key : IntegrityAlgorithm → List ℕ)
         (d c : List ℕ) (a : IntegrityAlgorithm) (sent : List Sent)
-        → IsBytes d → AllByRecursion IsLawfulSent sent → Validates made_for key d c a
+        → IsBytes d → AllByRecursion IsEncodableSent sent → Validates made_for key d c a
         → IsUnsigned sent (key a) a c
         ⊎ ComesFrom sent (key a) a c (content_through (is_checked_type made_for) d) }
     // every signature over the covered bytes gives this content
     ensures each { (key : IntegrityAlgorithm → List ℕ) (d c : List ℕ) (a : IntegrityAlgorithm)
         (sender : Sent)
-        → IsBytes d → IsLawfulSent sender → Validates None key d c a
+        → IsBytes d → IsEncodableSent sender → Validates None key d c a
         → AllByRecursion (λ s. s.covered ≡ c → content d ≡ told sender s.through)
         (signed sender (key a) a) }
 {}
@@ -127,10 +127,10 @@ pub fn integrity_has_origin()
 pub fn step_is_written()
     ensures header { (type id : ℕ) → type < 2 ^ 14 → id < 2 ^ 96 → IsWritable type id [] }
     ensures step { (type id : ℕ) (before : List Attribute) (step : Step)
-        → IsLawful step → IsOrdinaryStep step
+        → IsEncodable step → IsOrdinaryStep step
         → IsWritable type id before → MayFollow type id before step
         → IsWritable type id (with_step type id before step) }
-    ensures size { (type id : ℕ) (before : List Attribute) (step : Step) → IsLawful step
+    ensures size { (type id : ℕ) (before : List Attribute) (step : Step) → IsEncodable step
         → length (message_encoding type id (with_step type id before step))
         ≡ length (message_encoding type id before) + (4 + padded_length (value_length step)) }
     // a message that a step signed validates where no wanted integrity attribute follows the

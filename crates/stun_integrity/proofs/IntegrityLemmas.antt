@@ -11,7 +11,7 @@ use Rattle.stun_grammar.specs.Numbers.{be32, IsBytes}
 use Rattle.stun_grammar.specs.Lengths.{exact_fault}
 use Rattle.stun_grammar.specs.Verdicts.{hmac_fault}
 use Rattle.stun_attrs.specs.Reading.{Reads}
-use Rattle.stun_rules.specs.FingerprintValues.{masked_bytes}
+use Rattle.stun_values.specs.FingerprintValues.{masked_bytes}
 
 exact : (asked n : ℕ) → n ≡ asked → exact_fault asked n ≡ None
 exact asked n e = rw (le-ltb asked n (omega (arith, e)), le-ltb n asked (omega (arith, e))) refl

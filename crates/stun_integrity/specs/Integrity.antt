@@ -7,7 +7,7 @@ use Rattle.stun_grammar.specs.declared.integrity_algorithm.IntegrityAlgorithm.Th
 use Rattle.stun_grammar.specs.WriteErrors.{write_error}
 use Rattle.stun_grammar.specs.Lengths.{exact_fault}
 use Rattle.stun_grammar.specs.Verdicts.{hmac_fault}
-use Rattle.stun_rules.specs.FingerprintValues.{masked_bytes}
+use Rattle.stun_values.specs.FingerprintValues.{masked_bytes}
 use Rattle.stun_attrs.specs.Reading.{Reads}
 use Rattle.stun_integrity.specs.declared.fingerprint.Fingerprint.{Fingerprint}
 use Rattle.stun_integrity.specs.declared.message_integrity.MessageIntegrity.{MessageIntegrity}

@@ -14,7 +14,7 @@ use stun_base::pad_attribute_len;
 use stun_grammar::IntegrityAlgorithm;
 use stun_keys::digest::crc32;
 use stun_keys::keys::IntegrityKey;
-use stun_rules::masked;
+use stun_values::masked;
 
 /// The first four bytes of a message with another length field: that of one that ends with an
 /// attribute of `size` bytes at `offset`, which is the low sixteen bits of the number of bytes that

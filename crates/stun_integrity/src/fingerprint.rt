@@ -4,7 +4,7 @@ use stun_attrs::{Attribute, EncodeValue, ReadValue, TypedAttribute, copy_to_star
 use stun_base::StunParseError;
 use stun_grammar::attribute_types;
 use stun_keys::digest::crc32;
-use stun_rules::{masked, print_hex, read_checksum};
+use stun_values::{masked, print_hex, read_checksum};
 
 /// FINGERPRINT: the CRC-32 of the message before it, in four bytes, big-endian (RFC 8489, section
 /// 14.7). The value is the CRC-32 XORed with 53 54 55 4E; this type holds it without the XOR.
@@ -19,7 +19,7 @@ impl Fingerprint {
     ghost use Rattle.stun_grammar.specs.Numbers.{be32};
     ghost use Rattle.stun_grammar.specs.Checksums.{crc};
     ghost use Rattle.stun_integrity.specs.Integrity.{checksum_bytes};
-    ghost use Rattle.stun_rules.specs.FingerprintValues.{masked_bytes};
+    ghost use Rattle.stun_values.specs.FingerprintValues.{masked_bytes};
 
     /// The attribute of this checksum, not XORed.
     pub fn new(fingerprint: [u8; 4]) -> Self
@@ -55,7 +55,7 @@ impl TypedAttribute for Fingerprint {
 
 impl EncodeValue for Fingerprint {
     ghost use Rattle.stun_integrity.specs.Integrity.{checksum_bytes};
-    ghost use Rattle.stun_rules.specs.FingerprintValues.{masked_bytes};
+    ghost use Rattle.stun_values.specs.FingerprintValues.{masked_bytes};
 
     ghost bytes = { λ attribute. masked_bytes (checksum_bytes attribute) };
 

@@ -10,7 +10,7 @@ ghost use Rattle.stun_integrity.specs.declared.message_integrity.MessageIntegrit
 ghost use Rattle.stun_integrity.specs.declared.message_integrity_sha256.MessageIntegritySha256.{MessageIntegritySha256};
 ghost use Rattle.stun_integrity.specs.declared.userhash.Userhash.{Userhash};
 ghost use Rattle.stun_integrity.specs.Integrity.{checksum_bytes, sha1_hmac, sha256_hmac, ReadsFingerprint, ReadsIntegrity, ReadsIntegritySha256};
-ghost use Rattle.stun_rules.specs.FingerprintValues.{masked_bytes};
+ghost use Rattle.stun_values.specs.FingerprintValues.{masked_bytes};
 ghost use Rattle.stun_integrity.specs.Userhash.{hash_bytes, ReadsUserhash};
 
 /// A MESSAGE-INTEGRITY, of 20 bytes, is read back.

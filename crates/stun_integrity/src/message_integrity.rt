@@ -5,7 +5,7 @@ use stun_attrs::{Attribute, EncodeValue, ReadValue, TypedAttribute, copy_to_star
 use stun_base::{StunParseError, StunWriteError};
 use stun_grammar::{IntegrityAlgorithm, attribute_types};
 use stun_keys::keys::IntegrityKey;
-use stun_rules::{check_sha1_length, print_hex};
+use stun_values::{check_sha1_length, print_hex};
 
 /// MESSAGE-INTEGRITY: the HMAC-SHA1 of the message before it, 20 bytes (RFC 8489, section 14.5).
 #[derive(Debug, Clone, PartialEq, Eq, Drop)]

@@ -7,7 +7,7 @@ use stun_attrs::{Attribute, EncodeValue, ReadValue, TypedAttribute, copy_to_star
 use stun_base::{StunParseError, StunWriteError};
 use stun_grammar::{IntegrityAlgorithm, attribute_types};
 use stun_keys::keys::IntegrityKey;
-use stun_rules::{check_sha256_length, print_hex};
+use stun_values::{check_sha256_length, print_hex};
 
 /// Whether the bytes are a nonempty prefix of an HMAC.
 fn is_prefix(prefix: &[u8], whole: &[u8; 32]) -> bool

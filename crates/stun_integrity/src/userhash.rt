@@ -7,7 +7,7 @@ use std::fmt;
 use stun_attrs::{Attribute, EncodeValue, ReadValue, TypedAttribute, copy_to_start};
 use stun_base::StunParseError;
 use stun_grammar::attribute_types;
-use stun_rules::{check_hash_length, print_hex};
+use stun_values::{check_hash_length, print_hex};
 
 /// USERHASH: the SHA-256 of `username:realm`, 32 bytes, which is sent in place of the username
 /// (RFC 8489, section 14.4).

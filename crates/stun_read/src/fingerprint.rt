@@ -11,7 +11,7 @@ use stun_attrs::RawAttribute;
 use stun_base::StunParseError;
 use stun_grammar::attribute_types::FINGERPRINT;
 use stun_integrity::fingerprint_at;
-use stun_rules::check_length;
+use stun_values::check_length;
 
 /// Checks the value of a FINGERPRINT whose header is at `offset`: it has four bytes, and they are
 /// right for the message before it.

@@ -7,7 +7,7 @@ ghost use Rattle.stun_read.specs.Iterating.{items_left, borrowed};
 
 use crate::MessageAttributesIter;
 use stun_base::{MessageHeader, StunParseError, check_header, number_at};
-use stun_rules::check_length;
+use stun_values::check_length;
 
 /// The length of a message, as its header states it.
 fn stated_length(bytes: &[u8]) -> usize

@@ -8,7 +8,7 @@ use Rattle.std.specs.declared.fmt.Formatter.{Formatter}
 use Rattle.std.specs.Fmt.{WritesOnOk, AppendsText, fmt_error}
 use Rattle.stun_grammar.specs.declared.error.StunParseError.{StunParseError}
 use Rattle.stun_grammar.specs.declared.error.StunParseError.TheVariants.{OutOfMemory}
-use Rattle.stun_rules.specs.Typed.{is_typed}
+use Rattle.stun_values.specs.Typed.{is_typed}
 use Rattle.stun_base.specs.Data.{is_borrowed}
 use Rattle.stun_attrs.specs.declared.raw.RawAttribute.{RawAttribute}
 use Rattle.stun_attrs.specs.Raw.{raw_type, raw_data, raw_value}

@@ -6,7 +6,7 @@ use std::alloc::Global;
 use std::fmt;
 use stun_attrs::{Attribute, RawAttribute};
 use stun_base::{AttributeType, Method, StunWriteError};
-use stun_rules::is_typed;
+use stun_values::is_typed;
 
 /// Names of attribute types and of methods, and functions that print attributes, for numbers that
 /// the library has none for. Of what is registered for one number, the last counts.

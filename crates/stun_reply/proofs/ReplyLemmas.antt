@@ -17,7 +17,7 @@ use Rattle.stun_grammar.proofs.AddingLemmas.{message_more}
 use Rattle.stun_base.specs.declared.message_type.MessageClass.{MessageClass}
 use Rattle.stun_base.specs.declared.message_type.MessageClass.TheVariants.{Request, Indication, Success, Error as ErrorClass}
 use Rattle.stun_base.specs.MessageTypes.{class_of}
-use Rattle.stun_rules.specs.Addresses.{family, address_value, IsXored}
+use Rattle.stun_values.specs.Addresses.{family, address_value, IsXored}
 use Rattle.stun_types.specs.Replies.{response_type}
 use Rattle.stun_reply.specs.Reply.{xored_value, success_reply, response, request_reply, reply_by_class, reply}
 

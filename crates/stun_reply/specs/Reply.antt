@@ -17,7 +17,7 @@ use Rattle.stun_base.specs.declared.message_type.MessageClass.{MessageClass}
 use Rattle.stun_base.specs.declared.message_type.MessageClass.TheVariants.{Request, Success, Error as ErrorClass}
 use Rattle.stun_base.specs.MessageTypes.{class_of, method_of}
 use Rattle.stun_read.specs.LookingUp.{nth}
-use Rattle.stun_rules.specs.Addresses.{family, octets, mask, xor_bytes}
+use Rattle.stun_values.specs.Addresses.{family, octets, mask, xor_bytes}
 use Rattle.stun_types.specs.Replies.{response_type, own_software, bad_reply, check_reply}
 
 -- ---- The attributes of the replies

@@ -4,7 +4,7 @@ use Rattle.std.specs.Net.Socket.{socket_ip, socket_port}
 use Rattle.std.specs.Net.Grammar.{IsIpText}
 use Rattle.std.specs.Str.Parse.{IsNumeral, digits_value, without_leading_plus}
 use Rattle.std.specs.declared.net.socket_addr.SocketAddr.{SocketAddr}
-use Rattle.stun_rules.specs.Addresses.{IsPlain}
+use Rattle.stun_values.specs.Addresses.{IsPlain}
 use Rattle.stun_reply.specs.declared.engine.RunEnd.{RunEnd}
 use Rattle.stun_reply.specs.declared.engine.RunEnd.TheVariants.{Replied, NoReply, Usage, TooLong, ReadFailed, NoMemory}
 use Rattle.stun_reply.specs.ReplyRun.{Ends}

@@ -6,7 +6,7 @@ ghost use Rattle.stun_grammar.specs.Headers.{type_field};
 ghost use Rattle.stun_grammar.specs.AttributeTypes.{XOR_MAPPED_ADDRESS, SOFTWARE};
 ghost use Rattle.stun_grammar.specs.Adding.{appended};
 ghost use Rattle.stun_attributes.specs.Texts.{text_bytes};
-ghost use Rattle.stun_rules.specs.Addresses.{address_value};
+ghost use Rattle.stun_values.specs.Addresses.{address_value};
 ghost use Rattle.stun_attributes.specs.AddressAttributes.{written_mapped_addr};
 ghost use Rattle.stun_base.specs.declared.message_type.MessageClass.TheVariants.{Request, Success};
 ghost use Rattle.stun_base.specs.MessageTypes.{class_of};

@@ -24,10 +24,10 @@ use Rattle.stun_base.specs.declared.message_type.MessageClass.{MessageClass}
 use Rattle.stun_base.specs.declared.message_type.MessageClass.TheVariants.{Request, Indication, Success, Error as ErrorClass}
 use Rattle.stun_base.specs.MessageTypes.{type_of, class_of, method_of, is_response}
 use Rattle.stun_attributes.specs.declared.error_code.ErrorCode.{ErrorCode}
-use Rattle.stun_rules.specs.ErrorValues.{error_value}
+use Rattle.stun_values.specs.ErrorValues.{error_value}
 use Rattle.stun_attributes.specs.MakingErrors.{making_fault}
 use Rattle.stun_attributes.specs.ErrorCodes.{error_code, error_reason, IsError, MakesError}
-use Rattle.stun_rules.specs.TypeLists.{type_encoding, types_encoding}
+use Rattle.stun_values.specs.TypeLists.{type_encoding, types_encoding}
 use Rattle.std.specs.Prelude.{codes}
 use Rattle.stun_write.specs.Writers.{Writer, IsBegun, IsUnchanged, Spends, Gains, Adds}
 use Rattle.stun_types.specs.Replies.{Answers, response_type, own_software, error_attribute, unknown_listed, unknown_reply, making_refusal, refusal, first_refusal, accepted, IsReply, IsPartOfReply, Replies, attribute_of, AddsMade}
@@ -87,7 +87,7 @@ begun_reply old new r begun =
     reply_from old new r [] (none_writable (response_type ErrorClass r) (id_field r) begun.type_fits begun.id_fits) begun.bytes begun.types (begun.rest ∙ ap (λ (n : ℕ). drop n old.rest) (sym begun.size))
     (record {
       greatest = begun.spends.greatest;
-      place = begun.spends.place;
+      slice_name = begun.spends.slice_name;
       ready_bytes = omega (arith, begun.size, begun.spends.ready_bytes);
       ready_types = omega (arith, begun.spends.ready_types);
     })
@@ -127,7 +127,7 @@ reply_more old mid new r before type value reply t v ordinary none gains spends 
     (gains.rest ∙ ap (drop (attribute_length (length value))) reply.rest ∙ drop-drop (attribute_length (length value)) (length mid.bytes) old.rest ∙ ap (λ (n : ℕ). drop n old.rest) (sym size))
     (record {
       greatest = spends.greatest ∙ reply.spends.greatest;
-      place = spends.place ∙ reply.spends.place;
+      slice_name = spends.slice_name ∙ reply.spends.slice_name;
       ready_bytes = omega (arith, size, spends.ready_bytes, reply.spends.ready_bytes);
       ready_types = omega (arith, count, spends.ready_types, reply.spends.ready_types);
     })
@@ -140,7 +140,7 @@ reply_same old mid new r before n reply same spends =
     reply_from old new r before reply.writable (same.bytes ∙ reply.bytes) (same.types ∙ reply.types) (same.rest ∙ reply.rest ∙ ap (λ (n : ℕ). drop n old.rest) (sym size))
     (record {
       greatest = spends.greatest ∙ reply.spends.greatest;
-      place = spends.place ∙ reply.spends.place;
+      slice_name = spends.slice_name ∙ reply.spends.slice_name;
       ready_bytes = omega (arith, size, same.ready_bytes, reply.spends.ready_bytes);
       ready_types = omega (arith, count, same.ready_types, reply.spends.ready_types);
     })
@@ -275,7 +275,7 @@ not_made result w part types x part-is is large small =
       adds = record {
         ok = tt;
         err = record { bytes = refl; types = refl; rest = refl; ready_bytes = omega arith; ready_types = omega arith };
-        spends = record { greatest = refl; place = refl; ready_bytes = omega arith; ready_types = omega arith };
+        spends = record { greatest = refl; slice_name = refl; ready_bytes = omega arith; ready_types = omega arith };
         header = record { header = λ e. e; type = refl; id = refl };
       };
       fits = tt;

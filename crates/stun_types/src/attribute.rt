@@ -8,7 +8,7 @@ pub use stun_attrs::{
 };
 pub use stun_base::{AttributeHeader, AttributeType, pad_attribute_len};
 pub use stun_registry::AttributeDisplay;
-pub use stun_rules::check_length;
+pub use stun_values::check_length;
 pub use typed::{
     AlternateDomain, AlternateServer, ErrorCode, ErrorCodeBuilder, Fingerprint, MappedSocketAddr,
     MessageIntegrity, MessageIntegritySha256, Nonce, PasswordAlgorithm, PasswordAlgorithmValue,

@@ -11,14 +11,14 @@ use Rattle.stun_grammar.specs.declared.error.StunWriteError.{StunWriteError}
 use Rattle.stun_grammar.specs.Attributes.{Attribute, canonical, types, attribute_length}
 use Rattle.stun_grammar.specs.Chains.{placed}
 use Rattle.stun_grammar.specs.Writing.{message_encoding}
-use Rattle.stun_grammar.specs.Steps.{Step as Plain, add, sign, finger, appended_by, with_step, value_length, IsLawful, IsOrdinaryStep as IsOrdinaryPlain}
+use Rattle.stun_grammar.specs.Steps.{Step as Plain, add, sign, finger, appended_by, with_step, value_length, IsEncodable, IsOrdinaryStep as IsOrdinaryPlain}
 use Rattle.stun_grammar.specs.Sending.{body_from, Sent, body, sent_encoding, MayFollow, EachMayFollow, IsAccepted}
 use Rattle.stun_grammar.proofs.ShowingLemmas.{AllByRecursion-append}
 use Rattle.stun_grammar.proofs.StepsSignedLemmas.{appended_is}
 use Rattle.stun_grammar.proofs.StepsLemmas.{is_writable, sent_parses, sent_shows, last_validates, each_validates}
 use Rattle.stun_write.specs.declared.steps.Step.{Step}
 use Rattle.stun_write.specs.declared.steps.Step.TheVariants.{Add, Sign, SignKey, Finger}
-use Rattle.stun_grammar.specs.Adding.{appended, whole, add_refusal, IsAddAnswer}
+use Rattle.stun_grammar.specs.Adding.{appended, grown_length, add_refusal, IsAddAnswer}
 use Rattle.stun_write.specs.Runs.{AddsOrdinary, MakesKey, plain, accepted, sent, IsVerdict, AreVerdicts, ValidatesLast, ValidatesEach, Writes}
 use Rattle.stun_write.specs.Writers.{Writer, Spends, Adds}
 use Rattle.stun_grammar.proofs.AddingLemmas.{message_more}
@@ -47,7 +47,7 @@ canonical_appended m (sign a k) = refl
 canonical_appended m finger = refl
 
 -- a message with what a step appends is the message with one step more
-encoding_step : (type id : ℕ) (before : List Attribute) (s : Plain) (b : List ℕ) → IsLawful s → b ≡ message_encoding type id before
+encoding_step : (type id : ℕ) (before : List Attribute) (s : Plain) (b : List ℕ) → IsEncodable s → b ≡ message_encoding type id before
     → appended b (appended_by s b).type (appended_by s b).value ≡ message_encoding type id (with_step type id before s)
 encoding_step type id before s b lawful is =
     let m = message_encoding type id before in
@@ -76,17 +76,17 @@ each_more type id before [] s each may = (may, tt)
 each_more type id before (x ∷ steps) s each may = (each.0, each_more type id (with_step type id before x) steps s each.1 may)
 
 -- one more accepted step, after accepted ones
-accepted_one : (m : Sent) (s : Plain) → IsAccepted m → IsLawful s → IsOrdinaryPlain s → MayFollow m.type m.id (body m) s
+accepted_one : (m : Sent) (s : Plain) → IsAccepted m → IsEncodable s → IsOrdinaryPlain s → MayFollow m.type m.id (body m) s
     → IsAccepted (record { type = m.type; id = m.id; steps = m.steps ++ s ∷ [] })
 accepted_one m s ok lawful ordinary may = record {
-  lawful = record { type_fits = ok.lawful.type_fits; id_fits = ok.lawful.id_fits; steps = AllByRecursion-append IsLawful m.steps (s ∷ []) ok.lawful.steps (lawful, tt) };
+  encodable = record { type_fits = ok.encodable.type_fits; id_fits = ok.encodable.id_fits; steps = AllByRecursion-append IsEncodable m.steps (s ∷ []) ok.encodable.steps (lawful, tt) };
   ordinary = AllByRecursion-append IsOrdinaryPlain m.steps (s ∷ []) ok.ordinary (ordinary, tt);
   accepted = each_more m.type m.id [] m.steps s ok.accepted may;
 }
 
 pub accepted_none : (type id : ℕ) → type < 2 ^ 14 → id < 2 ^ 96 → IsAccepted (record { type = type; id = id; steps = [] })
 unfolding EachMayFollow
-accepted_none type id t i = record { lawful = record { type_fits = t; id_fits = i; steps = tt }; ordinary = tt; accepted = tt }
+accepted_none type id t i = record { encodable = record { type_fits = t; id_fits = i; steps = tt }; ordinary = tt; accepted = tt }
 
 free-of : (P : Type 0) (r : Option StunWriteError) (u : Unit) → IsAddAnswer r P (Ok u) → r ≡ None
 free-of P (Some e) u a = absurd (cc a)
@@ -114,7 +114,7 @@ module _ {O : Type 0} (T : O → ℕ) (V : O → List ℕ) where
       let n : ℕ = value_length (plain T V x) in
       let len = length (message_encoding type id before) in
       let P : Type 0 = MakesKey x ⊎ (bytes_left < attribute_length n ⊎ types_left < 1) in
-      let Q : Type 0 = MakesKey x ⊎ (start.ready_bytes < whole len n ⊎ start.ready_types < length before + 1) in
+      let Q : Type 0 = MakesKey x ⊎ (start.ready_bytes < grown_length len n ⊎ start.ready_types < length before + 1) in
       let long : length b ≡ len = ap length eb in
       let many : length ts ≡ length before = ap length et ∙ length-map before (λ (y : Attribute). y.type) in
       let wide : P → Q = elim [ inl k ↦ inl k | inr h ↦ inr (elim h [ inl l ↦ inl (omega arith) | inr l ↦ inr (omega arith) ]) ] in
@@ -146,7 +146,7 @@ module _ {O : Type 0} (T : O → ℕ) (V : O → List ℕ) where
   verdicts_append start type id before (y ∷ xs) (Ok u ∷ vs) x v e all one = (all.0, verdicts_append start type id (with_step type id before (plain T V y)) xs vs x v (omega arith) all.1 one)
   verdicts_append start type id before (y ∷ xs) (Err r ∷ vs) x v e all one = (all.0, verdicts_append start type id before xs vs x v (omega arith) all.1 one)
 
-  encoding_after : (type id : ℕ) (xs : List Attribute) (x : Step O) (v : Result Unit StunWriteError) (b new : List ℕ) → IsLawful (plain T V x)
+  encoding_after : (type id : ℕ) (xs : List Attribute) (x : Step O) (v : Result Unit StunWriteError) (b new : List ℕ) → IsEncodable (plain T V x)
       → b ≡ message_encoding type id xs → (let a = appended_by (plain T V x) b in OnOk v (new ≡ appended b a.type a.value)) → OnErr v (new ≡ b)
       → new ≡ message_encoding type id (body_from type id xs (accepted T V (x ∷ []) (v ∷ [])))
   encoding_after type id xs x (Ok u) b new lawful is ok err = ok ∙ encoding_step type id xs (plain T V x) b lawful is ∙ ap (message_encoding type id) (sym (body_one type id xs (plain T V x)))
@@ -191,7 +191,7 @@ module _ {O : Type 0} (T : O → ℕ) (V : O → List ℕ) where
         → AreVerdicts T V start type id [] (take (i + 1) xs) (take (i + 1) (set vs i v))
     verdicts_more start all on = rw (prefix, marks) (verdicts_append start type id [] (take i xs) (take i vs) x v same all on)
 
-    pub written_more : (b new : List ℕ) → IsLawful (plain T V x) → b ≡ message_encoding type id before
+    pub written_more : (b new : List ℕ) → IsEncodable (plain T V x) → b ≡ message_encoding type id before
         → (let a = appended_by (plain T V x) b in OnOk v (new ≡ appended b a.type a.value)) → OnErr v (new ≡ b)
         → new ≡ message_encoding type id (body next)
     written_more b new lawful at ok err = encoding_after type id before x v b new lawful at ok err ∙ ap (message_encoding type id) (sym body_more)
@@ -201,13 +201,13 @@ module _ {O : Type 0} (T : O → ℕ) (V : O → List ℕ) where
         → new ≡ types (body next)
     listed_more b ts new at e ok err = types_after type id before x v b ts new at e ok err ∙ ap types (sym body_more)
 
-    accepted_after : (w : Result Unit StunWriteError) (start : Writer) → IsAccepted now → IsLawful (plain T V x) → AddsOrdinary T x → IsVerdict T V start type id before x w
+    accepted_after : (w : Result Unit StunWriteError) (start : Writer) → IsAccepted now → IsEncodable (plain T V x) → AddsOrdinary T x → IsVerdict T V start type id before x w
         → IsAccepted (record { type = type; id = id; steps = now.steps ++ accepted T V (x ∷ []) (w ∷ []) })
     accepted_after (Ok u) start ok lawful ordinary on =
-        accepted_one now (plain T V x) ok lawful (ordinary_plain x ordinary) (may_follow type id before (plain T V x) start.greatest (free-of (MakesKey x ⊎ (start.ready_bytes < whole (length (message_encoding type id before)) (value_length (plain T V x)) ⊎ start.ready_types < length before + 1)) _ u on))
+        accepted_one now (plain T V x) ok lawful (ordinary_plain x ordinary) (may_follow type id before (plain T V x) start.greatest (free-of (MakesKey x ⊎ (start.ready_bytes < grown_length (length (message_encoding type id before)) (value_length (plain T V x)) ⊎ start.ready_types < length before + 1)) _ u on))
     accepted_after (Err e) start ok lawful ordinary on = rw (append-nil now.steps) ok
 
-    pub accepted_more : (start : Writer) → IsAccepted now → IsLawful (plain T V x) → All (AddsOrdinary T) xs → IsVerdict T V start type id before x v → IsAccepted next
+    pub accepted_more : (start : Writer) → IsAccepted now → IsEncodable (plain T V x) → All (AddsOrdinary T) xs → IsVerdict T V start type id before x v → IsAccepted next
     accepted_more start ok lawful ordinary on =
         subst (λ (s : List Plain). IsAccepted (record { type = type; id = id; steps = s })) (sym steps_more)
         (accepted_after v start ok lawful (subst (AddsOrdinary T) (sym is) (All-get_or (AddsOrdinary T) xs i x within ordinary)) on)
@@ -251,7 +251,7 @@ module _ {O : Type 0} (T : O → ℕ) (V : O → List ℕ) where
       let read : IsReadBack (sent T V type id xs vs) new.bytes = subst (IsReadBack (sent T V type id xs vs)) (sym all.bytes) (read_encoding (sent T V type id xs vs) all.accepted) in
       record {
         each = all.each;
-        lawful = all.accepted.lawful;
+        encodable = all.accepted.encodable;
         bytes = all.bytes;
         types = all.types;
         rest = all.rest;

@@ -9,14 +9,14 @@ use Rattle.stun_grammar.specs.Attributes.{Attribute, types}
 use Rattle.stun_grammar.specs.Verdicts.{is_checked_type, verdict}
 use Rattle.stun_grammar.specs.Writing.{message_encoding}
 use Rattle.stun_grammar.specs.Steps.{Step as Plain, add, sign, finger, with_step, value_length, is_signing}
-use Rattle.stun_grammar.specs.Sending.{Sent, body, IsLawfulSent}
+use Rattle.stun_grammar.specs.Sending.{Sent, body, IsEncodableSent}
 use Rattle.stun_grammar.specs.Chains.{placed}
 use Rattle.stun_grammar.specs.Showing.{shown}
 use Rattle.stun_grammar.specs.Parsing.{parse_fault}
 use Rattle.stun_grammar.specs.Fingerprints.{first_fingerprint_fault}
 use Rattle.stun_write.specs.Writers.{Writer, Spends}
 use Rattle.stun_keys.specs.Keys.{key_bytes, credentials_key}
-use Rattle.stun_grammar.specs.Adding.{whole, add_refusal, IsAddAnswer}
+use Rattle.stun_grammar.specs.Adding.{grown_length, add_refusal, IsAddAnswer}
 use Rattle.stun_grammar.specs.AttributeTypes.{IsOrdinary}
 use Rattle.stun_write.specs.declared.steps.Step.{Step}
 use Rattle.stun_write.specs.declared.steps.Step.TheVariants.{Add, Sign, SignKey, Finger}
@@ -81,7 +81,7 @@ module _ {O : Type 0} (type_of : O → ℕ) (value_of : O → List ℕ) where
       let len = length (message_encoding type id before) in
       IsAddAnswer (add_refusal (plain step) (types before) len start.greatest)
       (MakesKey step
-      ⊎ (start.ready_bytes < whole len (value_length (plain step))
+      ⊎ (start.ready_bytes < grown_length len (value_length (plain step))
       ⊎ start.ready_types < length before + 1))
       verdict
 
@@ -102,7 +102,7 @@ module _ {O : Type 0} (type_of : O → ℕ) (value_of : O → List ℕ) where
   pub record Writes (old new : Writer) (type id : ℕ)
       (steps : List (Step O)) (verdicts : List (Result Unit StunWriteError)) : Type 0 where
     pub each : AreVerdicts old type id [] steps verdicts
-    pub lawful : IsLawfulSent (sent type id steps verdicts)
+    pub encodable : IsEncodableSent (sent type id steps verdicts)
     pub bytes : new.bytes ≡ message_encoding type id (body (sent type id steps verdicts))
     pub types : new.types ≡ types (body (sent type id steps verdicts))
     pub rest : new.rest ≡ drop (length new.bytes) old.rest

@@ -6,7 +6,7 @@ use Rattle.stun_grammar.specs.declared.error.StunWriteError.TheVariants.{OutOfMe
 use Rattle.stun_grammar.specs.Headers.{is_header, type_field, id_field}
 use Rattle.stun_grammar.specs.Writing.{message_encoding, greatest_length}
 use Rattle.stun_grammar.specs.Attributes.{attribute_length}
-use Rattle.stun_grammar.specs.Adding.{appended, whole, Fits}
+use Rattle.stun_grammar.specs.Adding.{appended, grown_length, Fits}
 
 -- the bytes written, the types of the attributes among them, the most bytes that the writer takes,
 -- the bytes that follow those written, how many bytes and attributes more need no allocation (the
@@ -18,7 +18,7 @@ pub record Writer : Type 0 where
   pub rest : List ℕ
   pub ready_bytes : ℕ
   pub ready_types : ℕ
-  pub place : GName
+  pub slice_name : GName
 
 -- ---- Before a call
 
@@ -26,8 +26,8 @@ pub record Writer : Type 0 where
 -- message is no longer than the writer takes, nor than a message may be
 pub record HasRoomFor (w : Writer) (n : ℕ) : Type 0 where
   pub header : 20 ≤ length w.bytes
-  pub room : Fits w.greatest (whole (length w.bytes) n)
-  pub fits : whole (length w.bytes) n ≤ greatest_length
+  pub room : Fits w.greatest (grown_length (length w.bytes) n)
+  pub fits : grown_length (length w.bytes) n ≤ greatest_length
 
 -- an attribute with a value of n bytes needs more than the ready room
 abbrev pub Allocates : Writer → ℕ → Type 0
@@ -51,7 +51,7 @@ with_bytes w given = record w { bytes = given }
 -- are used up
 pub record Spends (old new : Writer) (bytes attributes : ℕ) : Type 0 where
   pub greatest : new.greatest ≡ old.greatest
-  pub place : new.place ≡ old.place
+  pub slice_name : new.slice_name ≡ old.slice_name
   pub ready_bytes : old.ready_bytes ≤ new.ready_bytes + bytes
   pub ready_types : old.ready_types ≤ new.ready_types + attributes
 
@@ -101,7 +101,7 @@ pub record BeginsMessage {R : Type 0} (writer : R → Writer) (result : Result R
 -- the attribute is appended, and the length field counts it
 pub record Gains (old new : Writer) (type : ℕ) (value : List ℕ) : Type 0 where
   pub bytes : new.bytes ≡ appended old.bytes type value
-  pub size : length new.bytes ≡ whole (length old.bytes) (length value)
+  pub size : length new.bytes ≡ grown_length (length old.bytes) (length value)
   pub types : new.types ≡ old.types ++ type ∷ []
   pub rest : new.rest ≡ drop (attribute_length (length value)) old.rest
 

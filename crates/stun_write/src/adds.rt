@@ -7,7 +7,7 @@ ghost use Rattle.stun_grammar.specs.Hmac.{digest_length};
 ghost use Rattle.stun_grammar.specs.Verdicts.{type_of_algorithm};
 ghost use Rattle.stun_grammar.specs.Fingerprints.{fingerprint_value};
 ghost use Rattle.stun_grammar.specs.Steps.{add, sign, finger, integrity_value};
-ghost use Rattle.stun_grammar.specs.Adding.{whole, add_refusal, IsAddAnswer};
+ghost use Rattle.stun_grammar.specs.Adding.{grown_length, add_refusal, IsAddAnswer};
 ghost use Rattle.stun_keys.specs.Keys.{key_bytes, credentials_key};
 ghost use Rattle.stun_base.specs.MessageTypes.{class_of, method_of, is_response as responds};
 ghost use Rattle.stun_write.specs.Writers.{Allocates, Adds};
@@ -23,7 +23,7 @@ use stun_base::{
 };
 use stun_grammar::IntegrityAlgorithm;
 use stun_keys::keys::{IntegrityKey, MessageIntegrityCredentials};
-use stun_rules::hmac_length;
+use stun_values::hmac_length;
 
 /// Adds attributes to a message that is being written, and reads its header (RFC 8489, sections 5
 /// and 14). Every [`MessageWrite`] has these methods.

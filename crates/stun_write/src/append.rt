@@ -2,7 +2,7 @@
 
 ghost use Rattle.std.specs.Prelude.{◌≡◌, ◌≤◌, ◌++◌, length, take, drop};
 ghost use Rattle.stun_grammar.specs.Writing.{greatest_length};
-ghost use Rattle.stun_grammar.specs.Adding.{appended, whole};
+ghost use Rattle.stun_grammar.specs.Adding.{appended, grown_length};
 
 use byteorder::{BigEndian, ByteOrder};
 use stun_attrs::{AttributeWrite, write_attribute};
@@ -18,7 +18,7 @@ pub(crate) fn append_sized(
     message: &mut [u8],
 )
     requires header { 20 ≤ len }
-    requires longer { longer ≡ whole len (length (value attribute.now)) }
+    requires longer { longer ≡ grown_length len (length (value attribute.now)) }
     requires room { longer ≤ length message.old }
     requires fits { longer ≤ greatest_length }
     ensures { message.new
@@ -38,11 +38,11 @@ pub(crate) fn append_sized(
 /// 65555 bytes.
 pub fn append_attribute(attribute: &dyn AttributeWrite, len: usize, message: &mut [u8])
     requires header { 20 ≤ len }
-    requires room { whole len (length (value attribute.now)) ≤ length message.old }
-    requires fits { whole len (length (value attribute.now)) ≤ greatest_length }
+    requires room { grown_length len (length (value attribute.now)) ≤ length message.old }
+    requires fits { grown_length len (length (value attribute.now)) ≤ greatest_length }
     ensures { message.new
         ≡ appended (take len message.old) (atype attribute.now) (value attribute.now)
-        ++ drop (whole len (length (value attribute.now))) message.old }
+        ++ drop (grown_length len (length (value attribute.now))) message.old }
 {
     append_sized(attribute, len, len + attribute.padded_len(), message);
 }
@@ -52,10 +52,10 @@ pub fn append_attribute(attribute: &dyn AttributeWrite, len: usize, message: &mu
 pub fn append_value(atype: AttributeType, value: &[u8], len: usize, message: &mut [u8])
     requires header { 20 ≤ len }
     requires value { length value.now ≤ 65535 }
-    requires room { whole len (length value.now) ≤ length message.old }
-    requires fits { whole len (length value.now) ≤ greatest_length }
+    requires room { grown_length len (length value.now) ≤ length message.old }
+    requires fits { grown_length len (length value.now) ≤ greatest_length }
     ensures { message.new ≡ appended (take len message.old) atype.0 value.now
-        ++ drop (whole len (length value.now)) message.old }
+        ++ drop (grown_length len (length value.now)) message.old }
 {
     let field = len + 4 + pad_attribute_len(value.len()) - 20;
     write_attribute(atype, value, &mut message[len..]);

@@ -90,19 +90,19 @@ fn check_room<W: MessageWrite>(write: &W, added: usize) -> Result<(), StunWriteE
             actual: len,
         });
     }
-    let whole = len + added;
+    let grown_length = len + added;
     if let Some(most) = write.max_size()
-        && most < whole
+        && most < grown_length
     {
         return Err(StunWriteError::TooSmall {
-            expected: whole,
+            expected: grown_length,
             actual: most,
         });
     }
-    if whole > GREATEST_LENGTH {
+    if grown_length > GREATEST_LENGTH {
         return Err(StunWriteError::TooLarge {
             expected: GREATEST_LENGTH,
-            actual: whole,
+            actual: grown_length,
         });
     }
     Ok(())

@@ -43,7 +43,7 @@ impl<'a> MessageWriteMutSlice<'a> {
             ≡ Some (length slice.old) }
         ensures rest { (⟦<MessageWriteMutSlice<'a> as MessageWrite>⟧.state result).rest
             ≡ slice.old }
-        ensures place { (⟦<MessageWriteMutSlice<'a> as MessageWrite>⟧.state result).place
+        ensures slice_name { (⟦<MessageWriteMutSlice<'a> as MessageWrite>⟧.state result).slice_name
             ≡ slice.entry.ghost_name }
         ensures ready_bytes { (⟦<MessageWriteMutSlice<'a> as MessageWrite>⟧.state
             result).ready_bytes ≡ length slice.old }
@@ -92,10 +92,10 @@ impl<'a> MessageWrite for MessageWriteMutSlice<'a> {
       rest = drop write.written write.slice.now;
       ready_bytes = length write.slice.now - write.written;
       ready_types = write.attributes.capacity - small_vec_len write.attributes;
-      place = write.slice.ghost_name;
+      slice_name = write.slice.ghost_name;
     } };
 
-    ghost gives = { λ write count. count ≡ length (take write.written write.slice.now) };
+    ghost finishes_with = { λ write count. count ≡ length (take write.written write.slice.now) };
 
     /// The length of the borrowed slice.
     fn max_size(&self) -> Option<usize> {
@@ -143,10 +143,10 @@ impl<'a> MessageWrite for MessageWriteMutSlice<'a> {
         attribute: &dyn AttributeWrite,
     ) -> Result<(), StunWriteError> {
         let len = self.len();
-        let whole = len + attribute.padded_len();
+        let grown_length = len + attribute.padded_len();
         self.attributes.reserve_one()?;
-        append_sized(attribute, len, whole, self.slice);
-        self.written = whole;
+        append_sized(attribute, len, grown_length, self.slice);
+        self.written = grown_length;
         self.attributes.push_reserved(attribute.get_type());
         Ok(())
     }
@@ -158,10 +158,10 @@ impl<'a> MessageWrite for MessageWriteMutSlice<'a> {
         more: &[u8],
     ) -> Result<(), StunWriteError> {
         let len = self.len();
-        let whole = len + 4 + pad_attribute_len(more.len());
+        let grown_length = len + 4 + pad_attribute_len(more.len());
         self.attributes.reserve_one()?;
         append_value(atype, more, len, self.slice);
-        self.written = whole;
+        self.written = grown_length;
         self.attributes.push_reserved(atype);
         Ok(())
     }

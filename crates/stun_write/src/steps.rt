@@ -1,7 +1,7 @@
 //! Writing one message by a list of steps.
 
 ghost use Rattle.std.specs.Prelude.{◌≡◌, ◌⊎◌, [], All, OnErr, length};
-ghost use Rattle.stun_grammar.specs.Steps.{appended_by, IsLawful, value_length};
+ghost use Rattle.stun_grammar.specs.Steps.{appended_by, IsEncodable, value_length};
 ghost use Rattle.stun_grammar.specs.Adding.{Fits, add_refusal, IsAddAnswer};
 ghost use Rattle.stun_write.specs.Writers.{Allocates, Adds, IsUnchanged};
 ghost use Rattle.stun_write.specs.Runs.{plain, AddsOrdinary, MakesKey, Runs};
@@ -41,7 +41,7 @@ fn take_step<B: MessageWrite>(
         (add_refusal asked (B.state write.old).types (length (B.state write.old).bytes)
         (B.state write.old).greatest)
         (MakesKey step.now ⊎ Allocates (B.state write.old) (value_length asked)) result }
-    ensures lawful { IsLawful (plain (λ o. atype o.now) (λ o. value o.now) step.now) }
+    ensures encodable { IsEncodable (plain (λ o. atype o.now) (λ o. value o.now) step.now) }
     ensures adds { let added = appended_by
         (plain (λ o. atype o.now) (λ o. value o.now) step.now) (B.state write.old).bytes in
         Adds result (B.state write.old) (B.state write.new) added.type added.value }

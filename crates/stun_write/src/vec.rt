@@ -74,10 +74,10 @@ impl MessageWrite for MessageWriteVec {
       rest = [];
       ready_bytes = vec_capacity write.output - vec_len write.output;
       ready_types = write.attributes.capacity - small_vec_len write.attributes;
-      place = 0;
+      slice_name = 0;
     } };
 
-    ghost gives = { λ write output. output.items ≡ write.output.items };
+    ghost finishes_with = { λ write output. output.items ≡ write.output.items };
 
     /// `None`: the vector grows.
     fn max_size(&self) -> Option<usize> {
@@ -127,12 +127,12 @@ impl MessageWrite for MessageWriteVec {
         attribute: &dyn AttributeWrite,
     ) -> Result<(), StunWriteError> {
         let len = self.output.len();
-        let whole = len + attribute.padded_len();
+        let grown_length = len + attribute.padded_len();
         self.attributes.reserve_one()?;
         self.output
-            .resize(whole, 0)
+            .resize(grown_length, 0)
             .map_err(|_| StunWriteError::OutOfMemory)?;
-        append_sized(attribute, len, whole, &mut self.output);
+        append_sized(attribute, len, grown_length, &mut self.output);
         self.attributes.push_reserved(attribute.get_type());
         Ok(())
     }
@@ -144,10 +144,10 @@ impl MessageWrite for MessageWriteVec {
         more: &[u8],
     ) -> Result<(), StunWriteError> {
         let len = self.output.len();
-        let whole = len + 4 + pad_attribute_len(more.len());
+        let grown_length = len + 4 + pad_attribute_len(more.len());
         self.attributes.reserve_one()?;
         self.output
-            .resize(whole, 0)
+            .resize(grown_length, 0)
             .map_err(|_| StunWriteError::OutOfMemory)?;
         append_value(atype, more, len, &mut self.output);
         self.attributes.push_reserved(atype);

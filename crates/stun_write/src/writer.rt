@@ -24,16 +24,16 @@ use stun_base::{AttributeType, StunWriteError};
 /// - `greatest`: the most bytes that the writer takes, where it has such a bound;
 /// - `rest`: the bytes that follow those written, in a slice;
 /// - `ready_bytes` and `ready_types`: the ready room, which may grow even where a push fails;
-/// - `place`: the name of the slice that it borrows, or 0.
+/// - `slice_name`: the name of the slice that it borrows, or 0.
 ///
-/// `gives` relates a writer to what its [`MessageWrite::finish`] returns.
+/// `finishes_with` relates a writer to what its [`MessageWrite::finish`] returns.
 pub trait MessageWrite {
     /// What [`MessageWrite::finish`] returns.
     type Output;
 
     ghost state: { Self → Writer };
 
-    ghost gives: { Self → Self.Output → Type 0 };
+    ghost finishes_with: { Self → Self.Output → Type 0 };
 
     /// The most bytes that the writer takes, or `None` where it has no such bound.
     fn max_size(&self) -> Option<usize>
@@ -109,5 +109,5 @@ pub trait MessageWrite {
 
     /// Ends the writing, and returns what was written or how much.
     fn finish(self) -> Self::Output
-        ensures { gives self result };
+        ensures { finishes_with self result };
 }

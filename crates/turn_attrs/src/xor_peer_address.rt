@@ -11,7 +11,7 @@ pub struct XorPeerAddress {
 }
 
 impl XorPeerAddress {
-    ghost use Rattle.stun_rules.specs.Addresses.{IsXored};
+    ghost use Rattle.stun_values.specs.Addresses.{IsXored};
     ghost use Rattle.turn_attrs.specs.Turn.{written_peer};
 
     /// The attribute of this address in a message with this transaction ID. Flow info and scope ID
@@ -41,7 +41,7 @@ impl TypedAttribute for XorPeerAddress {
 }
 
 impl EncodeValue for XorPeerAddress {
-    ghost use Rattle.stun_rules.specs.Addresses.{address_value};
+    ghost use Rattle.stun_values.specs.Addresses.{address_value};
     ghost use Rattle.turn_attrs.specs.Turn.{written_peer};
 
     ghost bytes = { λ peer. address_value (written_peer peer) };

@@ -2,10 +2,10 @@
 
 use std::alloc::{AllocError, Global};
 use std::test::Fail;
-use stun_samples::letters;
 use stun_types::attribute::{AttributeType, ErrorCode, RawAttribute};
 use stun_types::message::{StunParseError, StunWriteError};
 use stun_types::prelude::*;
+use test_messages::letters;
 
 /// Codes, how long a reason each is made with, and why it isn't made.
 #[rattlefmt::skip]

@@ -3,8 +3,8 @@
 use crate::printed_values::assert_prints;
 use std::alloc::Global;
 use std::test::Fail;
-use stun_samples::{FIRST_FINGERPRINT, SOFTWARE, USERNAME, header, message};
 use stun_types::message::Message;
+use test_messages::{FIRST_FINGERPRINT, SOFTWARE, USERNAME, header, message};
 
 /// A binding request with a PASSWORD-ALGORITHM, of 28 bytes.
 const BINDING_REQUEST: [u8; 28] = [

@@ -14,7 +14,7 @@ use stun_types::attribute::{
 };
 use stun_types::message::TransactionId;
 use stun_types::{AddressFamily, TransportType};
-use stun_rules::{check_algorithms, print_algorithms_in};
+use stun_values::{check_algorithms, print_algorithms_in};
 
 /// A writer that takes that many bytes, and then refuses.
 #[derive(Drop)]

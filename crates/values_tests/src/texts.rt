@@ -3,13 +3,13 @@
 use std::alloc::{AllocError, Global};
 use std::fmt;
 use std::test::Fail;
-use stun_samples::letters;
 use stun_types::attribute::{
     AlternateDomain, Nonce, RawAttribute, Realm, Software, TextAttribute, Username,
 };
 use stun_types::data::Data;
 use stun_types::message::{StunParseError, StunWriteError};
 use stun_types::prelude::*;
+use test_messages::letters;
 
 /// The attributes that are a text.
 #[derive(Clone, Copy, Debug)]

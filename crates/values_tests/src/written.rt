@@ -4,7 +4,6 @@ use std::alloc::Global;
 use std::net::{IpAddr, Ipv4Addr, SocketAddr};
 use std::process::Abort;
 use std::test::Fail;
-use stun_samples::{Shown, header, shows};
 use stun_types::attribute::{
     AlternateDomain, AlternateServer, AttributeType, ErrorCode, Fingerprint, MessageIntegrity,
     MessageIntegritySha256, Nonce, PasswordAlgorithm, PasswordAlgorithmValue, PasswordAlgorithms,
@@ -16,6 +15,7 @@ use stun_types::message::{
     TransactionId,
 };
 use stun_types::prelude::*;
+use test_messages::{Shown, header, shows};
 
 /// Whether an attribute is written as these bytes, followed by what was there.
 fn writes<A: AttributeWrite>(attribute: &A, written: &[u8]) -> bool {
@@ -236,10 +236,10 @@ fn writes_unknown_types(rt: HostRuntime) -> Result<(), Fail> {
 
 /// The text `abc`, if it was made, is written as three bytes and one of padding behind its type and
 /// its length.
-fn assert_text<const TYPE: u16, const MOST: u16>(
+fn assert_text<const TYPE: u16, const MAX: u16>(
     rt: &impl Abort,
     alloc: Global,
-    made: Result<TextAttribute<TYPE, MOST>, StunWriteError>,
+    made: Result<TextAttribute<TYPE, MAX>, StunWriteError>,
     number: u16,
 ) -> Result<(), Fail> {
     let text = made?;

@@ -10,12 +10,12 @@ use std::alloc::Global;
 use std::net::{IpAddr, Ipv4Addr, SocketAddr};
 use std::process::Abort;
 use std::test::Fail;
-use stun_samples::header;
 use stun_types::attribute::{AttributeType, UnknownAttributes, XorMappedAddress};
 use stun_types::message::{
     Message, MessageClass, MessageWriteMutSlice, MessageWriteVec, StunParseError, StunWriteError,
 };
 use stun_types::prelude::*;
+use test_messages::header;
 
 /// Parses a request.
 fn request(bytes: &[u8]) -> Result<Message<'_>, StunParseError>

@@ -5,13 +5,13 @@ use std::alloc::Global;
 use std::process::Abort;
 use std::test::Fail;
 use stun_base::binding_request;
-use stun_samples::{Shown, long_term, short_term, shows};
 use stun_types::attribute::AttributeType;
 use stun_types::message::{
     IntegrityAlgorithm, IntegrityKey, Message, MessageIntegrityCredentials, MessageWriteVec,
     StunParseError, StunWriteError, TransactionId, ValidateError,
 };
 use stun_types::prelude::*;
+use test_messages::{Shown, long_term, short_term, shows};
 
 /// A BINDING request with the id 1000 that is signed with the password `pass` for SHA-1 and has a
 /// FINGERPRINT, as another implementation makes it.

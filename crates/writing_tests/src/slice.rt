@@ -8,10 +8,10 @@ use std::alloc::Global;
 use std::process::Abort;
 use std::test::Fail;
 use stun_base::binding_request;
-use stun_samples::header;
 use stun_types::attribute::AttributeType;
 use stun_types::message::{Message, MessageWriteMutSlice, StunWriteError, TransactionId};
 use stun_types::prelude::*;
+use test_messages::header;
 
 /// The binding request with the transaction ID 1000 and the SOFTWARE `stun-types`, and four bytes
 /// FF behind it.

@@ -7,7 +7,6 @@ ghost use Rattle.stun_grammar.specs.Adding.{Fits};
 use std::alloc::Global;
 use std::test::Fail;
 use stun_base::binding_request;
-use stun_samples::{Shown, header, short_term, shows};
 use stun_types::attribute::{AttributeType, Software};
 use stun_types::message::{
     IntegrityAlgorithm, IntegrityKey, Message, MessageIntegrityCredentials, MessageWriteMutSlice,
@@ -15,6 +14,7 @@ use stun_types::message::{
     write_steps_into,
 };
 use stun_types::prelude::*;
+use test_messages::{Shown, header, short_term, shows};
 
 /// What a step is answered.
 type Verdict = Result<(), StunWriteError>;

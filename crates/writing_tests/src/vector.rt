@@ -7,13 +7,13 @@ use std::alloc::Global;
 use std::process::Abort;
 use std::test::Fail;
 use stun_base::binding_request;
-use stun_samples::{Shown, header, letters, shows};
 use stun_types::attribute::{AttributeType, Software};
 use stun_types::message::{
     BINDING, Message, MessageClass, MessageType, MessageWriteMutSlice, MessageWriteVec, Method,
     StunParseError, StunWriteError, TransactionId,
 };
 use stun_types::prelude::*;
+use test_messages::{Shown, header, letters, shows};
 
 /// A BINDING request with the transaction ID 1000 and nothing behind its header.
 pub(crate) fn request(alloc: Global) -> Result<MessageWriteVec, StunWriteError> {

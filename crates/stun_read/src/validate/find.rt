@@ -11,7 +11,7 @@ use crate::integrity_at::IntegrityAt;
 use stun_base::{AttributeType, StunParseError, ValidateError};
 use stun_grammar::IntegrityAlgorithm;
 use stun_grammar::attribute_types::MESSAGE_INTEGRITY;
-use stun_rules::check_hmac_length;
+use stun_values::check_hmac_length;
 
 /// The attribute that is checked. Its value has a lawful length.
 pub(super) fn find_checked(

@@ -7,4 +7,4 @@ pub use stun_attributes::{
     Username, XorMappedAddress, XorSocketAddr,
 };
 pub use stun_integrity::{Fingerprint, MessageIntegrity, MessageIntegritySha256, Userhash};
-pub use stun_rules::PasswordAlgorithmValue;
+pub use stun_values::PasswordAlgorithmValue;

@@ -11,7 +11,7 @@ ghost use Rattle.stun_base.specs.declared.message_type.MessageClass.{MessageClas
 ghost use Rattle.stun_base.specs.declared.message_type.MessageClass.TheVariants.{Request, Success, Error as ErrorClass};
 ghost use Rattle.stun_base.specs.MessageTypes.{class_of, is_response};
 ghost use Rattle.stun_attributes.specs.Texts.{text_bytes};
-ghost use Rattle.stun_rules.specs.TypeLists.{types_encoding};
+ghost use Rattle.stun_values.specs.TypeLists.{types_encoding};
 ghost use Rattle.stun_attributes.specs.ErrorCodes.{error_code, error_reason};
 ghost use Rattle.stun_attributes.specs.Unknown.{listed};
 ghost use Rattle.stun_write.specs.Writers.{BeginsMessage, IsBegun, IsUnchanged, Spends, KeepsHeader, Gains, Pushes, Allocates};

@@ -3,7 +3,6 @@
 use std::alloc::Global;
 use std::net::SocketAddr;
 use std::test::Fail;
-use stun_samples::{FIRST_FINGERPRINT, header};
 use stun_types::attribute::{Software, XorMappedAddress};
 use stun_types::message::{
     BINDING, IntegrityAlgorithm, Message, MessageClass, MessageIntegrityCredentials, MessageType,
@@ -11,6 +10,7 @@ use stun_types::message::{
     TransactionId, message_length,
 };
 use stun_types::prelude::*;
+use test_messages::{FIRST_FINGERPRINT, header};
 
 /// The address from which the server saw the request come, as its response tells it.
 pub fn mapped_address(

@@ -9,7 +9,7 @@ use stun_types::message::{
     Message, MessageWriteMutSlice, MessageWriteVec, StunWriteError, TransactionId,
 };
 use stun_types::prelude::*;
-use stun_vectors::{Blob, WriteFixed};
+use user_examples::{Blob, WriteFixed};
 
 #[test]
 fn writes_a_lent_value(rt: HostRuntime) -> Result<(), Fail> {

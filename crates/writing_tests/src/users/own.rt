@@ -7,7 +7,7 @@ use stun_types::data::Data;
 use stun_types::message::StunParseError;
 use stun_types::prelude::*;
 use stun_types::show::{Registry, Shown};
-use stun_vectors::MyAttribute;
+use user_examples::MyAttribute;
 
 #[test]
 fn reads_and_writes_an_attribute_of_ones_own(rt: HostRuntime) -> Result<(), Fail> {

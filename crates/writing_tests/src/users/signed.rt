@@ -3,14 +3,14 @@
 
 use std::alloc::Global;
 use std::test::Fail;
-use stun_samples::short_term;
 use stun_types::attribute::Software;
 use stun_types::message::{
     IntegrityAlgorithm, IntegrityKey, MessageClass, MessageType, MessageWriteMutSlice,
     MessageWriteVec, Method, Step, StunWriteError, TransactionId, ValidateError,
 };
 use stun_types::prelude::*;
-use stun_vectors::{header_behind_adds, validates_own};
+use test_messages::short_term;
+use user_examples::{header_behind_adds, validates_own};
 
 /// An error of the method 0x0ABC.
 fn odd_type() -> MessageType {

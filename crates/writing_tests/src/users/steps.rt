@@ -7,14 +7,14 @@ ghost use Rattle.stun_grammar.specs.Adding.{Fits};
 use std::alloc::Global;
 use std::test::Fail;
 use stun_base::binding_request;
-use stun_samples::short_term;
 use stun_types::attribute::{AttributeType, Software};
 use stun_types::message::{
     IntegrityAlgorithm, IntegrityKey, Message, MessageIntegrityCredentials, MessageWriteMutSlice,
     Step, StunWriteError, TransactionId, write_steps_into,
 };
 use stun_types::prelude::*;
-use stun_vectors::{Blob, WriteFixed, steps_in_array};
+use test_messages::short_term;
+use user_examples::{Blob, WriteFixed, steps_in_array};
 
 /// What a step is answered.
 type Verdict = Result<(), StunWriteError>;

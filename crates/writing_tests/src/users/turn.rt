@@ -8,7 +8,6 @@ ghost use Rattle.stun_grammar.specs.Adding.{Fits};
 use std::alloc::Global;
 use std::net::{IpAddr, Ipv4Addr, Ipv6Addr, SocketAddr};
 use std::test::Fail;
-use stun_samples::{Shown, short_term, shows};
 use stun_types::attribute::{AttributeType, RawAttribute};
 use stun_types::data::Data;
 use stun_types::message::{
@@ -18,8 +17,9 @@ use stun_types::message::{
 use stun_types::prelude::*;
 use stun_types::show::Registry;
 use stun_types::{attribute_display, show};
-use stun_vectors::WriteFixed;
+use test_messages::{Shown, short_term, shows};
 use turn_attrs::{Lifetime, PeerData, XorPeerAddress};
+use user_examples::WriteFixed;
 
 /// An indication of the method 6 with the transaction ID 1000: a LIFETIME of 600 seconds, the
 /// XOR-PEER-ADDRESS 192.168.0.1:3178, and DATA of three bytes.

@@ -1,11 +1,11 @@
 //! Requests that are written into a vector and into a slice.
 
 use std::test::Fail;
-use stun_samples::letters;
 use stun_types::attribute::{AttributeType, Software};
 use stun_types::message::{MessageWriteVec, StunWriteError, TransactionId};
 use stun_types::prelude::*;
-use stun_vectors::{nominate_sixteen, overwrite, software_in_slice, software_message};
+use test_messages::letters;
+use user_examples::{nominate_sixteen, overwrite, software_in_slice, software_message};
 
 /// The binding request with the transaction ID 1000 and the SOFTWARE `stun-types`, and four bytes
 /// FF behind it.

@@ -1,8 +1,8 @@
 use Rattle.std.proofs.Common.{ℕ, ◌+◌, ◌*◌, ◌++◌, take, drop, ap, ◌∙◌, arith}
 use Rattle.std.proofs.lemmas.List.{take_rest, length-take}
 use Rattle.stun_grammar.specs.Numbers.{be16}
-use Rattle.stun_rules.specs.TypeLists.{type_encoding}
-use Rattle.stun_rules.proofs.ListsLemmas.{written_from, write_next, length_of_twos}
+use Rattle.stun_values.specs.TypeLists.{type_encoding}
+use Rattle.stun_values.proofs.ListsLemmas.{written_from, write_next, length_of_twos}
 use Rattle.stun_attributes.proofs.unknown_attributes.write_types.Goals as goal
 
 pub loop-i-preserved : goal.loop-i-preserved

@@ -1,5 +1,5 @@
 use Rattle.std.proofs.Common.{◌≡◌, ◌*◌, ◌++◌, take, drop}
-use Rattle.stun_rules.specs.TypeLists.{types_encoding}
+use Rattle.stun_values.specs.TypeLists.{types_encoding}
 use Rattle.stun_attributes.proofs.unknown_attributes.write_types.Given as goal
 
 abbrev pub invariant-loop-i : goal.invariant-loop-i

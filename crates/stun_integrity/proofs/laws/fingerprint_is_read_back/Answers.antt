@@ -1,7 +1,7 @@
 use Rattle.std.proofs.Common.{◌≡◌, List, ℕ, refl, subst}
 use Rattle.std.specs.Prelude.{IsOkAnd}
 use Rattle.stun_integrity.specs.Integrity.{checksum_bytes}
-use Rattle.stun_rules.specs.FingerprintValues.{masked_bytes}
+use Rattle.stun_values.specs.FingerprintValues.{masked_bytes}
 use Rattle.stun_integrity.proofs.IntegrityLemmas.{exact_read, masked_twice}
 use Rattle.stun_integrity.proofs.laws.fingerprint_is_read_back.Goals as goal
 

@@ -19,7 +19,7 @@ loop-i-init g c =
         rest = begun.rest ∙ ap (λ (k : ℕ). drop k (g.B.MessageWrite.state c.args.write.now).rest) (sym begun.size);
         spends = record {
           greatest = begun.spends.greatest;
-          place = begun.spends.place;
+          slice_name = begun.spends.slice_name;
           ready_bytes = omega (arith, begun.size, begun.spends.ready_bytes);
           ready_types = omega (arith, begun.spends.ready_types);
         };
@@ -39,13 +39,13 @@ loop-i-preserved g c =
     record {
       so_far = record {
         each = verdicts_more _ _ _ _ _ _ c.loop-i.i _ _ within count c.index-steps-i.is start now.each on;
-        bytes = written_more _ _ _ _ _ _ c.loop-i.i _ _ within count c.index-steps-i.is _ _ step.lawful now.bytes left.bytes left.same_bytes;
+        bytes = written_more _ _ _ _ _ _ c.loop-i.i _ _ within count c.index-steps-i.is _ _ step.encodable now.bytes left.bytes left.same_bytes;
         types = listed_more _ _ _ _ _ _ c.loop-i.i _ _ within count c.index-steps-i.is _ _ _ now.bytes now.types left.types left.same_types;
-        accepted = accepted_more _ _ _ _ _ _ c.loop-i.i _ _ within count c.index-steps-i.is start now.accepted step.lawful c.requires.ordinary on;
+        accepted = accepted_more _ _ _ _ _ _ c.loop-i.i _ _ within count c.index-steps-i.is start now.accepted step.encodable c.requires.ordinary on;
         rest = rw (left.rest, now.rest, drop-drop) (grind (arith, left.grows));
         spends = record {
           greatest = step.adds.spends.greatest ∙ now.spends.greatest;
-          place = step.adds.spends.place ∙ now.spends.place;
+          slice_name = step.adds.spends.slice_name ∙ now.spends.slice_name;
           ready_bytes = omega (arith, left.ready_bytes, now.spends.ready_bytes);
           ready_types = omega (arith, left.ready_types, now.spends.ready_types);
         };

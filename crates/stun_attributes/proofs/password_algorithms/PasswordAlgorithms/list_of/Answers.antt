@@ -1,9 +1,9 @@
 use Rattle.std.proofs.Common.{◌+◌, ◌*◌, ◌/◌, ◌≡◌, ℕ, length, take, ◌∙◌, ap, arith}
 use Rattle.std.proofs.lemmas.List.{take_rest}
 use Rattle.std.specs.List.{flat_map}
-use Rattle.stun_rules.specs.Algorithms.{algorithm_encoding}
-use Rattle.stun_rules.proofs.AlgorithmsLemmas.{each_none}
-use Rattle.stun_rules.proofs.ListsLemmas.{read_next}
+use Rattle.stun_values.specs.Algorithms.{algorithm_encoding}
+use Rattle.stun_values.proofs.AlgorithmsLemmas.{each_none}
+use Rattle.stun_values.proofs.ListsLemmas.{read_next}
 use Rattle.stun_attributes.proofs.password_algorithms.PasswordAlgorithms.list_of.Goals as goal
 
 pub returns-in_err-algorithm : goal.returns-in_err-algorithm

@@ -1,7 +1,7 @@
 use Rattle.std.proofs.Common.{◌+◌, ◌*◌, ◌≡◌, ℕ, take, ◌∙◌, ap, arith}
 use Rattle.std.specs.List.{flat_map}
-use Rattle.stun_rules.specs.TypeLists.{type_encoding}
-use Rattle.stun_rules.proofs.ListsLemmas.{read_next, two_at}
+use Rattle.stun_values.specs.TypeLists.{type_encoding}
+use Rattle.stun_values.proofs.ListsLemmas.{read_next, two_at}
 use Rattle.stun_attributes.proofs.unknown_attributes.UnknownAttributes.list_of.Goals as goal
 
 pub loop-i-preserved : goal.loop-i-preserved

@@ -1,5 +1,5 @@
 use Rattle.std.proofs.Common.{◌≡◌, ◌*◌, length, take}
-use Rattle.stun_rules.specs.TypeLists.{types_encoding}
+use Rattle.stun_values.specs.TypeLists.{types_encoding}
 use Rattle.stun_attributes.proofs.unknown_attributes.UnknownAttributes.list_of.Given as goal
 
 abbrev pub invariant-loop-i : goal.invariant-loop-i

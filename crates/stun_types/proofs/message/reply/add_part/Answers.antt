@@ -1,6 +1,6 @@
 use Rattle.std.proofs.Common.{subst, ap, rules}
 use Rattle.stun_grammar.specs.AttributeTypes.{SOFTWARE, ERROR_CODE, UNKNOWN_ATTRIBUTES}
-use Rattle.stun_rules.specs.TypeLists.{types_encoding}
+use Rattle.stun_values.specs.TypeLists.{types_encoding}
 use Rattle.stun_types.specs.Replies.{attribute_of, IsMakeable}
 use Rattle.stun_types.proofs.RepliesLemmas.{adds_made, made_is, made_error, not_made}
 use Rattle.stun_types.proofs.message.reply.add_part.Goals as goal

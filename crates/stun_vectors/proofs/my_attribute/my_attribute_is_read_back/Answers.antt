@@ -1,5 +1,0 @@
-use Rattle.stun_vectors.proofs.MyValueLemmas.{read_back}
-use Rattle.stun_vectors.proofs.my_attribute.my_attribute_is_read_back.Goals as goal
-
-pub returns : goal.returns
-returns c = read_back
