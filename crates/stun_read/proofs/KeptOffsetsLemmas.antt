@@ -22,12 +22,9 @@ use Rattle.stun_grammar.proofs.ShowingLemmas.{shown_as, at_type, find-reverse-co
 use Rattle.stun_grammar.proofs.ShownOrderCutLemmas.{maybe, empty, in_any_order-from}
 use Rattle.stun_grammar.proofs.ShownOrderLemmas.{which, integrity, sha256, fingerprint, ordinary, in_order-nil, in_order-sha256}
 use Rattle.stun_grammar.proofs.VerdictsLemmas.{order_pair}
-use Rattle.stun_attrs.specs.Raw.{Borrows}
 use Rattle.stun_attrs.specs.declared.raw.RawAttribute.{RawAttribute}
 use Rattle.stun_read.specs.Keeping.{offset_among, IsKept}
 use Rattle.stun_read.specs.LookingUp.{nth, IsFound}
-use Rattle.stun_read.specs.Validating.{shown_kept}
-use Rattle.stun_read.specs.declared.kept.Kept.{Kept}
 
 -- ---- The walk from there
 
@@ -110,21 +107,11 @@ there wanted d offset e = elim (none_or_some (last_shown wanted d)) [
     same : (p q : ℕ) → Some p ≡ Some q → p ≡ q
     same p q h = cc
 
-none_there : (wanted : ℕ → Bool) (d : List ℕ) → offset_among wanted (shown d) ≡ None → last_shown wanted d ≡ None
-none_there wanted d e = elim (none_or_some (last_shown wanted d)) [
-  | inl none ↦ none
-  | inr (x, some) ↦
-      let told : Some x.offset ≡ None = sym (ap (option_map (λ (y : Shown). y.offset)) some) ∙ e in absurd cc
-]
-
 -- of the attribute of an algorithm
 pub kept_there : (algorithm : IntegrityAlgorithm) (d : List ℕ) (offset : ℕ) (kept : Option ℕ) → kept ≡ offset_among (is_wanted (Some algorithm)) (shown d) → kept ≡ Some offset → IsKept (is_wanted (Some algorithm)) d (type_of_algorithm algorithm) offset
 kept_there algorithm d offset kept e is =
     let (a, passes, at) = there (is_wanted (Some algorithm)) d offset (sym e ∙ is) in
     subst (λ (k : ℕ). IsKept (is_wanted (Some algorithm)) d k offset) (eqb-true a.type (type_of_algorithm algorithm) passes) at
-
-pub none_kept : (algorithm : IntegrityAlgorithm) (d : List ℕ) (kept : Option ℕ) → kept ≡ offset_among (is_wanted (Some algorithm)) (shown d) → kept ≡ None → last_shown (is_wanted (Some algorithm)) d ≡ None
-none_kept algorithm d kept e is = none_there (is_wanted (Some algorithm)) d (sym e ∙ is)
 
 -- its bytes are all there
 pub first_long : (b : List ℕ) → is_some (first_attribute b) ≡ true → 4 + stated_length b ≤ length b
@@ -141,23 +128,6 @@ first_read b n read n-is read-is = elim (none_or_some (first_attribute b)) [
       let value-is : read ≡ a.value = read-is ∙ ap (λ (k : ℕ). take k (drop 4 b)) count ∙ sym (ap (λ (x : Attribute). x.value) (first_attribute_some b a some).1) in
       rw some value-is
 ]
-
--- there is one at a kept offset, and what is read there is that attribute
-pub kept_begins : (wanted : ℕ → Bool) (d : List ℕ) (type offset : ℕ) → IsKept wanted d type offset → is_some (first_attribute (drop offset d)) ≡ true
-kept_begins wanted d type offset kept = rw kept.first_is refl
-
-pub kept_is : (wanted : ℕ → Bool) (d : List ℕ) (type offset : ℕ) (read : List ℕ) → IsKept wanted d type offset → IfSome (first_attribute (drop offset d)) (λ a. read ≡ a.value) → last_shown wanted d ≡ Some (shown_as offset type read)
-kept_is wanted d type offset read kept found =
-    let value-is : read ≡ kept.attribute.value = rw kept.first_is at found in rw (kept.type_is, value-is) kept.last_is
-
--- as a raw attribute
-pub raw_found : (x : Option Shown) (kept : Kept) (type : ℕ) (raw : RawAttribute) → x ≡ Some (shown_kept kept) → type ≡ kept.atype → Borrows type kept.value.now raw → IsFound x (Some (kept.offset, raw))
-raw_found x kept type raw last type-is borrows =
-    let borrows-it : Borrows kept.atype kept.value.now raw = subst (λ (k : ℕ). Borrows k kept.value.now raw) type-is borrows in
-    rw last (refl, borrows-it)
-
-pub none_found : (x : Option Shown) → x ≡ None → IsFound x None
-none_found x e = rw e refl
 
 pub read_there : (wanted : ℕ → Bool) (d : List ℕ) (x : Shown) → last_shown wanted d ≡ Some x → IsSomeAnd (first_attribute (drop x.offset d)) (λ a. (a.type ≡ x.type) × (a.value ≡ x.value))
 read_there wanted d x last =

@@ -171,16 +171,6 @@ reaches_end x old new r before holds = record {
   keeps = holds.keeps;
 }
 
--- out of memory, and nothing is written
-pub reaches_nothing : {T : Type 0} (old new : Writer) (r : List ℕ) (attributes : List Attribute) → IsUnchanged old new → Keeps old new (length new.bytes) (length new.types)
-    → Reaches (fails T OutOfMemory) old new r [] attributes
-reaches_nothing old new r attributes same keeps = record {
-  answer = λ not. absurd (not refl);
-  ok = tt;
-  err = (λ not. absurd (not refl), λ _. inl same);
-  keeps = keeps;
-}
-
 -- where an attribute is refused, its refusal is that of the list, and those before it are written
 refused_here : {T : Type 0} (e : StunWriteError) (old new : Writer) (r : List ℕ) (before : List Attribute) (a : Attribute) (attributes : List Attribute) (why : Option StunWriteError)
     → why ≡ refusal old.greatest before a → (fails (Unit {0}) e ≢ Err OutOfMemory → MatchOption why (IsOk (fails (Unit {0}) e)) (λ x. fails (Unit {0}) e ≡ Err x))
