@@ -67,9 +67,6 @@ shifted_by-add (suc m) n r = let e : suc m + n ≡ suc (m + n) = omega arith in 
 pub shifted_by_byte_first : (n r : ℕ) → shifted_by (8 * n) (shifted_by 8 r) ≡ shifted_by (8 * suc n) r
 shifted_by_byte_first n r = let e : 8 + 8 * n ≡ 8 * suc n = omega arith in sym (shifted_by-add 8 (8 * n) r) ∙ ap (λ (k : ℕ). shifted_by k r) e
 
-pub shifted_by_byte_last : (n r : ℕ) → shifted_by 8 (shifted_by (8 * n) r) ≡ shifted_by (8 * suc n) r
-shifted_by_byte_last n r = let e : 8 * n + 8 ≡ 8 * suc n = omega arith in sym (shifted_by-add (8 * n) 8 r) ∙ ap (λ (k : ℕ). shifted_by k r) e
-
 abbrev doubled : ℕ → ℕ → ℕ
 doubled zero h = h
 doubled (suc n) h = doubled n h * 2

@@ -20,7 +20,7 @@ use Rattle.stun_grammar.specs.Fingerprints.{first_fingerprint_fault, fingerprint
 use Rattle.stun_grammar.proofs.ChainsLemmas.{chain-none, chain-some, rest-none, rest-some}
 use Rattle.stun_grammar.proofs.HeadersLemmas.{frame_there}
 use Rattle.stun_grammar.proofs.PrefixesLemmas.{IsClosed, longest-nil, longest-cons, longest-append}
-use Rattle.stun_grammar.proofs.ScannedOrderLemmas.{any_order-push, any_order-closed, any_order-nil}
+use Rattle.stun_grammar.proofs.ScannedOrderLemmas.{any_order-push, any_order-closed}
 use Rattle.std.specs.Cmp.Lexicographic.{pointwise}
 use Rattle.stun_grammar.specs.Numbers.{padded_length}
 
@@ -31,10 +31,6 @@ pub record ScannedTo (d : List ℕ) (offset : ℕ) (taken : List Attribute) : Ty
   pub rest_is : rest (drop 20 d) ≡ rest (drop offset d)
   pub fits : in_any_order (types taken) ≡ true
   pub passes : first_fingerprint_fault d (placed 20 taken) ≡ None
-
-pub scan_starts : (d : List ℕ) → ScannedTo d 20 []
-unfolding placed
-scan_starts d = record { offset_is = refl; chain_is = refl; rest_is = refl; fits = any_order-nil; passes = refl }
 
 types-append : (a b : List Attribute) → types (a ++ b) ≡ types a ++ types b
 types-append a b = map-append (λ x. x.type) a b

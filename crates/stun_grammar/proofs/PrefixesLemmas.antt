@@ -1,6 +1,6 @@
 -- The longest prefix of a list that passes a test.
 use Rattle.std.proofs.Common.{◌≡◌, ℕ, zero, suc, ◌≤◌, Bool, true, false, cond, List, [], ◌∷◌, ◌++◌, length, take, drop, refl, sym, ap, subst, ◌∙◌, arith, inl, inr}
-use Rattle.std.proofs.lemmas.Bool.{cases_Bool, cases_lt, cond-true, cond-false}
+use Rattle.std.proofs.lemmas.Bool.{cases_Bool, cases_lt, cond-true}
 use Rattle.std.proofs.lemmas.List.{take-append-drop, take_at, length-append, length-take, append-nil}
 use Rattle.stun_grammar.specs.Prefixes.{longest_within, longest_prefix, IsLongestPrefix}
 
@@ -122,14 +122,6 @@ module _ {A : Type 0} where
         fits = passed;
         longest = λ a b e fits. omega (arith, ap length e, length-append a b);
       }))
-
-  -- where the next member does not pass, the longest prefix ends
-  pub longest_stops : (passes : List A → Bool) (taken : List A) (x : A) (more : List A) → IsClosed passes → passes taken ≡ true → passes (taken ++ x ∷ []) ≡ false → longest_prefix passes (taken ++ x ∷ more) ≡ taken
-  longest_stops passes [] x more closed passed failed = longest-cons passes x more (λ q e. closed (x ∷ []) q e) ∙ cond-false (passes (x ∷ [])) _ _ failed
-  longest_stops passes (y ∷ taken) x more closed passed failed =
-      longest-cons passes y (taken ++ x ∷ more) (λ q e. closed (y ∷ []) q e)
-      ∙ cond-true (passes (y ∷ [])) _ _ (closed (y ∷ []) taken passed)
-      ∙ ap (λ (ys : List A). y ∷ ys) (longest_stops (λ q. passes (y ∷ q)) taken x more (λ a b e. closed (y ∷ a) b e) passed failed)
 
   -- a prefix that passes is a prefix of the longest
   pub longest-append : (passes : List A → Bool) (taken xs : List A) → IsClosed passes → passes taken ≡ true → longest_prefix passes (taken ++ xs) ≡ taken ++ longest_prefix (λ q. passes (taken ++ q)) xs

@@ -126,11 +126,6 @@ one_only k = elim (cases_Bool (is_ending k)) [
   | inr e ↦ rw e refl
 ]
 
-last_and : (a b : Bool) → a ≡ true → ((a && (b && true)) && (true && not false)) ≡ b
-last_and true true e = refl
-last_and true false e = refl
-last_and false b e = absurd cc
-
 join_and : (a b c d : Bool) → a ≡ true → c ≡ true → ((a && (b && true)) && (c && not d)) ≡ cond b (not d) false
 join_and true true true true e f = refl
 join_and true true true false e f = refl

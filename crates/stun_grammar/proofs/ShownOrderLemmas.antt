@@ -1,6 +1,6 @@
 -- The two orders of ending attributes, type by type.
 use Rattle.std.proofs.Common.{◌≡◌, ℕ, Bool, true, false, eqb, ◌&&◌, ◌||◌, List, [], ◌∷◌, ◌++◌, refl, sym, ap, subst, ◌∙◌, inl, inr}
-use Rattle.std.proofs.lemmas.Bool.{cases_eq, cond-true, cond-false, ne_eqb, or_from, and_parts, and_from}
+use Rattle.std.proofs.lemmas.Bool.{cases_eq, cond-false, ne_eqb, or_from, and_parts, and_from}
 use Rattle.stun_grammar.specs.AttributeTypes.{is_ending}
 use Rattle.stun_grammar.specs.ShownOrder.{endings, without, is_empty, in_order}
 
@@ -29,10 +29,6 @@ is_ending-ordinary type a b c = or_from _ _ (ne_eqb type 0x0008 a) (or_from _ _ 
 endings-ordinary : (type : ℕ) (types : List ℕ) → is_ending type ≡ false → endings (type ∷ types) ≡ endings types
 unfolding endings
 endings-ordinary type types e = cond-false (is_ending type) _ _ e
-
-endings-ending : (type : ℕ) (types : List ℕ) → is_ending type ≡ true → endings (type ∷ types) ≡ type ∷ types
-unfolding endings
-endings-ending type types e = cond-true (is_ending type) _ _ e
 
 -- an ordinary type at the start makes no difference
 pub in_order-ordinary : (type : ℕ) (types : List ℕ) → is_ending type ≡ false → in_order (type ∷ types) ≡ in_order types

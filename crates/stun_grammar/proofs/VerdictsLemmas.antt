@@ -312,10 +312,6 @@ verdict_unlawful wanted key d x told last fault = rw (last, fault) refl
 abbrev pub value_test : (IntegrityAlgorithm → List ℕ) → List ℕ → Shown → Bool
 value_test key d x = pointwise nat_eq x.value (take (length x.value) (hmac (algorithm_of x.type) (key (algorithm_of x.type)) (covered_bytes d x.offset (length x.value))))
 
-pub verdict_failed : (wanted : ℕ → Bool) (key : IntegrityAlgorithm → List ℕ) (d : List ℕ) (x : Shown) → last_shown wanted d ≡ Some x → hmac_fault (algorithm_of x.type) (length x.value) ≡ None → value_test key d x ≡ false → verdict wanted key d ≡ Err IntegrityFailed
-unfolding verdict verdict_on
-verdict_failed wanted key d x last lawful test = rw (last, lawful, test) refl
-
 pub verdict_ok : (wanted : ℕ → Bool) (key : IntegrityAlgorithm → List ℕ) (d : List ℕ) (x : Shown) → last_shown wanted d ≡ Some x → hmac_fault (algorithm_of x.type) (length x.value) ≡ None → value_test key d x ≡ true → verdict wanted key d ≡ Ok (algorithm_of x.type)
 unfolding verdict verdict_on
 verdict_ok wanted key d x last lawful test = rw (last, lawful, test) refl

@@ -107,13 +107,6 @@ there wanted d offset e = elim (none_or_some (last_shown wanted d)) [
     same : (p q : ℕ) → Some p ≡ Some q → p ≡ q
     same p q h = cc
 
-none_there : (wanted : ℕ → Bool) (d : List ℕ) → offset_among wanted (shown d) ≡ None → last_shown wanted d ≡ None
-none_there wanted d e = elim (none_or_some (last_shown wanted d)) [
-  | inl none ↦ none
-  | inr (x, some) ↦
-      let told : Some x.offset ≡ None = sym (ap (option_map (λ (y : Shown). y.offset)) some) ∙ e in absurd cc
-]
-
 -- of the attribute of an algorithm
 pub kept_there : (algorithm : IntegrityAlgorithm) (d : List ℕ) (offset : ℕ) (kept : Option ℕ) → kept ≡ offset_among (is_checked_type (Some algorithm)) (shown d) → kept ≡ Some offset → IsIntegrityAt (is_checked_type (Some algorithm)) d (type_of_algorithm algorithm) offset
 kept_there algorithm d offset kept e is =

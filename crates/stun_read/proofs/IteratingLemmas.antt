@@ -15,10 +15,6 @@ use Rattle.stun_attrs.specs.declared.raw.RawAttribute.{RawAttribute}
 use Rattle.stun_attrs.specs.Raw.{Finds, raw_type}
 use Rattle.stun_read.specs.Iterating.{shown_behind, item_view, borrowed}
 
--- what is shown of a chain that begins at an offset, after an attribute of type `last`
-ordered : ℕ → ℕ → List Attribute → List Shown
-ordered last offset attributes = placed offset (longest_prefix (λ q. in_order (last ∷ types q)) attributes)
-
 prefix_behind : (last : ℕ) (a : Attribute) (attributes : List Attribute)
     → longest_prefix (λ q. in_order (last ∷ types q)) (a ∷ attributes) ≡ cond (in_order (last ∷ (a.type ∷ []))) (a ∷ longest_prefix (λ q. in_order (last ∷ (a.type ∷ types q))) attributes) []
 prefix_behind last a attributes = longest-cons (λ q. in_order (last ∷ types q)) a attributes (λ q e. in_order_first last a.type (types q) e)

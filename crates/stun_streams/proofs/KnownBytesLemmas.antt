@@ -10,13 +10,6 @@ Consumes-append (Some r) None c xs ys p q = absurd p
 Consumes-append (Some r) (Some s) None xs ys p q = absurd q
 Consumes-append (Some r) (Some s) (Some t) xs ys p q = p ∙ ap (λ (zs : List ℕ). xs ++ zs) q ∙ sym (append_assoc xs ys t)
 
--- a read that failed takes nothing
-pub Consumes-keep : (a b c : Option (List ℕ)) (xs : List ℕ) → Consumes a b xs → Keeps b c → Consumes a c xs
-Consumes-keep None b c xs p q = tt
-Consumes-keep (Some r) None c xs p q = absurd p
-Consumes-keep (Some r) (Some s) None xs p q = absurd q
-Consumes-keep (Some r) (Some s) (Some t) xs p q = p ∙ ap (λ (zs : List ℕ). xs ++ zs) (sym q)
-
 pub Appends-append : (a b c : Option (List ℕ)) (xs ys : List ℕ) → Appends a b xs → Appends b c ys → Appends a c (xs ++ ys)
 Appends-append None b c xs ys p q = tt
 Appends-append (Some r) None c xs ys p q = absurd p

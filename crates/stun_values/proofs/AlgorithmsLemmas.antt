@@ -5,7 +5,7 @@ use Rattle.std.proofs.lemmas.Bool.Decides.{eqb_tells}
 use Rattle.stun_grammar.specs.declared.error.StunParseError.{StunParseError}
 use Rattle.stun_grammar.specs.Numbers.{be16, number, IsBytes}
 use Rattle.stun_grammar.proofs.NumbersLemmas.{IsBytes-from, IsBytes-get, IsBytes-take, IsBytes-drop, be16-number}
-use Rattle.std.proofs.lemmas.List.{length-take, length-drop, drop-drop, take-take, take-append-drop}
+use Rattle.std.proofs.lemmas.List.{length-take, length-drop, drop-drop, take-append-drop}
 use Rattle.std.proofs.lemmas.List.Concat.{flat_map-cons}
 use Rattle.std.specs.Option.{option_or}
 use Rattle.stun_values.specs.declared.algorithm.PasswordAlgorithmValue.{PasswordAlgorithmValue}
@@ -84,11 +84,6 @@ each_none (suc n) (suc i) value more none =
     ap (λ (k : ℕ). algorithm_fault (drop k value)) (sym place) ∙ ap algorithm_fault (sym (drop-drop (4 * i) 4 value)) ∙ each_none n i (drop 4 value) (omega arith) (none_within n value none).1
 
 -- ---- the algorithms that stand in a value
-
--- the algorithm that the first four bytes spell is the one that stands there
-pub at_is : (value : List ℕ) (algorithm : PasswordAlgorithmValue) → algorithm_encoding algorithm ≡ take 4 value → algorithm_at value ≡ algorithm
-at_is value MD5 spells = let kind : take 2 value ≡ be16 1 = sym (take-take 2 4 value (omega arith)) ∙ sym (ap (take 2) spells) in rw kind refl
-at_is value SHA256 spells = let kind : take 2 value ≡ be16 2 = sym (take-take 2 4 value (omega arith)) ∙ sym (ap (take 2) spells) in rw kind refl
 
 at_spells : (value : List ℕ) → 4 ≤ length value → IsBytes value → algorithm_fault value ≡ None → algorithm_encoding (algorithm_at value) ≡ take 4 value
 at_spells value long bytes none = elim (eqb_tells (number (slice_range value 2 4)) 0) [
