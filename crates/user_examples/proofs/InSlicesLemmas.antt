@@ -1,13 +1,16 @@
 -- A message with one attribute, in a slice.
-use Rattle.std.proofs.Common.{◌≡◌, ℕ, ◌+◌, ◌<◌, ◌≤◌, ◌⊎◌, List, [], length, drop, Option, None, Some, Result, Ok, Err, refl, subst, arith, inl, inr}
-use Rattle.std.specs.Prelude.{IsOk, OnOk}
+use Rattle.std.proofs.Common.{◌≡◌, ℕ, ◌+◌, ◌^◌, ◌<◌, ◌≤◌, ◌⊎◌, List, [], length, drop, Option, None, Some, Result, Ok, Err, refl, ap, subst, ◌∙◌, arith, inl, inr}
+use Rattle.std.specs.Prelude.{IsOk, OnOk, OnErr}
 use Rattle.std.proofs.lemmas.Bool.{le-ltb, lt-ltb}
 use Rattle.std.proofs.Math.Seq.{drop-drop}
 use Rattle.stun_grammar.specs.declared.error.StunWriteError.{StunWriteError}
 use Rattle.stun_grammar.specs.declared.error.StunWriteError.TheVariants.{TooSmall}
 use Rattle.stun_grammar.specs.Steps.{add}
 use Rattle.stun_grammar.specs.Attributes.{attribute_length}
-use Rattle.stun_grammar.specs.Adding.{room_refusal, add_refusal, IsAddAnswer}
+use Rattle.stun_grammar.specs.Adding.{appended, room_refusal, add_refusal, IsAddAnswer}
+use Rattle.stun_grammar.proofs.AddingLemmas.{message_more}
+use Rattle.stun_write.specs.Writers.{Writer, IsBegun, IsUnchanged, Gains}
+use Rattle.user_examples.specs.InSlice.{WritesSoftware}
 use Rattle.user_examples.proofs.AddsLemmas.{nothing_before}
 
 fits_in : (most longer : ℕ) → longer ≤ most → longer ≤ 65555 → room_refusal 20 (Some most) longer ≡ None
@@ -39,10 +42,25 @@ first_answer type value types len before after bytes bytes-left kinds kinds-left
     go None (Err e) a = (a.0, few a.1)
     go (Some x) r a = a
 
--- the bytes after the header and the attribute
-pub behind_both : (r : Result (Unit {0}) StunWriteError) (n : ℕ) (all middle after : List ℕ) → middle ≡ drop 20 all → OnOk r (after ≡ drop n middle) → OnOk r (after ≡ drop (20 + n) all)
-behind_both (Ok u) n all middle after m a = rw (a, m) (drop-drop n 20 all)
-behind_both (Err e) n all middle after m a = a
+-- the header is written, and then the attribute or nothing
+pub writes_software : (r : Result (Unit {0}) StunWriteError) (old mid new : Writer) (id : ℕ) (text : List ℕ) → IsBegun old mid 0x0001 id → length text < 2 ^ 16
+    → OnOk r (Gains mid new 0x8022 text) → OnErr r (IsUnchanged mid new) → new.place ≡ mid.place → WritesSoftware r old new id text
+writes_software (Ok u) old mid new id text begun short gains same place = record {
+  encoding = gains.bytes ∙ ap (λ (b : List ℕ). appended b 0x8022 text) begun.bytes ∙ message_more 0x0001 id [] 0x8022 text (omega arith) short;
+  size = gains.size ∙ ap (λ (n : ℕ). n + attribute_length (length text)) begun.size;
+  rest = rw (gains.rest, begun.rest) (drop-drop (attribute_length (length text)) 20 old.rest);
+  header_alone = tt;
+  rest_err = tt;
+  place = place ∙ begun.spends.place;
+}
+writes_software (Err e) old mid new id text begun short gains same place = record {
+  encoding = tt;
+  size = tt;
+  rest = tt;
+  header_alone = same.bytes ∙ begun.bytes;
+  rest_err = same.rest ∙ begun.rest;
+  place = place ∙ begun.spends.place;
+}
 
 -- where the attribute fits, it is written
 pub surely_written : (most n kinds : ℕ) (r : Result (Unit {0}) StunWriteError) → n ≤ 763 → 20 + attribute_length n ≤ most → 1 ≤ kinds

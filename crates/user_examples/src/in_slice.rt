@@ -5,16 +5,14 @@ ghost use Rattle.stun_grammar.specs.Attributes.{canonical, attribute_length};
 ghost use Rattle.stun_grammar.specs.Writing.{message_encoding};
 ghost use Rattle.stun_grammar.specs.Steps.{add};
 ghost use Rattle.stun_attributes.specs.Texts.{text_bytes};
-ghost use Rattle.stun_grammar.specs.Adding.{Fits, appended, grown_length, room_refusal, add_refusal, IsAddAnswer};
-ghost use Rattle.stun_write.specs.Writers.{Allocates};
+ghost use Rattle.stun_grammar.specs.Adding.{Fits, room_refusal, add_refusal, IsAddAnswer};
+ghost use Rattle.stun_write.specs.Writers.{IsUnchanged, Gains, Allocates};
 ghost use Rattle.user_examples.specs.InSlice.{WritesSoftware};
-ghost use Rattle.stun_values.specs.TextValues.{text_max};
 
 use std::alloc::Global;
 use stun_base::binding_request;
 use stun_types::attribute::Software;
 use stun_types::message::{Message, MessageWriteMutSlice, StunWriteError, TransactionId};
-use stun_types::message_grows;
 use stun_types::prelude::*;
 
 /// Adds a SOFTWARE.
@@ -24,17 +22,10 @@ fn add_software<B: MessageWrite>(software: &Software, message: &mut B) -> Result
         (B.state message.old).types (length (B.state message.old).bytes)
         (B.state message.old).greatest)
         (Allocates (B.state message.old) (length (text_bytes software.now))) result }
-    // what is appended after Ok
-    ensures bytes { OnOk result ((B.state message.new).bytes
-        ≡ appended (B.state message.old).bytes 0x8022 (text_bytes software.now)) }
-    ensures length { OnOk result (length (B.state message.new).bytes
-        ≡ grown_length (length (B.state message.old).bytes) (length (text_bytes software.now))) }
-    ensures rest { OnOk result ((B.state message.new).rest
-        ≡ drop (attribute_length (length (text_bytes software.now))) (B.state message.old).rest) }
-    // what stays
-    ensures same { OnErr result ((B.state message.new).bytes ≡ (B.state message.old).bytes) }
-    ensures same_rest { OnErr result ((B.state message.new).rest ≡ (B.state message.old).rest) }
-    ensures slice_name { (B.state message.new).slice_name ≡ (B.state message.old).slice_name }
+    ensures ok { OnOk result (Gains (B.state message.old) (B.state message.new) 0x8022
+        (text_bytes software.now)) }
+    ensures same { OnErr result (IsUnchanged (B.state message.old) (B.state message.new)) }
+    ensures place { (B.state message.new).place ≡ (B.state message.old).place }
 {
     message.add_attribute(software)
 }
@@ -61,8 +52,6 @@ fn write_software<B: MessageWrite>(
         (text_bytes software.now) }
     ensures short { length (text_bytes software.now) ≤ text_max }
 {
-    // the law by which an encoding with one more attribute appended is an encoding
-    message_grows();
     Message::builder_into(binding_request(), id, message)?;
     add_software(software, message)
 }

@@ -1,6 +1,7 @@
-use Rattle.std.proofs.Common.{length, arith, rules}
+use Rattle.std.proofs.Common.{ℕ, ◌≤◌, length, subst, arith, rules}
 use Rattle.stun_attributes.specs.Texts.{text_bytes}
-use Rattle.user_examples.proofs.InSlicesLemmas.{first_answer, behind_both}
+use Rattle.stun_write.specs.Writers.{IsBegun}
+use Rattle.user_examples.proofs.InSlicesLemmas.{first_answer, writes_software}
 use Rattle.user_examples.proofs.in_slice.write_software.Goals as goal
 
 pub returns-clause-answer : goal.returns-clause-answer
@@ -13,11 +14,9 @@ returns-clause-answer g c =
 pub returns-clause-writes : goal.returns-clause-writes
 returns-clause-writes g c =
     let state = g.B.MessageWrite.state in
-    record {
-      encoding = search rules;
-      size = search rules;
-      rest = behind_both c.add_software.result _ (state c.args.message.now).rest (state c.builder_into.new.write).rest (state c.add_software.new.message).rest c.in_ok-builder_into.ensures.ok.rest c.add_software.ensures.rest;
-      header_alone = search rules;
-      rest_err = search rules;
-      slice_name = search rules;
-    }
+    let added = c.add_software.ensures in
+    let short : length (text_bytes c.args.software.now) ≤ 763 = search rules in
+    let begun : IsBegun (state c.args.message.now) (state c.builder_into.new.write) 0x0001 c.args.id =
+    subst (λ (type : ℕ). IsBegun (state c.args.message.now) (state c.builder_into.new.write) type c.args.id) (search rules) c.in_ok-builder_into.ensures.ok in
+    writes_software c.add_software.result (state c.args.message.now) (state c.builder_into.new.write) (state c.add_software.new.message) c.args.id (text_bytes c.args.software.now)
+    begun (omega (arith, short)) added.ok added.same added.place
