@@ -44,14 +44,14 @@ first_answer type value types len before after bytes bytes-left kinds kinds-left
 
 -- the header is written, and then the attribute or nothing
 pub writes_software : (r : Result (Unit {0}) StunWriteError) (old mid new : Writer) (id : ℕ) (text : List ℕ) → IsBegun old mid 0x0001 id → length text < 2 ^ 16
-    → OnOk r (Gains mid new 0x8022 text) → OnErr r (IsUnchanged mid new) → new.place ≡ mid.place → WritesSoftware r old new id text
+    → OnOk r (Gains mid new 0x8022 text) → OnErr r (IsUnchanged mid new) → new.slice_name ≡ mid.slice_name → WritesSoftware r old new id text
 writes_software (Ok u) old mid new id text begun short gains same place = record {
   encoding = gains.bytes ∙ ap (λ (b : List ℕ). appended b 0x8022 text) begun.bytes ∙ message_more 0x0001 id [] 0x8022 text (omega arith) short;
   size = gains.size ∙ ap (λ (n : ℕ). n + attribute_length (length text)) begun.size;
   rest = rw (gains.rest, begun.rest) (drop-drop (attribute_length (length text)) 20 old.rest);
   header_alone = tt;
   rest_err = tt;
-  place = place ∙ begun.spends.place;
+  slice_name = place ∙ begun.spends.slice_name;
 }
 writes_software (Err e) old mid new id text begun short gains same place = record {
   encoding = tt;
@@ -59,7 +59,7 @@ writes_software (Err e) old mid new id text begun short gains same place = recor
   rest = tt;
   header_alone = same.bytes ∙ begun.bytes;
   rest_err = same.rest ∙ begun.rest;
-  place = place ∙ begun.spends.place;
+  slice_name = place ∙ begun.spends.slice_name;
 }
 
 -- where the attribute fits, it is written

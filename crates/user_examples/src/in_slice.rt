@@ -25,7 +25,7 @@ fn add_software<B: MessageWrite>(software: &Software, message: &mut B) -> Result
     ensures ok { OnOk result (Gains (B.state message.old) (B.state message.new) 0x8022
         (text_bytes software.now)) }
     ensures same { OnErr result (IsUnchanged (B.state message.old) (B.state message.new)) }
-    ensures place { (B.state message.new).place ≡ (B.state message.old).place }
+    ensures slice_name { (B.state message.new).slice_name ≡ (B.state message.old).slice_name }
 {
     message.add_attribute(software)
 }

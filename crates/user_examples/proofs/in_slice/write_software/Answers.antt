@@ -19,4 +19,4 @@ returns-clause-writes g c =
     let begun : IsBegun (state c.args.message.now) (state c.builder_into.new.write) 0x0001 c.args.id =
     subst (λ (type : ℕ). IsBegun (state c.args.message.now) (state c.builder_into.new.write) type c.args.id) (search rules) c.in_ok-builder_into.ensures.ok in
     writes_software c.add_software.result (state c.args.message.now) (state c.builder_into.new.write) (state c.add_software.new.message) c.args.id (text_bytes c.args.software.now)
-    begun (omega (arith, short)) added.ok added.same added.place
+    begun (omega (arith, short)) added.ok added.same added.slice_name
