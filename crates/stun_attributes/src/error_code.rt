@@ -1,5 +1,6 @@
 ghost use Rattle.std.specs.Prelude.{◌≡◌, ◌≤◌, length};
 ghost use Rattle.std.specs.String.{string_bytes};
+ghost use Rattle.stun_values.specs.TextValues.{text_max};
 
 use crate::error_value::{check_making, write_error};
 use std::alloc::Global;
@@ -20,7 +21,7 @@ pub struct ErrorCode {
     reason: String,
     ghost least: { 300 ≤ code },
     ghost most: { code ≤ 699 },
-    ghost short: { length (string_bytes reason) ≤ 763 },
+    ghost short: { length (string_bytes reason) ≤ text_max },
 }
 
 /// The code and the reason that an [`ErrorCode`] is to be made of.
@@ -157,7 +158,7 @@ impl ErrorCode {
     /// The reason.
     pub fn reason(&self) -> &str
         ensures reason { result.now ≡ error_reason self.now }
-        ensures short { length result.now ≤ 763 }
+        ensures short { length result.now ≤ text_max }
     {
         self.reason.as_str()
     }

@@ -10,6 +10,7 @@ ghost use Rattle.stun_grammar.specs.declared.error.StunParseError.TheVariants.{O
 ghost use Rattle.stun_values.specs.Addresses.{address_value, IsInRange, IsPlain, IsXored};
 ghost use Rattle.stun_values.specs.Algorithms.{algorithm_encoding, algorithms_encoding};
 ghost use Rattle.stun_values.specs.ErrorValues.{error_value};
+ghost use Rattle.stun_values.specs.TextValues.{text_max, username_max};
 ghost use Rattle.stun_values.specs.TypeLists.{types_encoding, AreTypes};
 ghost use Rattle.stun_attributes.specs.declared.alternate_server.AlternateServer.{AlternateServer};
 ghost use Rattle.stun_attributes.specs.declared.error_code.ErrorCode.{ErrorCode};
@@ -38,10 +39,10 @@ pub fn text_is_read_back<const TYPE: u16, const MAX: u16>()
 /// Each of the five names is read by the rule of its own type (RFC 8489, section 18.3) and its own
 /// greatest length.
 pub fn text_types()
-    ensures username { IsReadAsText USERNAME 513 ⟦<Username as AttributeFromRaw<'static>>⟧.reads }
-    ensures realm { IsReadAsText REALM 763 ⟦<Realm as AttributeFromRaw<'static>>⟧.reads }
-    ensures nonce { IsReadAsText NONCE 763 ⟦<Nonce as AttributeFromRaw<'static>>⟧.reads }
-    ensures software { IsReadAsText SOFTWARE 763 ⟦<Software as AttributeFromRaw<'static>>⟧.reads }
+    ensures username { IsReadAsText USERNAME username_max ⟦<Username as AttributeFromRaw<'static>>⟧.reads }
+    ensures realm { IsReadAsText REALM text_max ⟦<Realm as AttributeFromRaw<'static>>⟧.reads }
+    ensures nonce { IsReadAsText NONCE text_max ⟦<Nonce as AttributeFromRaw<'static>>⟧.reads }
+    ensures software { IsReadAsText SOFTWARE text_max ⟦<Software as AttributeFromRaw<'static>>⟧.reads }
     ensures alternate_domain { IsReadAsText ALTERNATE_DOMAIN 65535
         ⟦<AlternateDomain as AttributeFromRaw<'static>>⟧.reads }
 {}
