@@ -7,7 +7,7 @@ use Rattle.std.proofs.lemmas.List.{length-append, map-append, append-nil, drop-d
 use Rattle.stun_grammar.specs.declared.error.StunWriteError.{StunWriteError}
 use Rattle.stun_grammar.specs.declared.error.StunWriteError.TheVariants.{TooLarge, OutOfMemory}
 use Rattle.stun_grammar.specs.declared.attribute_type.AttributeType.{AttributeType}
-use Rattle.stun_grammar.specs.AttributeTypes.{SOFTWARE, ERROR_CODE, UNKNOWN_ATTRIBUTES, IsOrdinary}
+use Rattle.stun_grammar.specs.AttributeTypes.{UNKNOWN_ATTRIBUTES, IsOrdinary}
 use Rattle.stun_grammar.specs.Attributes.{Attribute, canonical, encodings, types, attribute_length}
 use Rattle.stun_grammar.specs.Headers.{is_header, type_field, id_field}
 use Rattle.stun_grammar.specs.Chains.{placed}
@@ -30,7 +30,7 @@ use Rattle.stun_values.specs.ErrorCodes.{error_code, error_reason, IsError, Make
 use Rattle.stun_rules.specs.TypeLists.{type_encoding, types_encoding}
 use Rattle.std.specs.Prelude.{codes}
 use Rattle.stun_write.specs.Writers.{Writer, IsBegun, IsUnchanged, Spends, Gains, Adds}
-use Rattle.stun_types.specs.Replies.{Answers, response_type, own_software, error_attribute, unknown_listed, unknown_reply, making_refusal, refusal, first_refusal, accepted, IsReply, IsPartOfReply, Replies, attribute_of, AddsMade}
+use Rattle.stun_types.specs.Replies.{Answers, response_type, own_software, error_attribute, unknown_reply, making_refusal, refusal, first_refusal, accepted, IsReply, IsPartOfReply, Replies, attribute_of, AddsMade}
 use Rattle.stun_types.specs.declared.message.reply.ReplyPart.{ReplyPart}
 use Rattle.stun_types.specs.declared.message.reply.ReplyPart.TheVariants.{Software, Error, Types}
 
@@ -356,7 +356,7 @@ module _ (parts : List ReplyPart) where
       let part = get_or parts i d in
       let one = attribute_of part in
       let on : Accepts old new r (before i) one = subst (Accepts old new r (before i)) (sym (part_canonical part))
-          (accepts old mid new r (before i) one.type one.value made (part_type part) (part_ordinary part) so_far.holds (subst (AddsMade made mid new) (part_canonical part) adds) ok) in
+      (accepts old mid new r (before i) one.type one.value made (part_type part) (part_ordinary part) so_far.holds (subst (AddsMade made mid new) (part_canonical part) adds) ok) in
       let front : before (i + 1) ≡ before i ++ one ∷ [] =
       ap (map attribute_of) (take_more parts i d within) ∙ map-append attribute_of (take i parts) (part ∷ []) in
       let left : behind i ≡ one ∷ behind (i + 1) = ap (map attribute_of) (drop_more parts i d within) in
