@@ -7,7 +7,7 @@ use Rattle.std.proofs.lemmas.List.{length-append, map-append, append-nil, drop-d
 use Rattle.stun_grammar.specs.declared.error.StunWriteError.{StunWriteError}
 use Rattle.stun_grammar.specs.declared.error.StunWriteError.TheVariants.{TooLarge, OutOfMemory}
 use Rattle.stun_grammar.specs.declared.attribute_type.AttributeType.{AttributeType}
-use Rattle.stun_grammar.specs.AttributeTypes.{SOFTWARE, ERROR_CODE, UNKNOWN_ATTRIBUTES, IsOrdinary}
+use Rattle.stun_grammar.specs.AttributeTypes.{UNKNOWN_ATTRIBUTES, IsOrdinary}
 use Rattle.stun_grammar.specs.Attributes.{Attribute, canonical, encodings, types, attribute_length}
 use Rattle.stun_grammar.specs.Headers.{is_header, type_field, id_field}
 use Rattle.stun_grammar.specs.Chains.{placed}
@@ -30,7 +30,7 @@ use Rattle.stun_attributes.specs.ErrorCodes.{error_code, error_reason, IsError, 
 use Rattle.stun_values.specs.TypeLists.{type_encoding, types_encoding}
 use Rattle.std.specs.Prelude.{codes}
 use Rattle.stun_write.specs.Writers.{Writer, IsBegun, IsUnchanged, Spends, Gains, Adds}
-use Rattle.stun_types.specs.Replies.{Answers, response_type, own_software, error_attribute, unknown_listed, unknown_reply, making_refusal, refusal, first_refusal, accepted, IsReply, IsPartOfReply, Replies, attribute_of, AddsMade}
+use Rattle.stun_types.specs.Replies.{Answers, response_type, own_software, error_attribute, unknown_reply, making_refusal, refusal, first_refusal, accepted, IsReply, IsPartOfReply, Replies, attribute_of, AddsMade}
 use Rattle.stun_types.specs.declared.message.reply.ReplyPart.{ReplyPart}
 use Rattle.stun_types.specs.declared.message.reply.ReplyPart.TheVariants.{Software, Error, Types}
 

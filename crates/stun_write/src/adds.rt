@@ -1,13 +1,13 @@
 //! Adding attributes to a message that is being written, and reading its header.
 
-ghost use Rattle.std.specs.Prelude.{◌≡◌, ◌↔◌, true, IsTrue, None, ◌+◌, ◌^◌, ◌<◌, ◌≤◌, IsOk, IfErr, OnOk, length};
+ghost use Rattle.std.specs.Prelude.{◌≡◌, ◌↔◌, true, IsTrue, None, ◌+◌, ◌^◌, ◌<◌, length};
 ghost use Rattle.stun_grammar.specs.Headers.{is_header, type_field, id_field};
 ghost use Rattle.stun_grammar.specs.AttributeTypes.{FINGERPRINT, IsOrdinary};
 ghost use Rattle.stun_grammar.specs.Hmac.{digest_length};
 ghost use Rattle.stun_grammar.specs.Verdicts.{type_of_algorithm};
 ghost use Rattle.stun_grammar.specs.Fingerprints.{fingerprint_value};
 ghost use Rattle.stun_grammar.specs.Steps.{add, sign, finger, integrity_value};
-ghost use Rattle.stun_grammar.specs.Adding.{grown_length, add_refusal, IsAddAnswer};
+ghost use Rattle.stun_grammar.specs.Adding.{add_refusal, IsAddAnswer};
 ghost use Rattle.stun_keys.specs.Keys.{key_bytes, credentials_key};
 ghost use Rattle.stun_base.specs.MessageTypes.{class_of, method_of, is_response as responds};
 ghost use Rattle.stun_write.specs.Writers.{Allocates, Adds};

@@ -3,9 +3,8 @@
 
 ghost use Rattle.std.specs.Prelude.{None, length};
 ghost use Rattle.stun_grammar.specs.Hmac.{hmac, digest_length};
-ghost use Rattle.stun_grammar.specs.Verdicts.{covered_bytes, type_of_algorithm};
+ghost use Rattle.stun_grammar.specs.Verdicts.{type_of_algorithm};
 ghost use Rattle.stun_grammar.specs.Fingerprints.{fingerprint_value};
-ghost use Rattle.stun_grammar.specs.Writing.{greatest_length};
 ghost use Rattle.stun_grammar.specs.Adding.{IsAddAnswer};
 ghost use Rattle.stun_keys.specs.Keys.{key_bytes};
 ghost use Rattle.stun_grammar.specs.AttributeTypes.{FINGERPRINT as FINGERPRINT_TYPE};

@@ -1,4 +1,3 @@
-use Rattle.std.proofs.Common.{◌≡◌}
 use Rattle.stun_types.specs.Message.{message_bytes}
 use Rattle.stun_types.proofs.RepliesLemmas.{RepliesSoFar}
 use Rattle.stun_types.proofs.message.reply.write_reply.Given as goal
