@@ -18,39 +18,9 @@ use stun_grammar::attribute_types::{FINGERPRINT, MESSAGE_INTEGRITY, MESSAGE_INTE
 use stun_integrity::{fingerprint_at, hmac_sha1_at, hmac_sha256_at};
 use stun_keys::keys::IntegrityKey;
 
-/// Appends a MESSAGE-INTEGRITY: the 20 bytes of the HMAC-SHA1 of the message so far.
+/// Appends the integrity attribute of an algorithm: the HMAC of the message so far, 20 bytes in a
+/// MESSAGE-INTEGRITY and 32 in a MESSAGE-INTEGRITY-SHA256.
 #[tactic(auto, using(stun_grammar::proofs::AddingLemmas::appended_length, crate::proofs::KeptHeadersLemmas::pushed))]
-pub(crate) fn push_sha1<W: MessageWrite>(
-    write: &mut W,
-    key: &IntegrityKey,
-) -> Result<(), StunWriteError>
-    requires { HasRoomFor (W.state write.old) 20 }
-    ensures answer { IsAddAnswer None (Allocates (W.state write.old) 20) result }
-    ensures adds { Adds result (W.state write.old) (W.state write.new) 0x0008
-        (integrity_value (W.state write.old).bytes (key_bytes key.now) IntegrityAlgorithm.Sha1) }
-{
-    let bytes = write.data();
-    let hmac = hmac_sha1_at(key, bytes, bytes.len(), 20);
-    write.push_value_unchecked(AttributeType(MESSAGE_INTEGRITY), &hmac)
-}
-
-/// Appends a MESSAGE-INTEGRITY-SHA256: the 32 bytes of the HMAC-SHA256 of the message so far.
-#[tactic(auto, using(stun_grammar::proofs::AddingLemmas::appended_length, crate::proofs::KeptHeadersLemmas::pushed))]
-pub(crate) fn push_sha256<W: MessageWrite>(
-    write: &mut W,
-    key: &IntegrityKey,
-) -> Result<(), StunWriteError>
-    requires { HasRoomFor (W.state write.old) 32 }
-    ensures answer { IsAddAnswer None (Allocates (W.state write.old) 32) result }
-    ensures adds { Adds result (W.state write.old) (W.state write.new) 0x001C
-        (integrity_value (W.state write.old).bytes (key_bytes key.now) IntegrityAlgorithm.Sha256) }
-{
-    let bytes = write.data();
-    let hmac = hmac_sha256_at(key, bytes, bytes.len(), 32);
-    write.push_value_unchecked(AttributeType(MESSAGE_INTEGRITY_SHA256), &hmac)
-}
-
-/// Appends the integrity attribute of an algorithm.
 pub(crate) fn push_integrity<W: MessageWrite>(
     write: &mut W,
     key: &IntegrityKey,
@@ -63,8 +33,16 @@ pub(crate) fn push_integrity<W: MessageWrite>(
         (integrity_value (W.state write.old).bytes (key_bytes key.now) algorithm) }
 {
     match algorithm {
-        IntegrityAlgorithm::Sha1 => push_sha1(write, key),
-        IntegrityAlgorithm::Sha256 => push_sha256(write, key),
+        IntegrityAlgorithm::Sha1 => {
+            let bytes = write.data();
+            let hmac = hmac_sha1_at(key, bytes, bytes.len(), 20);
+            write.push_value_unchecked(AttributeType(MESSAGE_INTEGRITY), &hmac)
+        }
+        IntegrityAlgorithm::Sha256 => {
+            let bytes = write.data();
+            let hmac = hmac_sha256_at(key, bytes, bytes.len(), 32);
+            write.push_value_unchecked(AttributeType(MESSAGE_INTEGRITY_SHA256), &hmac)
+        }
     }
 }
 

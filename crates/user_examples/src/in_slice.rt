@@ -4,6 +4,7 @@ ghost use Rattle.std.specs.Prelude.{◌≡◌, ◌+◌, ◌<◌, ◌≤◌, ◌�
 ghost use Rattle.stun_grammar.specs.Attributes.{canonical, attribute_length};
 ghost use Rattle.stun_grammar.specs.Writing.{message_encoding};
 ghost use Rattle.stun_grammar.specs.Steps.{add};
+ghost use Rattle.stun_values.specs.TextValues.{text_max};
 ghost use Rattle.stun_attributes.specs.Texts.{text_bytes};
 ghost use Rattle.stun_grammar.specs.Adding.{Fits, room_refusal, add_refusal, IsAddAnswer};
 ghost use Rattle.stun_write.specs.Writers.{IsUnchanged, Gains, Allocates};
