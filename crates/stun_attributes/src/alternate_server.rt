@@ -6,7 +6,7 @@ use std::alloc::Global;
 use std::fmt;
 use std::net::SocketAddr;
 use stun_attrs::{Attribute, EncodeValue, ReadValue, TypedAttribute};
-use stun_base::{AttributeType, StunParseError, StunWriteError};
+use stun_base::StunParseError;
 use stun_grammar::attribute_types;
 use stun_values::print_address;
 
@@ -18,10 +18,6 @@ pub struct AlternateServer {
 }
 
 impl AlternateServer {
-    ghost use Rattle.stun_grammar.specs.AttributeTypes.{ALTERNATE_SERVER};
-    ghost use Rattle.stun_attrs.specs.Raw.{raw_type, raw_value};
-    ghost use Rattle.stun_attributes.specs.AddressAttributes.{ReadsAddress};
-
     /// The attribute of this address. Flow info and scope ID of an IPv6 address are kept, but not
     /// written.
     pub fn new(addr: SocketAddr) -> Self

@@ -2,11 +2,11 @@ ghost use Rattle.std.specs.Prelude.{◌≡◌, ◌≤◌, length};
 ghost use Rattle.std.specs.String.{string_bytes};
 ghost use Rattle.stun_values.specs.TextValues.{text_max};
 
-use crate::error_value::{check_making, write_error};
+use crate::error_value::check_making;
 use std::alloc::Global;
 use std::fmt;
-use stun_attrs::{EncodeValue, ReadValue, TypedAttribute};
-use stun_base::{AttributeType, StunParseError, StunWriteError};
+use stun_attrs::{EncodeValue, ReadValue, TypedAttribute, copy_to_start};
+use stun_base::{StunParseError, StunWriteError};
 use stun_grammar::attribute_types;
 use stun_values::{print_error, read_error};
 
@@ -66,9 +66,8 @@ impl<'reason> ErrorCodeBuilder<'reason> {
 
 impl ErrorCode {
     ghost use Rattle.std.specs.Prelude.{IfOk, IfErr};
-    ghost use Rattle.stun_attrs.specs.Raw.{raw_type, raw_value};
     ghost use Rattle.stun_attributes.specs.MakingErrors.{default_reason};
-    ghost use Rattle.stun_attributes.specs.ErrorCodes.{error_code, error_reason, builder_code, builder_reason, IsError, MakesError, ReadsError};
+    ghost use Rattle.stun_attributes.specs.ErrorCodes.{error_code, error_reason, builder_code, builder_reason, IsError, MakesError};
 
     /// The client is to try another server.
     pub const TRY_ALTERNATE: u16 = 300;
@@ -209,7 +208,11 @@ impl EncodeValue for ErrorCode {
     }
 
     fn write_value(&self, dest: &mut [u8]) {
-        write_error(self.code(), self.reason(), dest);
+        dest[0] = 0;
+        dest[1] = 0;
+        dest[2] = (self.code() / 100) as u8;
+        dest[3] = (self.code() % 100) as u8;
+        copy_to_start(self.reason().as_bytes(), &mut dest[4..]);
     }
 
     fn held_bytes(&self) -> Option<&[u8]> {

@@ -1,26 +1,11 @@
-//! A code and a reason as the bytes of a value, made and written (RFC 8489, section 14.8).
+//! Which codes and reasons an attribute may be made of (RFC 8489, section 14.8).
 
-ghost use Rattle.std.specs.Prelude.{◌≡◌, ◌+◌, ◌≤◌, ◌<◌, ◌++◌, Some, None, MatchResult, length, drop};
+ghost use Rattle.std.specs.Prelude.{◌≡◌, ◌≤◌, Some, None, MatchResult, length};
 ghost use Rattle.stun_values.specs.TextValues.{text_max};
-ghost use Rattle.stun_values.specs.ErrorValues.{error_value};
 ghost use Rattle.stun_attributes.specs.MakingErrors.{making_fault};
 
-use stun_attrs::copy_to_start;
 use stun_base::StunWriteError;
 use stun_values::TEXT_MAX;
-
-/// Writes the value of a code and a reason at the start of `dest`, which has room for it.
-pub(crate) fn write_error(code: u16, reason: &str, dest: &mut [u8])
-    requires code { code < 700 }
-    requires room { 4 + length reason.now ≤ length dest.old }
-    ensures { dest.new ≡ error_value code reason.now ++ drop (4 + length reason.now) dest.old }
-{
-    dest[0] = 0;
-    dest[1] = 0;
-    dest[2] = (code / 100) as u8;
-    dest[3] = (code % 100) as u8;
-    copy_to_start(reason.as_bytes(), &mut dest[4..]);
-}
 
 /// The rule for making: the code is one of 300 to 699, and the reason has at most 763 bytes. It
 /// reports the first violation, in this order.

@@ -4,7 +4,7 @@ ghost use Rattle.stun_attributes.specs.Passwords.{held_algorithm};
 use std::alloc::Global;
 use std::fmt;
 use stun_attrs::{EncodeValue, ReadValue, TypedAttribute};
-use stun_base::{AttributeType, StunParseError, StunWriteError};
+use stun_base::StunParseError;
 use stun_grammar::attribute_types;
 use stun_values::{PasswordAlgorithmValue, print_algorithm, read_one, write_algorithm};
 
@@ -18,9 +18,6 @@ pub struct PasswordAlgorithm {
 }
 
 impl PasswordAlgorithm {
-    ghost use Rattle.stun_attrs.specs.Raw.{raw_type, raw_value};
-    ghost use Rattle.stun_attributes.specs.Passwords.{ReadsAlgorithm};
-
     /// The attribute of this algorithm.
     pub fn new(algorithm: PasswordAlgorithmValue) -> Self
         ensures { held_algorithm result ≡ algorithm }

@@ -4,7 +4,7 @@ ghost use Rattle.stun_values.specs.Algorithms.{algorithms_encoding, fault_within
 use std::alloc::Global;
 use std::fmt;
 use stun_attrs::{EncodeValue, ReadValue, TypedAttribute};
-use stun_base::{AttributeType, StunParseError, StunWriteError};
+use stun_base::{StunParseError, StunWriteError};
 use stun_grammar::attribute_types;
 use stun_values::{
     PasswordAlgorithmValue, check_algorithms, print_algorithms, read_algorithm, write_algorithms,
@@ -22,8 +22,7 @@ pub struct PasswordAlgorithms {
 
 impl PasswordAlgorithms {
     ghost use Rattle.std.specs.Prelude.{◌<◌, ◌*◌, ◌%◌, Err, IfOk, IfErr, MatchResult};
-    ghost use Rattle.stun_attrs.specs.Raw.{raw_type, raw_value};
-    ghost use Rattle.stun_attributes.specs.Passwords.{ReadsAlgorithms, held_algorithms};
+    ghost use Rattle.stun_attributes.specs.Passwords.{held_algorithms};
 
     /// The attribute of these algorithms, copied into memory from `alloc`. An empty list is
     /// accepted, though reading refuses its value.

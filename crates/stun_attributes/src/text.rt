@@ -4,7 +4,7 @@ ghost use Rattle.std.specs.String.{string_bytes};
 use std::alloc::Global;
 use std::fmt;
 use stun_attrs::{Attribute, EncodeValue, ReadValue, TypedAttribute, copy_to_start};
-use stun_base::{AttributeType, StunParseError, StunWriteError};
+use stun_base::{StunParseError, StunWriteError};
 use stun_grammar::attribute_types;
 use stun_values::{print_plain, print_quoted, read_text};
 
@@ -23,9 +23,8 @@ pub struct TextAttribute<const TYPE: u16, const MAX: u16> {
 }
 
 impl<const TYPE: u16, const MAX: u16> TextAttribute<TYPE, MAX> {
-    ghost use Rattle.std.specs.Prelude.{◌≡◌, ◌≤◌, ◌<◌, Err, IfOk, IfErr, MatchOption, MatchResult, length};
-    ghost use Rattle.stun_attrs.specs.Raw.{raw_type, raw_value};
-    ghost use Rattle.stun_attributes.specs.Texts.{text_bytes, ReadsText};
+    ghost use Rattle.std.specs.Prelude.{◌≡◌, ◌≤◌, ◌<◌, Err, IfOk, IfErr, length};
+    ghost use Rattle.stun_attributes.specs.Texts.{text_bytes};
 
     /// The attribute of this text, which is copied into memory from `alloc`.
     ///

@@ -30,8 +30,7 @@ pub struct UnknownAttributes {
 
 impl UnknownAttributes {
     ghost use Rattle.std.specs.Prelude.{◌<◌, ◌↔◌, [], ◌∷◌, ◌%◌, Err, Ok, IfOk, IfErr, OnOk, OnErr, IsTrue, Contains, MatchResult};
-    ghost use Rattle.stun_attrs.specs.Raw.{raw_type, raw_value};
-    ghost use Rattle.stun_attributes.specs.Unknown.{ReadsTypes, listed};
+    ghost use Rattle.stun_attributes.specs.Unknown.{listed};
 
     /// The attribute of these types, in order and with repeats, copied into memory from `alloc`.
     ///

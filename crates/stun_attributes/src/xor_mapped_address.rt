@@ -5,7 +5,7 @@ use std::alloc::{AllocError, Global};
 use std::fmt;
 use std::net::SocketAddr;
 use stun_attrs::{Attribute, EncodeValue, ReadValue, TypedAttribute};
-use stun_base::{AttributeType, StunParseError, StunWriteError, TransactionId};
+use stun_base::{StunParseError, TransactionId};
 use stun_grammar::attribute_types;
 use stun_values::print_xored;
 
@@ -18,11 +18,8 @@ pub struct XorMappedAddress {
 }
 
 impl XorMappedAddress {
-    ghost use Rattle.stun_grammar.specs.AttributeTypes.{XOR_MAPPED_ADDRESS};
-    ghost use Rattle.std.specs.Prelude.{◌≡◌};
-    ghost use Rattle.stun_attrs.specs.Raw.{raw_type, raw_value};
     ghost use Rattle.stun_values.specs.Addresses.{IsXored};
-    ghost use Rattle.stun_attributes.specs.AddressAttributes.{ReadsAddress, written_mapped_addr};
+    ghost use Rattle.stun_attributes.specs.AddressAttributes.{written_mapped_addr};
 
     /// The attribute of this address in a message with this transaction ID. Flow info and scope ID
     /// of an IPv6 address are dropped.
@@ -40,14 +37,6 @@ impl XorMappedAddress {
     {
         self.addr.addr(transaction)
     }
-
-    /// The address as it is written, after the XOR.
-    pub(crate) fn written(&self) -> SocketAddr
-        ensures address { result ≡ written_mapped_addr self.now }
-        ensures plain { IsPlain result }
-    {
-        self.addr.addr.addr()
-    }
 }
 
 /// The same address. No memory is allocated.
@@ -60,7 +49,7 @@ impl Clone for XorMappedAddress {
     ghost is_infallible = { λ _. ⊤ };
 
     fn clone(&self) -> Result<Self, AllocError> {
-        let addr = MappedSocketAddr::new(self.written());
+        let addr = MappedSocketAddr::new(self.addr.addr.addr());
         Ok(XorMappedAddress {
             addr: XorSocketAddr { addr },
         })
@@ -124,6 +113,6 @@ impl fmt::Display for XorMappedAddress {
         Some (plain_text XOR_MAPPED_ADDRESS (xored_text (written_mapped_addr mapped))) };
 
     fn fmt<W: fmt::Write>(&self, f: &mut fmt::Formatter<W>) -> fmt::Result {
-        print_xored(f, self.get_type(), self.written())
+        print_xored(f, self.get_type(), self.addr.addr.addr())
     }
 }

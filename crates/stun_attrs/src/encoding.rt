@@ -1,6 +1,6 @@
 //! The encoding of an attribute: header, value and padding, written from a type and a value.
 
-ghost use Rattle.std.specs.Prelude.{◌≡◌, ℕ, Bool, List, ◌+◌, ◌-◌, ◌≤◌, ◌++◌, true, false, IfOk, IfErr, MatchOption, length, take, drop, replicate};
+ghost use Rattle.std.specs.Prelude.{◌≡◌, ℕ, Bool, List, ◌+◌, ◌-◌, ◌≤◌, ◌++◌, true, false, IfOk, IfErr, MatchOption, length, drop, replicate};
 ghost use Rattle.stun_grammar.specs.Numbers.{padded_length};
 ghost use Rattle.stun_grammar.specs.Attributes.{attribute_encoding, attribute_length};
 ghost use Rattle.stun_base.specs.Data.{is_borrowed};

@@ -1,6 +1,6 @@
 //! Attributes of one type, whose value is encoded and read by one rule.
 
-ghost use Rattle.std.specs.Prelude.{◌≡◌, ◌≤◌, ℕ, List, Result, length};
+ghost use Rattle.std.specs.Prelude.{◌≤◌, ℕ, List, Result, length};
 ghost use Rattle.stun_grammar.specs.declared.error.StunParseError.{StunParseError};
 ghost use Rattle.stun_attrs.specs.Raw.{raw_type, raw_value};
 ghost use Rattle.stun_attrs.specs.Reading.{ReadsTyped};

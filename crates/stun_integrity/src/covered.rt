@@ -4,7 +4,7 @@
 
 ghost use Rattle.std.specs.Prelude.{◌≡◌, ℕ, ◌≤◌, ◌++◌, length, map, slice_range};
 ghost use Rattle.std.specs.List.{concat};
-ghost use Rattle.stun_grammar.specs.Numbers.{be16, padded_length};
+ghost use Rattle.stun_grammar.specs.Numbers.{be16};
 ghost use Rattle.stun_grammar.specs.Fingerprints.{ending_length_field, message_before, fingerprint_value};
 ghost use Rattle.stun_grammar.specs.Hmac.{hmac};
 ghost use Rattle.stun_grammar.specs.Verdicts.{covered_bytes};

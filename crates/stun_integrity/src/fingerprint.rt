@@ -19,7 +19,6 @@ impl Fingerprint {
     ghost use Rattle.stun_grammar.specs.Numbers.{be32};
     ghost use Rattle.stun_grammar.specs.Checksums.{crc};
     ghost use Rattle.stun_integrity.specs.Integrity.{checksum_bytes};
-    ghost use Rattle.stun_values.specs.FingerprintValues.{masked_bytes};
 
     /// The attribute of this checksum, not XORed.
     pub fn new(fingerprint: [u8; 4]) -> Self

@@ -34,7 +34,7 @@ pub struct MessageIntegritySha256 {
 }
 
 impl MessageIntegritySha256 {
-    ghost use Rattle.std.specs.Prelude.{◌≡◌, ◌≢◌, ◌↔◌, ◌<◌, ◌≤◌, ◌%◌, IsTrue, true, Ok, Err, IsOkAnd, length, map};
+    ghost use Rattle.std.specs.Prelude.{◌≡◌, ◌↔◌, ◌<◌, ◌≤◌, ◌%◌, IsTrue, true, Ok, length, map};
     ghost use Rattle.std.specs.List.{concat};
     ghost use Rattle.stun_grammar.specs.Hmac.{hmac};
     ghost use Rattle.stun_keys.specs.Keys.{key_bytes, key_algorithm, serves};
