@@ -8,5 +8,5 @@ mod peer_data;
 mod xor_peer_address;
 
 pub use lifetime::Lifetime;
-pub use peer_data::{DataAttribute, PeerData, ShortData};
+pub use peer_data::{DataAttribute, HasDataType, PeerData, ShortData};
 pub use xor_peer_address::XorPeerAddress;

@@ -5,7 +5,7 @@ ghost use Rattle.stun_base.specs.Data.{data_bytes};
 
 use std::alloc::Global;
 use std::ops::Bound;
-use stun_types::attribute::{AttributeType, EncodeValue, RawAttribute, TypedAttribute};
+use stun_types::attribute::{AttributeType, RawAttribute};
 use stun_types::data::Data;
 use stun_types::message::{StunParseError, StunWriteError};
 use stun_types::prelude::*;
@@ -29,6 +29,14 @@ pub struct ShortData<'a> {
 #[derive(Debug, Drop)]
 pub struct DataAttribute<B> {
     value: B,
+}
+
+/// What has the type of DATA.
+pub trait HasDataType: Attribute {
+    ghost use Rattle.std.specs.Prelude.{◌≡◌};
+    ghost use Rattle.turn_attrs.specs.Turn.{DATA};
+
+    ghost has_that_type: { (attribute : Self) → Self.atype attribute ≡ DATA };
 }
 
 impl<'a> PeerData<'a> {
@@ -63,57 +71,62 @@ impl<'a> PeerData<'a> {
     }
 }
 
-impl<B: EncodeValue> TypedAttribute for DataAttribute<B> {
+impl<B> AttributeStaticType for DataAttribute<B>
+where
+    DataAttribute<B>: HasDataType,
+{
+    ghost use Rattle.std.proofs.Common.{rules};
     ghost use Rattle.turn_attrs.specs.Turn.{DATA};
 
-    ghost NUMBER = { DATA };
+    ghost TYPE = { record { 0 = DATA } };
 
-    const NUMBER: u16 = 0x0013;
+    ghost has_that_type = { Prim.search rules };
+
+    const TYPE: AttributeType = DATA;
 }
 
-impl<B: EncodeValue> EncodeValue for DataAttribute<B> {
-    ghost bytes = { λ attribute. B.bytes attribute.value };
+impl HasDataType for PeerData<'_> {
+    ghost use Rattle.std.specs.Prelude.{refl};
 
-    ghost is_held = { λ attribute. B.is_held attribute.value };
+    ghost has_that_type = { λ _. refl };
+}
 
-    fn value_length(&self) -> u16 {
-        self.value.value_length()
+impl Attribute for PeerData<'_> {
+    ghost use Rattle.turn_attrs.specs.Turn.{DATA, bytes_of};
+
+    ghost atype = { λ _. DATA };
+
+    ghost value = { bytes_of };
+
+    fn get_type(&self) -> AttributeType {
+        DATA
     }
 
-    fn write_value(&self, dest: &mut [u8]) {
-        self.value.write_value(dest);
-    }
-
-    fn held_bytes(&self) -> Option<&[u8]> {
-        self.value.held_bytes()
+    fn length(&self) -> u16 {
+        self.data().len() as u16
     }
 }
 
-impl EncodeValue for ShortData<'_> {
+impl AttributeWrite for PeerData<'_> {
     ghost use Rattle.std.specs.Prelude.{true};
-    ghost use Rattle.turn_attrs.specs.Turn.{short_bytes};
 
-    ghost bytes = { short_bytes };
+    ghost to_raw_borrows = { λ _. true };
 
-    ghost is_held = { λ _. true };
-
-    fn value_length(&self) -> u16 {
-        self.bytes.as_bytes().len() as u16
+    fn write_into_unchecked(&self, dest: &mut [u8]) {
+        if let Ok(raw) = RawAttribute::new(DATA, self.data()) {
+            raw.write_into_unchecked(dest);
+        }
     }
 
-    fn write_value(&self, dest: &mut [u8]) {
-        let bytes = self.bytes.as_bytes();
-        dest[..bytes.len()].copy_from_slice(bytes);
-    }
-
-    fn held_bytes(&self) -> Option<&[u8]> {
-        Some(self.bytes.as_bytes())
+    /// The raw attribute borrows the bytes, which takes no memory.
+    fn to_raw(&self, _alloc: Global) -> Result<RawAttribute<'_>, StunWriteError> {
+        Ok(RawAttribute::new(DATA, self.data())?)
     }
 }
 
-/// Reading refuses another type, as `WrongAttributeImplementation`, and accepts every value.
-/// `from_raw` keeps the value as it is, so that one that is borrowed stays borrowed, and takes no
-/// memory; `from_raw_ref` copies it into memory that `alloc` gives, or answers `OutOfMemory`.
+/// Reading refuses another type, as `WrongAttributeImplementation`, and no value. `from_raw` keeps
+/// the value as it is, so that one that is borrowed stays borrowed, and takes no memory;
+/// `from_raw_ref` copies it into memory that `alloc` gives, or answers `OutOfMemory`.
 impl<'a> AttributeFromRaw<'a> for PeerData<'a> {
     ghost use Rattle.turn_attrs.specs.Turn.{ReadsData, ReadsDataInMemory};
 
