@@ -1,13 +1,13 @@
 //! Adding attributes to a message that is being written, and reading its header.
 
-ghost use Rattle.std.specs.Prelude.{◌≡◌, ◌↔◌, true, IsTrue, None, ◌+◌, ◌^◌, ◌<◌, length};
+ghost use Rattle.std.specs.Prelude.{◌≡◌, OnOk, ◌↔◌, true, IsTrue, None, ◌+◌, ◌^◌, ◌<◌, length};
 ghost use Rattle.stun_grammar.specs.Headers.{is_header, type_field, id_field};
 ghost use Rattle.stun_grammar.specs.AttributeTypes.{FINGERPRINT, IsOrdinary};
 ghost use Rattle.stun_grammar.specs.Hmac.{digest_length};
 ghost use Rattle.stun_grammar.specs.Verdicts.{type_of_algorithm};
 ghost use Rattle.stun_grammar.specs.Fingerprints.{fingerprint_value};
 ghost use Rattle.stun_grammar.specs.Steps.{add, sign, finger, integrity_value};
-ghost use Rattle.stun_grammar.specs.Adding.{add_refusal, IsAddAnswer};
+ghost use Rattle.stun_grammar.specs.Adding.{grown_length, add_refusal, IsAddAnswer};
 ghost use Rattle.stun_keys.specs.Keys.{key_bytes, credentials_key};
 ghost use Rattle.stun_base.specs.MessageTypes.{class_of, method_of, is_response as responds};
 ghost use Rattle.stun_write.specs.Writers.{Allocates, Adds};
@@ -177,7 +177,9 @@ pub trait MessageWriteExt: MessageWrite {
             (Allocates (Self.state self.old) (digest_length algorithm)) result }
         ensures adds { Adds result (Self.state self.old) (Self.state self.new)
             (type_of_algorithm algorithm)
-            (integrity_value (Self.state self.old).bytes (key_bytes key.now) algorithm) };
+            (integrity_value (Self.state self.old).bytes (key_bytes key.now) algorithm) }
+        ensures size { OnOk result (length (Self.state self.new).bytes
+            ≡ grown_length (length (Self.state self.old).bytes) (digest_length algorithm)) };
 
     /// Adds a FINGERPRINT (0x8028). Its value has four bytes: the CRC-32 of the message before it,
     /// with a length field that counts the attribute, XORed with 0x5354554E

@@ -1,11 +1,11 @@
 //! Computing the attributes that protect a message, over the bytes written so far, and appending
 //! them (RFC 8489, sections 14.5 to 14.7).
 
-ghost use Rattle.std.specs.Prelude.{None, length};
+ghost use Rattle.std.specs.Prelude.{◌≡◌, None, OnOk, length};
 ghost use Rattle.stun_grammar.specs.Hmac.{hmac, digest_length};
 ghost use Rattle.stun_grammar.specs.Verdicts.{type_of_algorithm};
 ghost use Rattle.stun_grammar.specs.Fingerprints.{fingerprint_value};
-ghost use Rattle.stun_grammar.specs.Adding.{IsAddAnswer};
+ghost use Rattle.stun_grammar.specs.Adding.{grown_length, IsAddAnswer};
 ghost use Rattle.stun_keys.specs.Keys.{key_bytes};
 ghost use Rattle.stun_grammar.specs.AttributeTypes.{FINGERPRINT as FINGERPRINT_TYPE};
 ghost use Rattle.stun_grammar.specs.Steps.{integrity_value};
@@ -31,6 +31,8 @@ pub(crate) fn push_integrity<W: MessageWrite>(
         (Allocates (W.state write.old) (digest_length algorithm)) result }
     ensures adds { Adds result (W.state write.old) (W.state write.new) (type_of_algorithm algorithm)
         (integrity_value (W.state write.old).bytes (key_bytes key.now) algorithm) }
+    ensures size { OnOk result (length (W.state write.new).bytes
+        ≡ grown_length (length (W.state write.old).bytes) (digest_length algorithm)) }
 {
     match algorithm {
         IntegrityAlgorithm::Sha1 => {
