@@ -1,4 +1,4 @@
-mod AddressesLemmas
+pub mod AddressesLemmas
 mod MakingErrorsLemmas
-mod ReadBackLemmas
+pub mod ReadBackLemmas
 mod TextsLemmas

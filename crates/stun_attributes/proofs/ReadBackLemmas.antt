@@ -86,18 +86,24 @@ algorithms_back attribute result some told =
 
 -- ---- ERROR-CODE
 
+-- the code and the reason of an attribute are written as a value that has no fault and tells the code
+pub error_written : (attribute : ErrorCode)
+    → (error_fault (error_value (error_code attribute) (error_reason attribute)) ≡ None)
+    × (told_code (error_value (error_code attribute) (error_reason attribute)) ≡ error_code attribute)
+error_written attribute =
+    let written = error_value (error_code attribute) (error_reason attribute) in
+    let fits : range_fault 4 767 (length written) ≡ None = rw (le-ltb (length written) 4 (omega arith), le-ltb 767 (length written) (omega (arith, attribute.short))) refl in (
+      is_error written fits (tells written (omega (arith, attribute.least)) (omega (arith, attribute.most)) (omega arith)) (IsUtf8-string_bytes attribute.reason),
+      omega (arith, attribute.least, attribute.most),
+    )
+
 pub error_back : (attribute : ErrorCode) (result : Result ErrorCode StunParseError) → ReadsError (error_value (error_code attribute) (error_reason attribute)) result
     → MatchResult result (IsError (error_code attribute) (error_reason attribute)) (λ e. e ≡ OutOfMemory)
 error_back attribute result told =
-    let code = error_code attribute in
     let reason = error_reason attribute in
-    let written = error_value code reason in
-    let codes : told_code written ≡ code = omega (arith, attribute.least, attribute.most) in
-    let fits : range_fault 4 767 (length written) ≡ None = rw (le-ltb (length written) 4 (omega arith), le-ltb 767 (length written) (omega (arith, attribute.short))) refl in
-    let fault : error_fault written ≡ None =
-    is_error written fits (tells written (omega (arith, attribute.least)) (omega (arith, attribute.most)) (omega arith)) (IsUtf8-string_bytes attribute.reason) in
-    subst (λ (k : ℕ). MatchResult result (IsError k reason) (λ e. e ≡ OutOfMemory)) codes
-    (subst (λ (o : Option StunParseError). MatchOption o (MatchResult result (IsError (told_code written) reason) (λ e. e ≡ OutOfMemory)) (λ e. result ≡ Err e)) fault told)
+    let written = error_written attribute in
+    subst (λ (k : ℕ). MatchResult result (IsError k reason) (λ e. e ≡ OutOfMemory)) written.1
+    (subst (λ (o : Option StunParseError). MatchOption o (MatchResult result (IsError (told_code (error_value (error_code attribute) reason)) reason) (λ e. e ≡ OutOfMemory)) (λ e. result ≡ Err e)) written.0 told)
 
 -- ---- UNKNOWN-ATTRIBUTES
 

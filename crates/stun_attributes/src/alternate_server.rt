@@ -62,11 +62,11 @@ impl EncodeValue for AlternateServer {
     }
 }
 
-/// No memory is allocated. Reading reports the first of these: fewer than four bytes as `Truncated { expected: 4, actual }`; a
-/// family that is neither 1 nor 2 as `InvalidAttributeData`; and a value of another length than its
-/// family needs as `Truncated { expected, actual }` if it is shorter, and as
-/// `TooLarge { expected, actual }` if it is longer, where `expected` is 8 for IPv4 and 20 for IPv6.
-/// The first byte of the value is ignored.
+/// No memory is allocated. Reading reports the first of these: fewer than four bytes as `Truncated
+/// { expected: 4, actual }`; a family that is neither 1 nor 2 as `InvalidAttributeData`; and a
+/// value of another length than its family needs as `Truncated { expected, actual }` if it is
+/// shorter, and as `TooLarge { expected, actual }` if it is longer, where `expected` is 8 for IPv4
+/// and 20 for IPv6. The first byte of the value is ignored.
 impl ReadValue for AlternateServer {
     ghost use Rattle.stun_attributes.specs.AddressAttributes.{ReadsAddress};
 

@@ -59,10 +59,10 @@ impl EncodeValue for PasswordAlgorithm {
     }
 }
 
-/// No memory is allocated. Reading reports the first of these: fewer than four bytes as `Truncated { expected: 4, actual }`; a
-/// length that is no multiple of 4 as `InvalidAttributeData`; parameters of p bytes as
-/// `TooLarge { expected: 4, actual: 4 + p }`; another number as `InvalidAttributeData`. What
-/// follows the first four bytes is ignored.
+/// No memory is allocated. Reading reports the first of these: fewer than four bytes as `Truncated
+/// { expected: 4, actual }`; a length that is no multiple of 4 as `InvalidAttributeData`;
+/// parameters of p bytes as `TooLarge { expected: 4, actual: 4 + p }`; another number as
+/// `InvalidAttributeData`. What follows the first four bytes is ignored.
 impl ReadValue for PasswordAlgorithm {
     ghost use Rattle.stun_attributes.specs.Passwords.{ReadsAlgorithm};
 

@@ -111,8 +111,8 @@ impl<const TYPE: u16, const MAX: u16> ReadValue for TextAttribute<TYPE, MAX> {
     }
 }
 
-/// The type and the text: `20(0x14: REALM): example.org`. A USERNAME and a SOFTWARE have the text in
-/// quotation marks: `32802(0x8022: SOFTWARE): 'my client'`.
+/// The type and the text: `20(0x14: REALM): example.org`. A USERNAME and a SOFTWARE have the text
+/// in quotation marks: `32802(0x8022: SOFTWARE): 'my client'`.
 impl<const TYPE: u16, const MAX: u16> fmt::Display for TextAttribute<TYPE, MAX> {
     ghost use Rattle.std.specs.Prelude.{Some};
     ghost use Rattle.stun_attributes.specs.Texts.{text_bytes, shown_text};

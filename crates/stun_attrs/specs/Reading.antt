@@ -1,7 +1,9 @@
 -- What reading an attribute from a raw one returns.
-use Rattle.std.specs.Prelude.{◌≡◌, ◌≢◌, ℕ, List, Option, Some, Result, Err, IsOkAnd, MatchOption, MatchResult, ◌==◌, if◌then◌else◌}
+use Rattle.std.specs.Prelude.{◌≡◌, ◌≢◌, ℕ, List, length, Option, Some, Result, Err, IsOkAnd, MatchOption, MatchResult, ◌==◌, if◌then◌else◌}
 use Rattle.stun_grammar.specs.declared.error.StunParseError.{StunParseError}
 use Rattle.stun_grammar.specs.declared.error.StunParseError.TheVariants.{WrongAttributeImplementation, OutOfMemory}
+use Rattle.stun_grammar.specs.Lengths.{exact_fault}
+use Rattle.stun_grammar.specs.Numbers.{number}
 
 -- why a type and a value are not of the wanted type with a value that has no fault: the type comes
 -- first
@@ -27,3 +29,7 @@ abbrev pub ReadsTyped : {A : Type 0} → (wanted : ℕ) → (List ℕ → Result
 ReadsTyped wanted reads_value type value result =
     (type ≡ wanted → reads_value value result)
     × (type ≢ wanted → result ≡ Err WrongAttributeImplementation)
+
+-- a number in so many bytes is read
+abbrev pub ReadsNumber : ℕ → List ℕ → Result ℕ StunParseError → Type 0
+ReadsNumber width value = Reads (exact_fault width (length value)) (λ read. read ≡ number value)

@@ -7,6 +7,7 @@ mod attribute;
 mod borrowed;
 mod check;
 mod encoding;
+mod numbers;
 mod owned;
 mod printed;
 mod raw;

@@ -16,7 +16,7 @@ use stun_grammar::{StunParseError, StunWriteError};
 ///
 /// It prints as its number and its name: `1(0x1: BINDING)`.
 #[derive(Clone, Copy, Debug, PartialEq, Eq, PartialOrd, Ord, Hash)]
-pub struct Method(u16);
+pub struct Method(pub u16);
 
 impl Model for Method {
     ghost use Rattle.std.specs.Prelude.{ℕ, ◌<◌};

@@ -1,7 +1,7 @@
 -- Numbers in network byte order, the most significant byte first, and the padding to multiples of
 -- four bytes (RFC 8489, sections 5 and 14).
 use Rattle.std.specs.Prelude.{ℕ, ◌+◌, ◌*◌, ◌/◌, ◌<◌, List, fold}
-use Rattle.std.specs.Int.{w16, w32, to_be_bytes, bytes_high_first}
+use Rattle.std.specs.Int.{w16, w32, w64, to_be_bytes, bytes_high_first}
 use Rattle.std.specs.List.{AllByRecursion}
 
 -- a number in two bytes
@@ -11,6 +11,10 @@ be16 = to_be_bytes w16
 -- a number in four bytes
 abbrev pub be32 : ℕ → List ℕ
 be32 = to_be_bytes w32
+
+-- a number in eight bytes
+abbrev pub be64 : ℕ → List ℕ
+be64 = to_be_bytes w64
 
 -- a number in twelve bytes
 abbrev pub be96 : ℕ → List ℕ

@@ -7,6 +7,10 @@ pub use stun_attrs::{
     ReadValue, TypedAttribute, is_read_back,
 };
 pub use stun_base::{AttributeHeader, AttributeType, pad_attribute_len};
+pub use stun_kinds::{
+    AddressAttribute, AttributeKind, BytesAttribute, EmptyAttribute, FieldsAttribute, FieldsKind,
+    NumberAttribute, ShortBytes, XorAddressAttribute,
+};
 pub use stun_registry::AttributeDisplay;
 pub use stun_values::check_length;
 pub use typed::{

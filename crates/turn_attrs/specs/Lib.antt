@@ -1,1 +1,5 @@
+pub mod ChannelMessages
+pub mod Channels
+pub mod Protocols
+pub mod Reasons
 pub mod Turn

@@ -1,21 +1,80 @@
--- Attributes of TURN (RFC 8656, section 18).
-use Rattle.std.specs.Prelude.{◌≡◌, ℕ, List, length, None, Result}
-use Rattle.std.specs.declared.net.socket_addr.SocketAddr.{SocketAddr}
+-- Attributes of TURN (RFC 8656, section 18; RFC 6062, section 6.2; RFC 7635, section 6; RFC 8016,
+-- section 3.3).
+use Rattle.std.specs.Prelude.{◌≡◌, ℕ, ◌+◌, ◌*◌, ◌/◌, ◌%◌, ◌^◌, Bool, false, ◌&&◌, List, [], ◌∷◌, ◌++◌, codes, length, drop, slice_index, Option, Some, None, Result, nat_lt, nat_le, ◌==◌, if◌then◌else◌}
+use Rattle.std.specs.Fmt.{decimal, digits}
+use Rattle.std.specs.Option.{option_or}
 use Rattle.stun_grammar.specs.declared.error.StunParseError.{StunParseError}
+use Rattle.stun_grammar.specs.declared.error.StunParseError.TheVariants.{Truncated, InvalidAttributeData}
 use Rattle.stun_grammar.specs.Lengths.{exact_fault}
 use Rattle.stun_grammar.specs.Numbers.{number}
-use Rattle.stun_base.specs.Data.{data_bytes}
-use Rattle.stun_attrs.specs.Reading.{typed_fault, Reads, ReadsInMemory}
-use Rattle.stun_attributes.specs.AddressAttributes.{written_addr, ReadsAddress}
+use Rattle.stun_base.specs.declared.transport.AddressFamily.{AddressFamily}
+use Rattle.stun_base.specs.declared.transport.AddressFamily.TheVariants.{IPV4, IPV6}
+use Rattle.stun_attrs.specs.Reading.{Reads, ReadsInMemory}
+use Rattle.stun_values.specs.ErrorValues.{error_value, error_fault, told_code}
+use Rattle.stun_attributes.specs.declared.error_code.ErrorCode.{ErrorCode}
+use Rattle.stun_attributes.specs.ErrorCodes.{error_code, error_reason, IsError}
+use Rattle.stun_attributes.specs.Texts.{text_bytes}
+use Rattle.stun_values.specs.TextValues.{text_fault}
 use Rattle.turn_attrs.specs.declared.lifetime.Lifetime.{Lifetime}
-use Rattle.turn_attrs.specs.declared.peer_data.DataAttribute.{DataAttribute}
-use Rattle.turn_attrs.specs.declared.peer_data.ShortData.{ShortData}
-use Rattle.turn_attrs.specs.declared.xor_peer_address.XorPeerAddress.{XorPeerAddress}
+use Rattle.turn_attrs.specs.declared.icmp.IcmpError.{IcmpError}
+use Rattle.turn_attrs.specs.declared.family.OnlyIpv6.{OnlyIpv6}
+use Rattle.turn_attrs.specs.declared.address_error_code.AddressErrorCode.{AddressErrorCode}
+use Rattle.turn_attrs.specs.declared.third_party.ThirdPartyAuthorization.{ThirdPartyAuthorization}
 
--- ---- LIFETIME (section 18.2): seconds, in four bytes
+-- ---- Numbers of types
+
+abbrev pub CHANNEL_NUMBER : ℕ
+CHANNEL_NUMBER = 0x000C
 
 abbrev pub LIFETIME : ℕ
 LIFETIME = 0x000D
+
+abbrev pub XOR_PEER_ADDRESS : ℕ
+XOR_PEER_ADDRESS = 0x0012
+
+abbrev pub DATA : ℕ
+DATA = 0x0013
+
+abbrev pub XOR_RELAYED_ADDRESS : ℕ
+XOR_RELAYED_ADDRESS = 0x0016
+
+abbrev pub REQUESTED_ADDRESS_FAMILY : ℕ
+REQUESTED_ADDRESS_FAMILY = 0x0017
+
+abbrev pub EVEN_PORT : ℕ
+EVEN_PORT = 0x0018
+
+abbrev pub REQUESTED_TRANSPORT : ℕ
+REQUESTED_TRANSPORT = 0x0019
+
+abbrev pub DONT_FRAGMENT : ℕ
+DONT_FRAGMENT = 0x001A
+
+abbrev pub ACCESS_TOKEN : ℕ
+ACCESS_TOKEN = 0x001B
+
+abbrev pub RESERVATION_TOKEN : ℕ
+RESERVATION_TOKEN = 0x0022
+
+abbrev pub CONNECTION_ID : ℕ
+CONNECTION_ID = 0x002A
+
+abbrev pub ADDITIONAL_ADDRESS_FAMILY : ℕ
+ADDITIONAL_ADDRESS_FAMILY = 0x8000
+
+abbrev pub ADDRESS_ERROR_CODE : ℕ
+ADDRESS_ERROR_CODE = 0x8001
+
+abbrev pub ICMP : ℕ
+ICMP = 0x8004
+
+abbrev pub THIRD_PARTY_AUTHORIZATION : ℕ
+THIRD_PARTY_AUTHORIZATION = 0x802E
+
+abbrev pub MOBILITY_TICKET : ℕ
+MOBILITY_TICKET = 0x8030
+
+-- ---- LIFETIME (RFC 8656, section 18.2): seconds, in four bytes
 
 abbrev pub seconds_of : Lifetime → ℕ
 seconds_of lifetime = lifetime.seconds
@@ -25,34 +84,120 @@ abbrev pub ReadsLifetime : List ℕ → Result Lifetime StunParseError → Type 
 ReadsLifetime value =
     Reads (exact_fault 4 (length value)) (λ read. seconds_of read ≡ number value)
 
--- ---- XOR-PEER-ADDRESS (section 18.3): an address, encoded as an XOR-MAPPED-ADDRESS is
+-- ---- CHANNEL-NUMBER (sections 12 and 18.1): the high half of four bytes
 
-abbrev pub XOR_PEER_ADDRESS : ℕ
-XOR_PEER_ADDRESS = 0x0012
+-- whether a channel may have this number
+abbrev pub is_channel : ℕ → Bool
+is_channel n = nat_le 0x4000 n && nat_le n 0x4FFF
 
--- the address as it is written, after the XOR
-abbrev pub written_peer : XorPeerAddress → SocketAddr
-written_peer peer = written_addr peer.addr
+abbrev pub channel_of : ℕ → Option ℕ
+channel_of n = if is_channel n then Some n else None
 
-abbrev pub ReadsXorPeerAddress : List ℕ → Result XorPeerAddress StunParseError → Type 0
-ReadsXorPeerAddress = ReadsAddress written_peer
+abbrev pub channel_number : ℕ → ℕ
+channel_number channel = 2 ^ 16 * channel
 
--- ---- DATA (section 18.4): any bytes
+abbrev pub channel_in : ℕ → Option ℕ
+channel_in n = channel_of (n / 2 ^ 16)
 
-abbrev pub DATA : ℕ
-DATA = 0x0013
+abbrev pub channel_text : ℕ → List ℕ
+channel_text channel = codes "0x" ++ digits 16 false channel
 
-abbrev pub short_bytes : ShortData → List ℕ
-short_bytes short = data_bytes short.bytes
+-- ---- REQUESTED-ADDRESS-FAMILY (section 18.6) and ADDITIONAL-ADDRESS-FAMILY (section 18.11): the
+-- highest of four bytes
 
-abbrev pub bytes_of : DataAttribute ShortData → List ℕ
-bytes_of attribute = short_bytes attribute.value
+abbrev pub family_byte : AddressFamily → ℕ
+family_byte IPV4 = 1
+family_byte IPV6 = 2
 
-abbrev pub ReadsData : ℕ → List ℕ → Result (DataAttribute ShortData) StunParseError → Type 0
-ReadsData type value =
-    Reads (typed_fault DATA (λ _. None) type value) (λ read. bytes_of read ≡ value)
+abbrev pub family_of_byte : ℕ → Option AddressFamily
+family_of_byte byte =
+    if byte == 1 then Some IPV4 else (if byte == 2 then Some IPV6 else None)
 
--- the same, unless out of memory
-abbrev pub ReadsDataInMemory : ℕ → List ℕ → Result (DataAttribute ShortData) StunParseError → Type 0
-ReadsDataInMemory type value =
-    ReadsInMemory (typed_fault DATA (λ _. None) type value) (λ read. bytes_of read ≡ value)
+abbrev pub family_number : AddressFamily → ℕ
+family_number family = 2 ^ 24 * family_byte family
+
+abbrev pub family_in : ℕ → Option AddressFamily
+family_in n = family_of_byte (n / 2 ^ 24)
+
+abbrev pub ipv6_number : OnlyIpv6 → ℕ
+ipv6_number _ = 2 ^ 24 * 2
+
+abbrev pub ipv6_in : ℕ → Option OnlyIpv6
+ipv6_in n = if n / 2 ^ 24 == 2 then Some (record {}) else None
+
+-- ---- EVEN-PORT (section 18.7): the highest bit of a byte
+
+abbrev pub reserve_number : Bool → ℕ
+reserve_number reserve = if reserve then 128 else 0
+
+abbrev pub reserve_in : ℕ → Option Bool
+reserve_in n = Some (nat_le 128 n)
+
+-- ---- REQUESTED-TRANSPORT (section 18.8): the highest of four bytes
+
+abbrev pub protocol_number : ℕ → ℕ
+protocol_number protocol = 2 ^ 24 * protocol
+
+abbrev pub protocol_in : ℕ → Option ℕ
+protocol_in n = Some (n / 2 ^ 24)
+
+-- ---- ICMP (section 18.13): after two bytes the type, the code, and the data in four
+
+abbrev pub icmp_number : IcmpError → ℕ
+icmp_number error = 2 ^ 40 * error.icmp_type + 2 ^ 32 * error.code + error.«data»
+
+abbrev pub icmp_in : ℕ → Option IcmpError
+icmp_in n = Some (record {
+  icmp_type = n / 2 ^ 40 % 256;
+  code = n / 2 ^ 32 % 256;
+  «data» = n % 2 ^ 32;
+})
+
+abbrev pub icmp_text : IcmpError → List ℕ
+icmp_text error =
+    codes "type " ++ decimal error.icmp_type ++ codes ", code " ++ decimal error.code
+    ++ codes ", data " ++ decimal error.«data»
+
+-- ---- ADDRESS-ERROR-CODE (section 18.12): the family, and then as an ERROR-CODE
+
+abbrev pub failed_family : AddressErrorCode → AddressFamily
+failed_family attribute = attribute.family
+
+abbrev pub failed_error : AddressErrorCode → ErrorCode
+failed_error attribute = attribute.error
+
+abbrev pub address_error_value : AddressErrorCode → List ℕ
+address_error_value attribute =
+    family_byte (failed_family attribute)
+    ∷ drop 1 (error_value (error_code (failed_error attribute))
+    (error_reason (failed_error attribute)))
+
+abbrev pub address_error_fault : List ℕ → Option StunParseError
+address_error_fault value =
+    if nat_lt (length value) 4 then Some (Truncated 4 (length value)) else (
+    option_or
+    (if slice_index value 0 == 1 then None else (
+    if slice_index value 0 == 2 then None else Some InvalidAttributeData))
+    (error_fault value))
+
+-- what was read of a value that has no fault
+pub record IsAddressError (value : List ℕ) (attribute : AddressErrorCode) : Type 0 where
+  pub family_is : Some (failed_family attribute) ≡ family_of_byte (slice_index value 0)
+  pub error_is : IsError (told_code value) (drop 4 value) (failed_error attribute)
+
+abbrev pub ReadsAddressError : List ℕ → Result AddressErrorCode StunParseError → Type 0
+ReadsAddressError value = ReadsInMemory (address_error_fault value) (IsAddressError value)
+
+abbrev pub address_error_text : AddressErrorCode → List ℕ
+address_error_text attribute =
+    decimal (error_code (failed_error attribute)) ++ codes " '"
+    ++ error_reason (failed_error attribute) ++ codes "'"
+
+-- ---- THIRD-PARTY-AUTHORIZATION (RFC 7635, section 6.1): the name of the server, in UTF-8
+
+abbrev pub server_name : ThirdPartyAuthorization → List ℕ
+server_name attribute = text_bytes attribute.name
+
+abbrev pub ReadsServerName : List ℕ → Result ThirdPartyAuthorization StunParseError → Type 0
+ReadsServerName value =
+    ReadsInMemory (text_fault 65535 value) (λ read. server_name read ≡ value)

@@ -1,12 +1,59 @@
-//! Attributes of TURN (RFC 8656), which relays packets between a client and its peers: LIFETIME,
-//! XOR-PEER-ADDRESS and DATA. They stand on the public items of `stun_types` alone, and are a model
-//! for attributes of one's own: a number, an address, and bytes that are borrowed or owned.
+//! Attributes, methods and error codes of TURN (RFC 8656), which relays packets between a client
+//! and its peers, with those of its extensions: TCP (RFC 6062), third-party authorization (RFC
+//! 7635) and mobility (RFC 8016); ChannelData messages; and which protocol a packet is of. They
+//! stand on the public items of `stun_types` alone.
 #![tactic(auto)]
 
+mod address_error_code;
+mod channel;
+mod channel_data;
+pub mod error_codes;
+mod family;
+mod icmp;
+mod kinds;
+mod laws;
 mod lifetime;
-mod peer_data;
-mod xor_peer_address;
+pub mod methods;
+mod protocol;
+mod registering;
+mod third_party;
 
+pub use address_error_code::AddressErrorCode;
+pub use channel::Channel;
+pub use channel_data::{ChannelData, ChannelDataError, channel_data_length};
+pub use family::OnlyIpv6;
+pub use icmp::IcmpError;
+pub use kinds::{
+    AccessToken, AccessTokenKind, AdditionalAddressFamily, AdditionalAddressFamilyKind,
+    ChannelNumber, ChannelNumberKind, ConnectionId, ConnectionIdKind, DataKind, DontFragment,
+    DontFragmentKind, EvenPort, EvenPortKind, Icmp, IcmpKind, MobilityTicket, MobilityTicketKind,
+    PeerData, RequestedAddressFamily, RequestedAddressFamilyKind, RequestedTransport,
+    RequestedTransportKind, ReservationToken, ReservationTokenKind, XorPeerAddress,
+    XorPeerAddressKind, XorRelayedAddress, XorRelayedAddressKind,
+};
+pub use laws::{address_error_is_read_back, fields_are_held};
 pub use lifetime::Lifetime;
-pub use peer_data::{DataAttribute, HasDataType, PeerData, ShortData};
-pub use xor_peer_address::XorPeerAddress;
+pub use protocol::{Protocol, protocol_of, stun_begins_low};
+use stun_types::attribute::AttributeType;
+pub use third_party::ThirdPartyAuthorization;
+
+/// The types of this crate, for `Message::check_attribute_types`.
+pub const KNOWN: [AttributeType; 17] = [
+    AttributeType(0x000C),
+    AttributeType(0x000D),
+    AttributeType(0x0012),
+    AttributeType(0x0013),
+    AttributeType(0x0016),
+    AttributeType(0x0017),
+    AttributeType(0x0018),
+    AttributeType(0x0019),
+    AttributeType(0x001A),
+    AttributeType(0x001B),
+    AttributeType(0x0022),
+    AttributeType(0x002A),
+    AttributeType(0x8000),
+    AttributeType(0x8001),
+    AttributeType(0x8004),
+    AttributeType(0x802E),
+    AttributeType(0x8030),
+];

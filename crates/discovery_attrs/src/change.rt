@@ -1,0 +1,52 @@
+use crate::ChangeRequestKind;
+use std::fmt;
+use stun_types::attribute::FieldsKind;
+
+/// What is to differ where the server answers.
+#[derive(Clone, Copy, Debug, PartialEq, Eq)]
+pub struct Change {
+    /// The IP address.
+    pub ip: bool,
+    /// The port.
+    pub port: bool,
+}
+
+/// `IP and port`, `IP`, `port` or `nothing`.
+impl fmt::Display for Change {
+    ghost use Rattle.std.specs.Prelude.{Some};
+    ghost use Rattle.discovery_attrs.specs.Discovery.{change_text};
+
+    ghost output = { λ change. Some (change_text change) };
+
+    fn fmt<W: fmt::Write>(&self, f: &mut fmt::Formatter<W>) -> fmt::Result {
+        f.write_str(match (self.ip, self.port) {
+            (true, true) => "IP and port",
+            (true, false) => "IP",
+            (false, true) => "port",
+            (false, false) => "nothing",
+        })
+    }
+}
+
+impl FieldsKind<Change> for ChangeRequestKind {
+    ghost use Rattle.discovery_attrs.specs.Discovery.{change_number, change_of};
+
+    type Number = u32;
+
+    ghost number_of = { change_number };
+
+    ghost fields_of = { change_of };
+
+    fn to_number(change: &Change) -> u32 {
+        let ip = if change.ip { 4 } else { 0 };
+        let port = if change.port { 2 } else { 0 };
+        ip + port
+    }
+
+    fn from_number(number: u32) -> Option<Change> {
+        Some(Change {
+            ip: number / 4 % 2 == 1,
+            port: number / 2 % 2 == 1,
+        })
+    }
+}

@@ -1,0 +1,141 @@
+//! Attributes whose values have a form of the library, and their numbers and names.
+
+use crate::{Change, Transmissions};
+use stun_types::attribute::{
+    AddressAttribute, AttributeKind, BytesAttribute, FieldsAttribute, ShortBytes,
+};
+
+/// MAPPED-ADDRESS: the address that a request came from, as it is (RFC 8489, section 14.1). The
+/// value is 8 bytes for IPv4 and 20 for IPv6.
+pub type MappedAddress = AddressAttribute<MappedAddressKind>;
+
+/// The kind of [`MappedAddress`].
+pub enum MappedAddressKind {}
+
+impl AttributeKind for MappedAddressKind {
+    ghost use Rattle.std.specs.Prelude.{codes};
+    ghost use Rattle.discovery_attrs.specs.Discovery.{MAPPED_ADDRESS};
+
+    ghost NUMBER = { MAPPED_ADDRESS };
+
+    ghost NAME = { codes "MAPPED-ADDRESS" };
+
+    const NUMBER: u16 = 0x0001;
+
+    fn name() -> &'static str {
+        "MAPPED-ADDRESS"
+    }
+}
+
+/// CHANGE-REQUEST: from where the server is to answer (RFC 5780, section 7.2). The value is four
+/// bytes, in whose last 0x4 is "change IP" and 0x2 "change port"; the other bits are written 0 and
+/// ignored.
+pub type ChangeRequest = FieldsAttribute<ChangeRequestKind, Change>;
+
+/// The kind of [`ChangeRequest`].
+pub enum ChangeRequestKind {}
+
+impl AttributeKind for ChangeRequestKind {
+    ghost use Rattle.std.specs.Prelude.{codes};
+    ghost use Rattle.discovery_attrs.specs.Discovery.{CHANGE_REQUEST};
+
+    ghost NUMBER = { CHANGE_REQUEST };
+
+    ghost NAME = { codes "CHANGE-REQUEST" };
+
+    const NUMBER: u16 = 0x0003;
+
+    fn name() -> &'static str {
+        "CHANGE-REQUEST"
+    }
+}
+
+/// PADDING: any bytes, which make a message longer than a packet (RFC 5780, section 7.6).
+pub type Padding<'a> = BytesAttribute<PaddingKind, ShortBytes<'a>>;
+
+/// The kind of [`Padding`].
+pub enum PaddingKind {}
+
+impl AttributeKind for PaddingKind {
+    ghost use Rattle.std.specs.Prelude.{codes};
+    ghost use Rattle.discovery_attrs.specs.Discovery.{PADDING};
+
+    ghost NUMBER = { PADDING };
+
+    ghost NAME = { codes "PADDING" };
+
+    const NUMBER: u16 = 0x0026;
+
+    fn name() -> &'static str {
+        "PADDING"
+    }
+}
+
+/// RESPONSE-ORIGIN: the address that the response was sent from (RFC 5780, section 7.3). The value
+/// is 8 bytes for IPv4 and 20 for IPv6.
+pub type ResponseOrigin = AddressAttribute<ResponseOriginKind>;
+
+/// The kind of [`ResponseOrigin`].
+pub enum ResponseOriginKind {}
+
+impl AttributeKind for ResponseOriginKind {
+    ghost use Rattle.std.specs.Prelude.{codes};
+    ghost use Rattle.discovery_attrs.specs.Discovery.{RESPONSE_ORIGIN};
+
+    ghost NUMBER = { RESPONSE_ORIGIN };
+
+    ghost NAME = { codes "RESPONSE-ORIGIN" };
+
+    const NUMBER: u16 = 0x802B;
+
+    fn name() -> &'static str {
+        "RESPONSE-ORIGIN"
+    }
+}
+
+/// OTHER-ADDRESS: the address from which the server answers where both its address and its port are
+/// to change (RFC 5780, section 7.4). The value is 8 bytes for IPv4 and 20 for IPv6.
+pub type OtherAddress = AddressAttribute<OtherAddressKind>;
+
+/// The kind of [`OtherAddress`].
+pub enum OtherAddressKind {}
+
+impl AttributeKind for OtherAddressKind {
+    ghost use Rattle.std.specs.Prelude.{codes};
+    ghost use Rattle.discovery_attrs.specs.Discovery.{OTHER_ADDRESS};
+
+    ghost NUMBER = { OTHER_ADDRESS };
+
+    ghost NAME = { codes "OTHER-ADDRESS" };
+
+    const NUMBER: u16 = 0x802C;
+
+    fn name() -> &'static str {
+        "OTHER-ADDRESS"
+    }
+}
+
+/// TRANSACTION_TRANSMIT_COUNTER: how often a request and its response were sent (RFC 7982, section
+/// 3.1). The value is two bytes that are written 0 and ignored, and a byte for each count.
+pub type TransactionTransmitCounter = FieldsAttribute<
+    TransactionTransmitCounterKind,
+    Transmissions,
+>;
+
+/// The kind of [`TransactionTransmitCounter`].
+pub enum TransactionTransmitCounterKind {}
+
+impl AttributeKind for TransactionTransmitCounterKind {
+    ghost use Rattle.std.specs.Prelude.{codes};
+    ghost use Rattle.discovery_attrs.specs.Discovery.{TRANSACTION_TRANSMIT_COUNTER};
+
+    ghost NUMBER = { TRANSACTION_TRANSMIT_COUNTER };
+
+    ghost NAME = { codes "TRANSACTION_TRANSMIT_COUNTER" };
+
+    const NUMBER: u16 = 0x8025;
+
+    fn name() -> &'static str {
+        "TRANSACTION_TRANSMIT_COUNTER"
+    }
+}

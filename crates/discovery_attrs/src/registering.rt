@@ -1,0 +1,28 @@
+//! The registration of the types of this crate.
+
+/// Registers the names and the functions that print of this crate, so that a message shows its
+/// attributes as what they are. It stands in the body of a function that makes the registry itself
+/// and answers a `Result`, and returns from it with `OutOfMemory` where an allocation fails.
+///
+/// ```
+/// let mut registry = Registry::new(alloc);
+/// discovery_attrs::register!(registry);
+/// ```
+#[macro_export]
+macro_rules! register {
+    ($registry:ident) => {{
+        $registry.add_name(stun_types::attribute::AttributeType(0x0003), "CHANGE-REQUEST")?;
+        $registry.add_name(stun_types::attribute::AttributeType(0x0026), "PADDING")?;
+        $registry.add_name(stun_types::attribute::AttributeType(0x0027), "RESPONSE-PORT")?;
+        $registry.add_name(stun_types::attribute::AttributeType(0x8025), "TRANSACTION_TRANSMIT_COUNTER")?;
+        $registry.add_name(stun_types::attribute::AttributeType(0x802B), "RESPONSE-ORIGIN")?;
+        $registry.add_name(stun_types::attribute::AttributeType(0x802C), "OTHER-ADDRESS")?;
+        stun_types::attribute_display!($registry, $crate::MappedAddress)?;
+        stun_types::attribute_display!($registry, $crate::ChangeRequest)?;
+        stun_types::attribute_display!($registry, $crate::Padding)?;
+        stun_types::attribute_display!($registry, $crate::ResponsePort)?;
+        stun_types::attribute_display!($registry, $crate::TransactionTransmitCounter)?;
+        stun_types::attribute_display!($registry, $crate::ResponseOrigin)?;
+        stun_types::attribute_display!($registry, $crate::OtherAddress)?;
+    }};
+}

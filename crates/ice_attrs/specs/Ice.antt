@@ -1,0 +1,32 @@
+-- ICE: its attributes (RFC 8445, section 16.1) and the priority of a candidate (section 5.1.2).
+use Rattle.std.specs.Prelude.{ℕ, ◌+◌, ◌*◌, ◌-◌, ◌^◌, nat_lt, ◌==◌, Option, Some, None, if◌then◌else◌}
+use Rattle.stun_grammar.specs.declared.error.StunWriteError.{StunWriteError}
+use Rattle.stun_grammar.specs.declared.error.StunWriteError.TheVariants.{OutOfRange}
+
+abbrev pub PRIORITY : ℕ
+PRIORITY = 0x0024
+
+abbrev pub USE_CANDIDATE : ℕ
+USE_CANDIDATE = 0x0025
+
+abbrev pub ICE_CONTROLLED : ℕ
+ICE_CONTROLLED = 0x8029
+
+abbrev pub ICE_CONTROLLING : ℕ
+ICE_CONTROLLING = 0x802A
+
+-- the recommended formula (section 5.1.2.1)
+abbrev pub candidate_priority : (type_preference local_preference component : ℕ) → ℕ
+candidate_priority type_preference local_preference component =
+    2 ^ 24 * type_preference + 2 ^ 8 * local_preference + (256 - component)
+
+-- why there is no priority: the type preference is above 126, the component isn't 1 to 256, or the
+-- formula gives 0, which is no priority (section 5.1.2)
+abbrev pub priority_fault :
+    (type_preference local_preference component : ℕ) → Option StunWriteError
+priority_fault type_preference local_preference component =
+    if nat_lt 126 type_preference then Some (OutOfRange type_preference 0 126) else (
+    if component == 0 then Some (OutOfRange component 1 256) else (
+    if nat_lt 256 component then Some (OutOfRange component 1 256) else (
+    if candidate_priority type_preference local_preference component == 0
+    then Some (OutOfRange 0 1 (2 ^ 31 - 1)) else None)))

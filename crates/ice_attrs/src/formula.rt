@@ -1,0 +1,47 @@
+ghost use Rattle.std.specs.Prelude.{◌≡◌, ◌<◌, ◌≤◌, ◌^◌, ◌⊎◌, Some, None, MatchResult};
+ghost use Rattle.ice_attrs.specs.Ice.{candidate_priority, priority_fault};
+
+use stun_types::message::StunWriteError;
+
+/// The priority of a candidate by the recommended formula (RFC 8445, section 5.1.2.1): 2^24 times
+/// the preference of its type, 2^8 times its local preference, and 256 less its component.
+///
+/// # Errors
+///
+/// The first of these that applies:
+///
+/// - `OutOfRange { value: type_preference, min: 0, max: 126 }`;
+/// - `OutOfRange { value: component, min: 1, max: 256 }`;
+/// - `OutOfRange { value: 0, min: 1, max: 2147483647 }` for 0, 0 and 256, of which the formula
+///   makes 0: a priority is 1 to 2^31 - 1 (section 5.1.2).
+pub fn priority(
+    type_preference: u8,
+    local_preference: u16,
+    component: u16,
+) -> Result<u32, StunWriteError>
+    ensures { MatchResult result
+        (λ priority. (priority_fault type_preference local_preference component ≡ None)
+        × (priority ≡ candidate_priority type_preference local_preference component)
+        × (0 < priority) × (priority < 2 ^ 31))
+        (λ e. priority_fault type_preference local_preference component ≡ Some e) }
+{
+    check_range(type_preference as usize, 0, 126)?;
+    check_range(component as usize, 1, 256)?;
+    let priority = type_preference as u32 * 0x100_0000
+        + local_preference as u32 * 0x100
+        + (256 - component as u32);
+    check_range(priority as usize, 1, 0x7FFF_FFFF)?;
+    Ok(priority)
+}
+
+/// Tests that a number is at least `min` and at most `max`.
+fn check_range(value: usize, min: usize, max: usize) -> Result<(), StunWriteError>
+    ensures { MatchResult result
+        (λ _. (min ≤ value) × (value ≤ max))
+        (λ e. ((value < min) ⊎ (max < value)) × (e ≡ StunWriteError.OutOfRange value min max)) }
+{
+    if value < min || value > max {
+        return Err(StunWriteError::OutOfRange { value, min, max });
+    }
+    Ok(())
+}

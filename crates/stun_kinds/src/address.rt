@@ -1,0 +1,98 @@
+use crate::AttributeKind;
+use std::alloc::Global;
+use std::fmt;
+use std::marker::PhantomData;
+use std::net::SocketAddr;
+use stun_attributes::MappedSocketAddr;
+use stun_attrs::{EncodeValue, ReadValue, TypedAttribute};
+use stun_base::StunParseError;
+
+/// An attribute whose value is an address as it is, in the form of a [`MappedSocketAddr`]: 8 bytes
+/// for IPv4 and 20 for IPv6.
+///
+/// Reading reports what [`MappedSocketAddr::from_raw`] refuses. It takes no memory.
+#[derive(Drop)]
+#[derive_where(Clone, Debug, PartialEq, Eq)]
+pub struct AddressAttribute<K> {
+    addr: MappedSocketAddr,
+    #[derive_where(skip)]
+    kind: PhantomData<K>,
+}
+
+impl<K> AddressAttribute<K> {
+    ghost use Rattle.std.specs.Prelude.{◌≡◌};
+    ghost use Rattle.stun_kinds.specs.Kinds.{addr_of};
+
+    /// The attribute of this address. Flow info and scope ID of an IPv6 address are kept, but not
+    /// written.
+    pub fn new(addr: SocketAddr) -> Self
+        ensures { addr_of result ≡ addr }
+    {
+        AddressAttribute {
+            addr: MappedSocketAddr::new(addr),
+            kind: PhantomData,
+        }
+    }
+
+    /// The address.
+    pub fn addr(&self) -> SocketAddr
+        ensures { result ≡ addr_of self.now }
+    {
+        self.addr.addr()
+    }
+}
+
+impl<K: AttributeKind> TypedAttribute for AddressAttribute<K> {
+    ghost NUMBER = { K.NUMBER };
+
+    const NUMBER: u16 = K::NUMBER;
+}
+
+impl<K> EncodeValue for AddressAttribute<K> {
+    ghost use Rattle.stun_values.specs.Addresses.{address_value};
+    ghost use Rattle.stun_kinds.specs.Kinds.{addr_of};
+
+    ghost bytes = { λ attribute. address_value (addr_of attribute) };
+
+    fn value_length(&self) -> u16 {
+        self.addr.length()
+    }
+
+    fn write_value(&self, dest: &mut [u8]) {
+        self.addr.write_into_unchecked(dest);
+    }
+
+    fn held_bytes(&self) -> Option<&[u8]> {
+        None
+    }
+}
+
+/// [`AddressAttribute`] says what reading refuses.
+impl<K> ReadValue for AddressAttribute<K> {
+    ghost use Rattle.stun_attributes.specs.AddressAttributes.{ReadsAddress};
+    ghost use Rattle.stun_kinds.specs.Kinds.{addr_of};
+
+    ghost reads_value = { ReadsAddress addr_of };
+
+    fn read_value(_alloc: Global, value: &[u8]) -> Result<Self, StunParseError> {
+        Ok(AddressAttribute {
+            addr: MappedSocketAddr::read(value)?,
+            kind: PhantomData,
+        })
+    }
+}
+
+/// The name and the address: `OTHER-ADDRESS: 192.168.0.1:3479`.
+impl<K: AttributeKind> fmt::Display for AddressAttribute<K> {
+    ghost use Rattle.std.specs.Prelude.{Some};
+    ghost use Rattle.std.specs.Net.Text.{socket_text};
+    ghost use Rattle.stun_kinds.specs.Kinds.{addr_of, named_text};
+
+    ghost output = { λ attribute. named_text K.NAME (Some (socket_text (addr_of attribute))) };
+
+    fn fmt<W: fmt::Write>(&self, f: &mut fmt::Formatter<W>) -> fmt::Result {
+        let name = K::name();
+        let addr = &self.addr;
+        write!(f, "{name}: {addr}")
+    }
+}

@@ -1,0 +1,167 @@
+//! Attributes whose value is any bytes.
+
+ghost use Rattle.std.specs.Prelude.{◌≤◌, length};
+ghost use Rattle.stun_base.specs.Data.{data_bytes};
+
+use crate::AttributeKind;
+use std::alloc::Global;
+use std::fmt;
+use std::marker::PhantomData;
+use stun_attrs::{
+    Attribute, AttributeFromRaw, AttributeStaticType, AttributeWrite, RawAttribute,
+    borrowed_attribute, check_type, write_attribute,
+};
+use stun_base::{AttributeType, Data, Hex, StunParseError, StunWriteError};
+
+/// At most 65535 bytes, which are borrowed or owned.
+#[derive(Debug, Drop)]
+pub struct ShortBytes<'a> {
+    bytes: Data<'a>,
+    ghost short: { length (data_bytes bytes) ≤ 65535 },
+}
+
+/// An attribute whose value is any bytes, at most 65535 of them, which are borrowed or owned. `B`
+/// is [`ShortBytes`]: it is a type parameter, since the prover takes no associated constant, as
+/// `TYPE` is, of a type with a lifetime.
+#[derive(Drop)]
+#[derive_where(Debug; B)]
+pub struct BytesAttribute<K, B> {
+    value: B,
+    #[derive_where(skip)]
+    kind: PhantomData<K>,
+}
+
+/// What has the type of a kind.
+pub trait HasKind<K: AttributeKind>: Attribute {
+    ghost use Rattle.std.specs.Prelude.{◌≡◌};
+
+    ghost has_that_type: { (attribute : Self) → Self.atype attribute ≡ K.NUMBER };
+}
+
+impl<'a, K: AttributeKind> BytesAttribute<K, ShortBytes<'a>> {
+    ghost use Rattle.std.specs.Prelude.{◌≡◌, ◌<◌, ◌≤◌, Err, IsOkAnd, length};
+    ghost use Rattle.stun_kinds.specs.Kinds.{bytes_of};
+
+    /// The attribute of these bytes, which it borrows.
+    ///
+    /// # Errors
+    ///
+    /// `TooLarge { expected: 65535, actual }` where there are more than 65535 bytes.
+    pub fn new(bytes: &'a [u8]) -> Result<Self, StunWriteError>
+        ensures ok { length bytes.now ≤ 65535
+            → IsOkAnd result (λ made. bytes_of made ≡ bytes.now) }
+        ensures large { 65535 < length bytes.now
+            → result ≡ Err (StunWriteError.TooLarge 65535 (length bytes.now)) }
+    {
+        let raw = RawAttribute::new(AttributeType(K::NUMBER), bytes)?;
+        Ok(BytesAttribute {
+            value: ShortBytes {
+                bytes: raw.into_value(),
+            },
+            kind: PhantomData,
+        })
+    }
+
+    /// The bytes.
+    pub fn data(&self) -> &[u8]
+        ensures bytes { result.now ≡ bytes_of self.now }
+        ensures short { length result.now ≤ 65535 }
+    {
+        self.value.bytes.as_bytes()
+    }
+}
+
+impl<K: AttributeKind, B> AttributeStaticType for BytesAttribute<K, B>
+where
+    BytesAttribute<K, B>: HasKind<K>,
+{
+    ghost use Rattle.std.proofs.Common.{rules};
+
+    ghost TYPE = { record { 0 = K.NUMBER } };
+
+    ghost has_that_type = { Prim.search rules };
+
+    const TYPE: AttributeType = AttributeType(K::NUMBER);
+}
+
+impl<K: AttributeKind> HasKind<K> for BytesAttribute<K, ShortBytes<'_>> {
+    ghost use Rattle.std.specs.Prelude.{refl};
+
+    ghost has_that_type = { λ _. refl };
+}
+
+impl<K: AttributeKind> Attribute for BytesAttribute<K, ShortBytes<'_>> {
+    ghost use Rattle.stun_kinds.specs.Kinds.{bytes_of};
+
+    ghost atype = { λ _. K.NUMBER };
+
+    ghost value = { bytes_of };
+
+    fn get_type(&self) -> AttributeType {
+        AttributeType(K::NUMBER)
+    }
+
+    fn length(&self) -> u16 {
+        self.data().len() as u16
+    }
+}
+
+impl<K: AttributeKind> AttributeWrite for BytesAttribute<K, ShortBytes<'_>> {
+    ghost use Rattle.std.specs.Prelude.{true};
+
+    ghost to_raw_borrows = { λ _. true };
+
+    fn write_into_unchecked(&self, dest: &mut [u8]) {
+        write_attribute(AttributeType(K::NUMBER), self.data(), dest);
+    }
+
+    /// The raw attribute borrows the bytes, which takes no memory.
+    fn to_raw(&self, _alloc: Global) -> Result<RawAttribute<'_>, StunWriteError> {
+        Ok(borrowed_attribute(AttributeType(K::NUMBER), self.data()))
+    }
+}
+
+/// Reading refuses another type, as `WrongAttributeImplementation`, and no value. `from_raw` keeps
+/// the value as it is, so that one that is borrowed stays borrowed, and takes no memory;
+/// `from_raw_ref` copies it into memory that `alloc` gives, or answers `OutOfMemory`.
+impl<'a, K: AttributeKind> AttributeFromRaw<'a> for BytesAttribute<K, ShortBytes<'a>> {
+    ghost use Rattle.stun_kinds.specs.Kinds.{ReadsBytes, ReadsBytesInMemory};
+
+    ghost reads_ref = { ReadsBytesInMemory K.NUMBER };
+
+    ghost reads = { ReadsBytes K.NUMBER };
+
+    fn from_raw_ref(alloc: Global, raw: &RawAttribute<'_>) -> Result<Self, StunParseError> {
+        check_type(raw, AttributeType(K::NUMBER))?;
+        let copy = raw.clone(alloc).map_err(|_| StunParseError::OutOfMemory)?;
+        let copy = copy
+            .into_owned(alloc)
+            .map_err(|_| StunParseError::OutOfMemory)?;
+        Self::from_raw(alloc, copy)
+    }
+
+    fn from_raw(_alloc: Global, raw: RawAttribute<'a>) -> Result<Self, StunParseError> {
+        check_type(&raw, AttributeType(K::NUMBER))?;
+        Ok(BytesAttribute {
+            value: ShortBytes {
+                bytes: raw.into_value(),
+            },
+            kind: PhantomData,
+        })
+    }
+}
+
+/// The name, and the bytes in hexadecimal: `DATA: 0x0102ff`.
+impl<K: AttributeKind> fmt::Display for BytesAttribute<K, ShortBytes<'_>> {
+    ghost use Rattle.std.specs.Prelude.{Some, ◌++◌, codes};
+    ghost use Rattle.stun_grammar.specs.Names.{hex};
+    ghost use Rattle.stun_kinds.specs.Kinds.{bytes_of, named_text};
+
+    ghost output = { λ attribute. named_text K.NAME (Some (codes "0x" ++ hex (bytes_of attribute))) };
+
+    fn fmt<W: fmt::Write>(&self, f: &mut fmt::Formatter<W>) -> fmt::Result {
+        let name = K::name();
+        let digits = Hex(self.data());
+        write!(f, "{name}: 0x{digits}")
+    }
+}

@@ -1,0 +1,130 @@
+ghost use Rattle.std.specs.Prelude.{◌≡◌, Option};
+
+use crate::AttributeKind;
+use std::alloc::Global;
+use std::fmt;
+use std::marker::PhantomData;
+use stun_attrs::{EncodeValue, ReadValue, TypedAttribute};
+use stun_base::StunParseError;
+
+/// A kind of attribute whose value is a number in a few fixed bytes, of which some bits hold a `V`,
+/// and others are 0 or ignored.
+///
+/// In contracts `number_of` is the number that a `V` is written as, and `fields_of` the `V` that a
+/// number holds, if it holds one.
+pub trait FieldsKind<V>: AttributeKind {
+    type Number;
+
+    ghost number_of: { V → Self.Number };
+
+    ghost fields_of: { Self.Number → Option V };
+
+    /// The number that the value is written as.
+    fn to_number(value: &V) -> Self::Number
+        ensures { result ≡ number_of value.now };
+
+    /// The value that a number holds, if it holds one.
+    fn from_number(number: Self::Number) -> Option<V>
+        ensures { result ≡ fields_of number };
+}
+
+/// An attribute whose value is fields of a number, big-endian.
+///
+/// Reading refuses a value of another length than `wanted`, that of the number, as
+/// `Truncated { expected: wanted, actual }` or `TooLarge { expected: wanted, actual }`, and fields
+/// that the kind has no value for as `InvalidAttributeData`. It takes no memory.
+#[derive_where(Clone, Copy, Debug, PartialEq, Eq; V)]
+pub struct FieldsAttribute<K, V> {
+    value: V,
+    #[derive_where(skip)]
+    kind: PhantomData<K>,
+}
+
+impl<K, V> FieldsAttribute<K, V> {
+    ghost use Rattle.stun_kinds.specs.Kinds.{fields_held};
+
+    /// The attribute of this value.
+    pub fn new(value: V) -> Self
+        ensures { fields_held result ≡ value }
+    {
+        FieldsAttribute {
+            value,
+            kind: PhantomData,
+        }
+    }
+}
+
+impl<K, V: Copy> FieldsAttribute<K, V> {
+    ghost use Rattle.stun_kinds.specs.Kinds.{fields_held};
+
+    /// The value.
+    pub fn value(&self) -> V
+        ensures { result ≡ fields_held self.now }
+    {
+        self.value
+    }
+}
+
+impl<K, V> TypedAttribute for FieldsAttribute<K, V>
+where
+    K: FieldsKind<V>,
+    K::Number: EncodeValue + Drop,
+{
+    ghost NUMBER = { K.NUMBER };
+
+    const NUMBER: u16 = K::NUMBER;
+}
+
+impl<K, V> EncodeValue for FieldsAttribute<K, V>
+where
+    K: FieldsKind<V>,
+    K::Number: EncodeValue + Drop,
+{
+    ghost use Rattle.stun_kinds.specs.Kinds.{fields_held};
+
+    ghost bytes = { λ attribute. K.Number.bytes (K.number_of (fields_held attribute)) };
+
+    fn value_length(&self) -> u16 {
+        K::to_number(&self.value).value_length()
+    }
+
+    fn write_value(&self, dest: &mut [u8]) {
+        K::to_number(&self.value).write_value(dest);
+    }
+
+    fn held_bytes(&self) -> Option<&[u8]> {
+        None
+    }
+}
+
+/// [`FieldsAttribute`] lists what reading refuses.
+impl<K, V> ReadValue for FieldsAttribute<K, V>
+where
+    K: FieldsKind<V>,
+    K::Number: ReadValue + Drop,
+{
+    ghost use Rattle.stun_kinds.specs.Kinds.{ReadsFields};
+
+    ghost reads_value = { ReadsFields K.Number.reads_value K.fields_of };
+
+    fn read_value(alloc: Global, value: &[u8]) -> Result<Self, StunParseError> {
+        let number = K::Number::read_value(alloc, value)?;
+        match K::from_number(number) {
+            Some(value) => Ok(FieldsAttribute::new(value)),
+            None => Err(StunParseError::InvalidAttributeData),
+        }
+    }
+}
+
+/// The name and the value: `REQUESTED-TRANSPORT: 17`.
+impl<K: AttributeKind, V: fmt::Display> fmt::Display for FieldsAttribute<K, V> {
+    ghost use Rattle.stun_kinds.specs.Kinds.{fields_held, named_text};
+
+    ghost output = { λ attribute. named_text K.NAME (V.output (fields_held attribute)) };
+
+    fn fmt<W: fmt::Write>(&self, f: &mut fmt::Formatter<W>) -> fmt::Result {
+        let name = K::name();
+        let value = &self.value;
+        write!(f, "{name}: {value}")
+    }
+}

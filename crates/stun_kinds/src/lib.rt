@@ -1,0 +1,24 @@
+//! Kinds of attributes: a number, no value, bytes, an address, and an address that is XORed. An
+//! attribute is one of them with a number and a name.
+#![tactic(auto)]
+
+mod address;
+mod bytes;
+mod empty;
+mod fields;
+mod kind;
+mod laws;
+mod number;
+mod xored;
+
+pub use address::AddressAttribute;
+pub use bytes::{BytesAttribute, ShortBytes};
+pub use empty::EmptyAttribute;
+pub use fields::{FieldsAttribute, FieldsKind};
+pub use kind::AttributeKind;
+pub use laws::{
+    address_attribute_is_read_back, bytes_are_read_back, fields_are_read_back,
+    number_attribute_is_read_back, number_is_read_back,
+};
+pub use number::NumberAttribute;
+pub use xored::XorAddressAttribute;

@@ -1,0 +1,94 @@
+ghost use Rattle.std.specs.Prelude.{◌≡◌};
+
+use crate::AttributeKind;
+use std::alloc::Global;
+use std::fmt;
+use std::marker::PhantomData;
+use stun_attrs::{EncodeValue, ReadValue, TypedAttribute};
+use stun_base::StunParseError;
+
+/// An attribute whose value is a number `N`, which is a `u16`, a `u32` or a `u64`: two, four or
+/// eight bytes, big-endian.
+///
+/// Reading refuses a value of another length than `wanted`, that of the number, as
+/// `Truncated { expected: wanted, actual }` or `TooLarge { expected: wanted, actual }`. It takes no
+/// memory.
+#[derive_where(Clone, Copy, Debug, PartialEq, Eq; N)]
+pub struct NumberAttribute<K, N> {
+    number: N,
+    #[derive_where(skip)]
+    kind: PhantomData<K>,
+}
+
+impl<K, N> NumberAttribute<K, N> {
+    ghost use Rattle.stun_kinds.specs.Kinds.{number_of};
+
+    /// The attribute of this number.
+    pub fn new(number: N) -> Self
+        ensures { number_of result ≡ number }
+    {
+        NumberAttribute {
+            number,
+            kind: PhantomData,
+        }
+    }
+}
+
+impl<K, N: Copy> NumberAttribute<K, N> {
+    ghost use Rattle.stun_kinds.specs.Kinds.{number_of};
+
+    /// The number.
+    pub fn value(&self) -> N
+        ensures { result ≡ number_of self.now }
+    {
+        self.number
+    }
+}
+
+impl<K: AttributeKind, N: EncodeValue> TypedAttribute for NumberAttribute<K, N> {
+    ghost NUMBER = { K.NUMBER };
+
+    const NUMBER: u16 = K::NUMBER;
+}
+
+impl<K, N: EncodeValue> EncodeValue for NumberAttribute<K, N> {
+    ghost use Rattle.stun_kinds.specs.Kinds.{number_of};
+
+    ghost bytes = { λ attribute. N.bytes (number_of attribute) };
+
+    fn value_length(&self) -> u16 {
+        self.number.value_length()
+    }
+
+    fn write_value(&self, dest: &mut [u8]) {
+        self.number.write_value(dest);
+    }
+
+    fn held_bytes(&self) -> Option<&[u8]> {
+        None
+    }
+}
+
+/// [`NumberAttribute`] lists what reading refuses.
+impl<K, N: ReadValue> ReadValue for NumberAttribute<K, N> {
+    ghost use Rattle.stun_kinds.specs.Kinds.{ReadsHeld, number_of};
+
+    ghost reads_value = { ReadsHeld number_of N.reads_value };
+
+    fn read_value(alloc: Global, value: &[u8]) -> Result<Self, StunParseError> {
+        Ok(NumberAttribute::new(N::read_value(alloc, value)?))
+    }
+}
+
+/// The name and the number: `PRIORITY: 1862270975`.
+impl<K: AttributeKind, N: fmt::Display> fmt::Display for NumberAttribute<K, N> {
+    ghost use Rattle.stun_kinds.specs.Kinds.{named_text, number_of};
+
+    ghost output = { λ attribute. named_text K.NAME (N.output (number_of attribute)) };
+
+    fn fmt<W: fmt::Write>(&self, f: &mut fmt::Formatter<W>) -> fmt::Result {
+        let name = K::name();
+        let number = &self.number;
+        write!(f, "{name}: {number}")
+    }
+}

@@ -1,0 +1,99 @@
+use crate::AttributeKind;
+use std::alloc::Global;
+use std::fmt;
+use std::marker::PhantomData;
+use std::net::SocketAddr;
+use stun_attributes::XorSocketAddr;
+use stun_attrs::{EncodeValue, ReadValue, TypedAttribute};
+use stun_base::{StunParseError, TransactionId};
+
+/// An attribute whose value is an address that is XORed, in the form of a [`XorSocketAddr`]: 8
+/// bytes for IPv4 and 20 for IPv6.
+///
+/// Reading reports what [`XorSocketAddr::from_raw`] refuses. It takes no memory.
+#[derive(Drop)]
+#[derive_where(Clone, Debug, PartialEq, Eq)]
+pub struct XorAddressAttribute<K> {
+    addr: XorSocketAddr,
+    #[derive_where(skip)]
+    kind: PhantomData<K>,
+}
+
+impl<K> XorAddressAttribute<K> {
+    ghost use Rattle.stun_values.specs.Addresses.{IsXored};
+    ghost use Rattle.stun_kinds.specs.Kinds.{xored_of};
+
+    /// The attribute of this address in a message with this transaction ID. Flow info and scope ID
+    /// of an IPv6 address are dropped.
+    pub fn new(addr: SocketAddr, transaction: TransactionId) -> Self
+        ensures { IsXored transaction addr (xored_of result) }
+    {
+        XorAddressAttribute {
+            addr: XorSocketAddr::new(addr, transaction),
+            kind: PhantomData,
+        }
+    }
+
+    /// The address, if the message has this transaction ID.
+    pub fn addr(&self, transaction: TransactionId) -> SocketAddr
+        ensures { IsXored transaction (xored_of self.now) result }
+    {
+        self.addr.addr(transaction)
+    }
+}
+
+impl<K: AttributeKind> TypedAttribute for XorAddressAttribute<K> {
+    ghost NUMBER = { K.NUMBER };
+
+    const NUMBER: u16 = K::NUMBER;
+}
+
+impl<K> EncodeValue for XorAddressAttribute<K> {
+    ghost use Rattle.stun_values.specs.Addresses.{address_value};
+    ghost use Rattle.stun_kinds.specs.Kinds.{xored_of};
+
+    ghost bytes = { λ attribute. address_value (xored_of attribute) };
+
+    fn value_length(&self) -> u16 {
+        self.addr.length()
+    }
+
+    fn write_value(&self, dest: &mut [u8]) {
+        self.addr.write_into_unchecked(dest);
+    }
+
+    fn held_bytes(&self) -> Option<&[u8]> {
+        None
+    }
+}
+
+/// [`XorAddressAttribute`] says what reading refuses.
+impl<K> ReadValue for XorAddressAttribute<K> {
+    ghost use Rattle.stun_attributes.specs.AddressAttributes.{ReadsAddress};
+    ghost use Rattle.stun_kinds.specs.Kinds.{xored_of};
+
+    ghost reads_value = { ReadsAddress xored_of };
+
+    fn read_value(_alloc: Global, value: &[u8]) -> Result<Self, StunParseError> {
+        Ok(XorAddressAttribute {
+            addr: XorSocketAddr::read(value)?,
+            kind: PhantomData,
+        })
+    }
+}
+
+/// The name and the address: `XOR-RELAYED-ADDRESS: 192.168.0.1:3478` for IPv4, as it is without the
+/// XOR, and `XOR-RELAYED-ADDRESS: XOR([2112:a442::5679]:9664)` for IPv6, as it is written.
+impl<K: AttributeKind> fmt::Display for XorAddressAttribute<K> {
+    ghost use Rattle.std.specs.Prelude.{Some};
+    ghost use Rattle.stun_values.specs.Addresses.{xored_text};
+    ghost use Rattle.stun_kinds.specs.Kinds.{named_text, xored_of};
+
+    ghost output = { λ attribute. named_text K.NAME (Some (xored_text (xored_of attribute))) };
+
+    fn fmt<W: fmt::Write>(&self, f: &mut fmt::Formatter<W>) -> fmt::Result {
+        let name = K::name();
+        let addr = &self.addr;
+        write!(f, "{name}: {addr}")
+    }
+}

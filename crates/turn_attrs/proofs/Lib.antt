@@ -1,0 +1,2 @@
+mod AddressErrorsLemmas
+mod ProtocolsLemmas

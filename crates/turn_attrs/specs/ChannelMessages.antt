@@ -1,0 +1,40 @@
+-- ChannelData messages (RFC 8656, sections 12.4 to 12.6).
+use Rattle.std.specs.Prelude.{◌≡◌, ℕ, ◌+◌, ◌-◌, List, ◌++◌, length, take, drop, replicate, Option, Some, None, nat_lt, if◌then◌else◌}
+use Rattle.std.specs.Option.{option_or}
+use Rattle.stun_grammar.specs.Numbers.{be16, padded_length}
+use Rattle.turn_attrs.specs.declared.channel_data.ChannelData.{ChannelData}
+use Rattle.turn_attrs.specs.declared.channel_data.ChannelDataError.{ChannelDataError}
+use Rattle.turn_attrs.specs.declared.channel_data.ChannelDataError.TheVariants.{Truncated, TooLarge}
+use Rattle.turn_attrs.specs.Channels.{begin_fault, channel_field, data_length}
+
+abbrev pub data_of : ChannelData → List ℕ
+data_of message = message.bytes.now
+
+-- the message is of this channel and this data
+pub record IsData (channel : ℕ) (bytes : List ℕ) (message : ChannelData) : Type 0 where
+  pub channel_is : message.channel ≡ channel
+  pub data_is : data_of message ≡ bytes
+
+-- the message as it is written, and with the padding that it has on a stream
+abbrev pub message_bytes : ChannelData → List ℕ
+message_bytes message =
+    be16 message.channel ++ (be16 (length (data_of message)) ++ data_of message)
+
+abbrev pub padded_bytes : ChannelData → List ℕ
+padded_bytes message =
+    let n = 4 + length (data_of message) in
+    message_bytes message ++ replicate (padded_length n - n) 0
+
+-- why a datagram is no ChannelData message: it begins with none, or the data is cut off, or more
+-- follows than a padding has
+abbrev pub channel_fault : List ℕ → Option ChannelDataError
+channel_fault b =
+    let n = 4 + data_length b in
+    option_or (begin_fault b) (
+    if nat_lt (length b) n then Some (Truncated n (length b)) else (
+    if nat_lt (padded_length n) (length b) then Some (TooLarge (padded_length n) (length b))
+    else None))
+
+-- the message that is in a datagram which has no fault
+abbrev pub IsIn : List ℕ → ChannelData → Type 0
+IsIn b = IsData (channel_field b) (take (data_length b) (drop 4 b))

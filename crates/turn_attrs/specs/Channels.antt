@@ -1,0 +1,21 @@
+-- How a ChannelData message begins (RFC 8656, section 12.4): the number of a channel and the length
+-- of the data, in two bytes each.
+use Rattle.std.specs.Prelude.{ℕ, ◌+◌, ◌*◌, ◌&&◌, List, length, take, slice_index, slice_range, Option, Some, None, nat_lt, nat_le, if◌then◌else◌}
+use Rattle.std.specs.List.{list_all}
+use Rattle.stun_grammar.specs.Numbers.{number}
+use Rattle.turn_attrs.specs.declared.channel_data.ChannelDataError.{ChannelDataError}
+use Rattle.turn_attrs.specs.declared.channel_data.ChannelDataError.TheVariants.{NotChannelData, Truncated}
+
+abbrev pub channel_field : List ℕ → ℕ
+channel_field b = 256 * slice_index b 0 + slice_index b 1
+
+abbrev pub data_length : List ℕ → ℕ
+data_length b = number (slice_range b 2 4)
+
+-- why no channel and length begin the bytes: the first, where there is one, is none of 0x40 to 0x4F,
+-- or there are fewer than four
+abbrev pub begin_fault : List ℕ → Option ChannelDataError
+begin_fault b =
+    if list_all (λ first. nat_le 0x40 first && nat_le first 0x4F) (take 1 b)
+    then (if nat_lt (length b) 4 then Some (Truncated 4 (length b)) else None)
+    else Some NotChannelData

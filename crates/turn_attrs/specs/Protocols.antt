@@ -1,0 +1,14 @@
+-- Protocols by the first byte of a packet (RFC 7983, section 7, and RFC 9443, section 3).
+use Rattle.std.specs.Prelude.{ℕ, Option, Some, None, nat_lt, if◌then◌else◌}
+use Rattle.turn_attrs.specs.declared.protocol.Protocol.{Protocol}
+use Rattle.turn_attrs.specs.declared.protocol.Protocol.TheVariants.{Stun, Zrtp, Dtls, TurnChannel, Quic, Rtp}
+
+abbrev pub protocol : ℕ → Option Protocol
+protocol first =
+    if nat_lt first 4 then Some Stun else (
+    if nat_lt first 16 then None else (
+    if nat_lt first 20 then Some Zrtp else (
+    if nat_lt first 64 then Some Dtls else (
+    if nat_lt first 80 then Some TurnChannel else (
+    if nat_lt first 128 then Some Quic else (
+    if nat_lt first 192 then Some Rtp else Some Quic))))))

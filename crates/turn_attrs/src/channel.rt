@@ -1,0 +1,85 @@
+use crate::ChannelNumberKind;
+use std::fmt;
+use std::marker::Model;
+use stun_types::attribute::FieldsKind;
+
+/// The number of a channel: 0x4000 to 0x4FFF (RFC 8656, section 12).
+#[derive(Clone, Copy, Debug, PartialEq, Eq)]
+pub struct Channel(u16);
+
+impl Model for Channel {
+    ghost use Rattle.std.specs.Prelude.{ℕ, ◌≤◌};
+
+    ghost Value = { ℕ };
+
+    ghost view = { λ channel. channel.0 };
+
+    ghost invariant = { λ channel. (0x4000 ≤ channel.0) × (channel.0 ≤ 0x4FFF) };
+
+    ghost inverse = { λ number. record { 0 = number } };
+}
+
+impl Channel {
+    ghost use Rattle.std.specs.Prelude.{◌≡◌, ◌≤◌, ◌+◌, ◌*◌};
+    ghost use Rattle.turn_attrs.specs.Turn.{channel_of};
+
+    /// The channel of this number; `None` where it is below 0x4000 or above 0x4FFF.
+    pub fn new(number: u16) -> Option<Channel>
+        ensures { result ≡ channel_of number }
+    {
+        if (0x4000..=0x4FFF).contains(&number) {
+            Some(Channel(number))
+        } else {
+            None
+        }
+    }
+
+    /// The channel whose number has these bytes.
+    pub(crate) fn from_bytes(high: u8, low: u8) -> Channel
+        requires least { 0x40 ≤ high }
+        requires greatest { high ≤ 0x4F }
+        ensures { result ≡ 256 * high + low }
+    {
+        Channel(high as u16 * 256 + low as u16)
+    }
+
+    /// The number.
+    pub fn number(&self) -> u16
+        ensures number { result ≡ self.now }
+        ensures least { 0x4000 ≤ result }
+        ensures greatest { result ≤ 0x4FFF }
+    {
+        self.0
+    }
+}
+
+/// The number in hexadecimal: `0x4001`.
+impl fmt::Display for Channel {
+    ghost use Rattle.std.specs.Prelude.{Some};
+    ghost use Rattle.turn_attrs.specs.Turn.{channel_text};
+
+    ghost output = { λ channel. Some (channel_text channel) };
+
+    fn fmt<W: fmt::Write>(&self, f: &mut fmt::Formatter<W>) -> fmt::Result {
+        let number = self.0;
+        write!(f, "0x{number:x}")
+    }
+}
+
+impl FieldsKind<Channel> for ChannelNumberKind {
+    ghost use Rattle.turn_attrs.specs.Turn.{channel_in, channel_number};
+
+    type Number = u32;
+
+    ghost number_of = { channel_number };
+
+    ghost fields_of = { channel_in };
+
+    fn to_number(channel: &Channel) -> u32 {
+        channel.number() as u32 * 0x1_0000
+    }
+
+    fn from_number(number: u32) -> Option<Channel> {
+        Channel::new((number / 0x1_0000) as u16)
+    }
+}

@@ -1,0 +1,261 @@
+//! ChannelData messages (RFC 8656, sections 12.4 and 12.5), which share a socket with STUN
+//! messages.
+
+ghost use Rattle.std.specs.Prelude.{◌≡◌, ◌≤◌, ◌<◌, ◌+◌, Some, None, MatchResult, MatchOption, length};
+ghost use Rattle.stun_grammar.specs.Numbers.{padded_length};
+ghost use Rattle.turn_attrs.specs.Channels.{begin_fault, channel_field, data_length};
+
+use crate::Channel;
+use byteorder::{BigEndian, ByteOrder};
+use stun_types::attribute::{AttributeHeader, AttributeType, pad_attribute_len};
+use stun_types::message::StunWriteError;
+use thiserror::Error;
+
+/// Why bytes are no ChannelData message.
+#[derive(Clone, Copy, Debug, PartialEq, Eq, Error)]
+pub enum ChannelDataError {
+    /// The first byte is none of 0x40 to 0x4F, with which the number of a channel begins.
+    #[error("The provided data is not a ChannelData message")]
+    NotChannelData,
+    /// Bytes are missing.
+    #[error("Not enough data for a ChannelData message, expected {expected}, actual {actual}")]
+    Truncated {
+        /// How many bytes are needed.
+        expected: usize,
+        /// How many there are.
+        actual: usize,
+    },
+    /// More bytes follow than a padding has.
+    #[error("Too much data for a ChannelData message, expected {expected}, actual {actual}")]
+    TooLarge {
+        /// How many bytes are allowed.
+        expected: usize,
+        /// How many there are.
+        actual: usize,
+    },
+}
+
+/// Data on a channel: the number of the channel and the length of the data in two bytes each,
+/// big-endian, and the data. Over TCP and TLS zeros follow up to a multiple of 4; over UDP they
+/// may.
+#[derive(Clone, Copy, Debug, PartialEq, Eq)]
+pub struct ChannelData<'a> {
+    channel: Channel,
+    bytes: &'a [u8],
+    ghost short: { length bytes.now ≤ 65535 },
+}
+
+/// The channel with whose number the bytes begin; a length follows it.
+fn read_channel(bytes: &[u8]) -> Result<Channel, ChannelDataError>
+    ensures { MatchResult result
+        (λ channel. (begin_fault bytes.now ≡ None) × (4 ≤ length bytes.now)
+        × (channel ≡ channel_field bytes.now))
+        (λ e. begin_fault bytes.now ≡ Some e) }
+{
+    let is_channel = match bytes.first() {
+        Some(first) => (0x40..=0x4F).contains(first),
+        None => true,
+    };
+    if !is_channel {
+        return Err(ChannelDataError::NotChannelData);
+    }
+    if bytes.len() < 4 {
+        return Err(ChannelDataError::Truncated {
+            expected: 4,
+            actual: bytes.len(),
+        });
+    }
+    Ok(Channel::from_bytes(bytes[0], bytes[1]))
+}
+
+/// The length of the ChannelData message whose first bytes are `prefix` on a stream: four bytes,
+/// its data, and zeros up to a multiple of 4; 4 to 65540 in all. `None` where there are fewer than
+/// four bytes, and a ChannelData message may begin with them. It takes no memory, and looks at the
+/// first four bytes alone.
+///
+/// # Errors
+///
+/// `NotChannelData` where the first byte is none of 0x40 to 0x4F.
+pub fn channel_data_length(prefix: &[u8]) -> Result<Option<usize>, ChannelDataError>
+    ensures { MatchResult result
+        (λ told. MatchOption told
+        ((begin_fault prefix.now ≡ Some (ChannelDataError.Truncated 4 (length prefix.now)))
+        × (length prefix.now < 4))
+        (λ framed. (begin_fault prefix.now ≡ None)
+        × (framed ≡ padded_length (4 + data_length prefix.now))))
+        (λ e. (begin_fault prefix.now ≡ Some e) × (e ≡ ChannelDataError.NotChannelData)) }
+{
+    match read_channel(prefix) {
+        Ok(_) => {
+            let length = BigEndian::read_u16(&prefix[2..4]) as usize;
+            Ok(Some(pad_attribute_len(4 + length)))
+        }
+        Err(ChannelDataError::NotChannelData) => Err(ChannelDataError::NotChannelData),
+        Err(_) => Ok(None),
+    }
+}
+
+impl<'a> ChannelData<'a> {
+    ghost use Rattle.std.specs.Prelude.{◌≡◌, ◌≤◌, ◌<◌, ◌+◌, ◌++◌, Ok, Err, Some, None, IsOkAnd, MatchResult, length, take, drop};
+    ghost use Rattle.stun_grammar.specs.Numbers.{padded_length};
+    ghost use Rattle.turn_attrs.specs.ChannelMessages.{IsData, IsIn, channel_fault, message_bytes, padded_bytes, data_of};
+
+    /// The message of this data on this channel. It borrows the data.
+    ///
+    /// # Errors
+    ///
+    /// `TooLarge { expected: 65535, actual }` where there are more than 65535 bytes.
+    pub fn new(channel: Channel, bytes: &'a [u8]) -> Result<Self, StunWriteError>
+        ensures ok { length bytes.now ≤ 65535 → IsOkAnd result (IsData channel bytes.now) }
+        ensures large { 65535 < length bytes.now
+            → result ≡ Err (StunWriteError.TooLarge 65535 (length bytes.now)) }
+    {
+        if bytes.len() > 65535 {
+            return Err(StunWriteError::TooLarge {
+                expected: 65535,
+                actual: bytes.len(),
+            });
+        }
+        Ok(ChannelData { channel, bytes })
+    }
+
+    /// Reads the message in a datagram, whose data it borrows. Up to three bytes may follow it, as
+    /// padding, and are ignored. On a stream cut it to [`channel_data_length`] first.
+    ///
+    /// # Errors
+    ///
+    /// The first of these that applies:
+    ///
+    /// - `NotChannelData` where the first byte is none of 0x40 to 0x4F;
+    /// - `Truncated { expected: 4, actual }` where there are fewer than four bytes;
+    /// - `Truncated { expected, actual }` where there are fewer than four bytes and the data;
+    /// - `TooLarge { expected, actual }` where there are more than that, padded to a multiple of 4.
+    pub fn from_bytes(bytes: &'a [u8]) -> Result<Self, ChannelDataError>
+        ensures { MatchResult result
+            (λ read. (channel_fault bytes.now ≡ None) × IsIn bytes.now read)
+            (λ e. channel_fault bytes.now ≡ Some e) }
+    {
+        let channel = read_channel(bytes)?;
+        let end = 4 + BigEndian::read_u16(&bytes[2..4]) as usize;
+        if bytes.len() < end {
+            return Err(ChannelDataError::Truncated {
+                expected: end,
+                actual: bytes.len(),
+            });
+        }
+        let padded = pad_attribute_len(end);
+        if bytes.len() > padded {
+            return Err(ChannelDataError::TooLarge {
+                expected: padded,
+                actual: bytes.len(),
+            });
+        }
+        let (_, behind) = bytes.split_at(4);
+        let (bytes, _) = behind.split_at(end - 4);
+        Ok(ChannelData { channel, bytes })
+    }
+
+    /// The channel.
+    pub fn channel(&self) -> Channel
+        ensures { result ≡ self.now.channel }
+    {
+        self.channel
+    }
+
+    /// The data, for as long as it is borrowed.
+    pub fn data(&self) -> &'a [u8]
+        ensures bytes { result.now ≡ data_of self.now }
+        ensures short { length result.now ≤ 65535 }
+    {
+        self.bytes
+    }
+
+    /// How many bytes the message has without padding: four, and the data.
+    pub fn length(&self) -> usize
+        ensures { result ≡ 4 + length (data_of self.now) }
+    {
+        4 + self.bytes.len()
+    }
+
+    /// How many bytes the message has on a stream: a multiple of 4, at most 65540.
+    pub fn padded_len(&self) -> usize
+        ensures { result ≡ padded_length (4 + length (data_of self.now)) }
+    {
+        pad_attribute_len(self.length())
+    }
+
+    /// Writes the message at the start of `dest`, without padding, and returns how many bytes it
+    /// has, [`ChannelData::length`]. What follows is unchanged.
+    ///
+    /// # Errors
+    ///
+    /// `TooSmall { expected, actual }` where `dest` has fewer bytes than that; they are unchanged
+    /// then.
+    pub fn write_into(&self, dest: &mut [u8]) -> Result<usize, StunWriteError>
+        ensures short { length dest.old < 4 + length (data_of self.now)
+            → (result ≡ Err (StunWriteError.TooSmall (4 + length (data_of self.now))
+            (length dest.old))) × (dest.new ≡ dest.old) }
+        ensures ok { 4 + length (data_of self.now) ≤ length dest.old
+            → (result ≡ Ok (4 + length (data_of self.now)))
+            × (dest.new ≡ message_bytes self.now
+            ++ drop (4 + length (data_of self.now)) dest.old) }
+    {
+        let length = self.length();
+        check_room(dest, length)?;
+        self.write_unpadded(dest);
+        Ok(length)
+    }
+
+    /// Writes the message and its padding at the start of `dest`, as a stream has it, and returns
+    /// how many bytes they are, [`ChannelData::padded_len`]. What follows is unchanged.
+    ///
+    /// # Errors
+    ///
+    /// `TooSmall { expected, actual }` where `dest` has fewer bytes than that; they are unchanged
+    /// then.
+    pub fn write_padded_into(&self, dest: &mut [u8]) -> Result<usize, StunWriteError>
+        ensures short { length dest.old < padded_length (4 + length (data_of self.now))
+            → (result ≡ Err (StunWriteError.TooSmall (padded_length (4 + length (data_of self.now)))
+            (length dest.old))) × (dest.new ≡ dest.old) }
+        ensures ok { padded_length (4 + length (data_of self.now)) ≤ length dest.old
+            → (result ≡ Ok (padded_length (4 + length (data_of self.now))))
+            × (dest.new ≡ padded_bytes self.now
+            ++ drop (padded_length (4 + length (data_of self.now))) dest.old) }
+    {
+        let padded = self.padded_len();
+        check_room(dest, padded)?;
+        dest[self.length()..padded].fill(0);
+        self.write_unpadded(dest);
+        Ok(padded)
+    }
+
+    /// Writes the message at the start of `dest`, which is long enough. What follows is unchanged.
+    fn write_unpadded(&self, dest: &mut [u8])
+        requires { 4 + length (data_of self.now) ≤ length dest.old }
+        ensures { dest.new ≡ message_bytes self.now
+            ++ drop (4 + length (data_of self.now)) dest.old }
+    {
+        let header = AttributeHeader {
+            atype: AttributeType(self.channel.number()),
+            length: self.bytes.len() as u16,
+        };
+        header.write_into(dest);
+        dest[4..4 + self.bytes.len()].copy_from_slice(self.bytes);
+    }
+}
+
+/// Tests that there are as many bytes.
+fn check_room(dest: &[u8], expected: usize) -> Result<(), StunWriteError>
+    ensures { MatchResult result
+        (λ _. expected ≤ length dest.now)
+        (λ e. (length dest.now < expected)
+        × (e ≡ StunWriteError.TooSmall expected (length dest.now))) }
+{
+    if dest.len() < expected {
+        return Err(StunWriteError::TooSmall {
+            expected,
+            actual: dest.len(),
+        });
+    }
+    Ok(())
+}

@@ -1,0 +1,36 @@
+//! Laws of TURN's attributes: the number of some fields holds the fields that it was made of, so
+//! that what is written is read back (`stun_kinds::fields_are_read_back`). Each function does
+//! nothing: its contract is the law.
+
+ghost use Rattle.std.specs.Prelude.{◌≡◌, ◌≤◌, ◌<◌, ◌^◌, ℕ, Bool, Some, Result, MatchResult};
+ghost use Rattle.stun_grammar.specs.declared.error.StunParseError.{StunParseError};
+ghost use Rattle.stun_grammar.specs.declared.error.StunParseError.TheVariants.{OutOfMemory};
+ghost use Rattle.stun_base.specs.declared.transport.AddressFamily.{AddressFamily};
+ghost use Rattle.stun_attributes.specs.ErrorCodes.{error_code, error_reason, IsError};
+ghost use Rattle.turn_attrs.specs.declared.address_error_code.AddressErrorCode.{AddressErrorCode};
+ghost use Rattle.turn_attrs.specs.declared.family.OnlyIpv6.{OnlyIpv6};
+ghost use Rattle.turn_attrs.specs.declared.icmp.IcmpError.{IcmpError};
+ghost use Rattle.turn_attrs.specs.Turn.{address_error_value, channel_in, channel_number, failed_error, failed_family, family_in, family_number, icmp_in, icmp_number, ipv6_in, ipv6_number, protocol_in, protocol_number, reserve_in, reserve_number, ReadsAddressError};
+
+/// The number of a channel, a family, a flag, a protocol and an ICMP error holds it.
+pub fn fields_are_held()
+    ensures channel { (channel : ℕ) → 0x4000 ≤ channel → channel ≤ 0x4FFF
+        → channel_in (channel_number channel) ≡ Some channel }
+    ensures family { (family : AddressFamily) → family_in (family_number family) ≡ Some family }
+    ensures ipv6 { (family : OnlyIpv6) → ipv6_in (ipv6_number family) ≡ Some family }
+    ensures reserve { (reserve : Bool) → reserve_in (reserve_number reserve) ≡ Some reserve }
+    ensures protocol { (protocol : ℕ) → protocol_in (protocol_number protocol) ≡ Some protocol }
+    ensures icmp { (error : IcmpError) → error.icmp_type < 256 → error.code < 256
+        → error.«data» < 2 ^ 32 → icmp_in (icmp_number error) ≡ Some error }
+{}
+
+/// An ADDRESS-ERROR-CODE is read back, unless out of memory.
+pub fn address_error_is_read_back()
+    ensures { (attribute : AddressErrorCode) (result : Result AddressErrorCode StunParseError)
+        → ReadsAddressError (address_error_value attribute) result
+        → MatchResult result
+        (λ read. (failed_family read ≡ failed_family attribute)
+        × IsError (error_code (failed_error attribute)) (error_reason (failed_error attribute))
+        (failed_error read))
+        (λ e. e ≡ OutOfMemory) }
+{}

@@ -1,0 +1,95 @@
+use std::alloc::Global;
+use std::fmt;
+use stun_types::attribute::{EncodeValue, ReadValue, TextAttribute, TypedAttribute};
+use stun_types::message::{StunParseError, StunWriteError};
+
+/// THIRD-PARTY-AUTHORIZATION: the server takes tokens that another server issues, and has this name
+/// there (RFC 7635, section 6.1). The value is the name in UTF-8, at most 65535 bytes.
+#[derive(Debug, PartialEq, Eq, Drop)]
+pub struct ThirdPartyAuthorization {
+    name: TextAttribute<0x802E, 65535>,
+}
+
+impl ThirdPartyAuthorization {
+    ghost use Rattle.std.specs.Prelude.{◌≡◌, ◌≤◌, ◌<◌, Err, IfOk, IfErr, length};
+    ghost use Rattle.turn_attrs.specs.Turn.{server_name};
+
+    /// The attribute of this name, which is copied into memory from `alloc`.
+    ///
+    /// # Errors
+    ///
+    /// `TooLarge { expected: 65535, actual }` if the name has more than 65535 bytes, and
+    /// `OutOfMemory` if an allocation failed.
+    pub fn new(alloc: Global, name: &str) -> Result<Self, StunWriteError>
+        ensures ok { IfOk result (λ made. server_name made ≡ name.now) }
+        ensures large { 65535 < length name.now
+            → result ≡ Err (StunWriteError.TooLarge 65535 (length name.now)) }
+        ensures err { length name.now ≤ 65535 → IfErr result (λ e. e ≡ StunWriteError.OutOfMemory) }
+    {
+        let name = TextAttribute::new(alloc, name)?;
+        Ok(ThirdPartyAuthorization { name })
+    }
+
+    /// The name of the server.
+    pub fn server(&self) -> &str
+        ensures { result.now ≡ server_name self.now }
+    {
+        self.name.text()
+    }
+}
+
+impl TypedAttribute for ThirdPartyAuthorization {
+    ghost use Rattle.turn_attrs.specs.Turn.{THIRD_PARTY_AUTHORIZATION};
+
+    ghost NUMBER = { THIRD_PARTY_AUTHORIZATION };
+
+    const NUMBER: u16 = 0x802E;
+}
+
+impl EncodeValue for ThirdPartyAuthorization {
+    ghost use Rattle.std.specs.Prelude.{true};
+    ghost use Rattle.turn_attrs.specs.Turn.{server_name};
+
+    ghost bytes = { server_name };
+
+    ghost is_held = { λ _. true };
+
+    fn value_length(&self) -> u16 {
+        self.name.value_length()
+    }
+
+    fn write_value(&self, dest: &mut [u8]) {
+        self.name.write_value(dest);
+    }
+
+    fn held_bytes(&self) -> Option<&[u8]> {
+        Some(self.server().as_bytes())
+    }
+}
+
+/// Reading refuses bytes that aren't UTF-8 as `InvalidAttributeData`, and answers `OutOfMemory`
+/// where an allocation failed, since the name is kept in memory from `alloc`.
+impl ReadValue for ThirdPartyAuthorization {
+    ghost use Rattle.turn_attrs.specs.Turn.{ReadsServerName};
+
+    ghost reads_value = { ReadsServerName };
+
+    fn read_value(alloc: Global, value: &[u8]) -> Result<Self, StunParseError> {
+        let name = TextAttribute::read_value(alloc, value)?;
+        Ok(ThirdPartyAuthorization { name })
+    }
+}
+
+/// `THIRD-PARTY-AUTHORIZATION: turn1.example.com`.
+impl fmt::Display for ThirdPartyAuthorization {
+    ghost use Rattle.std.specs.Prelude.{Some, codes, ◌++◌};
+    ghost use Rattle.turn_attrs.specs.Turn.{server_name};
+
+    ghost output = { λ attribute.
+        Some (codes "THIRD-PARTY-AUTHORIZATION: " ++ server_name attribute) };
+
+    fn fmt<W: fmt::Write>(&self, f: &mut fmt::Formatter<W>) -> fmt::Result {
+        let name = self.server();
+        write!(f, "THIRD-PARTY-AUTHORIZATION: {name}")
+    }
+}
