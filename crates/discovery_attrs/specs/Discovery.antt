@@ -1,6 +1,6 @@
 -- Attributes of NAT behaviour discovery (RFC 5780, section 7), MAPPED-ADDRESS (RFC 8489, section
 -- 14.1) and TRANSACTION_TRANSMIT_COUNTER (RFC 7982, section 3.1).
-use Rattle.std.specs.Prelude.{◌≡◌, ℕ, ◌+◌, ◌*◌, ◌/◌, ◌%◌, Bool, ◌&&◌, not, List, ◌++◌, codes, length, take, Option, Some, None, Result, nat_lt, ◌==◌, if◌then◌else◌}
+use Rattle.std.specs.Prelude.{◌≡◌, ℕ, ◌+◌, ◌*◌, ◌/◌, ◌%◌, Bool, List, ◌++◌, codes, length, take, Option, Some, None, Result, nat_lt, ◌==◌, if◌then◌else◌}
 use Rattle.std.specs.Fmt.{decimal}
 use Rattle.stun_grammar.specs.declared.error.StunParseError.{StunParseError}
 use Rattle.stun_grammar.specs.declared.error.StunParseError.TheVariants.{Truncated, TooLarge}

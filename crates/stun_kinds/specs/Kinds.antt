@@ -1,5 +1,5 @@
 -- Attributes that are a number and a name, and a value of one of a few forms.
-use Rattle.std.specs.Prelude.{◌≡◌, ℕ, List, length, ◌++◌, codes, Option, Result, Ok, Err, MatchResult, None, Some, IsOkAnd, MatchOption, ⊤}
+use Rattle.std.specs.Prelude.{◌≡◌, ℕ, List, length, ◌++◌, codes, Option, Result, Ok, Err, MatchResult, None, IsOkAnd, MatchOption, ⊤}
 use Rattle.std.specs.Option.{option_map}
 use Rattle.std.specs.declared.net.socket_addr.SocketAddr.{SocketAddr}
 use Rattle.stun_grammar.specs.declared.error.StunParseError.{StunParseError}

@@ -1,6 +1,6 @@
 -- Attributes of TURN (RFC 8656, section 18; RFC 6062, section 6.2; RFC 7635, section 6; RFC 8016,
 -- section 3.3).
-use Rattle.std.specs.Prelude.{◌≡◌, ℕ, ◌+◌, ◌*◌, ◌/◌, ◌%◌, ◌^◌, Bool, false, ◌&&◌, List, [], ◌∷◌, ◌++◌, codes, length, drop, slice_index, Option, Some, None, Result, nat_lt, nat_le, ◌==◌, if◌then◌else◌}
+use Rattle.std.specs.Prelude.{◌≡◌, ℕ, ◌+◌, ◌*◌, ◌/◌, ◌%◌, ◌^◌, Bool, false, ◌&&◌, List, ◌∷◌, ◌++◌, codes, length, drop, slice_index, Option, Some, None, Result, nat_lt, nat_le, ◌==◌, if◌then◌else◌}
 use Rattle.std.specs.Fmt.{decimal, digits}
 use Rattle.std.specs.Option.{option_or}
 use Rattle.stun_grammar.specs.declared.error.StunParseError.{StunParseError}
