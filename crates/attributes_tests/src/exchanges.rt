@@ -6,14 +6,15 @@ use ice_attrs::{IceControlling, Priority, UseCandidate};
 use std::alloc::{AllocError, Global};
 use std::net::{IpAddr, Ipv4Addr, SocketAddr};
 use std::test::Fail;
-use stun_types::attribute::{ErrorCode, Nonce, Realm, Username, XorMappedAddress};
+use stun_types::attribute::{
+    AttributeType, ErrorCode, MessageIntegrity, Nonce, Realm, UnknownAttributes, Username,
+    XorMappedAddress,
+};
 use stun_types::message::{
     BINDING, IntegrityAlgorithm, LongTermKeyCredentials, Message, MessageClass,
     MessageIntegrityCredentials, MessageType, MessageWriteVec, Method, TransactionId,
 };
 use stun_types::prelude::*;
-use stun_types::show;
-use stun_types::show::Registry;
 use test_messages::short_term;
 use turn_attrs::{Lifetime, RequestedTransport, XorRelayedAddress, methods};
 
@@ -211,23 +212,42 @@ fn reads_an_allocation(rt: HostRuntime) -> Result<(), Fail> {
     Ok(())
 }
 
-#[test]
-fn shows_all_of_a_message(rt: HostRuntime) -> Result<(), Fail> {
-    let alloc = rt.alloc();
-    let mut registry = Registry::new(alloc);
-    ice_attrs::register!(registry);
-    turn_attrs::register!(registry);
-    discovery_attrs::register!(registry);
-    assert!(rt; registry.name(Priority::TYPE) == "PRIORITY");
-    assert!(rt; registry.method_name(methods::ALLOCATE) == "ALLOCATE");
-    let request = Message::from_bytes(&ICE_REQUEST)?;
-    let raw = request.raw_attribute(Priority::TYPE);
-    if let Some(raw) = raw {
-        let shown = show::Shown {
-            registry: &registry,
-            raw: &raw,
-        };
-        assert!(rt; format!(in alloc; "{shown}")?.as_str() == "PRIORITY: 1862270975");
+/// The types that must be understood, are shown by a request, and are none of these.
+fn unknown(
+    alloc: Global,
+    bytes: &[u8],
+    supported: &[AttributeType],
+) -> Result<Option<UnknownAttributes>, Fail> {
+    let request = Message::from_bytes(bytes)?;
+    if !request.has_class(MessageClass::Request) {
+        return Err(Fail::new("no request"));
     }
+    let write = MessageWriteVec::new(alloc);
+    match Message::check_attribute_types(alloc, &request, supported, &[], write)? {
+        Some(reply) => Ok(Some(Message::from_bytes(reply.data())?.attribute(alloc)?)),
+        None => Ok(None),
+    }
+}
+
+#[test]
+fn types_of_the_crates_are_understood(rt: HostRuntime) -> Result<(), Fail> {
+    let alloc = rt.alloc();
+    let basic = [
+        Username::TYPE,
+        Realm::TYPE,
+        Nonce::TYPE,
+        MessageIntegrity::TYPE,
+    ];
+    let mut of_ice = Vec::from_array(alloc, basic)?;
+    of_ice.extend_from_slice(&ice_attrs::KNOWN)?;
+    assert!(rt; unknown(alloc, &ICE_REQUEST, &of_ice)?.is_none());
+    assert!(rt; unknown(alloc, &ALLOCATE, &of_ice)?.is_some());
+    let mut of_turn = Vec::from_array(alloc, basic)?;
+    of_turn.extend_from_slice(&turn_attrs::KNOWN)?;
+    assert!(rt; unknown(alloc, &ALLOCATE_SIGNED, &of_turn)?.is_none());
+    let Some(types) = unknown(alloc, &ICE_REQUEST, &of_turn)? else {
+        return Err(Fail::new("no reply"));
+    };
+    assert!(rt; types.attributes() == [Priority::TYPE, UseCandidate::TYPE].as_slice());
     Ok(())
 }

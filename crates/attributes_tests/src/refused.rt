@@ -18,11 +18,15 @@ use turn_attrs::{
     XorRelayedAddress, error_codes,
 };
 
-/// Twelve bytes, with which a value of each length begins: a family, and the number of a channel
-/// where the first is 0x40.
+/// Twelve bytes, with which a value of each length begins: zeros, a family in the first byte, the
+/// family of an address, a family with the class of an error, and the number of a channel.
 static ZEROS: [u8; 12] = [0; 12];
 
 static FAMILY: [u8; 12] = [2, 0, 0, 0, 0, 0, 0, 0, 0, 0, 0, 0];
+
+static ADDRESS: [u8; 12] = [0, 1, 0, 0, 0, 0, 0, 0, 0, 0, 0, 0];
+
+static ERROR: [u8; 12] = [1, 0, 4, 0, 0, 0, 0, 0, 0, 0, 0, 0];
 
 static CHANNEL: [u8; 12] = [0x40, 1, 0, 0, 0, 0, 0, 0, 0, 0, 0, 0];
 
@@ -58,11 +62,48 @@ fn told<'a, A: AttributeFromRaw<'a> + Drop>(
     Ok(by_reference)
 }
 
-/// Whether another type is refused, and each length from 0 to 12 but the one that is asked for.
+/// What a value of each length from 0 to 12 is refused with.
+type ByLength = [Option<StunParseError>; 13];
+
+/// Where so many bytes are asked for.
+fn of(expected: usize) -> ByLength {
+    let mut refusals = [None; 13];
+    for (length, told) in refusals.iter_mut().enumerate() {
+        *told = refusal(expected, length);
+    }
+    refusals
+}
+
+/// Where the length of an IPv4 address is asked for, behind the four bytes of family and port.
+fn of_an_address() -> ByLength {
+    let mut refusals = of(8);
+    for (length, told) in refusals.iter_mut().take(4).enumerate() {
+        *told = refusal(4, length);
+    }
+    refusals
+}
+
+/// Where two or four bytes are asked for.
+fn of_a_port() -> ByLength {
+    let mut refusals = of(4);
+    refusals[2] = None;
+    refusals
+}
+
+/// Where at least four bytes are asked for.
+fn of_an_error() -> ByLength {
+    let mut refusals = [None; 13];
+    for (length, told) in refusals.iter_mut().take(4).enumerate() {
+        *told = refusal(4, length);
+    }
+    refusals
+}
+
+/// Whether another type is refused, and each length from 0 to 12 so.
 fn refuses_lengths<'a, A: AttributeFromRaw<'a> + AttributeStaticType + Drop>(
     alloc: Global,
     bytes: &'a [u8; 12],
-    expected: usize,
+    refusals: &ByLength,
 ) -> Result<bool, StunParseError> {
     let other = told::<A>(alloc, AttributeType(0x7FFF), bytes.as_slice())?;
     if other != Some(StunParseError::WrongAttributeImplementation) {
@@ -70,7 +111,7 @@ fn refuses_lengths<'a, A: AttributeFromRaw<'a> + AttributeStaticType + Drop>(
     }
     for length in 0..13_usize {
         let (value, _) = bytes.as_slice().split_at(length);
-        if told::<A>(alloc, A::TYPE, value)? != refusal(expected, length) {
+        if told::<A>(alloc, A::TYPE, value)? != refusals[length] {
             return Ok(false);
         }
     }
@@ -80,22 +121,36 @@ fn refuses_lengths<'a, A: AttributeFromRaw<'a> + AttributeStaticType + Drop>(
 #[test]
 fn other_lengths_are_refused(rt: HostRuntime) -> Result<(), Fail> {
     let alloc = rt.alloc();
-    assert!(rt; refuses_lengths::<Priority>(alloc, &ZEROS, 4)?);
-    assert!(rt; refuses_lengths::<UseCandidate>(alloc, &ZEROS, 0)?);
-    assert!(rt; refuses_lengths::<IceControlled>(alloc, &ZEROS, 8)?);
-    assert!(rt; refuses_lengths::<IceControlling>(alloc, &ZEROS, 8)?);
-    assert!(rt; refuses_lengths::<Lifetime>(alloc, &ZEROS, 4)?);
-    assert!(rt; refuses_lengths::<RequestedTransport>(alloc, &ZEROS, 4)?);
-    assert!(rt; refuses_lengths::<DontFragment>(alloc, &ZEROS, 0)?);
-    assert!(rt; refuses_lengths::<EvenPort>(alloc, &ZEROS, 1)?);
-    assert!(rt; refuses_lengths::<ReservationToken>(alloc, &ZEROS, 8)?);
-    assert!(rt; refuses_lengths::<ConnectionId>(alloc, &ZEROS, 4)?);
-    assert!(rt; refuses_lengths::<Icmp>(alloc, &ZEROS, 8)?);
-    assert!(rt; refuses_lengths::<ChangeRequest>(alloc, &ZEROS, 4)?);
-    assert!(rt; refuses_lengths::<TransactionTransmitCounter>(alloc, &ZEROS, 4)?);
-    assert!(rt; refuses_lengths::<ChannelNumber>(alloc, &CHANNEL, 4)?);
-    assert!(rt; refuses_lengths::<RequestedAddressFamily>(alloc, &FAMILY, 4)?);
-    assert!(rt; refuses_lengths::<AdditionalAddressFamily>(alloc, &FAMILY, 4)?);
+    assert!(rt; refuses_lengths::<Priority>(alloc, &ZEROS, &of(4))?);
+    assert!(rt; refuses_lengths::<UseCandidate>(alloc, &ZEROS, &of(0))?);
+    assert!(rt; refuses_lengths::<IceControlled>(alloc, &ZEROS, &of(8))?);
+    assert!(rt; refuses_lengths::<IceControlling>(alloc, &ZEROS, &of(8))?);
+    assert!(rt; refuses_lengths::<Lifetime>(alloc, &ZEROS, &of(4))?);
+    assert!(rt; refuses_lengths::<RequestedTransport>(alloc, &ZEROS, &of(4))?);
+    assert!(rt; refuses_lengths::<DontFragment>(alloc, &ZEROS, &of(0))?);
+    assert!(rt; refuses_lengths::<EvenPort>(alloc, &ZEROS, &of(1))?);
+    assert!(rt; refuses_lengths::<ReservationToken>(alloc, &ZEROS, &of(8))?);
+    assert!(rt; refuses_lengths::<ConnectionId>(alloc, &ZEROS, &of(4))?);
+    assert!(rt; refuses_lengths::<Icmp>(alloc, &ZEROS, &of(8))?);
+    assert!(rt; refuses_lengths::<ChangeRequest>(alloc, &ZEROS, &of(4))?);
+    assert!(rt; refuses_lengths::<TransactionTransmitCounter>(alloc, &ZEROS, &of(4))?);
+    assert!(rt; refuses_lengths::<ChannelNumber>(alloc, &CHANNEL, &of(4))?);
+    assert!(rt; refuses_lengths::<RequestedAddressFamily>(alloc, &FAMILY, &of(4))?);
+    assert!(rt; refuses_lengths::<AdditionalAddressFamily>(alloc, &FAMILY, &of(4))?);
+    Ok(())
+}
+
+#[test]
+fn other_lengths_of_addresses_are_refused(rt: HostRuntime) -> Result<(), Fail> {
+    let alloc = rt.alloc();
+    let refusals = of_an_address();
+    assert!(rt; refuses_lengths::<MappedAddress>(alloc, &ADDRESS, &refusals)?);
+    assert!(rt; refuses_lengths::<ResponseOrigin>(alloc, &ADDRESS, &refusals)?);
+    assert!(rt; refuses_lengths::<OtherAddress>(alloc, &ADDRESS, &refusals)?);
+    assert!(rt; refuses_lengths::<XorPeerAddress>(alloc, &ADDRESS, &refusals)?);
+    assert!(rt; refuses_lengths::<XorRelayedAddress>(alloc, &ADDRESS, &refusals)?);
+    assert!(rt; refuses_lengths::<ResponsePort>(alloc, &ZEROS, &of_a_port())?);
+    assert!(rt; refuses_lengths::<AddressErrorCode>(alloc, &ERROR, &of_an_error())?);
     Ok(())
 }
 

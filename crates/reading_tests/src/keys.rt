@@ -57,33 +57,37 @@ fn keys_are_kept_as_their_bytes(rt: HostRuntime) -> Result<(), Fail> {
     Ok(())
 }
 
-/// The login of the username `user` and the password `pass`.
-fn login(alloc: Global) -> Result<LongTermCredentials, Fail> {
+/// The login of the username `user` and a password.
+fn login(alloc: Global, password: &str) -> Result<LongTermCredentials, Fail> {
     let username = String::from_str(alloc, "user")?;
-    let password = String::from_str(alloc, "pass")?;
+    let password = String::from_str(alloc, password)?;
     Ok(LongTermCredentials::new(username, password))
 }
 
 #[test]
 fn keeps_a_login(rt: HostRuntime) -> Result<(), Fail> {
-    let login = login(rt.alloc())?;
-    assert!(rt; (login.username(), login.password()) == ("user", "pass"));
-    assert!(rt; login.clone(rt.alloc())? == login);
+    let first = login(rt.alloc(), "pass")?;
+    assert!(rt; (first.username(), first.password()) == ("user", "pass"));
+    assert!(rt; first.clone(rt.alloc())? == first);
+    assert!(rt; login(rt.alloc(), "past")? != first);
     Ok(())
 }
 
 /// The login in the realm `realm`.
-fn in_realm(alloc: Global) -> Result<LongTermKeyCredentials, Fail> {
+fn in_realm(alloc: Global, password: &str) -> Result<LongTermKeyCredentials, Fail> {
     let realm = String::from_str(alloc, "realm")?;
-    Ok(login(alloc)?.to_key(alloc, realm)?)
+    Ok(login(alloc, password)?.to_key(alloc, realm)?)
 }
 
 #[test]
 fn puts_a_login_in_a_realm(rt: HostRuntime) -> Result<(), Fail> {
-    let in_realm = in_realm(rt.alloc())?;
-    assert!(rt; (in_realm.username(), in_realm.password()) == ("user", "pass"));
-    assert!(rt; in_realm.realm() == "realm");
-    let same = MessageIntegrityCredentials::from(in_realm);
+    let first = in_realm(rt.alloc(), "pass")?;
+    assert!(rt; (first.username(), first.password()) == ("user", "pass"));
+    assert!(rt; first.realm() == "realm");
+    let other = in_realm(rt.alloc(), "past")?;
+    assert!(rt; other != first);
+    let same = MessageIntegrityCredentials::from(first);
+    assert!(rt; same != MessageIntegrityCredentials::from(other));
     assert!(rt; same == long_term(rt.alloc())?);
     assert!(rt; same.clone(rt.alloc())? == same);
     Ok(())
@@ -94,6 +98,8 @@ fn keeps_a_password(rt: HostRuntime) -> Result<(), Fail> {
     let short = ShortTermCredentials::new(String::from_str(rt.alloc(), "pass")?);
     assert!(rt; short.password() == "pass");
     assert!(rt; short.clone(rt.alloc())? == short);
+    let other = ShortTermCredentials::new(String::from_str(rt.alloc(), "past")?);
+    assert!(rt; other != short);
     Ok(())
 }
 

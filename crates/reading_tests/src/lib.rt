@@ -1,5 +1,5 @@
 //! Tests of what `stun_types` reads and validates: headers, types, transaction IDs, raw attributes
-//! and messages, what the errors print, checksums, HMACs and keys, and verdicts: also of messages
+//! and messages, what the errors print, checksums, HMACs and keys, the vectors of the RFCs, and verdicts: also of messages
 //! with the ending attributes in every order, cut at every place, and with lengths that are far
 //! off.
 #![tactic(auto)]
@@ -34,5 +34,7 @@ mod offsets;
 mod orders;
 #[cfg(test)]
 mod validate;
+#[cfg(test)]
+mod vectors;
 #[cfg(test)]
 mod words;

@@ -150,5 +150,10 @@ fn counts_what_is_shown(rt: HostRuntime) -> Result<(), Fail> {
     let bytes = message(rt.alloc(), 20, &[&USERNAME, &SOFTWARE, &USERNAME])?;
     let read = Message::from_bytes(&bytes)?;
     assert!(rt; read.iter_attributes().count() == 3);
+    let (least, most) = read.iter_attributes().size_hint();
+    assert!(rt; least <= 3);
+    if let Some(most) = most {
+        assert!(rt; most >= 3);
+    }
     Ok(())
 }

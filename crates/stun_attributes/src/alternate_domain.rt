@@ -5,8 +5,9 @@ use crate::TextAttribute;
 use stun_grammar::attribute_types;
 use stun_values::ALTERNATE_DOMAIN_MAX;
 
-/// ALTERNATE-DOMAIN: the domain name of the server in an ALTERNATE-SERVER, of at most 65535 bytes,
-/// as many as a value may have (RFC 8489, section 14.16).
+/// ALTERNATE-DOMAIN (0x8003): the domain name of the server in an ALTERNATE-SERVER, at most 65535
+/// bytes of UTF-8, as many as a value may have (RFC 8489, section 14.16). That it is a domain name
+/// is not tested.
 pub type AlternateDomain = TextAttribute<
     { attribute_types::ALTERNATE_DOMAIN },
     { ALTERNATE_DOMAIN_MAX },

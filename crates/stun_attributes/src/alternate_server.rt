@@ -10,8 +10,12 @@ use stun_base::StunParseError;
 use stun_grammar::attribute_types;
 use stun_values::print_address;
 
-/// ALTERNATE-SERVER: the address of another server that the client is to try (RFC 8489, section
-/// 14.15).
+/// ALTERNATE-SERVER (0x8023): the address of another server that the client is to try (RFC 8489,
+/// section 14.15).
+///
+/// Its value has 8 bytes for IPv4 and 20 for IPv6: a zero, the family in a byte (1 for IPv4, 2 for
+/// IPv6), the port in two bytes and the address in four or sixteen, big-endian, as
+/// [`MappedSocketAddr`] holds it.
 #[derive(Debug, Clone, PartialEq, Eq, Drop)]
 pub struct AlternateServer {
     addr: MappedSocketAddr,

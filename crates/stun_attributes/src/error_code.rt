@@ -162,7 +162,29 @@ impl ErrorCode {
         self.reason.as_str()
     }
 
-    /// The default reason of a code: each constant has its own, and every other code has `Unknown`.
+    /// The default reason of a code: of those with a constant
+    ///
+    /// | Code | Reason |
+    /// |---|---|
+    /// | 300 | `Try Alternate` |
+    /// | 400 | `Bad Request` |
+    /// | 401 | `Unauthorized` |
+    /// | 403 | `Forbidden` |
+    /// | 420 | `Unknown Attribute` |
+    /// | 437 | `Allocation Mismatch` |
+    /// | 438 | `Stale Nonce` |
+    /// | 440 | `Address Family Not Supported` |
+    /// | 441 | `Wrong Credentials` |
+    /// | 442 | `Unsupported Transport Protocol` |
+    /// | 443 | `Peer Address Family Mismatch` |
+    /// | 446 | `Connection Already Exists` |
+    /// | 447 | `Connection Timeout or Failure` |
+    /// | 486 | `Allocation Quota Reached` |
+    /// | 487 | `Role Conflict` |
+    /// | 500 | `Server Error` |
+    /// | 508 | `Insufficient Capacity` |
+    ///
+    /// and of every other number `Unknown`.
     pub fn default_reason_for_code(code: u16) -> &'static str
         ensures { result.now ≡ default_reason code }
     {

@@ -41,8 +41,12 @@ impl MappedSocketAddr {
         address_length(&self.addr)
     }
 
-    /// Writes the value, without a header, at the start of `dest`, which has
-    /// [`MappedSocketAddr::length`] bytes or more. The bytes after it are unchanged.
+    /// Writes the value, without a header, at the start of `dest`. The bytes after it are
+    /// unchanged.
+    ///
+    /// # Requires
+    ///
+    /// `dest.len()` is at least [`MappedSocketAddr::length`].
     pub fn write_into_unchecked(&self, dest: &mut [u8])
         requires { length (address_value (mapped_addr self.now)) ≤ length dest.old }
         ensures { dest.new ≡ address_value (mapped_addr self.now)

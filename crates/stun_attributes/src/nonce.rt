@@ -5,7 +5,8 @@ use crate::TextAttribute;
 use stun_grammar::attribute_types;
 use stun_values::NONCE_MAX;
 
-/// NONCE: a text that a server has a client repeat, of at most 763 bytes (RFC 8489, section 14.10).
+/// NONCE (0x0015): a text that a server has a client repeat, at most 763 bytes of UTF-8 (RFC 8489,
+/// section 14.10). What it begins with, as a nonce cookie (section 9.2), is not looked at.
 pub type Nonce = TextAttribute<{ attribute_types::NONCE }, { NONCE_MAX }>;
 
 impl Nonce {

@@ -5,7 +5,9 @@ use crate::TextAttribute;
 use stun_grammar::attribute_types;
 use stun_values::REALM_MAX;
 
-/// REALM: the realm of a long-term credential, of at most 763 bytes (RFC 8489, section 14.9).
+/// REALM (0x0014): the realm of a long-term credential, at most 763 bytes of UTF-8 (RFC 8489,
+/// section 14.9). It is used as it is: no function applies SASLprep or the OpaqueString profile to
+/// it, and it has no quotation marks unless the text has them.
 pub type Realm = TextAttribute<{ attribute_types::REALM }, { REALM_MAX }>;
 
 impl Realm {

@@ -5,8 +5,8 @@ use crate::TextAttribute;
 use stun_grammar::attribute_types;
 use stun_values::SOFTWARE_MAX;
 
-/// SOFTWARE: a description of the software that sent the message, of at most 763 bytes (RFC 8489,
-/// section 14.14).
+/// SOFTWARE (0x8022): a description of the software that sent the message, at most 763 bytes of
+/// UTF-8 (RFC 8489, section 14.14).
 pub type Software = TextAttribute<{ attribute_types::SOFTWARE }, { SOFTWARE_MAX }>;
 
 impl Software {

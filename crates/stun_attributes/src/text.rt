@@ -9,8 +9,11 @@ use stun_grammar::attribute_types;
 use stun_values::{print_plain, print_quoted, read_text};
 
 /// An attribute of the type `TYPE` whose value is a text: at most `MAX` bytes of UTF-8, with no
-/// further preparation. Those of RFC 8489 have names of their own, as [`crate::Software`]; another
-/// one is a `TextAttribute` of its number, whose text is [`TextAttribute::text`].
+/// further preparation (no SASLprep, no OpaqueString). Those of RFC 8489 have names of their own,
+/// as [`crate::Software`]; another one is a `TextAttribute` of its number, whose text is
+/// [`TextAttribute::text`]. Only bytes are counted: that REALM, NONCE and SOFTWARE have fewer than
+/// 128 characters (RFC 8489, sections 14.9, 14.10 and 14.14), and at most 509 bytes when they are
+/// sent, is up to the caller.
 ///
 /// Reading reports the first of these: another type as `WrongAttributeImplementation`; more than
 /// `MAX` bytes as `TooLarge { expected: MAX, actual }`; bytes that aren't UTF-8 as

@@ -5,7 +5,10 @@ use crate::TextAttribute;
 use stun_grammar::attribute_types;
 use stun_values::USERNAME_MAX;
 
-/// USERNAME: the name of the user of a credential, of at most 513 bytes (RFC 8489, section 14.3).
+/// USERNAME (0x0006): the name of the user of a credential, at most 513 bytes of UTF-8, both when
+/// it is made and when it is read. RFC 8489 (section 14.3) has a sender write at most 508 and a
+/// reader accept 763. It is used as it is: no function applies SASLprep or the OpaqueString profile
+/// to it.
 pub type Username = TextAttribute<{ attribute_types::USERNAME }, { USERNAME_MAX }>;
 
 impl Username {

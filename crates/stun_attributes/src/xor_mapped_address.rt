@@ -9,8 +9,12 @@ use stun_base::{StunParseError, TransactionId};
 use stun_grammar::attribute_types;
 use stun_values::print_xored;
 
-/// XOR-MAPPED-ADDRESS: the address that a request came from, as the server saw it (RFC 8489,
-/// section 14.2).
+/// XOR-MAPPED-ADDRESS (0x0020): the address that a request came from, as the server saw it
+/// (RFC 8489, section 14.2).
+///
+/// Its value has 8 bytes for IPv4 and 20 for IPv6: a zero, the family in a byte (1 for IPv4, 2 for
+/// IPv6), the port in two bytes and the address in four or sixteen, big-endian, port and address
+/// XORed as [`XorSocketAddr`] says.
 #[derive(Debug, PartialEq, Eq, Drop)]
 pub struct XorMappedAddress {
     addr: XorSocketAddr,

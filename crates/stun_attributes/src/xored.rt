@@ -60,8 +60,12 @@ impl XorSocketAddr {
         self.addr.length()
     }
 
-    /// Writes the value, without a header, at the start of `dest`, which has
-    /// [`XorSocketAddr::length`] bytes or more. The bytes after it are unchanged.
+    /// Writes the value, without a header, at the start of `dest`. The bytes after it are
+    /// unchanged.
+    ///
+    /// # Requires
+    ///
+    /// `dest.len()` is at least [`XorSocketAddr::length`].
     pub fn write_into_unchecked(&self, dest: &mut [u8])
         requires { length (address_value (written_addr self.now)) ≤ length dest.old }
         ensures { dest.new ≡ address_value (written_addr self.now)

@@ -94,9 +94,14 @@ pub trait AttributeFromRaw<'a>: Attribute {
 pub trait AttributeWrite: Attribute {
     ghost to_raw_borrows: { Self → Bool };
 
-    /// Writes the attribute at the start of `dest`, which has at least [`Attribute::padded_len`]
-    /// bytes: the type and the length of the value in two bytes each, big-endian, the value, and
-    /// zeros up to a multiple of 4. What follows is unchanged.
+    /// Writes the attribute at the start of `dest`: the type and the length of the value in two
+    /// bytes each, big-endian, the value, and zeros up to a multiple of 4. What follows is
+    /// unchanged.
+    ///
+    /// # Requires
+    ///
+    /// `dest.len()` is at least [`Attribute::padded_len`], which [`AttributeWrite::write_into`]
+    /// tests.
     fn write_into_unchecked(&self, dest: &mut [u8])
         requires { attribute_length (length (Self.value self.now)) ≤ length dest.old }
         ensures { dest.new ≡ attribute_encoding (Self.atype self.now) (Self.value self.now)
@@ -116,8 +121,12 @@ pub trait AttributeWrite: Attribute {
             (λ raw. is_borrowed (raw_data raw) ≡ to_raw_borrows self.now) }
         ensures free { to_raw_borrows self.now ≡ true → IsOk result };
 
-    /// Writes the header, four bytes, at the start of `dest`, which has at least four, and returns
-    /// 4. What follows is unchanged.
+    /// Writes the header, four bytes, at the start of `dest`, and returns 4. What follows is
+    /// unchanged.
+    ///
+    /// # Requires
+    ///
+    /// `dest.len()` is at least 4, which [`AttributeWrite::write_header`] tests.
     fn write_header_unchecked(&self, dest: &mut [u8]) -> usize
         requires { 4 ≤ length dest.old }
         ensures four { result ≡ 4 }

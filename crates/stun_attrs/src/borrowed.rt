@@ -4,7 +4,11 @@ ghost use Rattle.stun_attrs.specs.Raw.{Borrows};
 use crate::RawAttribute;
 use stun_base::{AttributeHeader, AttributeType};
 
-/// The raw attribute of this type and value, which it borrows. The value has at most 65535 bytes.
+/// The raw attribute of this type and value, which it borrows.
+///
+/// # Requires
+///
+/// `value.len()` is at most 65535, which [`RawAttribute::new`] tests.
 pub fn borrowed_attribute<'a>(atype: AttributeType, value: &'a [u8]) -> RawAttribute<'a>
     requires { length value.now ≤ 65535 }
     ensures { Borrows atype.0 value.now result }

@@ -25,7 +25,11 @@ pub trait EncodeValue {
     fn value_length(&self) -> u16
         ensures { result ≡ length (bytes self.now) };
 
-    /// Writes the value at the start of `dest`, which is long enough. What follows is unchanged.
+    /// Writes the value at the start of `dest`. What follows is unchanged.
+    ///
+    /// # Requires
+    ///
+    /// `dest.len()` is at least [`EncodeValue::value_length`].
     fn write_value(&self, dest: &mut [u8])
         requires { length (bytes self.now) ≤ length dest.old }
         ensures { dest.new ≡ bytes self.now ++ drop (length (bytes self.now)) dest.old };
@@ -61,7 +65,11 @@ impl EncodeValue for Bytes<'_> {
     }
 }
 
-/// Writes bytes at the start of `dest`, which is long enough. What follows is unchanged.
+/// Writes bytes at the start of `dest`. What follows is unchanged.
+///
+/// # Requires
+///
+/// `dest.len()` is at least `bytes.len()`.
 pub fn copy_to_start(bytes: &[u8], dest: &mut [u8])
     requires { length bytes.now ≤ length dest.old }
     ensures { dest.new ≡ bytes.now ++ drop (length bytes.now) dest.old }
@@ -94,9 +102,14 @@ fn write_padded<V: EncodeValue>(value: &V, dest: &mut [u8])
     value.write_value(dest);
 }
 
-/// Writes the attribute of this type and value at the start of `dest`, which is long enough: the
-/// type and the length of the value in two bytes each, big-endian, the value, and zeros up to a
-/// multiple of 4 (RFC 8489, section 14). What follows is unchanged.
+/// Writes the attribute of this type and value at the start of `dest`: the type and the length of
+/// the value in two bytes each, big-endian, the value, and zeros up to a multiple of 4 (RFC 8489,
+/// section 14). What follows is unchanged.
+///
+/// # Requires
+///
+/// `dest.len()` is at least 4 and the length of the value with its padding:
+/// `4 + pad_attribute_len(value.value_length() as usize)`.
 #[tactic(auto, unfolding(stun_grammar::specs::Attributes::encoding))]
 pub fn write_encoded<V: EncodeValue>(atype: AttributeType, value: &V, dest: &mut [u8])
     requires { attribute_length (length (V.bytes value.now)) ≤ length dest.old }
@@ -111,7 +124,11 @@ pub fn write_encoded<V: EncodeValue>(atype: AttributeType, value: &V, dest: &mut
     write_padded(value, &mut dest[4..]);
 }
 
-/// As [`write_encoded`], for a value of at most 65535 bytes.
+/// As [`write_encoded`], for the bytes of a value.
+///
+/// # Requires
+///
+/// `value.len()` is at most 65535, and `dest.len()` at least `4 + pad_attribute_len(value.len())`.
 pub fn write_attribute(atype: AttributeType, value: &[u8], dest: &mut [u8])
     requires value { length value.now ≤ 65535 }
     requires room { attribute_length (length value.now) ≤ length dest.old }

@@ -7,7 +7,11 @@ use crate::RawAttribute;
 use std::boxed::BoxedSlice;
 use stun_base::{AttributeHeader, AttributeType};
 
-/// The raw attribute of this type and value, which it owns. The value has at most 65535 bytes.
+/// The raw attribute of this type and value, which it owns.
+///
+/// # Requires
+///
+/// `value.len()` is at most 65535, which [`RawAttribute::new_owned`] tests.
 pub fn owned_attribute<'a>(atype: AttributeType, value: BoxedSlice<u8>) -> RawAttribute<'a>
     requires { length (boxed_slice_items value) ≤ 65535 }
     ensures raw { IsRawOf atype.0 (boxed_slice_items value) result }

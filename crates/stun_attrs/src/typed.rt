@@ -30,8 +30,11 @@ pub trait TypedAttribute: EncodeValue {
 pub trait ReadValue: EncodeValue {
     ghost reads_value: { List ℕ → Result Self StunParseError → Type 0 };
 
-    /// Reads a value of at most 65535 bytes. `alloc` gives the memory that it needs, if it needs
-    /// any.
+    /// Reads a value. `alloc` gives the memory that it needs, if it needs any.
+    ///
+    /// # Requires
+    ///
+    /// `value.len()` is at most 65535, as it is of the value of every raw attribute.
     ///
     /// # Errors
     ///

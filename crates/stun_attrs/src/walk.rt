@@ -34,6 +34,10 @@ fn cut_off(offset: usize, length: usize, actual: usize) -> StunParseError
 /// Reads the attribute whose header is at `offset` in a message: the attribute, which borrows its
 /// value, and the offset after its padding. `None` where the message ends at `offset`.
 ///
+/// # Requires
+///
+/// `offset` is at most `bytes.len()`.
+///
 /// # Errors
 ///
 /// `Truncated { expected, actual }` where the header, the value or the padding is cut off:

@@ -50,8 +50,11 @@ impl AttributeHeader {
         bytes
     }
 
-    /// Writes the four bytes at the start of `dest`, which has at least four. The others keep their
-    /// values.
+    /// Writes the four bytes at the start of `dest`. The others keep their values.
+    ///
+    /// # Requires
+    ///
+    /// `dest.len()` is at least 4.
     pub fn write_into(&self, dest: &mut [u8])
         requires { 4 ≤ length dest.old }
         ensures { dest.new ≡ be16 self.now.atype.0 ++ be16 self.now.length ++ drop 4 dest.old }
@@ -78,7 +81,9 @@ impl AttributeHeader {
 /// The least multiple of 4 that is at least `len`: how many bytes a value of `len` bytes takes with
 /// its padding (RFC 8489, section 14).
 ///
-/// `len` is at most `usize::MAX - 3`.
+/// # Requires
+///
+/// `len` is at most `usize::MAX - 3`, as the length of every slice is.
 pub fn pad_attribute_len(len: usize) -> usize
     requires { len ≤ usize.MAX - 3 }
     ensures { result ≡ padded_length len }

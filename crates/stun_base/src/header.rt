@@ -67,6 +67,10 @@ fn begins_with_header(bytes: &[u8]) -> bool
 }
 
 /// The two bytes at offset `at` as a number, big-endian.
+///
+/// # Requires
+///
+/// `at + 2` is at most `bytes.len()`.
 pub fn number_at(bytes: &[u8], at: usize) -> u16
     requires { at + 2 ≤ length bytes.now }
     ensures { result ≡ number (slice_range bytes.now at (at + 2)) }
@@ -84,6 +88,11 @@ fn read_id(bytes: &[u8]) -> TransactionId
 }
 
 /// Reads the header from bytes that are known to begin with one.
+///
+/// # Requires
+///
+/// There are at least twenty bytes, and the first is below 64: so it is where [`check_header`] is
+/// `Ok`.
 pub fn read_header(bytes: &[u8]) -> MessageHeader
     requires long { 20 ≤ length bytes.now }
     requires low { slice_index bytes.now 0 < 64 }

@@ -34,7 +34,11 @@ impl Model for Method {
 pub const BINDING: Method = Method(0x0001);
 
 impl Method {
-    /// The method with this number, which is below 0xf000, as [`Method::is_valid`] tests.
+    /// The method with this number.
+    ///
+    /// # Requires
+    ///
+    /// `val` is below 0xf000, as [`Method::is_valid`] tests.
     pub fn new(val: u16) -> Self
         requires { val < 0xf000 }
         ensures { result ≡ val }
@@ -212,8 +216,11 @@ impl MessageType {
         self.method() == method
     }
 
-    /// Writes the two bytes at the start of `dest`, which has at least two. The others keep their
-    /// values.
+    /// Writes the two bytes at the start of `dest`. The others keep their values.
+    ///
+    /// # Requires
+    ///
+    /// `dest.len()` is at least 2.
     pub fn write_into(&self, dest: &mut [u8])
         requires { 2 ≤ length dest.old }
         ensures written { dest.new ≡ be16 self.now ++ drop 2 dest.old }

@@ -3,10 +3,10 @@ use Rattle.std.specs.Prelude.{◌≡◌, ℕ, ◌+◌, ◌-◌, ◌≤◌, ◌==
 use Rattle.std.specs.Option.{option_map, option_map_or, option_or}
 use Rattle.stun_grammar.specs.declared.attribute_type.AttributeType.{AttributeType}
 use Rattle.stun_grammar.specs.declared.error.StunWriteError.{StunWriteError}
-use Rattle.stun_grammar.specs.declared.error.StunWriteError.TheVariants.{AttributeExists, FingerprintExists, MessageIntegrityExists, TooLarge, TooSmall, OutOfMemory}
+use Rattle.stun_grammar.specs.declared.error.StunWriteError.TheVariants.{AttributeExists, EndingType, FingerprintExists, MessageIntegrityExists, TooLarge, TooSmall, OutOfMemory}
 use Rattle.stun_grammar.specs.Numbers.{be16}
 use Rattle.stun_grammar.specs.ScannedOrder.{has}
-use Rattle.stun_grammar.specs.AttributeTypes.{FINGERPRINT}
+use Rattle.stun_grammar.specs.AttributeTypes.{FINGERPRINT, is_ending}
 use Rattle.stun_grammar.specs.Writing.{greatest_length}
 use Rattle.stun_grammar.specs.Steps.{Step, add, sign, finger, barring_types, value_length}
 use Rattle.stun_grammar.specs.Attributes.{attribute_encoding, attribute_length}
@@ -65,6 +65,12 @@ abbrev pub add_refusal : Step → List ℕ → ℕ → Option ℕ → Option Stu
 add_refusal step types len greatest =
     option_or (order_refusal step types)
     (room_refusal len greatest (grown_length len (value_length step)))
+
+-- why an attribute of any type is refused: one of an ending type has an add of its own
+abbrev pub any_refusal : ℕ → List ℕ → List ℕ → ℕ → Option ℕ → Option StunWriteError
+any_refusal type value types len greatest =
+    if is_ending type then Some (EndingType (record { 0 = type })) else
+    add_refusal (add type value) types len greatest
 
 -- the result is the refusal; where there is none it is Ok, or `OutOfMemory`, and this only where P
 -- holds

@@ -1,4 +1,5 @@
-ghost use Rattle.std.specs.Prelude.{◌≡◌, ◌↔◌, ◌<◌, IsTrue};
+ghost use Rattle.std.specs.Prelude.{◌≡◌, ◌↔◌, ◌<◌, false, IsTrue};
+ghost use Rattle.stun_grammar.specs.AttributeTypes.{is_ending, IsOrdinary};
 ghost use Rattle.stun_grammar.specs.Names.{attribute_name};
 
 use crate::attribute_types;
@@ -57,6 +58,16 @@ impl AttributeType {
         ensures { IsTrue result ↔ (self.0 < 0x8000) }
     {
         self.0 < 0x8000
+    }
+
+    /// Whether the type is one of the three that end a message: MESSAGE-INTEGRITY (0x0008),
+    /// MESSAGE-INTEGRITY-SHA256 (0x001C) and FINGERPRINT (0x8028). An attribute of another type is
+    /// ordinary (RFC 8489, sections 14.5 to 14.7).
+    pub fn is_ending(self) -> bool
+        ensures answer { result ≡ is_ending self.0 }
+        ensures ordinary { result ≡ false → IsOrdinary self.0 }
+    {
+        attribute_types::is_ending(self.0)
     }
 }
 

@@ -84,6 +84,10 @@ pub enum StunWriteError {
         /// How many there are.
         actual: usize,
     },
+    /// The attribute is of a type that has an add of its own: MESSAGE-INTEGRITY (0x0008),
+    /// MESSAGE-INTEGRITY-SHA256 (0x001C) or FINGERPRINT (0x8028).
+    #[error("An attribute of this type is added by a method of its own")]
+    EndingType(AttributeType),
     /// The bytes cannot be the value of an integrity attribute. An error of reading that has no
     /// counterpart here is converted to this one.
     #[error("Failed to compute integrity")]

@@ -1,9 +1,9 @@
 -- Bytes that are compared by gathering their XORs.
-use Rattle.std.proofs.Common.{◌≡◌, ℕ, zero, suc, ◌+◌, ◌-◌, ◌<◌, ◌≤◌, List, get_or, drop, length, bit_or, bit_xor, nat_eq, refl, sym, ap, ◌∙◌, arith, below_more, inl, inr}
+use Rattle.std.proofs.Common.{◌≡◌, ℕ, zero, suc, ◌+◌, ◌-◌, ◌<◌, ◌≤◌, ◌&&◌, List, get_or, drop, length, bit_or, bit_xor, nat_eq, refl, sym, ap, ◌∙◌, arith, below_more, inl, inr}
 use Rattle.std.specs.Cmp.Lexicographic.{pointwise, bytes_decides}
 use Rattle.std.specs.Int.Bits.{xor_assoc, xor_self, xor_zero_r}
 use Rattle.std.proofs.lemmas.Bool.{cases_lt}
-use Rattle.std.proofs.lemmas.Bool.Decides.{Decides-eqb, Decides-like, same_from_decides}
+use Rattle.std.proofs.lemmas.Bool.Decides.{Decides-and, Decides-eqb, Decides-like, same_from_decides}
 use Rattle.std.proofs.lemmas.Grind.{same_number_lists}
 use Rattle.std.proofs.lemmas.List.{get_or-drop}
 use Rattle.std.proofs.lemmas.Nat.{le_or_l, le_or_r}
@@ -25,6 +25,16 @@ first_none a b none = let below : a ≤ bit_or a b = le_or_l a b in omega arith
 
 second_none : (a b : ℕ) → bit_or a b ≡ 0 → b ≡ 0
 second_none a b none = let below : b ≤ bit_or a b = le_or_r a b in omega arith
+
+-- two numbers gathered into one
+pub no_difference : (a b : ℕ) → nat_eq (bit_or a b) 0 ≡ (nat_eq a 0 && nat_eq b 0)
+no_difference a b =
+    same_from_decides (nat_eq (bit_or a b) 0) (nat_eq a 0 && nat_eq b 0)
+    (Decides-like {P = bit_or a b ≡ 0} {Q = (a ≡ 0) × (b ≡ 0)} (nat_eq (bit_or a b) 0)
+    (λ none. (first_none a b none, second_none a b none))
+    (λ both. rw (both.0, both.1) refl)
+    (Decides-eqb (bit_or a b) 0))
+    (Decides-and (nat_eq a 0) (nat_eq b 0) (Decides-eqb a 0) (Decides-eqb b 0))
 
 -- a number that is 0, and two equal numbers
 none_more : (d a b : ℕ) → d ≡ 0 → a ≡ b → bit_or d (bit_xor a b) ≡ 0

@@ -7,7 +7,15 @@ use stun_grammar::{IntegrityAlgorithm, attribute_types};
 use stun_keys::keys::IntegrityKey;
 use stun_values::{check_sha1_length, print_hex};
 
-/// MESSAGE-INTEGRITY: the HMAC-SHA1 of the message before it, 20 bytes (RFC 8489, section 14.5).
+/// MESSAGE-INTEGRITY (0x0008): the HMAC-SHA1 of the message before it, 20 bytes (RFC 8489, section
+/// 14.5).
+///
+/// The HMAC covers the bytes from the start of the message's header up to the attribute's own
+/// header, with a length field that counts as if the message ended with the attribute: the field's
+/// value is the attribute's offset and 4 (the twenty bytes of the header are not counted, and the
+/// attribute takes 24). What follows the attribute is not covered. [`MessageIntegrity::compute`]
+/// and [`MessageIntegrity::verify`] take these bytes as they are given; `Message` and the writers
+/// set the length field themselves.
 #[derive(Debug, Clone, PartialEq, Eq, Drop)]
 pub struct MessageIntegrity {
     hmac: [u8; 20],

@@ -20,8 +20,12 @@ fn is_prefix(prefix: &[u8], whole: &[u8; 32]) -> bool
     same_bytes(prefix, &whole[..prefix.len()])
 }
 
-/// MESSAGE-INTEGRITY-SHA256: the HMAC-SHA256 of the message before it, or a prefix of it. The value
-/// has 16 to 32 bytes, a multiple of 4 (RFC 8489, section 14.6).
+/// MESSAGE-INTEGRITY-SHA256 (0x001C): the HMAC-SHA256 of the message before it, or a prefix of it.
+/// The value has 16 to 32 bytes, a multiple of 4 (RFC 8489, section 14.6).
+///
+/// The HMAC covers what that of [`MessageIntegrity`](crate::MessageIntegrity) covers; the length
+/// field counts 4 bytes of header and those of the value, so for 32 bytes it is the attribute's
+/// offset and 16.
 ///
 /// Two attributes are equal where their values are.
 #[derive(Debug, Drop)]

@@ -9,8 +9,8 @@ use stun_base::StunParseError;
 use stun_grammar::attribute_types;
 use stun_values::{check_hash_length, print_hex};
 
-/// USERHASH: the SHA-256 of `username:realm`, 32 bytes, which is sent in place of the username
-/// (RFC 8489, section 14.4).
+/// USERHASH (0x001E): the SHA-256 of `username:realm`, 32 bytes, which is sent in place of the
+/// username (RFC 8489, section 14.4).
 #[derive(Debug, Clone, PartialEq, Eq, Drop)]
 pub struct Userhash {
     hash: [u8; 32],
@@ -34,7 +34,7 @@ impl Userhash {
     }
 
     /// The hash of a username and a realm: the SHA-256 of the username, a colon and the realm,
-    /// which are used as they are. It takes no memory.
+    /// which are used as they are (no SASLprep, no OpaqueString). It takes no memory.
     pub fn compute(user: &str, realm: &str) -> [u8; 32]
         ensures { result ≡ user_hash user.now realm.now }
     {

@@ -19,19 +19,19 @@ abbrev pub login_username : LongTermCredentials → List ℕ
 login_username credentials = string_bytes credentials.username
 
 abbrev pub login_password : LongTermCredentials → List ℕ
-login_password credentials = string_bytes credentials.password
+login_password credentials = string_bytes credentials.password.text
 
 abbrev pub long_term_username : LongTermKeyCredentials → List ℕ
 long_term_username credentials = string_bytes credentials.username
 
 abbrev pub long_term_password : LongTermKeyCredentials → List ℕ
-long_term_password credentials = string_bytes credentials.password
+long_term_password credentials = string_bytes credentials.password.text
 
 abbrev pub long_term_realm : LongTermKeyCredentials → List ℕ
 long_term_realm credentials = string_bytes credentials.realm
 
 abbrev pub short_term_password : ShortTermCredentials → List ℕ
-short_term_password credentials = string_bytes credentials.password
+short_term_password credentials = string_bytes credentials.password.text
 
 -- copies of credentials: the same texts
 pub record SameLogin (copy credentials : LongTermCredentials) : Type 0 where
@@ -54,7 +54,7 @@ SameCredentials (LongTerm copy) (ShortTerm credentials) = ⊥
 
 -- the bytes of a key
 abbrev pub key_bytes : IntegrityKey → List ℕ
-key_bytes key = boxed_slice_items key.bytes
+key_bytes key = boxed_slice_items key.bytes.bytes
 
 -- the algorithm that a key was made for, if it was made for one
 abbrev pub key_algorithm : IntegrityKey → Option IntegrityAlgorithm

@@ -12,7 +12,7 @@ mod kept;
 
 use crc_tables::TABLES;
 pub use hmac::{hmac_sha1, hmac_sha256};
-pub(crate) use kept::{HmacSha1, HmacSha256};
+pub(crate) use kept::KeptHmacs;
 
 /// What a byte becomes once it and that many bytes of zeros behind it are shifted out.
 fn shifted_out(byte: u8, zeros: usize) -> u32

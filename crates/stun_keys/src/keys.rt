@@ -1,7 +1,7 @@
 //! Credentials, and the keys that they give for the integrity attributes (RFC 8489, section 9).
 //!
-//! Usernames, passwords and realms are used as they are: no function applies the OpaqueString
-//! profile (RFC 8265) to them.
+//! Usernames, passwords and realms are used as they are: no function applies SASLprep (RFC 4013) or
+//! the OpaqueString profile (RFC 8265) to them.
 
 mod copied;
 mod credentials;
@@ -9,6 +9,7 @@ mod integrity_key;
 mod long_term;
 mod long_term_key;
 mod md5_key;
+mod secret;
 mod sha256_key;
 mod short_term;
 

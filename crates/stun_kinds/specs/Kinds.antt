@@ -1,11 +1,11 @@
 -- Attributes that are a number and a name, and a value of one of a few forms.
-use Rattle.std.specs.Prelude.{◌≡◌, ℕ, List, length, ◌++◌, codes, Option, Result, Ok, Err, MatchResult, None, IsOkAnd, MatchOption, ⊤}
+use Rattle.std.specs.Prelude.{◌≡◌, ℕ, Bool, List, length, ◌++◌, codes, Option, Result, Ok, Err, MatchResult, None, IsOkAnd, MatchOption, ⊤}
 use Rattle.std.specs.Option.{option_map}
 use Rattle.std.specs.declared.net.socket_addr.SocketAddr.{SocketAddr}
 use Rattle.stun_grammar.specs.declared.error.StunParseError.{StunParseError}
 use Rattle.stun_grammar.specs.declared.error.StunParseError.TheVariants.{InvalidAttributeData}
 use Rattle.stun_grammar.specs.Lengths.{exact_fault}
-use Rattle.stun_base.specs.Data.{data_bytes}
+use Rattle.stun_base.specs.Data.{data_bytes, is_borrowed}
 use Rattle.stun_attrs.specs.Reading.{typed_fault, Reads, ReadsInMemory}
 use Rattle.stun_attributes.specs.AddressAttributes.{mapped_addr, written_addr}
 use Rattle.stun_kinds.specs.declared.fields.FieldsAttribute.{FieldsAttribute}
@@ -65,6 +65,10 @@ xored_of attribute = written_addr attribute.addr
 
 abbrev pub bytes_of : {K : Type 0} → BytesAttribute K ShortBytes → List ℕ
 bytes_of attribute = data_bytes attribute.value.bytes
+
+-- whether they are borrowed
+abbrev pub bytes_are_borrowed : {K : Type 0} → BytesAttribute K ShortBytes → Bool
+bytes_are_borrowed attribute = is_borrowed attribute.value.bytes
 
 abbrev pub ReadsBytes : {K : Type 0} → ℕ
     → ℕ → List ℕ → Result (BytesAttribute K ShortBytes) StunParseError → Type 0

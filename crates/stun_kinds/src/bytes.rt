@@ -39,8 +39,8 @@ pub trait HasKind<K: AttributeKind>: Attribute {
 }
 
 impl<'a, K: AttributeKind> BytesAttribute<K, ShortBytes<'a>> {
-    ghost use Rattle.std.specs.Prelude.{◌≡◌, ◌<◌, ◌≤◌, Err, IsOkAnd, length};
-    ghost use Rattle.stun_kinds.specs.Kinds.{bytes_of};
+    ghost use Rattle.std.specs.Prelude.{◌≡◌, ◌<◌, ◌≤◌, true, Err, IfOk, IsOkAnd, length};
+    ghost use Rattle.stun_kinds.specs.Kinds.{bytes_of, bytes_are_borrowed};
 
     /// The attribute of these bytes, which it borrows.
     ///
@@ -50,6 +50,7 @@ impl<'a, K: AttributeKind> BytesAttribute<K, ShortBytes<'a>> {
     pub fn new(bytes: &'a [u8]) -> Result<Self, StunWriteError>
         ensures ok { length bytes.now ≤ 65535
             → IsOkAnd result (λ made. bytes_of made ≡ bytes.now) }
+        ensures borrowed { IfOk result (λ made. bytes_are_borrowed made ≡ true) }
         ensures large { 65535 < length bytes.now
             → result ≡ Err (StunWriteError.TooLarge 65535 (length bytes.now)) }
     {
@@ -125,13 +126,19 @@ impl<K: AttributeKind> AttributeWrite for BytesAttribute<K, ShortBytes<'_>> {
 /// the value as it is, so that one that is borrowed stays borrowed, and takes no memory;
 /// `from_raw_ref` copies it into memory that `alloc` gives, or answers `OutOfMemory`.
 impl<'a, K: AttributeKind> AttributeFromRaw<'a> for BytesAttribute<K, ShortBytes<'a>> {
-    ghost use Rattle.stun_kinds.specs.Kinds.{ReadsBytes, ReadsBytesInMemory};
+    ghost use Rattle.std.specs.Prelude.{◌≡◌, false, IfOk};
+    ghost use Rattle.stun_base.specs.Data.{is_borrowed};
+    ghost use Rattle.stun_attrs.specs.Raw.{raw_type, raw_data, raw_value};
+    ghost use Rattle.stun_kinds.specs.Kinds.{bytes_are_borrowed, ReadsBytes, ReadsBytesInMemory};
 
     ghost reads_ref = { ReadsBytesInMemory K.NUMBER };
 
     ghost reads = { ReadsBytes K.NUMBER };
 
-    fn from_raw_ref(alloc: Global, raw: &RawAttribute<'_>) -> Result<Self, StunParseError> {
+    fn from_raw_ref(alloc: Global, raw: &RawAttribute<'_>) -> Result<Self, StunParseError>
+        ensures reads { ReadsBytesInMemory K.NUMBER (raw_type raw.now) (raw_value raw.now) result }
+        ensures owned { IfOk result (λ read. bytes_are_borrowed read ≡ false) }
+    {
         check_type(raw, AttributeType(K::NUMBER))?;
         let copy = raw.clone(alloc).map_err(|_| StunParseError::OutOfMemory)?;
         let copy = copy
@@ -140,7 +147,11 @@ impl<'a, K: AttributeKind> AttributeFromRaw<'a> for BytesAttribute<K, ShortBytes
         Self::from_raw(alloc, copy)
     }
 
-    fn from_raw(_alloc: Global, raw: RawAttribute<'a>) -> Result<Self, StunParseError> {
+    fn from_raw(_alloc: Global, raw: RawAttribute<'a>) -> Result<Self, StunParseError>
+        ensures reads { ReadsBytes K.NUMBER (raw_type raw.entry) (raw_value raw.entry) result }
+        ensures kept { IfOk result
+            (λ read. bytes_are_borrowed read ≡ is_borrowed (raw_data raw.entry)) }
+    {
         check_type(&raw, AttributeType(K::NUMBER))?;
         Ok(BytesAttribute {
             value: ShortBytes {

@@ -1,6 +1,6 @@
 //! The header of a message, the length that it states, and the attributes behind it.
 
-ghost use Rattle.std.specs.Prelude.{◌≡◌, ◌+◌, ◌^◌, ◌<◌, ◌≤◌, length, MatchResult, MatchOption, None, Some};
+ghost use Rattle.std.specs.Prelude.{◌≡◌, ◌+◌, ◌^◌, ◌<◌, ◌≤◌, length, IfOk, IfSome, MatchResult, MatchOption, None, Some};
 ghost use Rattle.stun_grammar.specs.Headers.{Begins, length_field};
 ghost use Rattle.stun_grammar.specs.Showing.{frame_fault, shown};
 ghost use Rattle.stun_read.specs.Iterating.{items_left, borrowed};
@@ -12,7 +12,8 @@ use stun_values::check_length;
 /// The length of a message, as its header states it.
 fn stated_length(bytes: &[u8]) -> usize
     requires { 20 ≤ length bytes.now }
-    ensures { result ≡ 20 + length_field bytes.now }
+    ensures stated { result ≡ 20 + length_field bytes.now }
+    ensures bound { result ≤ 65555 }
 {
     MessageHeader::LENGTH + number_at(bytes, 2) as usize
 }
@@ -47,10 +48,11 @@ pub(crate) fn check_frame(bytes: &[u8]) -> Result<(), StunParseError>
 ///
 /// `NotStun` where no header begins with these bytes, whatever follows them.
 pub fn message_length(prefix: &[u8]) -> Result<Option<usize>, StunParseError>
-    ensures { MatchResult result
+    ensures told { MatchResult result
         (λ told. Begins prefix.now × MatchOption told (length prefix.now < 20)
         (λ whole. (20 ≤ length prefix.now) × (whole ≡ 20 + length_field prefix.now)))
         (λ e. (e ≡ StunParseError.NotStun) × ¬ Begins prefix.now) }
+    ensures bound { IfOk result (λ told. IfSome told (λ whole. whole ≤ 65555)) }
 {
     match check_header(prefix) {
         Ok(()) => Ok(Some(stated_length(prefix))),

@@ -87,8 +87,13 @@ impl Registry {
     }
 
     /// Registers a function that prints the attributes of a type, in place of the one that was
-    /// registered for it. It may be called on every raw attribute. An attribute of a type that the
-    /// library has a typed attribute for is printed as that one, whatever is registered.
+    /// registered for it. An attribute of a type that the library has a typed attribute for is
+    /// printed as that one, whatever is registered.
+    ///
+    /// # Requires
+    ///
+    /// `imp` may be called on every raw attribute: it has no `requires` of its own, as the
+    /// functions that `attribute_display!` registers have none.
     ///
     /// # Errors
     ///

@@ -1,5 +1,5 @@
 -- A reply, attribute by attribute.
-use Rattle.std.proofs.Common.{◌≡◌, ℕ, ◌^◌, ◌<◌, List, [], ◌∷◌, length, Some, None, refl, sym, ap, subst, ◌∙◌, lit<}
+use Rattle.std.proofs.Common.{◌≡◌, ℕ, ◌^◌, ◌<◌, true, false, ◌==◌, List, [], ◌∷◌, length, Some, None, refl, sym, ap, subst, ◌∙◌, lit<}
 use Rattle.std.specs.Prelude.{codes}
 use Rattle.std.specs.Net.Addr.{is_ipv6}
 use Rattle.std.specs.Net.Socket.{socket_ip}
@@ -8,6 +8,7 @@ use Rattle.std.specs.declared.net.ip_addr.IpAddr.TheVariants.{V4, V6}
 use Rattle.std.specs.declared.net.socket_addr.SocketAddr.{SocketAddr}
 use Rattle.stun_grammar.specs.declared.error.StunParseError.{StunParseError}
 use Rattle.stun_grammar.specs.Headers.{type_field, id_field}
+use Rattle.stun_grammar.specs.Names.{BINDING}
 use Rattle.stun_grammar.specs.Attributes.{canonical}
 use Rattle.stun_grammar.specs.AttributeTypes.{XOR_MAPPED_ADDRESS, SOFTWARE}
 use Rattle.stun_grammar.specs.Parsing.{parse_fault}
@@ -16,10 +17,10 @@ use Rattle.stun_grammar.specs.Adding.{appended}
 use Rattle.stun_grammar.proofs.AddingLemmas.{message_more}
 use Rattle.stun_base.specs.declared.message_type.MessageClass.{MessageClass}
 use Rattle.stun_base.specs.declared.message_type.MessageClass.TheVariants.{Request, Indication, Success, Error as ErrorClass}
-use Rattle.stun_base.specs.MessageTypes.{class_of}
+use Rattle.stun_base.specs.MessageTypes.{class_of, method_of}
 use Rattle.stun_values.specs.Addresses.{family, address_value, IsXored}
 use Rattle.stun_types.specs.Replies.{response_type}
-use Rattle.stun_reply.specs.Reply.{xored_value, success_reply, response, request_reply, reply_by_class, reply}
+use Rattle.stun_reply.specs.Reply.{xored_value, success_reply, response, binding_reply, reply_by_type, reply}
 
 same_family : (x a : IpAddr) → is_ipv6 x ≡ is_ipv6 a → family x ≡ family a
 same_family (V4 x) (V4 a) e = refl
@@ -53,19 +54,29 @@ pub none_to_fault : (source : SocketAddr) (d : List ℕ) (e : StunParseError) �
 unfolding reply
 none_to_fault source d e fault = rw fault refl
 
-no_request : (class : MessageClass) (source : SocketAddr) (d : List ℕ) → (class ≡ Request → ⊥) → reply_by_class class source d ≡ None
-no_request Request source d other = absurd (other refl)
-no_request Indication source d other = refl
-no_request Success source d other = refl
-no_request ErrorClass source d other = refl
+no_request : (class : MessageClass) (method : ℕ) (source : SocketAddr) (d : List ℕ) → (class ≡ Request → ⊥) → reply_by_type class method source d ≡ None
+no_request Request method source d other = absurd (other refl)
+no_request Indication method source d other = refl
+no_request Success method source d other = refl
+no_request ErrorClass method source d other = refl
 
 -- b is what a message keeps of the datagram d
 pub none_to_class : (source : SocketAddr) (d b : List ℕ) → parse_fault d ≡ None → b ≡ d → (class_of (type_field b) ≡ Request → ⊥) → reply source d ≡ None
 unfolding reply
-none_to_class source d b parses same other = rw parses (no_request (class_of (type_field d)) source d (λ is. other (ap (λ (x : List ℕ). class_of (type_field x)) same ∙ is)))
+none_to_class source d b parses same other = rw parses (no_request (class_of (type_field d)) (method_of (type_field d)) source d (λ is. other (ap (λ (x : List ℕ). class_of (type_field x)) same ∙ is)))
 
-pub one_to_request : (source : SocketAddr) (d b text : List ℕ) → parse_fault d ≡ None → b ≡ d → class_of (type_field b) ≡ Request → text ≡ request_reply source b → reply source d ≡ Some text
+-- b is what a message keeps of the datagram d, and a request
+pub none_to_method : (source : SocketAddr) (d b : List ℕ) → parse_fault d ≡ None → b ≡ d → class_of (type_field b) ≡ Request → (method_of (type_field b) == BINDING) ≡ false → reply source d ≡ None
 unfolding reply
-one_to_request source d b text parses same request is =
+none_to_method source d b parses same request other =
     let class : class_of (type_field d) ≡ Request = ap (λ (x : List ℕ). class_of (type_field x)) (sym same) ∙ request in
-    rw (parses, class) (ap Some (sym (is ∙ ap (request_reply source) same)))
+    let method : (method_of (type_field d) == BINDING) ≡ false = ap (λ (x : List ℕ). method_of (type_field x) == BINDING) (sym same) ∙ other in
+    rw (parses, class, method) refl
+
+pub one_to_binding : (source : SocketAddr) (d b text : List ℕ) → parse_fault d ≡ None → b ≡ d → class_of (type_field b) ≡ Request → (method_of (type_field b) == BINDING) ≡ true
+    → text ≡ binding_reply source b → reply source d ≡ Some text
+unfolding reply
+one_to_binding source d b text parses same request binding is =
+    let class : class_of (type_field d) ≡ Request = ap (λ (x : List ℕ). class_of (type_field x)) (sym same) ∙ request in
+    let method : (method_of (type_field d) == BINDING) ≡ true = ap (λ (x : List ℕ). method_of (type_field x) == BINDING) (sym same) ∙ binding in
+    rw (parses, class, method) (ap Some (sym (is ∙ ap (binding_reply source) same)))

@@ -1,4 +1,4 @@
--- What a server without credentials replies to a datagram (RFC 8489, sections 6.3.1, 7 and 12).
+-- What a server without credentials replies to a datagram (RFC 8489, sections 6.3, 6.3.1, 7 and 12).
 use Rattle.std.specs.Prelude.{ℕ, ◌/◌, ◌^◌, List, [], ◌∷◌, ◌++◌, length, bit_xor, is_some, ◌==◌, if◌then◌else◌, Option, None, Some}
 use Rattle.std.specs.Option.{option_map_or}
 use Rattle.std.specs.Net.Socket.{socket_ip, socket_port}
@@ -18,14 +18,15 @@ use Rattle.stun_base.specs.declared.message_type.MessageClass.TheVariants.{Reque
 use Rattle.stun_base.specs.MessageTypes.{class_of, method_of}
 use Rattle.stun_read.specs.LookingUp.{nth}
 use Rattle.stun_values.specs.Addresses.{family, octets, mask, xor_bytes}
-use Rattle.stun_types.specs.Replies.{response_type, own_software, bad_reply, check_reply}
+use Rattle.stun_types.specs.Replies.{response_type, own_software, check_reply}
 
 -- ---- The attributes of the replies
 
--- the one type that requires comprehension and that the server comprehends in a request: it has no
--- credentials, so those that authenticate aren't among them
+-- the types that the server comprehends in a request, of those that require it: none. It departs
+-- from section 6.3 in that it doesn't ignore those that a STUN agent knows and a binding request
+-- isn't expected to have
 abbrev pub comprehended : List AttributeType
-comprehended = record { 0 = FINGERPRINT } ∷ []
+comprehended = []
 
 -- the value of an XOR-MAPPED-ADDRESS (RFC 8489, section 14.2)
 abbrev pub xored_value : ℕ → SocketAddr → List ℕ
@@ -50,29 +51,27 @@ finished r text =
     if is_some (nth r FINGERPRINT 0)
     then appended text FINGERPRINT (fingerprint_value text (length text)) else text
 
--- the reply to a binding request: 420 where it shows types that require comprehension and aren't
--- comprehended, and else its own address
-abbrev pub binding_reply : SocketAddr → List ℕ → List ℕ
-binding_reply source r =
+-- the reply to a binding request r, but for its FINGERPRINT: 420 where it shows types that require
+-- comprehension and aren't comprehended, and else the address that it came from (section 6.3.1)
+abbrev pub unfinished_reply : SocketAddr → List ℕ → List ℕ
+unfinished_reply source r =
     option_map_or (response ErrorClass r) (check_reply comprehended [] r)
     (response Success r (success_reply source r))
 
--- the reply to a request: 400 where it has another method
-abbrev pub unfinished_reply : SocketAddr → List ℕ → List ℕ
-unfinished_reply source r =
-    if method_of (type_field r) == BINDING then binding_reply source r
-    else response ErrorClass r bad_reply
-
 -- the same, finished
-abbrev pub request_reply : SocketAddr → List ℕ → List ℕ
-request_reply source r = finished r (unfinished_reply source r)
+abbrev pub binding_reply : SocketAddr → List ℕ → List ℕ
+binding_reply source r = finished r (unfinished_reply source r)
 
--- only a message of the class of a request gets a reply
-abbrev pub reply_by_class : MessageClass → SocketAddr → List ℕ → Option (List ℕ)
-reply_by_class Request source r = Some (request_reply source r)
-reply_by_class _ source r = None
+-- the reply to a message, by its class and its method: only a binding request gets one. A request of
+-- another method, which the server doesn't support, is silently discarded (section 6.3)
+abbrev pub reply_by_type : MessageClass → ℕ → SocketAddr → List ℕ → Option (List ℕ)
+reply_by_type Request method source r =
+    if method == BINDING then Some (binding_reply source r) else None
+reply_by_type _ method source r = None
 
--- the reply to a datagram that came from an address: none where it doesn't parse, or is no request
+-- the reply to a datagram that came from an address: none where it doesn't parse, or is no binding
+-- request
 unfoldable pub reply : SocketAddr → List ℕ → Option (List ℕ)
 reply source r =
-    if is_some (parse_fault r) then None else reply_by_class (class_of (type_field r)) source r
+    if is_some (parse_fault r) then None
+    else reply_by_type (class_of (type_field r)) (method_of (type_field r)) source r

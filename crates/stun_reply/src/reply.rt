@@ -11,7 +11,7 @@ ghost use Rattle.stun_attributes.specs.AddressAttributes.{written_mapped_addr};
 ghost use Rattle.stun_base.specs.declared.message_type.MessageClass.TheVariants.{Request, Success};
 ghost use Rattle.stun_base.specs.MessageTypes.{class_of};
 ghost use Rattle.stun_types.specs.Message.{message_bytes};
-ghost use Rattle.stun_reply.specs.Reply.{success_reply, response, unfinished_reply, binding_reply, request_reply, reply};
+ghost use Rattle.stun_reply.specs.Reply.{success_reply, response, unfinished_reply, binding_reply, reply};
 
 use std::alloc::{AllocError, Global};
 use std::net::SocketAddr;
@@ -60,25 +60,7 @@ fn success_response(
 }
 
 /// The reply to a binding request, without a FINGERPRINT: 420 where it shows types that require
-/// comprehension and aren't comprehended, and else the success response.
-fn binding_response(
-    alloc: Global,
-    request: &Message<'_>,
-    source: SocketAddr,
-) -> Result<MessageWriteVec, StunWriteError>
-    requires { class_of (type_field (message_bytes request.now)) ≡ Request }
-    ensures { IfOk result (λ write. (⟦<MessageWriteVec as MessageWrite>⟧.state write).bytes
-        ≡ binding_reply source (message_bytes request.now)) }
-{
-    let comprehended = [Fingerprint::TYPE];
-    let write = MessageWriteVec::new(alloc);
-    match Message::check_attribute_types(alloc, request, &comprehended, &[], write)? {
-        Some(write) => Ok(write),
-        None => success_response(alloc, request, source),
-    }
-}
-
-/// The reply to a request, without a FINGERPRINT: 400 where it has another method.
+/// comprehension, of which the server comprehends none, and else the success response.
 fn unfinished_response(
     alloc: Global,
     request: &Message<'_>,
@@ -88,21 +70,21 @@ fn unfinished_response(
     ensures { IfOk result (λ write. (⟦<MessageWriteVec as MessageWrite>⟧.state write).bytes
         ≡ unfinished_reply source (message_bytes request.now)) }
 {
-    if request.has_method(BINDING) {
-        binding_response(alloc, request, source)
-    } else {
-        Message::bad_request(alloc, request, MessageWriteVec::new(alloc))
+    let write = MessageWriteVec::new(alloc);
+    match Message::check_attribute_types(alloc, request, &[], &[], write)? {
+        Some(write) => Ok(write),
+        None => success_response(alloc, request, source),
     }
 }
 
-/// The reply to a request: with a FINGERPRINT where the request shows one.
-fn whole_response(
+/// The reply to a binding request: with a FINGERPRINT where the request shows one.
+fn binding_response(
     alloc: Global,
     request: &Message<'_>,
     source: SocketAddr,
 ) -> Result<Vec<u8>, StunWriteError>
     requires { class_of (type_field (message_bytes request.now)) ≡ Request }
-    ensures { IfOk result (λ text. text.items ≡ request_reply source (message_bytes request.now)) }
+    ensures { IfOk result (λ text. text.items ≡ binding_reply source (message_bytes request.now)) }
 {
     let mut write = unfinished_response(alloc, request, source)?;
     if request.has_attribute(Fingerprint::TYPE) {
@@ -111,8 +93,9 @@ fn whole_response(
     Ok(write.finish())
 }
 
-/// The reply to a datagram that came from `source`, if it deserves one; the error says that an
-/// allocation failed. No reply is refused for its length: 65555 bytes show at most 16383 types.
+/// The reply to a datagram that came from `source`, if it deserves one: a binding request does, and
+/// whatever else is silently discarded (RFC 8489, section 6.3). The error says that an allocation
+/// failed. No reply is refused for its length: 65555 bytes show at most 16383 types.
 pub fn reply(
     alloc: Global,
     source: SocketAddr,
@@ -128,7 +111,10 @@ pub fn reply(
     if !request.has_class(MessageClass::Request) {
         return Ok(None);
     }
-    match whole_response(alloc, &request, source) {
+    if !request.has_method(BINDING) {
+        return Ok(None);
+    }
+    match binding_response(alloc, &request, source) {
         Ok(text) => Ok(Some(text)),
         Err(_) => Err(AllocError),
     }

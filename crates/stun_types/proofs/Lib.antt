@@ -1,2 +1,2 @@
 mod RepliesLemmas
-mod ShownTypesLemmas
+pub mod ShownTypesLemmas

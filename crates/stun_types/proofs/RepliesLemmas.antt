@@ -181,7 +181,7 @@ unfolding first_refusal accepted
 refused_here {T} e old new r before a attributes None is answer holds = record {
   answer = λ not. absurd (nothing not);
   ok = tt;
-  err = (λ not. absurd (nothing (λ same. not (cc same))), λ _. inr (record { written = before; others = a ∷ attributes; whole = refl; reply = holds }));
+  err = (λ not. absurd (nothing (λ same. not (cc same))), λ _. inr (record { written = before; others = a ∷ attributes; whole = refl; left_out = λ none. cc none; reply = holds }));
   spends = holds.spends;
 }
   where
@@ -192,7 +192,7 @@ refused_here {T} e old new r before a attributes (Some x) is answer holds = reco
   ok = tt;
   err = (
     λ not. subst (λ (o : Option StunWriteError). IsReply old new r (before ++ (if is_some o then [] else a ∷ accepted old.greatest (before ++ a ∷ []) attributes))) is (subst (IsReply old new r) (sym (append-nil before)) holds),
-    λ _. inr (record { written = before; others = a ∷ attributes; whole = refl; reply = holds }),
+    λ _. inr (record { written = before; others = a ∷ attributes; whole = refl; left_out = λ none. cc none; reply = holds }),
   );
   spends = holds.spends;
 }

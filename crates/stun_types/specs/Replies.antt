@@ -129,12 +129,13 @@ pub record IsReply (old new : Writer) (r : List ℕ) (attributes : List Attribut
   pub answers : Answers new.bytes r
   pub writable : IsWritable (response_type ErrorClass r) (id_field r) attributes
 
--- such a response with some of the first of these attributes is written
+-- such a response with some of the first of these attributes is written, and not all of them
 pub record IsPartOfReply (old new : Writer) (r : List ℕ)
     (attributes : List Attribute) : Type 0 where
   pub written : List Attribute
   pub others : List Attribute
   pub whole : attributes ≡ written ++ others
+  pub left_out : others ≢ []
   pub reply : IsReply old new r written
 
 -- what a refusal leaves: the attributes before the refused one; and where an allocation failed,

@@ -2,10 +2,10 @@
 //!
 //! [`message::Message::from_bytes`] parses a message, and [`message::Message::iter_attributes`]
 //! iterates over its attributes; [`message::message_length`] tells where a message ends in a longer
-//! buffer. Reading a message borrows its bytes, takes no memory and goes over
-//! the attributes once; for a FINGERPRINT the bytes before it are read again.
-//! [`message::Message::validate_integrity`] checks the HMAC of a message, for which it goes over
-//! what is shown, and then over the bytes that the HMAC covers.
+//! buffer. Reading a message borrows its bytes, takes no memory and goes over the attributes once;
+//! for a FINGERPRINT the bytes before it are read again. It keeps the offsets of the integrity
+//! attributes that it meets: [`message::Message::validate_integrity`] reads the one that it checks
+//! at its offset, and then the bytes that the HMAC covers.
 //! [`message::Message::builder`] begins a message, and
 //! [`message::write::MessageWriteExt::add_attribute`] adds to it.
 #![tactic(auto)]

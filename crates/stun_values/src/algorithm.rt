@@ -93,6 +93,10 @@ fn write_names_in<W: fmt::Write>(f: &mut fmt::Formatter<W>, value: &[u8]) -> fmt
 
 /// Writes the four bytes of an algorithm at the start of `dest`: its number, and 0 for the length
 /// of its parameters.
+///
+/// # Requires
+///
+/// `dest.len()` is at least 4.
 pub fn write_algorithm(algorithm: PasswordAlgorithmValue, dest: &mut [u8])
     requires { 4 ≤ length dest.old }
     ensures { dest.new ≡ algorithm_encoding algorithm ++ drop 4 dest.old }
@@ -106,6 +110,10 @@ pub fn write_algorithm(algorithm: PasswordAlgorithmValue, dest: &mut [u8])
 }
 
 /// Writes four bytes for each algorithm at the start of `dest`, in order.
+///
+/// # Requires
+///
+/// `dest.len()` is at least `4 * algorithms.len()`.
 pub fn write_algorithms(algorithms: &[PasswordAlgorithmValue], dest: &mut [u8])
     requires { 4 * length algorithms.now ≤ length dest.old }
     ensures { dest.new ≡ algorithms_encoding algorithms.now
@@ -118,6 +126,10 @@ pub fn write_algorithms(algorithms: &[PasswordAlgorithmValue], dest: &mut [u8])
 
 /// Reads the algorithm at the start of four bytes or more: it has no parameters, and its number is
 /// 1 or 2. What follows the four bytes is ignored.
+///
+/// # Requires
+///
+/// `value.len()` is at least 4.
 ///
 /// # Errors
 ///
@@ -246,8 +258,11 @@ pub fn print_algorithms<W: fmt::Write>(
     write!(f, "]")
 }
 
-/// Prints in the same way the value of a PASSWORD-ALGORITHMS that [`check_algorithms`] accepts. It
-/// takes no memory.
+/// Prints in the same way the value of a PASSWORD-ALGORITHMS. It takes no memory.
+///
+/// # Requires
+///
+/// The value holds algorithms, four bytes for each: so it is where [`check_algorithms`] is `Ok`.
 ///
 /// # Errors
 ///

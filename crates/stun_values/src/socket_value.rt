@@ -47,7 +47,11 @@ fn family_number(ip: IpAddr) -> u8
     }
 }
 
-/// Writes the value of this address at the start of `dest`, which has room for it.
+/// Writes the value of this address at the start of `dest`.
+///
+/// # Requires
+///
+/// `dest.len()` is at least [`address_length`] of it.
 pub fn write_address(addr: &SocketAddr, dest: &mut [u8])
     requires { length (address_value addr.now) ≤ length dest.old }
     ensures { dest.new ≡ address_value addr.now ++ drop (length (address_value addr.now)) dest.old }

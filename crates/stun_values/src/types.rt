@@ -31,6 +31,10 @@ pub fn check_types(value: &[u8]) -> Result<(), StunParseError>
 /// Prints an UNKNOWN-ATTRIBUTES of these types: its own type, and after it the list of types as
 /// `{:?}` prints it. It takes no memory.
 ///
+/// # Requires
+///
+/// The iterator may be asked for its next item, and comes to an end, as one over a slice does.
+///
 /// # Errors
 ///
 /// `fmt::Error` where the formatter refuses a part of the text.

@@ -7,7 +7,7 @@ ghost use Rattle.stun_grammar.specs.Hmac.{digest_length};
 ghost use Rattle.stun_grammar.specs.Verdicts.{type_of_algorithm};
 ghost use Rattle.stun_grammar.specs.Fingerprints.{fingerprint_value};
 ghost use Rattle.stun_grammar.specs.Steps.{add, sign, finger, integrity_value};
-ghost use Rattle.stun_grammar.specs.Adding.{grown_length, add_refusal, IsAddAnswer};
+ghost use Rattle.stun_grammar.specs.Adding.{grown_length, add_refusal, any_refusal, IsAddAnswer};
 ghost use Rattle.stun_keys.specs.Keys.{key_bytes, credentials_key};
 ghost use Rattle.stun_base.specs.MessageTypes.{class_of, method_of, is_response as responds};
 ghost use Rattle.stun_write.specs.Writers.{Allocates, Adds};
@@ -29,7 +29,8 @@ use stun_values::hmac_length;
 /// and 14). Every [`MessageWrite`] has these methods.
 ///
 /// The header may be read where the bytes written begin with one, as they do after
-/// `Message::builder`. Adding attributes changes neither the message type nor the transaction ID.
+/// `Message::builder` and after every add that follows it: adding attributes changes neither the
+/// message type nor the transaction ID.
 ///
 /// ```
 /// let mut message = Message::builder(mtype, id, MessageWriteVec::new(alloc))?;
@@ -40,46 +41,80 @@ use stun_values::hmac_length;
 /// ```
 pub trait MessageWriteExt: MessageWrite {
     /// The message type: class and method.
+    ///
+    /// # Requires
+    ///
+    /// The bytes written begin with a header: `MessageHeader::from_bytes(message.data())` is `Ok`.
     fn get_type(&self) -> MessageType
         requires { is_header (Self.state self.now).bytes ≡ true }
         ensures { result ≡ type_field (Self.state self.now).bytes };
 
     /// The class.
+    ///
+    /// # Requires
+    ///
+    /// The bytes written begin with a header: `MessageHeader::from_bytes(message.data())` is `Ok`.
     fn class(&self) -> MessageClass
         requires { is_header (Self.state self.now).bytes ≡ true }
         ensures { result ≡ class_of (type_field (Self.state self.now).bytes) };
 
     /// Whether the class is `cls`.
+    ///
+    /// # Requires
+    ///
+    /// The bytes written begin with a header: `MessageHeader::from_bytes(message.data())` is `Ok`.
     fn has_class(&self, cls: MessageClass) -> bool
         requires { is_header (Self.state self.now).bytes ≡ true }
         ensures { IsTrue result ↔ (class_of (type_field (Self.state self.now).bytes) ≡ cls) };
 
     /// Whether the class is success or error.
+    ///
+    /// # Requires
+    ///
+    /// The bytes written begin with a header: `MessageHeader::from_bytes(message.data())` is `Ok`.
     fn is_response(&self) -> bool
         requires { is_header (Self.state self.now).bytes ≡ true }
         ensures { result ≡ responds (class_of (type_field (Self.state self.now).bytes)) };
 
     /// The method.
+    ///
+    /// # Requires
+    ///
+    /// The bytes written begin with a header: `MessageHeader::from_bytes(message.data())` is `Ok`.
     fn method(&self) -> Method
         requires { is_header (Self.state self.now).bytes ≡ true }
         ensures { result ≡ method_of (type_field (Self.state self.now).bytes) };
 
     /// Whether the method is `method`.
+    ///
+    /// # Requires
+    ///
+    /// The bytes written begin with a header: `MessageHeader::from_bytes(message.data())` is `Ok`.
     fn has_method(&self, method: Method) -> bool
         requires { is_header (Self.state self.now).bytes ≡ true }
         ensures { IsTrue result ↔ (method_of (type_field (Self.state self.now).bytes) ≡ method) };
 
     /// The transaction ID.
+    ///
+    /// # Requires
+    ///
+    /// The bytes written begin with a header: `MessageHeader::from_bytes(message.data())` is `Ok`.
     fn transaction_id(&self) -> TransactionId
         requires { is_header (Self.state self.now).bytes ≡ true }
         ensures { result ≡ id_field (Self.state self.now).bytes };
 
-    /// Adds an attribute of an ordinary type: none of MESSAGE-INTEGRITY (0x0008),
+    /// Adds an attribute of an ordinary type: any type but MESSAGE-INTEGRITY (0x0008),
     /// MESSAGE-INTEGRITY-SHA256 (0x001C) and FINGERPRINT (0x8028), which have methods of their own.
     ///
     /// Its type, length, value and zero padding are written straight into the message, after what
     /// is there, and the length field of the header is set to count them (RFC 8489, sections 5
     /// and 14).
+    ///
+    /// # Requires
+    ///
+    /// `attribute.get_type().is_ending()` is `false`. An attribute whose Rust type fixes the type
+    /// needs no test; one whose type is known only when the program runs is added by
+    /// [`MessageWriteExt::add_any_attribute`], which tests it.
     ///
     /// # Errors
     ///
@@ -91,7 +126,8 @@ pub trait MessageWriteExt: MessageWrite {
     /// - `TooSmall { expected, actual }` where the message would be longer than the writer takes:
     ///   its length with the attribute, and [`MessageWrite::max_size`];
     /// - `TooLarge { expected: 65555, actual }` where it would be longer than a message may be;
-    /// - `OutOfMemory`, only where the attribute needs more than the ready room.
+    /// - `OutOfMemory`, only where the attribute needs more than the writer's ready room: the bytes
+    ///   and the attributes that it surely takes, of which [`MessageWrite`] says more.
     fn add_attribute(&mut self, attribute: &dyn AttributeWrite) -> Result<(), StunWriteError>
         requires ordinary { IsOrdinary (atype attribute.now) }
         ensures answer { IsAddAnswer
@@ -103,6 +139,32 @@ pub trait MessageWriteExt: MessageWrite {
             (atype attribute.now) (value attribute.now) }
         ensures type_fits { atype attribute.now < 2 ^ 16 }
         ensures value_fits { length (value attribute.now) < 2 ^ 16 };
+
+    /// As [`MessageWriteExt::add_attribute`], for an attribute whose type is known only at run time:
+    /// one of an ending type is refused. A proxy adds the attributes of a message that it received
+    /// so:
+    ///
+    /// ```
+    /// for (_offset, attribute) in received.iter_attributes() {
+    ///     if !attribute.get_type().is_ending() {
+    ///         message.add_any_attribute(&attribute)?;
+    ///     }
+    /// }
+    /// ```
+    ///
+    /// # Errors
+    ///
+    /// `EndingType` with the type where it is that of MESSAGE-INTEGRITY (0x0008),
+    /// MESSAGE-INTEGRITY-SHA256 (0x001C) or FINGERPRINT (0x8028), and else as for
+    /// [`MessageWriteExt::add_attribute`]; the bytes and the attributes then stay as they were.
+    fn add_any_attribute(&mut self, attribute: &dyn AttributeWrite) -> Result<(), StunWriteError>
+        ensures answer { IsAddAnswer
+            (any_refusal (atype attribute.now) (value attribute.now)
+            (Self.state self.old).types (length (Self.state self.old).bytes)
+            (Self.state self.old).greatest)
+            (Allocates (Self.state self.old) (length (value attribute.now))) result }
+        ensures adds { Adds result (Self.state self.old) (Self.state self.new)
+            (atype attribute.now) (value attribute.now) };
 
     /// Adds the integrity attribute of an algorithm, with the key that the credentials give for it:
     /// MESSAGE-INTEGRITY (0x0008) with the 20 bytes of the HMAC-SHA1, or MESSAGE-INTEGRITY-SHA256
@@ -158,8 +220,17 @@ pub trait MessageWriteExt: MessageWrite {
             (type_of_algorithm algorithm)
             (integrity_value (Self.state self.old).bytes (key_bytes key.now) algorithm) };
 
-    /// As [`MessageWriteExt::add_message_integrity_with_key`], without its checks: no attribute
-    /// bars the addition, and there is room for it.
+    /// As [`MessageWriteExt::add_message_integrity_with_key`], without its checks.
+    ///
+    /// # Requires
+    ///
+    /// That method would refuse nothing but for lack of memory:
+    ///
+    /// - no attribute that bars the addition is written: for `Sha1` none of 0x0008, 0x001C and
+    ///   0x8028, for `Sha256` none of 0x001C and 0x8028, as [`MessageWrite::has_any_attribute`]
+    ///   tests;
+    /// - [`MessageWrite::len`] is at least 20, and with 24 bytes more for `Sha1`, or 36 for
+    ///   `Sha256`, at most 65555 and at most [`MessageWrite::max_size`].
     ///
     /// # Errors
     ///
@@ -202,8 +273,13 @@ pub trait MessageWriteExt: MessageWrite {
             (fingerprint_value (Self.state self.old).bytes
             (length (Self.state self.old).bytes)) };
 
-    /// As [`MessageWriteExt::add_fingerprint`], without its checks: no FINGERPRINT is written, and
-    /// there is room for one.
+    /// As [`MessageWriteExt::add_fingerprint`], without its checks.
+    ///
+    /// # Requires
+    ///
+    /// No FINGERPRINT is written, as [`MessageWrite::has_attribute`] tests, and there is room for
+    /// one: [`MessageWrite::len`] is at least 20, and with 8 bytes more at most 65555 and at most
+    /// [`MessageWrite::max_size`].
     ///
     /// # Errors
     ///
@@ -257,6 +333,14 @@ impl<W: MessageWrite> MessageWriteExt for W {
         let added = 4 + pad_attribute_len(attribute.length() as usize);
         check_add(self, Addition::Ordinary, added)?;
         self.push_attribute_unchecked(attribute)
+    }
+
+    fn add_any_attribute(&mut self, attribute: &dyn AttributeWrite) -> Result<(), StunWriteError> {
+        let atype = attribute.get_type();
+        if atype.is_ending() {
+            return Err(StunWriteError::EndingType(atype));
+        }
+        self.add_attribute(attribute)
     }
 
     #[tactic(auto, using(stun_grammar::proofs::AddingRefusedLemmas::signing_barred, stun_grammar::proofs::AddingLemmas::hmac_padded))]

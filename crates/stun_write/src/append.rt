@@ -34,8 +34,10 @@ pub(crate) fn append_sized(
 /// sets the length field (its bytes 2 and 3) to count what follows the header. What comes after the
 /// attribute stays. A writer that keeps its bytes in a slice can be built on it.
 ///
-/// `len` is at least 20, and `message` has room for the attribute; with it the message has at most
-/// 65555 bytes.
+/// # Requires
+///
+/// `len` is at least 20, and `len + attribute.padded_len()` at most 65555 and at most
+/// `message.len()`.
 pub fn append_attribute(attribute: &dyn AttributeWrite, len: usize, message: &mut [u8])
     requires header { 20 ≤ len }
     requires room { grown_length len (length (value attribute.now)) ≤ length message.old }
@@ -47,7 +49,12 @@ pub fn append_attribute(attribute: &dyn AttributeWrite, len: usize, message: &mu
     append_sized(attribute, len, len + attribute.padded_len(), message);
 }
 
-/// As [`append_attribute`], with a type and a value of at most 65535 bytes.
+/// As [`append_attribute`], with a type and a value.
+///
+/// # Requires
+///
+/// `value.len()` is at most 65535, `len` at least 20, and
+/// `len + 4 + pad_attribute_len(value.len())` at most 65555 and at most `message.len()`.
 #[tactic(auto, unfolding(stun_grammar::specs::Adding::appended))]
 pub fn append_value(atype: AttributeType, value: &[u8], len: usize, message: &mut [u8])
     requires header { 20 ≤ len }

@@ -26,8 +26,13 @@ fn header_bytes(mtype: MessageType, transaction_id: TransactionId) -> [u8; 20]
     header
 }
 
-/// Begins a message: writes the twenty bytes of its header, with the length 0, into `write`, which
-/// is empty and takes at least twenty bytes, and returns the writer (RFC 8489, section 5).
+/// Begins a message: writes the twenty bytes of its header, with the length 0, into `write`, and
+/// returns the writer (RFC 8489, section 5).
+///
+/// # Requires
+///
+/// Nothing is written into `write`, and it takes at least twenty bytes: [`MessageWrite::len`] is 0,
+/// and [`MessageWrite::max_size`] is `None` or 20 or more.
 ///
 /// # Errors
 ///
@@ -48,6 +53,10 @@ pub fn begin_message<B: MessageWrite + Drop>(
 }
 
 /// As [`begin_message`], but borrows the writer.
+///
+/// # Requires
+///
+/// As for [`begin_message`].
 ///
 /// # Errors
 ///

@@ -13,15 +13,16 @@ use stun_base::{MessageType, StunWriteError, TransactionId};
 use stun_grammar::IntegrityAlgorithm;
 use stun_keys::keys::{IntegrityKey, MessageIntegrityCredentials};
 
-/// One step of [`write_steps`]: an attribute to add to the message.
+/// One step of [`write_steps`]: what is added to the message, an attribute that is given, or one
+/// that is computed over what is written so far (a signature or a FINGERPRINT).
 #[derive(Clone, Copy)]
 pub enum Step<'s, O> {
     /// An attribute of an ordinary type, as [`MessageWriteExt::add_attribute`] adds it.
     Add(O),
-    /// The integrity attribute of an algorithm, with the key that the credentials give for it, as
-    /// [`MessageWriteExt::add_message_integrity`] adds it.
+    /// Signs the message so far: the integrity attribute of an algorithm, with the key that the
+    /// credentials give for it, as [`MessageWriteExt::add_message_integrity`] adds it.
     Sign(&'s MessageIntegrityCredentials, IntegrityAlgorithm),
-    /// The integrity attribute of an algorithm, with a key, as
+    /// Signs the message so far: the integrity attribute of an algorithm, with a key, as
     /// [`MessageWriteExt::add_message_integrity_with_key`] adds it.
     SignKey(&'s IntegrityKey, IntegrityAlgorithm),
     /// A FINGERPRINT, as [`MessageWriteExt::add_fingerprint`] adds it.
@@ -58,6 +59,10 @@ fn take_step<B: MessageWrite>(
 
 /// As [`write_steps`], but borrows the writer.
 ///
+/// # Requires
+///
+/// As for [`write_steps`].
+///
 /// # Errors
 ///
 /// Only `OutOfMemory`, and only where fewer than twenty bytes are ready; nothing is written then,
@@ -90,10 +95,8 @@ pub fn write_steps_into<B: MessageWrite>(
 /// step in turn (RFC 8489, sections 5 and 14).
 ///
 /// The result of each step is stored in `verdicts`, at the step's own index. A refused step adds
-/// nothing, and the next one goes on from what is written. The writer is empty and takes at least
-/// twenty bytes, the attributes of [`Step::Add`] are of ordinary types, and there are as many
-/// verdicts as steps; there may be none. The keys of [`Step::Sign`] are made in memory that `alloc`
-/// gives.
+/// nothing, and the next one goes on from what is written. The keys of [`Step::Sign`] are made in
+/// memory that `alloc` gives.
 ///
 /// ```
 /// let mut verdicts = [Ok(()); 3];
@@ -112,6 +115,14 @@ pub fn write_steps_into<B: MessageWrite>(
 /// that signs, and with the key of each step that signs, made for the step's algorithm. And it may
 /// stand in the list of messages that were sent, from which the law `integrity_has_origin` tells
 /// who sent a message that validates.
+///
+/// # Requires
+///
+/// - `verdicts.len()` is `steps.len()`, which may be 0;
+/// - nothing is written into `write`, and it takes at least twenty bytes: [`MessageWrite::len`] is
+///   0, and [`MessageWrite::max_size`] is `None` or 20 or more;
+/// - the attributes of [`Step::Add`] are of ordinary types, as [`MessageWriteExt::add_attribute`]
+///   asks: `get_type().is_ending()` of each is `false`.
 ///
 /// # Errors
 ///

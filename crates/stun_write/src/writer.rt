@@ -63,8 +63,12 @@ pub trait MessageWrite {
         ensures { option_map (λ found. found.0) result
             ≡ first_of (numbers asked.now) (state self.now).types };
 
-    /// Appends bytes. There is room for them: with them there are no more than
-    /// [`MessageWrite::max_size`].
+    /// Appends bytes.
+    ///
+    /// # Requires
+    ///
+    /// There is room for them: [`MessageWrite::len`] and `more.len()` are together at most
+    /// [`MessageWrite::max_size`], where that is a number.
     ///
     /// # Errors
     ///
@@ -77,8 +81,12 @@ pub trait MessageWrite {
             (Extends (state self.old) (state self.new) more.now) };
 
     /// Appends an attribute: its type, length, value and zero padding (RFC 8489, section 14), and
-    /// sets the length field of the header to count them (section 5). At least twenty bytes are
-    /// written, there is room for the attribute, and with it the message has at most 65555 bytes.
+    /// sets the length field of the header to count them (section 5).
+    ///
+    /// # Requires
+    ///
+    /// [`MessageWrite::len`] is at least 20, and together with the attribute's `padded_len` at most
+    /// 65555 and at most [`MessageWrite::max_size`], where that is a number.
     ///
     /// # Errors
     ///
@@ -92,8 +100,13 @@ pub trait MessageWrite {
         ensures { PushesAttribute result (state self.old) (state self.new)
             (atype attribute.now) (value attribute.now) };
 
-    /// As [`MessageWrite::push_attribute_unchecked`], with a type and a value of at most 65535
-    /// bytes.
+    /// As [`MessageWrite::push_attribute_unchecked`], with a type and a value.
+    ///
+    /// # Requires
+    ///
+    /// `more.len()` is at most 65535. [`MessageWrite::len`] is at least 20, and with 4 bytes more
+    /// and those of the padded value (`pad_attribute_len(more.len())`) at most 65555 and at most
+    /// [`MessageWrite::max_size`], where that is a number.
     ///
     /// # Errors
     ///

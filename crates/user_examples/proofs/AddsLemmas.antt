@@ -1,10 +1,11 @@
 -- Where adding an attribute succeeds, unless out of memory.
 use Rattle.std.proofs.Common.{◌≡◌, ℕ, ◌<◌, ◌≤◌, ◌⊎◌, Bool, List, [], ◌∷◌, ◌++◌, Option, None, Some, Result, Ok, Err, refl, subst, arith, inl, inr}
-use Rattle.std.specs.Prelude.{find, length, IsOk}
+use Rattle.std.specs.Prelude.{find, length, IsOk, IfErr}
 use Rattle.std.specs.Option.{option_map}
 use Rattle.std.proofs.lemmas.Bool.{le-ltb}
 use Rattle.std.proofs.lemmas.List.Folds.{find-append}
 use Rattle.stun_grammar.specs.declared.error.StunWriteError.{StunWriteError}
+use Rattle.stun_grammar.specs.declared.error.StunWriteError.TheVariants.{OutOfMemory}
 use Rattle.stun_grammar.specs.ScannedOrder.{has}
 use Rattle.stun_grammar.specs.Steps.{add, barring_types}
 use Rattle.stun_grammar.specs.Adding.{grown_length, exists_refusal, order_refusal, room_refusal, add_refusal, IsAddAnswer}
@@ -21,6 +22,21 @@ nothing_before type value = refl
 pub short_add : (type : ℕ) (value types : List ℕ) (len : ℕ) → order_refusal (add type value) types ≡ None → 20 ≤ len → grown_length len (length value) ≤ 65555 → add_refusal (add type value) types len None ≡ None
 unfolding room_refusal
 short_add type value types len none header short = rw (none, le-ltb len 20 header, le-ltb 65555 (grown_length len (length value)) short) refl
+
+-- then adding fails only for want of memory
+pub only_memory : (type : ℕ) (value : List ℕ) (types : List ℕ) (len : ℕ) (greatest : Option ℕ) (P : Type 0) (result : Result Unit StunWriteError) → types ≡ [] → greatest ≡ None → len ≡ 20 → length value ≤ 763
+    → IsAddAnswer (add_refusal (add type value) types len greatest) P result → IfErr result (λ e. e ≡ OutOfMemory)
+only_memory type value types len greatest P result alone unbounded header short answer =
+    let told : IsAddAnswer (add_refusal (add type value) [] 20 None) P result =
+    subst (λ (l : ℕ). IsAddAnswer (add_refusal (add type value) [] l None) P result) header
+    (subst (λ (o : Option ℕ). IsAddAnswer (add_refusal (add type value) [] len o) P result) unbounded
+    (subst (λ (ts : List ℕ). IsAddAnswer (add_refusal (add type value) ts len greatest) P result) alone answer)) in
+    go (add_refusal (add type value) [] 20 None) result (short_add type value [] 20 (nothing_before type value) (omega arith) (omega (arith, short))) told
+  where
+    go : (refusal : Option StunWriteError) (r : Result Unit StunWriteError) → refusal ≡ None → IsAddAnswer refusal P r → IfErr r (λ e. e ≡ OutOfMemory)
+    go None (Ok u) e a = tt
+    go None (Err x) e a = a.0
+    go (Some x) r e a = absurd cc
 
 -- one more attribute of type 0x0025 bars no addition
 pub order_more : (type : ℕ) (value types : List ℕ) → order_refusal (add type value) types ≡ None → order_refusal (add type value) (types ++ 0x0025 ∷ []) ≡ None

@@ -12,10 +12,12 @@ use Rattle.stun_grammar.proofs.AddingLemmas.{message_more}
 use Rattle.stun_write.specs.Writers.{Writer, IsBegun, IsUnchanged, Gains}
 use Rattle.user_examples.specs.InSlice.{WritesSoftware}
 use Rattle.user_examples.proofs.AddsLemmas.{nothing_before}
+use Rattle.stun_grammar.specs.Writing.{greatest_length}
+use Rattle.stun_values.specs.TextValues.{text_max}
 
-fits_in : (most longer : ℕ) → longer ≤ most → longer ≤ 65555 → room_refusal 20 (Some most) longer ≡ None
+fits_in : (most longer : ℕ) → longer ≤ most → longer ≤ greatest_length → room_refusal 20 (Some most) longer ≡ None
 unfolding room_refusal
-fits_in most longer fits short = rw (le-ltb most longer fits, le-ltb 65555 longer short) refl
+fits_in most longer fits short = rw (le-ltb most longer fits, le-ltb greatest_length longer short) refl
 
 too_small : (most longer : ℕ) → most < longer → room_refusal 20 (Some most) longer ≡ Some (TooSmall longer most)
 unfolding room_refusal
@@ -63,7 +65,7 @@ writes_software (Err e) old mid new id text begun short gains same place = recor
 }
 
 -- where the attribute fits, it is written
-pub surely_written : (most n kinds : ℕ) (r : Result (Unit {0}) StunWriteError) → n ≤ 763 → 20 + attribute_length n ≤ most → 1 ≤ kinds
+pub surely_written : (most n kinds : ℕ) (r : Result (Unit {0}) StunWriteError) → n ≤ text_max → 20 + attribute_length n ≤ most → 1 ≤ kinds
     → IsAddAnswer (room_refusal 20 (Some most) (20 + attribute_length n)) (most < 20 + attribute_length n ⊎ kinds < 1) r → IsOk r
 surely_written most n kinds r short fits one answer =
     go r (subst (λ (o : Option StunWriteError). IsAddAnswer o (most < 20 + attribute_length n ⊎ kinds < 1) r) enough answer)

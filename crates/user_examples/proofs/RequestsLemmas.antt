@@ -6,8 +6,9 @@ use Rattle.stun_grammar.specs.Chains.{placed}
 use Rattle.stun_grammar.specs.Writing.{IsWritable}
 use Rattle.stun_grammar.proofs.WritingLemmas.{canonical_is, length-canonical, length-message}
 use Rattle.stun_grammar.proofs.ShownOrderLemmas.{in_order-one}
+use Rattle.stun_values.specs.TextValues.{text_max}
 
-pub one_attribute : (id : ℕ) (value : List ℕ) → id < 2 ^ 96 → length value ≤ 763 → IsWritable 0x0001 id (canonical 0x8022 value ∷ [])
+pub one_attribute : (id : ℕ) (value : List ℕ) → id < 2 ^ 96 → length value ≤ text_max → IsWritable 0x0001 id (canonical 0x8022 value ∷ [])
 unfolding placed
 one_attribute id value i short = record {
   type_fits = omega arith;

@@ -17,7 +17,10 @@ use stun_types::message::{Message, MessageWriteMutSlice, StunWriteError, Transac
 use stun_types::prelude::*;
 
 /// Adds a SOFTWARE.
-fn add_software<B: MessageWrite>(software: &Software, message: &mut B) -> Result<(), StunWriteError>
+pub(crate) fn add_software<B: MessageWrite>(
+    software: &Software,
+    message: &mut B,
+) -> Result<(), StunWriteError>
     ensures answer { IsAddAnswer
         (add_refusal (add 0x8022 (text_bytes software.now))
         (B.state message.old).types (length (B.state message.old).bytes)

@@ -9,6 +9,7 @@ ghost use Rattle.stun_attributes.specs.Texts.{text_bytes};
 ghost use Rattle.stun_grammar.specs.Adding.{appended};
 ghost use Rattle.stun_values.specs.TextValues.{text_max};
 
+use crate::in_slice::add_software;
 use std::alloc::Global;
 use stun_base::binding_request;
 use stun_grammar::written_is_read_back;
@@ -18,8 +19,7 @@ use stun_types::message_grows;
 use stun_types::prelude::*;
 
 /// Adds a SOFTWARE to a message that is a header alone, in a writer without a bound.
-#[tactic(auto, using(crate::proofs::AddsLemmas::short_add, crate::proofs::AddsLemmas::nothing_before))]
-fn add_software<B: MessageWrite>(software: &Software, message: &mut B) -> Result<(), StunWriteError>
+fn add_first<B: MessageWrite>(software: &Software, message: &mut B) -> Result<(), StunWriteError>
     // the message is a header alone
     requires header { length (B.state message.old).bytes ≡ 20 }
     requires alone { (B.state message.old).types ≡ [] }
@@ -29,7 +29,7 @@ fn add_software<B: MessageWrite>(software: &Software, message: &mut B) -> Result
     ensures err { IfErr result (λ e. e ≡ StunWriteError.OutOfMemory) }
     ensures short { length (text_bytes software.now) ≤ text_max }
 {
-    message.add_attribute(software)
+    add_software(software, message)
 }
 
 /// Writes a binding request with this transaction ID and one SOFTWARE of this name.
@@ -46,7 +46,7 @@ fn write_request(alloc: Global, id: TransactionId, name: &str) -> Result<Vec<u8>
     message_grows();
     let software = Software::new(alloc, name)?;
     let mut message = Message::builder(binding_request(), id, MessageWriteVec::new(alloc))?;
-    add_software(&software, &mut message)?;
+    add_first(&software, &mut message)?;
     Ok(message.finish())
 }
 

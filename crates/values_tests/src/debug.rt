@@ -1,10 +1,16 @@
-//! What `{:?}` and `{:#?}` print of types whose text of `{:?}` is part of their contract.
+//! What `{:?}` and `{:#?}` print of types whose text of `{:?}` is part of their contract, of a
+//! message and a writer, and of credentials and keys, whose secrets it hides.
 
 use std::alloc::Global;
 use std::fmt;
 use std::test::Fail;
 use stun_types::attribute::AttributeType;
 use stun_types::data::{Data, DataOwned, DataSlice};
+use stun_types::message::{
+    BINDING, IntegrityAlgorithm, LongTermCredentials, Message, MessageClass,
+    MessageIntegrityCredentials, MessageType, MessageWriteVec, ShortTermCredentials, TransactionId,
+};
+use stun_types::prelude::*;
 
 /// Whether `{:?}` prints this text of a value.
 fn prints<D: fmt::Debug>(alloc: Global, value: &D, text: &str) -> Result<bool, Fail> {
@@ -50,5 +56,58 @@ fn prints_owned_data(rt: HostRuntime) -> Result<(), Fail> {
     let data = Data::Owned(owned(alloc, &[255])?);
     let lines = "Owned(\n    DataOwned(\n        [\n            255,\n        ],\n    ),\n)";
     assert!(rt; prints_lines(alloc, &data, lines)?);
+    Ok(())
+}
+
+#[test]
+fn prints_messages_and_writers(rt: HostRuntime) -> Result<(), Fail> {
+    let alloc = rt.alloc();
+    let mtype = MessageType::from_class_method(MessageClass::Request, BINDING);
+    let write = MessageWriteVec::new(alloc);
+    assert!(rt;
+        prints(
+            alloc,
+            &write,
+            "MessageWriteVec { output: [], attributes: [] }"
+        )?
+    );
+    let mut write = Message::builder(mtype, TransactionId::from(0x7392), write)?;
+    let bytes = "[0, 1, 0, 0, 33, 18, 164, 66, 0, 0, 0, 0, 0, 0, 0, 0, 0, 0, 115, 146]";
+    let text = format!(in alloc; "Message {{ bytes: {bytes}, .. }}")?;
+    assert!(rt; prints(alloc, &Message::from_bytes(write.data())?, &text)?);
+    write.add_fingerprint()?;
+    let printed = format!(in alloc; "{write:?}")?;
+    assert!(rt; printed.ends_with("attributes: [AttributeType(32808)] }"));
+    Ok(())
+}
+
+/// A copy of a text.
+fn text(alloc: Global, text: &str) -> Result<String, Fail> {
+    Ok(String::from_str(alloc, text)?)
+}
+
+#[test]
+fn hides_secrets(rt: HostRuntime) -> Result<(), Fail> {
+    let alloc = rt.alloc();
+    let short = ShortTermCredentials::new(text(alloc, "pass")?);
+    assert!(rt; prints(alloc, &short, "ShortTermCredentials { password: [hidden] }")?);
+    let login = LongTermCredentials::new(text(alloc, "user")?, text(alloc, "pass")?);
+    let shown = "LongTermCredentials { username: \"user\", password: [hidden] }";
+    assert!(rt; prints(alloc, &login, shown)?);
+    let long = MessageIntegrityCredentials::from(login.to_key(alloc, text(alloc, "realm")?)?);
+    let shown =
+        "LongTerm(LongTermKeyCredentials { username: \"user\", password: [hidden], realm: \"realm\" })";
+    assert!(rt; prints(alloc, &long, shown)?);
+    let short = MessageIntegrityCredentials::from(short);
+    let shown = "ShortTerm(ShortTermCredentials { password: [hidden] })";
+    assert!(rt; prints(alloc, &short, shown)?);
+    let key = long.make_key(alloc, IntegrityAlgorithm::Sha1)?;
+    assert!(rt;
+        prints(
+            alloc,
+            &key,
+            "IntegrityKey { algorithm: Some(Sha1), bytes: [hidden], .. }"
+        )?
+    );
     Ok(())
 }

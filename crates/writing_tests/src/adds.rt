@@ -136,6 +136,41 @@ fn adds_nothing_behind_an_ending(rt: HostRuntime) -> Result<(), StunWriteError> 
     Ok(())
 }
 
+/// An attribute of a type that is known only at run time is added, but none of an ending type.
+fn assert_any_added(
+    rt: &impl Abort,
+    message: &mut MessageWriteVec,
+    number: u16,
+) -> Result<(), StunWriteError> {
+    let attribute = RawAttribute::new(AttributeType(number), &VALUE)?;
+    let len = message.len();
+    let added = message.add_any_attribute(&attribute);
+    if AttributeType(number).is_ending() {
+        assert!(rt;
+            added == Err(StunWriteError::EndingType(AttributeType(number))),
+            "{number}"
+        );
+        assert!(rt; message.len() == len, "{number}");
+    } else {
+        assert!(rt; added == Ok(()), "{number}");
+        assert!(rt; message.has_attribute(AttributeType(number)), "{number}");
+        assert!(rt; message.len() == len + 8, "{number}");
+    }
+    Ok(())
+}
+
+#[test]
+fn adds_types_of_run_time(rt: HostRuntime) -> Result<(), StunWriteError> {
+    let mut message = request(rt.alloc())?;
+    for number in [
+        0x0007, 0x0008, 0x0009, 0x001C, 0x8027, 0x8028, 0x8029, 0xFFFF,
+    ] {
+        assert_any_added(&rt, &mut message, number)?;
+    }
+    assert!(rt; message.len() == 60);
+    Ok(())
+}
+
 /// An attribute of the type 0x0001.
 fn attribute() -> Result<RawAttribute<'static>, StunParseError> {
     RawAttribute::new(AttributeType(0x0001), &VALUE)

@@ -232,6 +232,20 @@ fn stop(rt: &impl Abort, alloc: Global, buf: &mut [u8; 60]) -> Result<usize, Stu
     Ok(write.finish())
 }
 
+/// The same, where the writer is handed over.
+fn stop_by_value(alloc: Global, buf: &mut [u8; 60]) -> Result<bool, StunParseError> {
+    let request = request(&ONE_ALGORITHM)?;
+    let write = MessageWriteMutSlice::new(alloc, buf);
+    let answer = Message::unknown_attributes(alloc, &request, &[ALGORITHM], write);
+    Ok(matches!(
+        answer,
+        Err(StunWriteError::TooSmall {
+            expected: 64,
+            actual: 60,
+        })
+    ))
+}
+
 #[test]
 fn stops_where_a_slice_ends(rt: HostRuntime) -> Result<(), StunParseError> {
     let mut buf = [0xFF; 60];
@@ -239,6 +253,9 @@ fn stops_where_a_slice_ends(rt: HostRuntime) -> Result<(), StunParseError> {
     assert!(rt; buf.starts_with(&[0x01, 0x11, 0x00, 0x10]));
     assert!(rt; buf[4..36] == UNKNOWN[4..36]);
     assert!(rt; buf.ends_with(&[0xFF; 24]));
+    let mut handed_over = [0xFF; 60];
+    assert!(rt; stop_by_value(rt.alloc(), &mut handed_over)?);
+    assert!(rt; handed_over == buf);
     Ok(())
 }
 

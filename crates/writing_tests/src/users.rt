@@ -1,7 +1,5 @@
-//! The examples of the README, and what is written and read by way of a user's own attributes,
-//! writers and functions.
+//! What is written and read by way of a user's own attributes, writers and functions.
 
-mod example;
 mod limits;
 mod own;
 mod signed;

@@ -1,6 +1,6 @@
 //! HMAC over SHA-1 and SHA-256 (RFC 2104).
 
-ghost use Rattle.std.specs.Prelude.{◌≡◌, ℕ, ◌≤◌, ◌-◌, List, ◌++◌, length, map, replicate};
+ghost use Rattle.std.specs.Prelude.{◌≡◌, ℕ, ◌≤◌, ◌-◌, true, false, List, ◌++◌, length, map, replicate};
 ghost use Rattle.std.specs.List.{concat};
 ghost use Rattle.stun_grammar.specs.Hmac.{hmac, digest_of, block_of_key, padded_with};
 ghost use Rattle.stun_keys.specs.Blocks.{AreBlocksOf};
@@ -70,6 +70,16 @@ pub(crate) struct HmacBlocks {
     pub(crate) outer: [u8; 64],
 }
 
+impl HmacBlocks {
+    /// Zeros, in the place of a key's blocks.
+    pub(super) fn zeros() -> Self {
+        HmacBlocks {
+            inner: [0; 64],
+            outer: [0; 64],
+        }
+    }
+}
+
 /// Those of the key that has this block.
 fn blocks_of(block: &[u8; 64]) -> HmacBlocks
     ensures inner { result.inner ≡ padded_with 0x36 block.now }
@@ -110,31 +120,48 @@ fn digest_after<const N: usize, H: HashFunction<N>>(keyed: &H, pieces: &[&[u8]])
     hasher.finish()
 }
 
-/// The two hashers of an HMAC, and the block that each of them has taken in.
+/// The two hashers of an HMAC, and the block that each of them has taken in, until they are
+/// overwritten.
 #[derive(Drop)]
 pub(super) struct KeyedHashers<const N: usize, H: HashFunction<N>> {
     pub(super) blocks: HmacBlocks,
+    pub(super) are_keyed: bool,
     inner: H,
     outer: H,
-    ghost inner_holds: { ∥ H.holds inner blocks.inner ∥₁ },
-    ghost outer_holds: { ∥ H.holds outer blocks.outer ∥₁ },
+    ghost inner_holds: { ∥ (are_keyed ≡ true → H.holds inner blocks.inner) ∥₁ },
+    ghost outer_holds: { ∥ (are_keyed ≡ true → H.holds outer blocks.outer) ∥₁ },
 }
 
 #[tactic(auto, unfolding(stun_grammar::specs::Hmac::hmac, stun_grammar::specs::Hmac::hmac_over))]
 impl<const N: usize, H: HashFunction<N>> KeyedHashers<N, H> {
     /// For the keys that have these blocks.
     pub(super) fn new(blocks: &HmacBlocks) -> Self
-        ensures { result.blocks ≡ blocks.now }
+        ensures blocks { result.blocks ≡ blocks.now }
+        ensures keyed { result.are_keyed ≡ true }
     {
         KeyedHashers {
             blocks: *blocks,
+            are_keyed: true,
             inner: keyed(&blocks.inner),
             outer: keyed(&blocks.outer),
         }
     }
 
+    /// Puts zeros and hashers that have taken nothing in the place of these.
+    pub(super) fn overwrite(&mut self)
+        ensures { self.new.are_keyed ≡ false }
+    {
+        *self = KeyedHashers {
+            blocks: HmacBlocks::zeros(),
+            are_keyed: false,
+            inner: H::start(),
+            outer: H::start(),
+        };
+    }
+
     /// The HMAC of the pieces, joined.
     pub(super) fn hmac(&self, pieces: &[&[u8]]) -> [u8; N]
+        requires { self.now.are_keyed ≡ true }
         ensures { (key : List ℕ) → AreBlocksOf (digest_of H.algorithm) key self.now.blocks
             → result ≡ hmac H.algorithm key (concat (map (λ piece. piece.now) pieces.now)) }
     {
@@ -147,6 +174,7 @@ impl<const N: usize, H: HashFunction<N>> Clone for KeyedHashers<N, H> {
     fn clone(&self) -> Result<Self, AllocError> {
         Ok(KeyedHashers {
             blocks: self.blocks,
+            are_keyed: self.are_keyed,
             inner: self.inner.copy(),
             outer: self.outer.copy(),
         })

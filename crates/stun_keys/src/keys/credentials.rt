@@ -5,7 +5,9 @@ use crate::keys::{IntegrityKey, LongTermKeyCredentials, ShortTermCredentials};
 use std::alloc::Global;
 use stun_grammar::{IntegrityAlgorithm, StunWriteError};
 
-/// The credentials with which a message is signed and validated (RFC 8489, section 9).
+/// The credentials with which a message is signed and validated (RFC 8489, section 9). Their texts
+/// are used as they are: no function applies SASLprep (RFC 4013) or the OpaqueString profile
+/// (RFC 8265) to them.
 #[derive(Debug, PartialEq, Eq, Drop)]
 pub enum MessageIntegrityCredentials {
     /// Short-term credentials: a password.

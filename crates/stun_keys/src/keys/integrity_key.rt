@@ -4,37 +4,37 @@ ghost use Rattle.sha1.specs.Sha1.{sha1};
 ghost use Rattle.sha2.specs.Sha256.{sha256};
 ghost use Rattle.stun_grammar.specs.Hmac.{block_of_key, padded_with};
 
-use crate::digest::{HmacSha1, HmacSha256};
+use crate::digest::KeptHmacs;
+use crate::keys::secret::SecretBytes;
 use std::alloc::Global;
-use std::boxed::BoxedSlice;
 use stun_grammar::{IntegrityAlgorithm, StunWriteError};
 
 /// The key of an HMAC: any number of bytes, and the algorithm that it was made for, if it was made
 /// for one. A key with no algorithm works with both.
 ///
 /// Beside its bytes it keeps, for each of the two digests, the block of 64 bytes with which an HMAC
-/// under it begins, and from the first HMAC on the hashers that have taken that block in. They take
-/// no memory of their own. Since an HMAC may write them, two threads can't share a key (it isn't
-/// `Sync`): each takes its own clone.
+/// under it begins, and from the first HMAC on the hashers that have taken that block in. Since an
+/// HMAC may write them, two threads can't share a key (it isn't `Sync`): each takes its own clone.
+///
+/// It owns two blocks of memory, one for its bytes and one for the rest. Both are overwritten before
+/// they are freed, and `{:?}` prints neither. What a call copies to the stack isn't overwritten.
 ///
 /// Two keys are equal where their bytes are equal, whatever they were made for.
 #[derive(Drop)]
 #[derive_where(Debug)]
 pub struct IntegrityKey {
     algorithm: Option<IntegrityAlgorithm>,
-    bytes: BoxedSlice<u8>,
+    bytes: SecretBytes,
     #[derive_where(skip)]
-    for_sha1: HmacSha1,
-    #[derive_where(skip)]
-    for_sha256: HmacSha256,
-    ghost sha1_inner: { for_sha1.blocks.inner
-        ≡ padded_with 0x36 (block_of_key sha1 (boxed_slice_items bytes)) },
-    ghost sha1_outer: { for_sha1.blocks.outer
-        ≡ padded_with 0x5C (block_of_key sha1 (boxed_slice_items bytes)) },
-    ghost sha256_inner: { for_sha256.blocks.inner
-        ≡ padded_with 0x36 (block_of_key sha256 (boxed_slice_items bytes)) },
-    ghost sha256_outer: { for_sha256.blocks.outer
-        ≡ padded_with 0x5C (block_of_key sha256 (boxed_slice_items bytes)) },
+    kept: KeptHmacs,
+    ghost sha1_inner: { kept.both.value.sha1.blocks.inner
+        ≡ padded_with 0x36 (block_of_key sha1 (boxed_slice_items bytes.bytes)) },
+    ghost sha1_outer: { kept.both.value.sha1.blocks.outer
+        ≡ padded_with 0x5C (block_of_key sha1 (boxed_slice_items bytes.bytes)) },
+    ghost sha256_inner: { kept.both.value.sha256.blocks.inner
+        ≡ padded_with 0x36 (block_of_key sha256 (boxed_slice_items bytes.bytes)) },
+    ghost sha256_outer: { kept.both.value.sha256.blocks.outer
+        ≡ padded_with 0x5C (block_of_key sha256 (boxed_slice_items bytes.bytes)) },
 }
 
 impl IntegrityKey {
@@ -61,14 +61,12 @@ impl IntegrityKey {
         ensures ok { IfOk result (IsKey algorithm bytes.now) }
         ensures err { IfErr result (λ e. e ≡ StunWriteError.OutOfMemory) }
     {
-        let copy = BoxedSlice::from_slice(alloc, bytes).map_err(|_| StunWriteError::OutOfMemory)?;
-        let for_sha1 = HmacSha1::new(bytes);
-        let for_sha256 = HmacSha256::new(bytes);
+        let copy = SecretBytes::copied(alloc, bytes)?;
+        let kept = KeptHmacs::new(alloc, bytes)?;
         Ok(IntegrityKey {
             algorithm,
             bytes: copy,
-            for_sha1,
-            for_sha256,
+            kept,
         })
     }
 
@@ -82,22 +80,12 @@ impl IntegrityKey {
         ensures same { IfOk result (IsKey (key_algorithm self.now) (key_bytes self.now)) }
         ensures err { IfErr result (λ e. e ≡ StunWriteError.OutOfMemory) }
     {
-        let bytes = BoxedSlice::from_slice(alloc, &self.bytes).map_err(
-            |_| StunWriteError::OutOfMemory,
-        )?;
-        let for_sha1 = self
-            .for_sha1
-            .clone()
-            .map_err(|_| StunWriteError::OutOfMemory)?;
-        let for_sha256 = self
-            .for_sha256
-            .clone()
-            .map_err(|_| StunWriteError::OutOfMemory)?;
+        let bytes = SecretBytes::copied(alloc, self.as_bytes())?;
+        let kept = self.kept.copied(alloc)?;
         Ok(IntegrityKey {
             algorithm: self.algorithm,
             bytes,
-            for_sha1,
-            for_sha256,
+            kept,
         })
     }
 
@@ -105,7 +93,7 @@ impl IntegrityKey {
     pub fn as_bytes(&self) -> &[u8]
         ensures { result.now ≡ key_bytes self.now }
     {
-        &self.bytes
+        self.bytes.as_bytes()
     }
 
     /// The algorithm that the key was made for, or `None` for a key with no algorithm.
@@ -133,7 +121,7 @@ impl IntegrityKey {
         ensures { result ≡ hmac IntegrityAlgorithm.Sha1 (key_bytes self.now)
             (concat (map (λ piece. piece.now) pieces.now)) }
     {
-        self.for_sha1.hmac(pieces)
+        self.kept.both.sha1.hmac(pieces)
     }
 
     /// HMAC-SHA256 of the pieces, joined, under the key: 32 bytes (RFC 2104). The algorithm that
@@ -142,7 +130,7 @@ impl IntegrityKey {
         ensures { result ≡ hmac IntegrityAlgorithm.Sha256 (key_bytes self.now)
             (concat (map (λ piece. piece.now) pieces.now)) }
     {
-        self.for_sha256.hmac(pieces)
+        self.kept.both.sha256.hmac(pieces)
     }
 }
 

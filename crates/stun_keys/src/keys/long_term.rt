@@ -4,15 +4,21 @@ ghost use Rattle.stun_keys.specs.Keys.{login_username, login_password, long_term
 
 use crate::keys::LongTermKeyCredentials;
 use crate::keys::copied::copied;
+use crate::keys::secret::SecretText;
 use std::alloc::Global;
 use stun_grammar::StunWriteError;
 
 /// Long-term credentials without a realm, which a server has yet to send: a username and a password
 /// (RFC 8489, section 9.2).
+///
+/// Both are used as they are: no function applies SASLprep (RFC 4013) or the OpaqueString profile
+/// (RFC 8265) to them. A caller whose texts need it prepares them before.
+///
+/// The password's memory is overwritten before it is freed, and `{:?}` doesn't print it.
 #[derive(Debug, PartialEq, Eq, Drop)]
 pub struct LongTermCredentials {
     username: String,
-    password: String,
+    password: SecretText,
 }
 
 impl LongTermCredentials {
@@ -21,7 +27,10 @@ impl LongTermCredentials {
         ensures username { login_username result ≡ string_bytes username }
         ensures password { login_password result ≡ string_bytes password }
     {
-        LongTermCredentials { username, password }
+        LongTermCredentials {
+            username,
+            password: SecretText::new(password),
+        }
     }
 
     /// The same credentials, copied into memory that `alloc` gives.
@@ -34,7 +43,7 @@ impl LongTermCredentials {
         ensures err { IfErr result (λ e. e ≡ StunWriteError.OutOfMemory) }
     {
         let username = copied(alloc, &self.username)?;
-        let password = copied(alloc, &self.password)?;
+        let password = self.password.copied(alloc)?;
         Ok(LongTermCredentials { username, password })
     }
 
@@ -69,7 +78,7 @@ impl LongTermCredentials {
         ensures err { IfErr result (λ e. e ≡ StunWriteError.OutOfMemory) }
     {
         let username = copied(alloc, &self.username)?;
-        let password = copied(alloc, &self.password)?;
-        Ok(LongTermKeyCredentials::new(username, password, realm))
+        let password = self.password.copied(alloc)?;
+        Ok(LongTermKeyCredentials::of_secret(username, password, realm))
     }
 }

@@ -5,15 +5,21 @@ ghost use Rattle.stun_keys.specs.Keys.{long_term_username, long_term_password, l
 use crate::keys::IntegrityKey;
 use crate::keys::copied::copied;
 use crate::keys::md5_key::md5_key;
+use crate::keys::secret::SecretText;
 use crate::keys::sha256_key::sha256_key;
 use std::alloc::Global;
 use stun_grammar::{IntegrityAlgorithm, StunWriteError};
 
 /// A username and a password in a realm, which give a key (RFC 8489, section 9.2.2).
+///
+/// All three are used as they are: no function applies SASLprep (RFC 4013) or the OpaqueString
+/// profile (RFC 8265) to them. A caller whose texts need it prepares them before.
+///
+/// The password's memory is overwritten before it is freed, and `{:?}` doesn't print it.
 #[derive(Debug, PartialEq, Eq, Drop)]
 pub struct LongTermKeyCredentials {
     username: String,
-    password: String,
+    password: SecretText,
     realm: String,
 }
 
@@ -22,6 +28,15 @@ impl LongTermKeyCredentials {
     pub fn new(username: String, password: String, realm: String) -> Self
         ensures username { long_term_username result ≡ string_bytes username }
         ensures password { long_term_password result ≡ string_bytes password }
+        ensures realm { long_term_realm result ≡ string_bytes realm }
+    {
+        LongTermKeyCredentials::of_secret(username, SecretText::new(password), realm)
+    }
+
+    /// The credentials of a username, a password that is a secret already, and a realm.
+    pub(super) fn of_secret(username: String, password: SecretText, realm: String) -> Self
+        ensures username { long_term_username result ≡ string_bytes username }
+        ensures password { long_term_password result ≡ string_bytes password.text }
         ensures realm { long_term_realm result ≡ string_bytes realm }
     {
         LongTermKeyCredentials {
@@ -41,7 +56,7 @@ impl LongTermKeyCredentials {
         ensures err { IfErr result (λ e. e ≡ StunWriteError.OutOfMemory) }
     {
         let username = copied(alloc, &self.username)?;
-        let password = copied(alloc, &self.password)?;
+        let password = self.password.copied(alloc)?;
         let realm = copied(alloc, &self.realm)?;
         Ok(LongTermKeyCredentials {
             username,

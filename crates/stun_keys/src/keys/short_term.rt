@@ -3,14 +3,19 @@ ghost use Rattle.std.specs.String.{string_bytes};
 ghost use Rattle.stun_keys.specs.Keys.{short_term_password, IsKey};
 
 use crate::keys::IntegrityKey;
-use crate::keys::copied::copied;
+use crate::keys::secret::SecretText;
 use std::alloc::Global;
 use stun_grammar::StunWriteError;
 
 /// Short-term credentials: a password that is valid for a limited time (RFC 8489, section 9.1).
+///
+/// The password is used as it is: no function applies SASLprep (RFC 4013) or the OpaqueString
+/// profile (RFC 8265) to it. A caller whose passwords need it prepares them before.
+///
+/// The password's memory is overwritten before it is freed, and `{:?}` doesn't print it.
 #[derive(Debug, PartialEq, Eq, Drop)]
 pub struct ShortTermCredentials {
-    password: String,
+    password: SecretText,
 }
 
 impl ShortTermCredentials {
@@ -18,6 +23,7 @@ impl ShortTermCredentials {
     pub fn new(password: String) -> Self
         ensures { short_term_password result ≡ string_bytes password }
     {
+        let password = SecretText::new(password);
         ShortTermCredentials { password }
     }
 
@@ -31,7 +37,7 @@ impl ShortTermCredentials {
             (λ copy. short_term_password copy ≡ short_term_password self.now) }
         ensures err { IfErr result (λ e. e ≡ StunWriteError.OutOfMemory) }
     {
-        let password = copied(alloc, &self.password)?;
+        let password = self.password.copied(alloc)?;
         Ok(ShortTermCredentials { password })
     }
 

@@ -14,14 +14,19 @@ use stun_write::{MessageWrite, begin_message, begin_message_into};
 
 impl Message<'_> {
     /// Begins a message of this type and transaction ID: writes the twenty bytes of its header,
-    /// with the length 0, into `write`, which is empty and takes at least twenty bytes, and returns
-    /// the writer (RFC 8489, section 5).
+    /// with the length 0, into `write`, and returns the writer (RFC 8489, section 5).
     ///
     /// ```
     /// let mtype = MessageType::from_class_method(MessageClass::Request, BINDING);
     /// let mut message = Message::builder(mtype, id, MessageWriteVec::new(alloc))?;
     /// message.add_attribute(&Software::new(alloc, "my client")?)?;
     /// ```
+    ///
+    /// # Requires
+    ///
+    /// Nothing is written into `write`, and it takes at least twenty bytes: [`MessageWrite::len`]
+    /// is 0, and [`MessageWrite::max_size`] is `None` or 20 or more. A new `MessageWriteVec` is
+    /// such a writer, and so is a new `MessageWriteMutSlice` whose slice has twenty bytes.
     ///
     /// # Errors
     ///
@@ -42,6 +47,10 @@ impl Message<'_> {
 
     /// As [`Message::builder`], but borrows the writer.
     ///
+    /// # Requires
+    ///
+    /// As for [`Message::builder`].
+    ///
     /// # Errors
     ///
     /// Only `OutOfMemory`, and only where fewer than twenty bytes are ready; nothing is written
@@ -61,8 +70,11 @@ impl Message<'_> {
     }
 
     /// Begins a request of this method, with a transaction ID that is drawn from `rng` as
-    /// [`TransactionId::generate`] does (RFC 8489, section 6.1). The writer is as for
-    /// [`Message::builder`].
+    /// [`TransactionId::generate`] does (RFC 8489, section 6.1).
+    ///
+    /// # Requires
+    ///
+    /// As for [`Message::builder`].
     ///
     /// # Errors
     ///
@@ -83,6 +95,10 @@ impl Message<'_> {
     }
 
     /// As [`Message::builder_request`], but borrows the writer.
+    ///
+    /// # Requires
+    ///
+    /// As for [`Message::builder`].
     ///
     /// # Errors
     ///
@@ -105,6 +121,10 @@ impl Message<'_> {
 
     /// As [`Message::builder_request`], but begins an indication, which expects no response.
     ///
+    /// # Requires
+    ///
+    /// As for [`Message::builder`].
+    ///
     /// # Errors
     ///
     /// As for [`Message::builder_request`].
@@ -124,6 +144,10 @@ impl Message<'_> {
     }
 
     /// As [`Message::builder_indication`], but borrows the writer.
+    ///
+    /// # Requires
+    ///
+    /// As for [`Message::builder`].
     ///
     /// # Errors
     ///

@@ -83,7 +83,8 @@ impl<'a> Message<'a> {
     /// # Errors
     ///
     /// `MissingAttribute(A::TYPE)` where the message shows no more than `n` attributes of the type.
-    /// Otherwise the errors of `A::from_raw`.
+    /// Otherwise the errors of `A::from_raw`: those of the value, and `OutOfMemory` where it needs
+    /// memory, as for a text or a list, and an allocation failed.
     pub fn nth_attribute_and_offset<A: AttributeFromRaw<'a> + AttributeStaticType>(
         &self,
         alloc: Global,
@@ -103,7 +104,8 @@ impl<'a> Message<'a> {
     /// # Errors
     ///
     /// `MissingAttribute(A::TYPE)` where the message shows no more than `n` attributes of the type.
-    /// Otherwise the errors of `A::from_raw`.
+    /// Otherwise the errors of `A::from_raw`, `OutOfMemory` among them, as for
+    /// [`Message::nth_attribute_and_offset`].
     pub fn nth_attribute<A: AttributeFromRaw<'a> + AttributeStaticType>(
         &self,
         alloc: Global,
@@ -121,7 +123,8 @@ impl<'a> Message<'a> {
     /// # Errors
     ///
     /// `MissingAttribute(A::TYPE)` where the message shows no attribute of the type. Otherwise the
-    /// errors of `A::from_raw`.
+    /// errors of `A::from_raw`, `OutOfMemory` among them, as for
+    /// [`Message::nth_attribute_and_offset`].
     pub fn attribute_and_offset<A: AttributeFromRaw<'a> + AttributeStaticType>(
         &self,
         alloc: Global,
@@ -141,7 +144,8 @@ impl<'a> Message<'a> {
     /// # Errors
     ///
     /// `MissingAttribute(A::TYPE)` where the message shows no attribute of the type. Otherwise the
-    /// errors of `A::from_raw`.
+    /// errors of `A::from_raw`: those of the value, and `OutOfMemory` where it needs memory, as for
+    /// a text or a list, and an allocation failed.
     pub fn attribute<A: AttributeFromRaw<'a> + AttributeStaticType>(
         &self,
         alloc: Global,

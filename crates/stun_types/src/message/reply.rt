@@ -181,13 +181,17 @@ impl Message<'_> {
     }
 
     /// Begins the success response to a request: writes its header, with the method and the
-    /// transaction ID of the request, into `write`, which is empty and takes at least twenty bytes
-    /// (RFC 8489, section 6.3.1.1).
+    /// transaction ID of the request, into `write` (RFC 8489, section 6.3.1.1).
     ///
     /// ```
     /// let mut response = Message::builder_success(&request, MessageWriteVec::new(alloc))?;
     /// response.add_attribute(&XorMappedAddress::new(source, request.transaction_id()))?;
     /// ```
+    ///
+    /// # Requires
+    ///
+    /// `orig` is a request, as `orig.has_class(MessageClass::Request)` tests, and the writer is as
+    /// for [`Message::builder`].
     ///
     /// # Errors
     ///
@@ -208,6 +212,10 @@ impl Message<'_> {
     }
 
     /// As [`Message::builder_success`], but borrows the writer.
+    ///
+    /// # Requires
+    ///
+    /// As for [`Message::builder_success`].
     ///
     /// # Errors
     ///
@@ -231,6 +239,10 @@ impl Message<'_> {
     /// As [`Message::builder_success`], but begins an error response. It lacks the ERROR-CODE that
     /// each error response has (RFC 8489, section 6.3.1.1).
     ///
+    /// # Requires
+    ///
+    /// As for [`Message::builder_success`].
+    ///
     /// # Errors
     ///
     /// As for [`Message::builder`].
@@ -250,6 +262,10 @@ impl Message<'_> {
     }
 
     /// As [`Message::builder_error`], but borrows the writer.
+    ///
+    /// # Requires
+    ///
+    /// As for [`Message::builder_success`].
     ///
     /// # Errors
     ///
@@ -271,8 +287,13 @@ impl Message<'_> {
     }
 
     /// The reply to a malformed request: an error response with the SOFTWARE `stun-types` and the
-    /// ERROR-CODE 400 `Bad Request`, 56 bytes (RFC 8489, section 14.8). The writer is empty and
-    /// takes at least twenty bytes. The two attributes are made in memory that `alloc` gives.
+    /// ERROR-CODE 400 `Bad Request`, 56 bytes (RFC 8489, section 14.8). The two attributes are made
+    /// in memory that `alloc` gives.
+    ///
+    /// # Requires
+    ///
+    /// `src` is a request, as `src.has_class(MessageClass::Request)` tests, and the writer is as
+    /// for [`Message::builder`].
     ///
     /// # Errors
     ///
@@ -300,6 +321,10 @@ impl Message<'_> {
 
     /// As [`Message::bad_request`], but borrows the writer.
     ///
+    /// # Requires
+    ///
+    /// As for [`Message::bad_request`].
+    ///
     /// # Errors
     ///
     /// As for [`Message::bad_request`]. The header and the attributes before the refused one are
@@ -325,8 +350,12 @@ impl Message<'_> {
     /// The reply to a request with attributes that weren't understood, whose types are given: an
     /// error response with the SOFTWARE `stun-types`, the ERROR-CODE 420 `Unknown Attributes`, and
     /// an UNKNOWN-ATTRIBUTES with the types in order and with repeats, unless there are none
-    /// (RFC 8489, sections 6.3.1, 14.8 and 14.13). The writer is empty and takes at least twenty
-    /// bytes. The attributes are made in memory that `alloc` gives, each just before it is added.
+    /// (RFC 8489, sections 6.3.1, 14.8 and 14.13). The attributes are made in memory that `alloc`
+    /// gives, each just before it is added.
+    ///
+    /// # Requires
+    ///
+    /// As for [`Message::bad_request`].
     ///
     /// # Errors
     ///
@@ -359,6 +388,10 @@ impl Message<'_> {
     }
 
     /// As [`Message::unknown_attributes`], but borrows the writer.
+    ///
+    /// # Requires
+    ///
+    /// As for [`Message::bad_request`].
     ///
     /// # Errors
     ///
@@ -398,13 +431,17 @@ impl Message<'_> {
     ///   [`Message::bad_request`].
     /// - Else there is none: the result is `None`, and nothing is written or allocated.
     ///
-    /// The writer is empty and takes at least twenty bytes. The list of types and the attributes
-    /// are made in memory that `alloc` gives.
+    /// The list of types and the attributes are made in memory that `alloc` gives.
     ///
     /// ```
     /// let supported = [Username::TYPE, MessageIntegrity::TYPE];
     /// let reply = Message::check_attribute_types(alloc, &request, &supported, &[], write)?;
     /// ```
+    ///
+    /// # Requires
+    ///
+    /// `msg` is a request, as `msg.has_class(MessageClass::Request)` tests, and the writer is as
+    /// for [`Message::builder`].
     ///
     /// # Errors
     ///
@@ -437,6 +474,10 @@ impl Message<'_> {
 
     /// As [`Message::check_attribute_types`], but borrows the writer, and returns whether a reply
     /// was written.
+    ///
+    /// # Requires
+    ///
+    /// As for [`Message::check_attribute_types`].
     ///
     /// # Errors
     ///

@@ -31,7 +31,7 @@ impl Message<'_> {
     /// proved that only a holder of the key can make such an HMAC.
     ///
     /// The key is made in memory that `alloc` gives, once an attribute was found whose value has a
-    /// lawful length. The message isn't copied.
+    /// length that its type may have. The message isn't copied.
     ///
     /// # Errors
     ///
@@ -43,8 +43,8 @@ impl Message<'_> {
     ///   `Parse(TooLarge { expected, actual })` where it has more than 20 or 32, and
     ///   `Parse(InvalidAttributeData)` where their number isn't a multiple of 4;
     /// - `Parse(OutOfMemory)` where an allocation failed while the key was made. An attribute was
-    ///   found then, with a value of a lawful length, but nothing is known of its HMAC: the same
-    ///   call may succeed later;
+    ///   found then, whose value has such a length, but nothing is known of its HMAC: the same call
+    ///   may succeed later;
     /// - `IntegrityFailed` where the value isn't the HMAC.
     #[tactic(auto, using(stun_grammar::proofs::ParsingLemmas::parsed_frame))]
     pub fn validate_integrity(

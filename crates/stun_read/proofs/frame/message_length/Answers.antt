@@ -6,11 +6,11 @@ use Rattle.stun_read.proofs.frame.message_length.Goals as goal
 pub stated_length-requires : goal.stated_length-requires
 stated_length-requires c = (whole c.args.prefix.now c.in-Ok.ensures).1
 
-pub returns-in-Ok : goal.returns-in-Ok
-returns-in-Ok c = let there = whole c.args.prefix.now c.in-Ok.ensures in (there.0, (there.1, c.stated_length.ensures))
+pub returns-in-Ok-clause-told : goal.returns-in-Ok-clause-told
+returns-in-Ok-clause-told c = let there = whole c.args.prefix.now c.in-Ok.ensures in (there.0, (there.1, c.stated_length.ensures.stated))
 
-pub returns-in-NotStun : goal.returns-in-NotStun
-returns-in-NotStun c = (c.in-NotStun.is, none_begins c.args.prefix.now (subst (λ e. header_fault c.args.prefix.now ≡ Some e) c.in-NotStun.is c.in-Err.ensures))
+pub returns-in-NotStun-clause-told : goal.returns-in-NotStun-clause-told
+returns-in-NotStun-clause-told c = (c.in-NotStun.is, none_begins c.args.prefix.now (subst (λ e. header_fault c.args.prefix.now ≡ Some e) c.in-NotStun.is c.in-Err.ensures))
 
-pub returns-in_default : goal.returns-in_default
-returns-in_default c = some_begins c.args.prefix.now c.in-Err.refused c.in-Err.ensures c.in_default.not-NotStun
+pub returns-in_default-clause-told : goal.returns-in_default-clause-told
+returns-in_default-clause-told c = some_begins c.args.prefix.now c.in-Err.refused c.in-Err.ensures c.in_default.not-NotStun

@@ -3,7 +3,7 @@ use Rattle.stun_grammar.specs.Headers.{type_field}
 use Rattle.stun_base.specs.declared.message_type.MessageClass.TheVariants.{Request}
 use Rattle.stun_base.specs.MessageTypes.{class_of}
 use Rattle.stun_types.specs.Message.{message_bytes}
-use Rattle.stun_reply.proofs.ReplyLemmas.{none_to_fault, none_to_class, one_to_request}
+use Rattle.stun_reply.proofs.ReplyLemmas.{none_to_fault, none_to_class, none_to_method, one_to_binding}
 use Rattle.stun_reply.proofs.reply.reply.Goals as goal
 
 pub returns-in-Err : goal.returns-in-Err
@@ -14,8 +14,14 @@ returns-then-not-has_class c =
     let parsed = c.in-Ok.ensures in
     none_to_class c.args.source c.args.datagram.now (message_bytes c.in-Ok.request) parsed.0 parsed.1 (λ is. let yes = c.has_class.ensures.1 is in absurd (cc yes))
 
-pub returns-in-Ok-whole_response : goal.returns-in-Ok-whole_response
-returns-in-Ok-whole_response c =
+pub returns-then-not-has_method : goal.returns-then-not-has_method
+returns-then-not-has_method c =
     let parsed = c.in-Ok.ensures in
     let request : class_of (type_field (message_bytes c.in-Ok.request)) ≡ Request = search rules in
-    one_to_request c.args.source c.args.datagram.now (message_bytes c.in-Ok.request) c.in-Ok-whole_response.text.items parsed.0 parsed.1 request c.in-Ok-whole_response.ensures
+    none_to_method c.args.source c.args.datagram.now (message_bytes c.in-Ok.request) parsed.0 parsed.1 request (search rules)
+
+pub returns-in-Ok-binding_response : goal.returns-in-Ok-binding_response
+returns-in-Ok-binding_response c =
+    let parsed = c.in-Ok.ensures in
+    let request : class_of (type_field (message_bytes c.in-Ok.request)) ≡ Request = search rules in
+    one_to_binding c.args.source c.args.datagram.now (message_bytes c.in-Ok.request) c.in-Ok-binding_response.text.items parsed.0 parsed.1 request (search rules) c.in-Ok-binding_response.ensures

@@ -17,4 +17,4 @@ unfolding hmac
 returns g c = λ key are.
     ∥∥₁_elim c.args.self.now.inner_holds (Coded-set (coded_list coded_ℕ) _ _) (λ inner.
     ∥∥₁_elim c.args.self.now.outer_holds (Coded-set (coded_list coded_ℕ) _ _) (λ outer.
-    over (digest_of g.H.HashFunction.algorithm) key _ _ _ _ _ are.0 are.1 (c.digest_after-inner.ensures _ inner) (c.digest_after.ensures _ outer)))
+    over (digest_of g.H.HashFunction.algorithm) key _ _ _ _ _ are.0 are.1 (c.digest_after-inner.ensures _ (inner c.requires)) (c.digest_after.ensures _ (outer c.requires))))

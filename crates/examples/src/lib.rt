@@ -1,0 +1,10 @@
+//! Examples of what `stun_types` is used for, each a module that stands for itself.
+#![tactic(auto)]
+
+pub mod client;
+pub mod own;
+pub mod printer;
+pub mod server;
+pub mod stream;
+#[cfg(test)]
+mod tests;

@@ -1,0 +1,3 @@
+pub mod Ask
+pub mod AskRun
+pub mod AskProgram

@@ -1,0 +1,5 @@
+mod BeyondLemmas
+mod FirstPollLemmas
+mod RowsLemmas
+mod RunsLemmas
+mod TakingLemmas

@@ -1,0 +1,85 @@
+-- How a transaction goes on in time (RFC 8489, sections 6.2.1 and 6.2.2). Moments are nanoseconds
+-- from the beginning of the caller's clock.
+use Rattle.std.specs.Prelude.{◌≡◌, ℕ, ◌+◌, ◌*◌, ◌<◌, ◌≤◌, Bool, true, false, ◌⊎◌, Option, None, Some, is_some, min, nat_lt, ◌-◌, ◌&&◌, ◌==◌, MatchOption, if◌then◌else◌}
+use Rattle.std.specs.Duration.{as_nanos, max_nanos}
+use Rattle.std.specs.declared.time.Duration.{Duration}
+use Rattle.stun_transactions.specs.declared.plan.Plan.{Plan}
+use Rattle.stun_transactions.specs.declared.course.Course.{Course}
+use Rattle.stun_transactions.specs.declared.course.Action.{Action}
+use Rattle.stun_transactions.specs.declared.course.Action.TheVariants.{Send, WaitUntil, Ended}
+use Rattle.stun_transactions.specs.declared.course.End.{End}
+use Rattle.stun_transactions.specs.declared.course.End.TheVariants.{Answered, TimedOut, IntegrityViolated}
+use Rattle.stun_transactions.specs.Schedules.{requests_in, wait_in}
+
+-- the moment of a call: a clock that steps back stands still
+abbrev pub later : Duration → Duration → Duration
+later clock now = if nat_lt (as_nanos clock) (as_nanos now) then now else clock
+
+-- a course that begins now
+abbrev pub begun : Duration → Course
+begun now = record { sent = 0; last = now; clock = now; violated = false; end = None }
+
+-- when something is to be done: an interval after the last request was handed out
+abbrev pub due : Plan → Course → ℕ
+due plan course = as_nanos course.last + wait_in plan course.sent * 1_000_000
+
+-- how a transaction ends when its time is up: where responses were discarded since they weren't
+-- authentic, that is told instead (RFC 8489, sections 9.1.4 and 9.2.5)
+abbrev pub end_of : Course → End
+end_of course = if course.violated then IntegrityViolated else TimedOut
+
+-- a request is handed out: its moment has come, and not all were sent
+pub record Sends (plan : Plan) (old : Course) (at : Duration) (new : Course) : Type 0 where
+  pub ongoing : old.end ≡ None
+  pub due_is : due plan old ≤ as_nanos at
+  pub more : old.sent < requests_in plan
+  pub new_is : new ≡ record old { sent = old.sent + 1; last = at; clock = at }
+
+-- nothing is done before a moment, which is still to come; no moment is told past the greatest
+-- that a `Duration` can hold
+pub record Waits (plan : Plan) (old : Course) (at until : Duration) (new : Course) : Type 0 where
+  pub ongoing : old.end ≡ None
+  pub early : as_nanos at < due plan old
+  pub until_is : as_nanos until ≡ min (due plan old) max_nanos
+  pub new_is : new ≡ record old { clock = at }
+
+-- time is up: all requests were sent, and the wait after the last one is over
+pub record TimesOut (plan : Plan) (old : Course) (at : Duration) (end : End)
+    (new : Course) : Type 0 where
+  pub ongoing : old.end ≡ None
+  pub due_is : due plan old ≤ as_nanos at
+  pub all : requests_in plan ≤ old.sent
+  pub end_is : end ≡ end_of old
+  pub new_is : new ≡ record old { clock = at; end = Some end }
+
+-- it has ended before, and nothing changes
+pub record IsOver (old : Course) (end : End) (new : Course) : Type 0 where
+  pub end_is : old.end ≡ Some end
+  pub same : new ≡ old
+
+-- what a poll at a moment answers and leaves
+abbrev pub Polls : Plan → Course → Duration → Action → Course → Type 0
+Polls plan old now Send new = Sends plan old (later old.clock now) new
+Polls plan old now (WaitUntil until) new = Waits plan old (later old.clock now) until new
+Polls plan old now (Ended end) new =
+    IsOver old end new ⊎ TimesOut plan old (later old.clock now) end new
+
+-- a course that is ended, unless it has ended before
+abbrev pub ended_by : End → Course → Course
+ended_by end course = if is_some course.end then course else record course { end = Some end }
+
+-- whether a response was taken
+abbrev pub is_answered : Option End → Bool
+is_answered (Some Answered) = true
+is_answered _ = false
+
+-- whether the time of the round trip is known: a response was taken, and a single request was sent
+-- (RFC 8489, section 6.2.1)
+abbrev pub is_timed : Course → Bool
+is_timed course = is_answered course.end && (course.sent == 1)
+
+-- the time is told from when the request was handed out to a moment, where it is known
+abbrev pub TellsTime : Course → Duration → Option Duration → Type 0
+TellsTime course now told =
+    MatchOption told (is_timed course ≡ false)
+    (λ time. (is_timed course ≡ true) × (as_nanos time ≡ as_nanos now - as_nanos course.last))

@@ -1,0 +1,11 @@
+pub mod Rows
+pub mod Schedules
+pub mod Courses
+pub mod Responses
+pub mod Guards
+pub mod Outcomes
+pub mod Terms
+pub mod Receiving
+pub mod Transactions
+pub mod Runs
+pub mod Taking

@@ -1,0 +1,43 @@
+-- What is told of a received message, and what it does to the course of the transaction.
+use Rattle.std.specs.Prelude.{◌≡◌, ℕ, List, Bool, true, not, ◌&&◌, Some, is_some, nat_lt}
+use Rattle.stun_types.specs.Message.{message_bytes}
+use Rattle.stun_transactions.specs.declared.received.Discard.TheVariants.{NotAuthentic, UnsignedBadRequest}
+use Rattle.stun_transactions.specs.declared.received.Failure.{Failure}
+use Rattle.stun_transactions.specs.declared.received.Outcome.{Outcome}
+use Rattle.stun_transactions.specs.declared.received.Received.{Received}
+use Rattle.stun_transactions.specs.declared.course.Course.{Course}
+use Rattle.stun_transactions.specs.declared.course.End.{End}
+use Rattle.stun_transactions.specs.declared.course.End.TheVariants.{Answered, IntegrityViolated, Refused}
+
+-- what is told, without the message
+abbrev pub outcome_of : Received → Outcome
+outcome_of Received.NotForThis = Outcome.NotForThis
+outcome_of (Received.Discarded reason) = Outcome.Discarded reason
+outcome_of (Received.Failed failure) = Outcome.Failed failure
+outcome_of (Received.Success message) = Outcome.Success
+outcome_of (Received.Error message code) = Outcome.Error code
+
+-- a message that is handed out has these bytes
+abbrev pub Holds : Received → List ℕ → Type 0
+Holds (Received.Success message) d = message_bytes message ≡ d
+Holds (Received.Error message code) d = message_bytes message ≡ d
+Holds _ d = Unit {0}
+
+-- how a failure ends the transaction
+abbrev pub end_of_failure : Failure → End
+end_of_failure Failure.IntegrityViolated = IntegrityViolated
+end_of_failure _ = Refused
+
+-- the course after a received message: what was discarded changes nothing, but that it wasn't
+-- authentic is remembered
+abbrev pub after : Outcome → Course → Course
+after Outcome.NotForThis course = course
+after (Outcome.Discarded NotAuthentic) course = record course { violated = true }
+after (Outcome.Discarded UnsignedBadRequest) course = course
+after (Outcome.Failed failure) course = record course { end = Some (end_of_failure failure) }
+after Outcome.Success course = record course { end = Some Answered }
+after (Outcome.Error code) course = record course { end = Some Answered }
+
+-- whether a transaction is in progress: its request was sent, and it has not ended
+abbrev pub is_open : Course → Bool
+is_open course = nat_lt 0 course.sent && not (is_some course.end)

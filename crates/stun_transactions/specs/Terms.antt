@@ -1,0 +1,46 @@
+-- What a transaction is begun with.
+use Rattle.std.specs.Prelude.{◌≡◌, ℕ, Bool, true, false, ◌&&◌, List, Option, None, Some, ◌==◌, if◌then◌else◌}
+use Rattle.stun_grammar.specs.Headers.{type_field, id_field}
+use Rattle.stun_base.specs.declared.message_type.MessageClass.{MessageClass}
+use Rattle.stun_base.specs.declared.message_type.MessageClass.TheVariants.{Request}
+use Rattle.stun_base.specs.MessageTypes.{class_of, method_of, is_response}
+use Rattle.stun_transactions.specs.declared.plan.Plan.{Plan}
+use Rattle.stun_transactions.specs.declared.guard.Protection.{Protection}
+use Rattle.stun_transactions.specs.declared.terms.Terms.{Terms}
+use Rattle.stun_transactions.specs.declared.terms.BeginError.{BeginError}
+use Rattle.stun_transactions.specs.declared.terms.BeginError.TheVariants.{NotARequest, NotSigned, Signed}
+use Rattle.stun_transactions.specs.Guards.{signed_by, is_signed, protects}
+
+-- whether a class is that of a request
+abbrev pub is_request : MessageClass → Bool
+is_request Request = true
+is_request _ = false
+
+-- why no transaction begins by whether a credential is to protect the request, and whether it is
+-- signed
+abbrev pub mismatch : (protects signed : Bool) → Option BeginError
+mismatch true false = Some NotSigned
+mismatch false true = Some Signed
+mismatch true true = None
+mismatch false false = None
+
+-- why no transaction begins with r as its request
+abbrev pub begin_fault : Protection → List ℕ → Option BeginError
+begin_fault protection r =
+    if is_request (class_of (type_field r)) then mismatch (protects protection) (is_signed (signed_by r))
+    else Some NotARequest
+
+-- the terms of the request r
+pub record AreTerms (r : List ℕ) (plan : Plan) (protection : Protection)
+    (terms : Terms) : Type 0 where
+  pub plan_is : terms.plan ≡ plan
+  pub method_is : terms.method ≡ method_of (type_field r)
+  pub id_is : terms.id ≡ id_field r
+  pub signed_is : terms.signed ≡ signed_by r
+  pub protection_is : terms.protection ≡ protection
+
+-- whether d is a response to the request: it has the request's method and transaction ID
+abbrev pub is_answer : Terms → List ℕ → Bool
+is_answer terms d =
+    is_response (class_of (type_field d))
+    && ((method_of (type_field d) == terms.method) && (id_field d == terms.id))

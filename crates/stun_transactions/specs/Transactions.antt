@@ -1,0 +1,26 @@
+-- What contracts show of a transaction.
+use Rattle.std.specs.Prelude.{◌≡◌, ℕ, List}
+use Rattle.std.specs.declared.time.Duration.{Duration}
+use Rattle.stun_base.specs.declared.transport.TransportType.{TransportType}
+use Rattle.stun_transactions.specs.declared.schedule.Schedule.{Schedule}
+use Rattle.stun_transactions.specs.declared.guard.Protection.{Protection}
+use Rattle.stun_transactions.specs.declared.course.Course.{Course}
+use Rattle.stun_transactions.specs.declared.terms.Terms.{Terms}
+use Rattle.stun_transactions.specs.declared.transaction.Transaction.{Transaction}
+use Rattle.stun_transactions.specs.Courses.{begun}
+use Rattle.stun_transactions.specs.Terms.{AreTerms}
+
+-- what it was begun with
+abbrev pub terms_of : Transaction → Terms
+terms_of transaction = transaction.terms
+
+-- how far it has come
+abbrev pub course_of : Transaction → Course
+course_of transaction = transaction.course
+
+-- a transaction of the request r begins
+pub record Begins (r : List ℕ) (schedule : Schedule) (transport : TransportType)
+    (protection : Protection) (now : Duration) (transaction : Transaction) : Type 0 where
+  pub terms : AreTerms r (record { schedule = schedule; transport = transport }) protection
+      (terms_of transaction)
+  pub course : course_of transaction ≡ begun now

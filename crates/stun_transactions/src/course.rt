@@ -1,0 +1,165 @@
+//! How far a transaction has come, and what time does to it.
+
+ghost use Rattle.std.specs.Prelude.{◌≡◌, ◌↔◌, ◌+◌, ◌≤◌, IsTrue};
+ghost use Rattle.std.specs.Duration.{as_nanos};
+ghost use Rattle.stun_transactions.specs.Courses.{later, begun, ended_by, Polls, TellsTime};
+ghost use Rattle.stun_transactions.specs.Outcomes.{after, is_open, end_of_failure};
+
+use crate::plan::Plan;
+use crate::received::{Discard, Failure, Outcome};
+use std::time::Duration;
+
+/// How a transaction ended.
+#[derive(Clone, Copy, Debug, PartialEq, Eq)]
+pub enum End {
+    /// A response was taken.
+    Answered,
+    /// Time ran out.
+    TimedOut,
+    /// Responses were received, and none of them was authentic (RFC 8489, sections 9.1.4 and
+    /// 9.2.5).
+    IntegrityViolated,
+    /// A response was received that the client can't take (RFC 8489, sections 6.3.3 and 6.3.4).
+    Refused,
+    /// The caller cancelled it.
+    Cancelled,
+    /// The transport failed.
+    TransportFailed,
+}
+
+/// What a transaction wants done.
+#[derive(Clone, Copy, Debug, PartialEq, Eq)]
+pub enum Action {
+    /// Send the request now.
+    Send,
+    /// Do nothing before this moment, unless a message is received.
+    WaitUntil(Duration),
+    /// The transaction has ended.
+    Ended(End),
+}
+
+/// How far a transaction has come.
+#[derive(Clone, Copy, Debug, PartialEq, Eq)]
+pub struct Course {
+    /// How many requests were handed out.
+    pub(crate) sent: u32,
+    /// When the last of them was, and before the first the moment at which the transaction began.
+    pub(crate) last: Duration,
+    /// The latest moment of which the caller has told.
+    pub(crate) clock: Duration,
+    /// Whether a response was discarded that wasn't authentic.
+    pub(crate) violated: bool,
+    /// How it ended.
+    pub(crate) end: Option<End>,
+}
+
+/// How a failure ends a transaction.
+fn end_of_failure(failure: Failure) -> End
+    ensures { result ≡ end_of_failure failure }
+{
+    match failure {
+        Failure::IntegrityViolated => End::IntegrityViolated,
+        Failure::UnknownAttribute(_) | Failure::NoErrorCode => End::Refused,
+    }
+}
+
+/// The later of two moments.
+fn later(clock: Duration, now: Duration) -> Duration
+    ensures { result ≡ later clock now }
+{
+    if clock.as_nanos() < now.as_nanos() {
+        now
+    } else {
+        clock
+    }
+}
+
+/// Whether an interval after a moment has passed.
+fn has_passed(since: Duration, wait: Duration, now: Duration) -> bool
+    ensures { IsTrue result ↔ (as_nanos since + as_nanos wait ≤ as_nanos now) }
+{
+    match now.checked_sub(since) {
+        Some(passed) => wait.as_nanos() <= passed.as_nanos(),
+        None => false,
+    }
+}
+
+impl Course {
+    /// A course that begins now.
+    pub(crate) fn new(now: Duration) -> Course
+        ensures { result ≡ begun now }
+    {
+        Course {
+            sent: 0,
+            last: now,
+            clock: now,
+            violated: false,
+            end: None,
+        }
+    }
+
+    /// What is to be done now.
+    pub(crate) fn poll(&mut self, plan: &Plan, now: Duration) -> Action
+        ensures { Polls plan.now self.old now result self.new }
+    {
+        if let Some(end) = self.end {
+            return Action::Ended(end);
+        }
+        let now = later(self.clock, now);
+        let wait = Duration::from_millis(plan.wait(self.sent));
+        self.clock = now;
+        if !has_passed(self.last, wait, now) {
+            return Action::WaitUntil(self.last.saturating_add(wait));
+        }
+        if self.sent < plan.requests() {
+            self.sent += 1;
+            self.last = now;
+            return Action::Send;
+        }
+        let end = if self.violated {
+            End::IntegrityViolated
+        } else {
+            End::TimedOut
+        };
+        self.end = Some(end);
+        Action::Ended(end)
+    }
+
+    /// How long the response took, where one was taken and a single request was sent.
+    pub(crate) fn round_trip(&self, now: Duration) -> Option<Duration>
+        ensures { TellsTime self.now now result }
+    {
+        match (self.end, self.sent) {
+            (Some(End::Answered), 1) => Some(now.saturating_sub(self.last)),
+            _ => None,
+        }
+    }
+
+    /// Ends it, unless it has ended.
+    pub(crate) fn end_by(&mut self, end: End)
+        ensures { self.new ≡ ended_by end self.old }
+    {
+        if self.end.is_none() {
+            self.end = Some(end);
+        }
+    }
+
+    /// Whether the transaction is in progress: its request was sent, and it has not ended.
+    pub(crate) fn is_open(&self) -> bool
+        ensures { result ≡ is_open self.now }
+    {
+        self.sent > 0 && self.end.is_none()
+    }
+
+    /// Goes on after a received message.
+    pub(crate) fn hear(&mut self, outcome: Outcome)
+        ensures { self.new ≡ after outcome self.old }
+    {
+        match outcome {
+            Outcome::NotForThis | Outcome::Discarded(Discard::UnsignedBadRequest) => {}
+            Outcome::Discarded(Discard::NotAuthentic) => self.violated = true,
+            Outcome::Failed(failure) => self.end = Some(end_of_failure(failure)),
+            Outcome::Success | Outcome::Error(_) => self.end = Some(End::Answered),
+        }
+    }
+}

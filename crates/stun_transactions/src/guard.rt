@@ -1,0 +1,139 @@
+//! How a request is protected, and which responses that keeps out.
+
+ghost use Rattle.std.specs.Prelude.{◌≡◌};
+ghost use Rattle.stun_types.specs.Message.{message_bytes};
+ghost use Rattle.stun_transactions.specs.Responses.{shown_code, response_code};
+ghost use Rattle.stun_transactions.specs.Guards.{signed_by, is_signed, accepts, short_term_fault, long_term_fault};
+
+use crate::received::Discard;
+use stun_types::attribute::{
+    AttributeStaticType, ErrorCode, MessageIntegrity, MessageIntegritySha256, read_error,
+};
+use stun_types::message::{IntegrityAlgorithm, IntegrityKey, Message, MessageClass, ValidateError};
+
+/// How a request is protected, and with which key (RFC 8489, section 9). A key that was made for
+/// one algorithm validates by that algorithm's attribute alone, a key with no algorithm by either.
+#[derive(Debug, Drop)]
+pub enum Protection {
+    /// It isn't signed, and no response is validated.
+    Unprotected,
+    /// It is signed by a short-term credential (section 9.1).
+    ShortTerm(IntegrityKey),
+    /// It is signed by a long-term credential (section 9.2).
+    LongTerm(IntegrityKey),
+}
+
+/// Which integrity attributes a request shows.
+#[derive(Clone, Copy, Debug, PartialEq, Eq)]
+pub struct Signed {
+    /// A MESSAGE-INTEGRITY.
+    pub(crate) sha1: bool,
+    /// A MESSAGE-INTEGRITY-SHA256.
+    pub(crate) sha256: bool,
+}
+
+impl Signed {
+    /// Whether there is one.
+    pub(crate) fn is_signed(self) -> bool
+        ensures { result ≡ is_signed self }
+    {
+        self.sha1 || self.sha256
+    }
+}
+
+/// Which integrity attributes a message shows.
+pub(crate) fn signed_by(message: &Message<'_>) -> Signed
+    ensures { result ≡ signed_by (message_bytes message.now) }
+{
+    Signed {
+        sha1: message.has_attribute(MessageIntegrity::TYPE),
+        sha256: message.has_attribute(MessageIntegritySha256::TYPE),
+    }
+}
+
+/// Whether a validation answered with an algorithm by which the request was signed.
+fn accepts(signed: Signed, verdict: Result<IntegrityAlgorithm, ValidateError>) -> bool
+    ensures { result ≡ accepts signed verdict }
+{
+    match verdict {
+        Ok(IntegrityAlgorithm::Sha1) => signed.sha1,
+        Ok(IntegrityAlgorithm::Sha256) => signed.sha256,
+        Err(_) => false,
+    }
+}
+
+/// The code that a message shows, if its first ERROR-CODE tells one.
+pub(crate) fn shown_code(message: &Message<'_>) -> Option<u16>
+    ensures { result ≡ shown_code (message_bytes message.now) }
+{
+    let raw = message.raw_attribute(ErrorCode::TYPE)?;
+    match read_error(raw.value().as_bytes()) {
+        Ok((code, _reason)) => Some(code),
+        Err(_) => None,
+    }
+}
+
+/// The code of an error response.
+fn response_code(message: &Message<'_>) -> Option<u16>
+    ensures { result ≡ response_code (message_bytes message.now) }
+{
+    match message.class() {
+        MessageClass::Error => shown_code(message),
+        _ => None,
+    }
+}
+
+/// Why a response to a request that a short-term credential protects is discarded.
+fn short_term_fault(key: &IntegrityKey, signed: Signed, message: &Message<'_>) -> Option<Discard>
+    ensures { result ≡ short_term_fault key.now signed (message_bytes message.now) }
+{
+    if accepts(signed, message.validate_integrity_with_key(key)) {
+        None
+    } else {
+        Some(Discard::NotAuthentic)
+    }
+}
+
+/// Why a response to a request that a long-term credential protects is discarded.
+fn long_term_fault(key: &IntegrityKey, message: &Message<'_>) -> Option<Discard>
+    ensures { result ≡ long_term_fault key.now (message_bytes message.now) }
+{
+    match response_code(message) {
+        Some(ErrorCode::UNAUTHORIZED | ErrorCode::STALE_NONCE) => return None,
+        Some(ErrorCode::BAD_REQUEST) if !signed_by(message).is_signed() => {
+            return Some(Discard::UnsignedBadRequest);
+        }
+        _ => {}
+    }
+    match message.validate_integrity_with_key(key) {
+        Ok(_) => None,
+        Err(_) => Some(Discard::NotAuthentic),
+    }
+}
+
+impl Protection {
+    ghost use Rattle.std.specs.Prelude.{◌≡◌};
+    ghost use Rattle.stun_types.specs.Message.{message_bytes};
+    ghost use Rattle.stun_transactions.specs.Guards.{guard_fault, protects};
+
+    /// Whether a credential protects the request.
+    pub(crate) fn protects(&self) -> bool
+        ensures { result ≡ protects self.now }
+    {
+        match self {
+            Protection::Unprotected => false,
+            Protection::ShortTerm(_) | Protection::LongTerm(_) => true,
+        }
+    }
+
+    /// Why a response is discarded.
+    pub(crate) fn fault(&self, signed: Signed, message: &Message<'_>) -> Option<Discard>
+        ensures { result ≡ guard_fault self.now signed (message_bytes message.now) }
+    {
+        match self {
+            Protection::Unprotected => None,
+            Protection::ShortTerm(key) => short_term_fault(key, signed, message),
+            Protection::LongTerm(key) => long_term_fault(key, message),
+        }
+    }
+}

@@ -1,0 +1,99 @@
+//! What a message is for a transaction.
+
+ghost use Rattle.std.specs.Prelude.{◌≡◌, ◌+◌, ◌<◌};
+ghost use Rattle.stun_base.specs.MessageTypes.{class_of};
+ghost use Rattle.stun_grammar.specs.Headers.{type_field};
+ghost use Rattle.stun_grammar.specs.ScannedOrder.{has};
+ghost use Rattle.stun_types.specs.Message.{message_bytes};
+ghost use Rattle.stun_transactions.specs.Responses.{own_types, is_beyond, first_beyond};
+ghost use Rattle.stun_transactions.specs.Receiving.{outcome, content, content_by_class, discarded};
+
+use crate::guard::shown_code;
+use crate::received::{Discard, Failure, Outcome};
+use crate::terms::Terms;
+use stun_types::TransportType;
+use stun_types::attribute::{
+    AttributeStaticType, AttributeType, ErrorCode, MessageIntegrity, MessageIntegritySha256, Nonce,
+    PasswordAlgorithm, Realm, UnknownAttributes, Userhash, Username, XorMappedAddress,
+};
+use stun_types::message::write::is_among;
+use stun_types::message::{Message, MessageClass};
+
+/// Whether RFC 8489 defines this type, and it must be understood (section 18.3).
+fn is_own(atype: AttributeType) -> bool
+    ensures { result ≡ has atype.0 own_types }
+{
+    let own = [
+        AttributeType(0x0001),
+        Username::TYPE,
+        MessageIntegrity::TYPE,
+        ErrorCode::TYPE,
+        UnknownAttributes::TYPE,
+        Realm::TYPE,
+        Nonce::TYPE,
+        MessageIntegritySha256::TYPE,
+        PasswordAlgorithm::TYPE,
+        Userhash::TYPE,
+        XorMappedAddress::TYPE,
+    ];
+    is_among(&own, atype)
+}
+
+/// Whether an attribute of this type must be understood, and isn't.
+fn is_beyond(understood: &[AttributeType], atype: AttributeType) -> bool
+    ensures { result ≡ is_beyond understood.now atype }
+{
+    atype.comprehension_required() && !is_among(understood, atype) && !is_own(atype)
+}
+
+/// The first type that a message shows, must be understood and isn't.
+fn first_beyond(message: &Message<'_>, understood: &[AttributeType]) -> Option<AttributeType>
+    ensures { result ≡ first_beyond understood.now (message_bytes message.now) }
+{
+    for (_offset, attribute) in message.iter_attributes() {
+        let atype = attribute.header().get_type();
+        if is_beyond(understood, atype) {
+            return Some(atype);
+        }
+    }
+    None
+}
+
+/// What an authentic response is for its transaction.
+fn content(message: &Message<'_>, understood: &[AttributeType]) -> Outcome
+    ensures { result ≡ content understood.now (message_bytes message.now) }
+{
+    if let Some(atype) = first_beyond(message, understood) {
+        return Outcome::Failed(Failure::UnknownAttribute(atype));
+    }
+    match message.class() {
+        MessageClass::Error => match shown_code(message) {
+            Some(code) => Outcome::Error(code),
+            None => Outcome::Failed(Failure::NoErrorCode),
+        },
+        _ => Outcome::Success,
+    }
+}
+
+/// What a response that is kept out is for its transaction.
+fn discarded(transport: TransportType, reason: Discard) -> Outcome
+    ensures { result ≡ discarded transport reason }
+{
+    match (transport, reason) {
+        (TransportType::Tcp, Discard::NotAuthentic) => Outcome::Failed(Failure::IntegrityViolated),
+        _ => Outcome::Discarded(reason),
+    }
+}
+
+/// What a message is for a transaction in progress.
+pub(crate) fn outcome(terms: &Terms, understood: &[AttributeType], message: &Message<'_>) -> Outcome
+    ensures { result ≡ outcome terms.now understood.now (message_bytes message.now) }
+{
+    if !terms.is_answer(message) {
+        return Outcome::NotForThis;
+    }
+    match terms.protection.fault(terms.signed, message) {
+        Some(reason) => discarded(terms.plan.transport, reason),
+        None => content(message, understood),
+    }
+}

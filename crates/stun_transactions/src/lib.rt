@@ -1,0 +1,30 @@
+//! A client's transaction over `stun_types`, without sockets and without a clock (RFC 8489,
+//! sections 6.2, 6.3.3, 6.3.4, 9.1.4 and 9.2.5).
+//!
+//! A [`Transaction`] tells when its request is to be sent and when it is given up
+//! ([`Transaction::poll`]), and what a received message is for it ([`Transaction::receive`]). Time
+//! comes in as a `Duration` since a beginning of the caller's. It allocates nothing.
+#![tactic(auto)]
+
+mod course;
+mod guard;
+mod judge;
+mod laws;
+mod plan;
+mod received;
+mod schedule;
+mod terms;
+#[cfg(test)]
+mod tests;
+mod transaction;
+
+pub use course::{Action, End};
+pub use guard::Protection;
+pub use laws::{
+    ends_are_final, first_poll_sends, other_calls_stay, requests_are_spaced, taken_is_right,
+    waits_make_the_row,
+};
+pub use received::{Discard, Failure, Received};
+pub use schedule::{Schedule, ScheduleError};
+pub use terms::BeginError;
+pub use transaction::Transaction;

@@ -1,0 +1,30 @@
+//! How long a transaction waits.
+
+ghost use Rattle.std.specs.Prelude.{◌≡◌};
+ghost use Rattle.stun_transactions.specs.Schedules.{requests_in, wait_in};
+
+use crate::schedule::Schedule;
+use stun_types::TransportType;
+
+/// A schedule and the transport that it is for.
+#[derive(Clone, Copy, Debug, PartialEq, Eq)]
+pub struct Plan {
+    pub(crate) schedule: Schedule,
+    pub(crate) transport: TransportType,
+}
+
+impl Plan {
+    /// How many requests are sent at most.
+    pub(crate) fn requests(&self) -> u32
+        ensures { result ≡ requests_in self.now }
+    {
+        self.schedule.requests_over(self.transport)
+    }
+
+    /// How many milliseconds nothing is done once `sent` requests were sent.
+    pub(crate) fn wait(&self, sent: u32) -> u64
+        ensures { result ≡ wait_in self.now sent }
+    {
+        self.schedule.wait_over(self.transport, sent)
+    }
+}

@@ -1,0 +1,171 @@
+//! When a request is sent (RFC 8489, section 6.2).
+
+ghost use Rattle.std.specs.Prelude.{◌≡◌, ◌<◌, ◌≤◌, ◌^◌, ◌+◌, ◌-◌, ◌*◌, MatchOption};
+ghost use Rattle.stun_transactions.specs.Rows.{row_end, row_wait};
+
+use std::time::Duration;
+use stun_types::TransportType;
+use thiserror::Error;
+
+/// When a request is sent again, and when its transaction is given up (RFC 8489, section 6.2).
+///
+/// Over an unreliable transport (UDP, or DTLS over it) the request is sent again after RTO, and
+/// then after twice the interval before, until `requests` requests were sent; after `last_wait`
+/// times RTO more the transaction ends. By the default numbers these moments are 0, 500, 1500,
+/// 3500, 7500, 15500 and 31500 ms, and the end 39500 ms. Over a reliable transport (TCP, or TLS
+/// over it) it is sent once, and the transaction ends after `reliable_wait`.
+#[derive(Clone, Copy, Debug, PartialEq, Eq)]
+pub struct Schedule {
+    rto: u64,
+    requests: u32,
+    last_wait: u32,
+    reliable_wait: u64,
+    ghost starts: { 1 ≤ rto },
+    ghost sends: { 1 ≤ requests },
+    ghost few: { requests ≤ 64 },
+    ghost fits: { row_end rto requests last_wait < 2 ^ 64 },
+}
+
+/// Why no schedule has certain numbers.
+#[derive(Clone, Copy, Debug, PartialEq, Eq, Error)]
+pub enum ScheduleError {
+    /// One of them is 0.
+    #[error("a number of the schedule is 0")]
+    Zero,
+    /// The end, in milliseconds from the first request, needs more than 64 bits.
+    #[error("the schedule is too long")]
+    TooLong,
+}
+
+/// When a transaction ends by these numbers, if that fits 64 bits.
+#[tactic(auto, using(crate::proofs::RowsLemmas::too_many, crate::proofs::RowsLemmas::pow_fits))]
+fn end_of_row(rto: u64, requests: u32, last_wait: u32) -> Option<u64>
+    requires starts { 1 ≤ rto }
+    requires sends { 1 ≤ requests }
+    requires waits { 1 ≤ last_wait }
+    ensures { MatchOption result
+        (2 ^ 64 ≤ row_end rto requests last_wait)
+        (λ end. (end ≡ row_end rto requests last_wait) × (requests ≤ 64)) }
+{
+    if requests > 64 {
+        return None;
+    }
+    let last = rto.checked_mul(2u64.pow(requests - 1) - 1)?;
+    let wait = rto.checked_mul(u64::from(last_wait))?;
+    last.checked_add(wait)
+}
+
+impl Schedule {
+    ghost use Rattle.std.specs.Prelude.{◌≡◌, ◌<◌, ◌≤◌, MatchResult, MatchOption, None, Some, slice_index};
+    ghost use Rattle.stun_transactions.specs.Rows.{moment, moments, row_end};
+    ghost use Rattle.stun_transactions.specs.Schedules.{schedule_fault, IsSchedule, requests_over, wait_over};
+
+    /// The numbers that RFC 8489 recommends: an RTO of 500 ms, 7 requests, a last wait of 16 RTO,
+    /// and over a reliable transport 39500 ms (sections 6.2.1 and 6.2.2).
+    pub fn new_default() -> Schedule
+        ensures { IsSchedule 500 7 16 39500 result }
+    {
+        Schedule {
+            rto: 500,
+            requests: 7,
+            last_wait: 16,
+            reliable_wait: 39500,
+        }
+    }
+
+    /// The schedule of an RTO in milliseconds, the greatest number of requests (Rc), and how many
+    /// times RTO to wait after the last one (Rm). Over a reliable transport it waits for 39500 ms.
+    ///
+    /// # Errors
+    ///
+    /// `Zero` where one of the numbers is 0, and else `TooLong` where the end of the transaction,
+    /// `rto * (2 ^ (requests - 1) - 1 + last_wait)` milliseconds after the first request, needs
+    /// more than 64 bits.
+    pub fn new(rto: u64, requests: u32, last_wait: u32) -> Result<Schedule, ScheduleError>
+        ensures { MatchResult result
+            (λ schedule. (schedule_fault rto requests last_wait ≡ None)
+            × IsSchedule rto requests last_wait 39500 schedule)
+            (λ e. schedule_fault rto requests last_wait ≡ Some e) }
+    {
+        if rto == 0 || requests == 0 || last_wait == 0 {
+            return Err(ScheduleError::Zero);
+        }
+        match end_of_row(rto, requests, last_wait) {
+            Some(_) => Ok(Schedule {
+                rto,
+                requests,
+                last_wait,
+                reliable_wait: 39500,
+            }),
+            None => Err(ScheduleError::TooLong),
+        }
+    }
+
+    /// The same schedule, but with another wait over a reliable transport (Ti), in milliseconds.
+    pub fn with_reliable_wait(self, reliable_wait: u64) -> Schedule
+        ensures { IsSchedule self.rto self.requests self.last_wait reliable_wait result }
+    {
+        let Schedule {
+            rto,
+            requests,
+            last_wait,
+            reliable_wait: _,
+        } = self;
+        Schedule {
+            rto,
+            requests,
+            last_wait,
+            reliable_wait,
+        }
+    }
+
+    /// When request number `n`, counted from 0, is sent over an unreliable transport if every poll
+    /// is in time: in milliseconds from the first request. `None` where there is no such request.
+    #[tactic(auto, using(crate::proofs::RowsLemmas::moment_fits, crate::proofs::RowsLemmas::pow_fits, crate::proofs::RowsLemmas::moment_at))]
+    pub fn moment(&self, n: u32) -> Option<u64>
+        ensures { MatchOption result
+            (self.now.requests ≤ n)
+            (λ at. (n < self.now.requests)
+            × (at ≡ slice_index (moments self.now.rto self.now.requests) n)) }
+    {
+        if n < self.requests {
+            Some(self.rto * (2u64.pow(n) - 1))
+        } else {
+            None
+        }
+    }
+
+    /// When the transaction ends over an unreliable transport if every poll is in time: in
+    /// milliseconds from the first request.
+    #[tactic(auto, using(crate::proofs::RowsLemmas::pow_fits))]
+    pub fn end(&self) -> u64
+        ensures { result ≡ row_end self.now.rto self.now.requests self.now.last_wait }
+    {
+        self.rto * (2u64.pow(self.requests - 1) - 1) + self.rto * u64::from(self.last_wait)
+    }
+
+    /// How many requests are sent over a transport at most.
+    pub fn requests_over(&self, transport: TransportType) -> u32
+        ensures { result ≡ requests_over self.now transport }
+    {
+        match transport {
+            TransportType::Udp => self.requests,
+            TransportType::Tcp => 1,
+        }
+    }
+
+    /// How many milliseconds nothing is done once `sent` requests were sent: 0 before the first.
+    #[tactic(auto, using(crate::proofs::RowsLemmas::wait_fits, crate::proofs::RowsLemmas::pow_fits))]
+    pub fn wait_over(&self, transport: TransportType, sent: u32) -> u64
+        ensures { result ≡ wait_over self.now transport sent }
+    {
+        if sent == 0 {
+            return 0;
+        }
+        match transport {
+            TransportType::Tcp => self.reliable_wait,
+            TransportType::Udp if sent < self.requests => self.rto * 2u64.pow(sent - 1),
+            TransportType::Udp => self.rto * u64::from(self.last_wait),
+        }
+    }
+}

@@ -1,0 +1,86 @@
+//! What a transaction is begun with.
+
+ghost use Rattle.std.specs.Prelude.{◌≡◌, None, Some, MatchResult};
+ghost use Rattle.stun_base.specs.MessageTypes.{class_of};
+ghost use Rattle.stun_grammar.specs.Headers.{type_field};
+ghost use Rattle.stun_types.specs.Message.{message_bytes};
+ghost use Rattle.stun_transactions.specs.Terms.{is_request, begin_fault, AreTerms, is_answer};
+
+use crate::guard::{Protection, Signed, signed_by};
+use crate::plan::Plan;
+use stun_types::message::{Message, MessageClass, Method, TransactionId};
+use thiserror::Error;
+
+/// Why no transaction begins.
+#[derive(Clone, Copy, Debug, PartialEq, Eq, Error)]
+pub enum BeginError {
+    /// The message is no request.
+    #[error("the message is no request")]
+    NotARequest,
+    /// A credential is to protect the request, but it shows no integrity attribute.
+    #[error("the request isn't signed")]
+    NotSigned,
+    /// Nothing is to protect the request, but it shows an integrity attribute.
+    #[error("the request is signed")]
+    Signed,
+}
+
+/// What a transaction is begun with: how long it waits, and what its request is.
+#[derive(Debug, Drop)]
+pub struct Terms {
+    pub(crate) plan: Plan,
+    pub(crate) method: Method,
+    pub(crate) id: TransactionId,
+    pub(crate) signed: Signed,
+    pub(crate) protection: Protection,
+}
+
+/// Whether a class is that of a request.
+fn is_request(class: MessageClass) -> bool
+    ensures { result ≡ is_request class }
+{
+    matches!(class, MessageClass::Request)
+}
+
+impl Terms {
+    ghost use Rattle.std.specs.Prelude.{◌≡◌, None, Some, MatchResult};
+    ghost use Rattle.stun_types.specs.Message.{message_bytes};
+    ghost use Rattle.stun_transactions.specs.Terms.{begin_fault, AreTerms, is_answer};
+
+    /// The terms of a request that is protected so.
+    pub(crate) fn new(
+        request: &Message<'_>,
+        plan: Plan,
+        protection: Protection,
+    ) -> Result<Terms, BeginError>
+        ensures { MatchResult result
+            (λ terms. (begin_fault protection (message_bytes request.now) ≡ None)
+            × AreTerms (message_bytes request.now) plan protection terms)
+            (λ e. begin_fault protection (message_bytes request.now) ≡ Some e) }
+    {
+        let signed = signed_by(request);
+        if !is_request(request.class()) {
+            return Err(BeginError::NotARequest);
+        }
+        match (protection.protects(), signed.is_signed()) {
+            (true, false) => Err(BeginError::NotSigned),
+            (false, true) => Err(BeginError::Signed),
+            (true, true) | (false, false) => Ok(Terms {
+                plan,
+                method: request.method(),
+                id: request.transaction_id(),
+                signed,
+                protection,
+            }),
+        }
+    }
+
+    /// Whether a message is a response with the method and the transaction ID of the request.
+    pub(crate) fn is_answer(&self, message: &Message<'_>) -> bool
+        ensures { result ≡ is_answer self.now (message_bytes message.now) }
+    {
+        message.is_response()
+            && message.method() == self.method
+            && message.transaction_id() == self.id
+    }
+}

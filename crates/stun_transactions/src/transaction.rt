@@ -1,0 +1,132 @@
+//! A client's transaction.
+
+use crate::course::{Action, Course, End};
+use crate::guard::Protection;
+use crate::judge::outcome;
+use crate::plan::Plan;
+use crate::received::{Received, with_message};
+use crate::schedule::Schedule;
+use crate::terms::{BeginError, Terms};
+use std::time::Duration;
+use stun_types::TransportType;
+use stun_types::attribute::AttributeType;
+use stun_types::message::Message;
+
+/// A client's transaction: a request that is sent until it is answered, or given up (RFC 8489,
+/// section 6.2).
+///
+/// The caller keeps the bytes of the request, sends them each time that [`Transaction::poll`] says
+/// so, and hands each message that it receives to [`Transaction::receive`]. A moment is a
+/// `Duration` since a beginning of the caller's choice, the same for all calls. A clock that steps
+/// back is taken to stand still.
+#[derive(Debug, Drop)]
+pub struct Transaction {
+    terms: Terms,
+    course: Course,
+}
+
+impl Transaction {
+    ghost use Rattle.std.specs.Prelude.{◌≡◌, None, Some, MatchResult};
+    ghost use Rattle.stun_types.specs.Message.{message_bytes};
+    ghost use Rattle.stun_transactions.specs.Courses.{Polls, ended_by, TellsTime};
+    ghost use Rattle.stun_transactions.specs.Outcomes.{outcome_of, Holds, after};
+    ghost use Rattle.stun_transactions.specs.Terms.{begin_fault};
+    ghost use Rattle.stun_transactions.specs.Receiving.{heard};
+    ghost use Rattle.stun_transactions.specs.Transactions.{terms_of, course_of, Begins};
+
+    /// A transaction of a request, which is to be sent over a transport, by a schedule. Its first
+    /// poll hands the request out.
+    ///
+    /// # Errors
+    ///
+    /// `NotARequest` where the message has another class; `NotSigned` where a credential is to
+    /// protect it and it shows no integrity attribute, `Signed` where none is to and it shows one.
+    pub fn new(
+        request: &Message<'_>,
+        schedule: Schedule,
+        transport: TransportType,
+        protection: Protection,
+        now: Duration,
+    ) -> Result<Transaction, BeginError>
+        ensures { MatchResult result
+            (λ transaction. (begin_fault protection (message_bytes request.now) ≡ None)
+            × Begins (message_bytes request.now) schedule transport protection now transaction)
+            (λ e. begin_fault protection (message_bytes request.now) ≡ Some e) }
+    {
+        let plan = Plan {
+            schedule,
+            transport,
+        };
+        let terms = Terms::new(request, plan, protection)?;
+        let course = Course::new(now);
+        Ok(Transaction { terms, course })
+    }
+
+    /// What is to be done now.
+    ///
+    /// - `Send`: send the request, now. Each interval runs from the poll that answers this, so a
+    ///   late poll moves the later ones and shortens none.
+    /// - `WaitUntil(time)`: nothing before `time`, unless a message is received.
+    /// - `Ended(end)`: the transaction has ended, or ends now since its time is up. From then on
+    ///   nothing changes.
+    pub fn poll(&mut self, now: Duration) -> Action
+        ensures polls { Polls (terms_of self.old).plan (course_of self.old) now result
+            (course_of self.new) }
+        ensures terms { terms_of self.new ≡ terms_of self.old }
+    {
+        self.course.poll(&self.terms.plan, now)
+    }
+
+    /// What the bytes of a received message are for the transaction.
+    ///
+    /// `understood` are the types of the attributes that must be understood (below 0x8000) and that
+    /// the caller understands; those that RFC 8489 defines (section 18.3) need not be among them.
+    /// The response that is handed out borrows the bytes. After a response, or a failure, the
+    /// transaction has ended.
+    pub fn receive<'m>(&mut self, bytes: &'m [u8], understood: &[AttributeType]) -> Received<'m>
+        ensures outcome { outcome_of result
+            ≡ heard (terms_of self.old) (course_of self.old) understood.now bytes.now }
+        ensures message { Holds result bytes.now }
+        ensures course { course_of self.new
+            ≡ after (heard (terms_of self.old) (course_of self.old) understood.now bytes.now)
+            (course_of self.old) }
+        ensures terms { terms_of self.new ≡ terms_of self.old }
+    {
+        if !self.course.is_open() {
+            return Received::NotForThis;
+        }
+        let Ok(message) = Message::from_bytes(bytes) else {
+            return Received::NotForThis;
+        };
+        let outcome = outcome(&self.terms, understood, &message);
+        self.course.hear(outcome);
+        with_message(outcome, message)
+    }
+
+    /// How long the response took, if it was received at this moment: the time from when the
+    /// request was handed out, and 0 where the clock stepped back behind that. `None` where no
+    /// response was taken, and where the request was sent more than once, since then it isn't known
+    /// which request was answered (RFC 8489, section 6.2.1).
+    pub fn round_trip(&self, now: Duration) -> Option<Duration>
+        ensures { TellsTime (course_of self.now) now result }
+    {
+        self.course.round_trip(now)
+    }
+
+    /// Ends the transaction, unless it has ended: the caller wants no response any more.
+    pub fn cancel(&mut self)
+        ensures course { course_of self.new ≡ ended_by End.Cancelled (course_of self.old) }
+        ensures terms { terms_of self.new ≡ terms_of self.old }
+    {
+        self.course.end_by(End::Cancelled);
+    }
+
+    /// Ends the transaction, unless it has ended: the transport failed, as by a hard ICMP error or
+    /// a connection that was closed (RFC 8489, sections 6.2.1 and 6.2.2).
+    pub fn fail(&mut self)
+        ensures course { course_of self.new ≡ ended_by End.TransportFailed (course_of self.old) }
+        ensures terms { terms_of self.new ≡ terms_of self.old }
+    {
+        self.course.end_by(End::TransportFailed);
+    }
+}
