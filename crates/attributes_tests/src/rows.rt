@@ -397,6 +397,23 @@ fn discovery_attributes_are_written(rt: HostRuntime) -> Result<(), Fail> {
     Ok(())
 }
 
+/// What a registry prints of the first of these rows that it prints otherwise than its row says.
+fn shown_otherwise(
+    alloc: Global,
+    registry: &Registry,
+    rows: &[Row<'_>],
+) -> Result<Option<String>, StunParseError> {
+    for (atype, value, text) in rows {
+        let raw = RawAttribute::new(AttributeType(*atype), *value)?;
+        let raw = &raw;
+        let shown = format!(in alloc; "{}", show::Shown { registry, raw })?;
+        if shown.as_str() != *text {
+            return Ok(Some(shown));
+        }
+    }
+    Ok(None)
+}
+
 #[test]
 fn values_are_read_and_shown(rt: HostRuntime) -> Result<(), Fail> {
     let alloc = rt.alloc();
@@ -407,14 +424,8 @@ fn values_are_read_and_shown(rt: HostRuntime) -> Result<(), Fail> {
     assert!(rt; registry.method_name(methods::ALLOCATE) == "ALLOCATE");
     let (ice, turn, discovery) = (ICE.as_slice(), TURN.as_slice(), DISCOVERY.as_slice());
     for rows in [ice, turn, discovery, MALFORMED.as_slice()] {
-        for (atype, value, text) in rows {
-            let raw = RawAttribute::new(AttributeType(*atype), *value)?;
-            let shown = show::Shown {
-                registry: &registry,
-                raw: &raw,
-            };
-            assert!(rt; format!(in alloc; "{shown}")?.as_str() == *text, "{shown}");
-        }
+        let wrong = shown_otherwise(alloc, &registry, rows)?;
+        assert!(rt; wrong.is_none(), "{wrong:?}");
     }
     Ok(())
 }
