@@ -402,7 +402,7 @@ fn shown_otherwise(
     alloc: Global,
     registry: &Registry,
     rows: &[Row<'_>],
-) -> Result<Option<String>, StunParseError> {
+) -> Result<Option<String>, Fail> {
     for (atype, value, text) in rows {
         let raw = RawAttribute::new(AttributeType(*atype), *value)?;
         let raw = &raw;
