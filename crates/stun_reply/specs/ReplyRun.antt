@@ -9,7 +9,7 @@ use Rattle.stun_streams.specs.declared.InputError.{InputError}
 use Rattle.stun_streams.specs.declared.InputError.TheVariants as Input
 use Rattle.stun_reply.specs.declared.engine.RunEnd.{RunEnd}
 use Rattle.stun_reply.specs.declared.engine.RunEnd.TheVariants.{Replied, NoReply, Usage, TooLong, ReadFailed, WriteFailed, NoMemory}
-use Rattle.stun_reply.specs.Reply.{reply}
+use Rattle.stun_server.specs.Reply.{reply}
 
 -- the whole input is a datagram from an address, to which this is the reply
 pub record Answers (source : SocketAddr) (left left' : Option (List ℕ))

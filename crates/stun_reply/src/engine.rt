@@ -3,11 +3,11 @@
 ghost use Rattle.std.specs.Prelude.{◌≡◌};
 ghost use Rattle.stun_reply.specs.ReplyRun.{Ends, end_of_input};
 
-use crate::reply::reply;
 use std::alloc::Global;
 use std::io::{Read, Write};
 use std::net::SocketAddr;
 use stun_base::GREATEST_LENGTH;
+use stun_server::reply;
 use stun_streams::{InputError, read_all, write_all};
 
 /// How a run ends.

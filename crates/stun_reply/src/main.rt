@@ -4,7 +4,6 @@
 
 mod engine;
 mod program;
-mod reply;
 
 use program::{end_without_arguments, run_on, status_of};
 use std::env;

@@ -11,7 +11,7 @@ ghost use Rattle.stun_attributes.specs.AddressAttributes.{written_mapped_addr};
 ghost use Rattle.stun_base.specs.declared.message_type.MessageClass.TheVariants.{Request, Success};
 ghost use Rattle.stun_base.specs.MessageTypes.{class_of};
 ghost use Rattle.stun_types.specs.Message.{message_bytes};
-ghost use Rattle.stun_reply.specs.Reply.{success_reply, response, unfinished_reply, binding_reply, reply};
+ghost use Rattle.stun_server.specs.Reply.{success_reply, response, unfinished_reply, binding_reply, reply};
 
 use std::alloc::{AllocError, Global};
 use std::net::SocketAddr;

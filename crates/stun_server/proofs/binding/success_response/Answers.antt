@@ -1,8 +1,8 @@
 use Rattle.stun_attributes.specs.AddressAttributes.{written_mapped_addr}
 use Rattle.stun_attributes.specs.Texts.{text_bytes}
 use Rattle.stun_types.specs.Message.{message_bytes}
-use Rattle.stun_reply.proofs.ReplyLemmas.{success_written}
-use Rattle.stun_reply.proofs.reply.success_response.Goals as goal
+use Rattle.stun_server.proofs.ReplyLemmas.{success_written}
+use Rattle.stun_server.proofs.binding.success_response.Goals as goal
 
 pub returns : goal.returns
 returns c =

@@ -3,8 +3,8 @@ use Rattle.stun_grammar.specs.Headers.{type_field}
 use Rattle.stun_base.specs.declared.message_type.MessageClass.TheVariants.{Request}
 use Rattle.stun_base.specs.MessageTypes.{class_of}
 use Rattle.stun_types.specs.Message.{message_bytes}
-use Rattle.stun_reply.proofs.ReplyLemmas.{none_to_fault, none_to_class, none_to_method, one_to_binding}
-use Rattle.stun_reply.proofs.reply.reply.Goals as goal
+use Rattle.stun_server.proofs.ReplyLemmas.{none_to_fault, none_to_class, none_to_method, one_to_binding}
+use Rattle.stun_server.proofs.binding.reply.Goals as goal
 
 pub returns-in-Err : goal.returns-in-Err
 returns-in-Err c = none_to_fault c.args.source c.args.datagram.now c.in-Err.field-0 c.in-Err.ensures
