@@ -181,7 +181,13 @@ impl ReadValue for UnknownAttributes {
 
 /// The type and the list: `10(0xa: UNKNOWN-ATTRIBUTES): [AttributeType(20), AttributeType(21)]`.
 impl fmt::Display for UnknownAttributes {
+    ghost use Rattle.std.specs.Prelude.{Some};
+    ghost use Rattle.stun_values.specs.TypeLists.{listed_text};
+    ghost use Rattle.stun_attributes.specs.Unknown.{listed};
+
+    ghost output = { λ attribute. Some (listed_text (listed attribute)) };
+
     fn fmt<W: fmt::Write>(&self, f: &mut fmt::Formatter<W>) -> fmt::Result {
-        print_types(f, self.attributes().iter().copied())
+        print_types(f, self.attributes())
     }
 }

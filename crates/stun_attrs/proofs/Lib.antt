@@ -1,3 +1,2 @@
-mod PrintedDataLemmas
 mod RawLemmas
 mod EncodingLemmas

@@ -1,16 +1,14 @@
 -- How a raw attribute is printed.
-use Rattle.std.specs.Prelude.{ℕ, Bool, true, false, List, [], ◌∷◌, ◌++◌, length, Option, Some, codes}
+use Rattle.std.specs.Prelude.{ℕ, Bool, true, false, List, ◌++◌, length, codes}
 use Rattle.std.specs.Fmt.{decimal}
-use Rattle.std.specs.List.{flat_map}
 use Rattle.std.specs.Option.{option_map_or}
+use Rattle.stun_text.specs.Lists.{with_commas}
 use Rattle.stun_grammar.specs.Names.{attribute_type_text, attribute_type_debug}
 use Rattle.stun_values.specs.Typed.{value_fault, value_text}
 
 -- bytes in decimal, with a comma and a space between them
 abbrev pub bytes_in_decimal : List ℕ → List ℕ
-bytes_in_decimal [] = []
-bytes_in_decimal (first ∷ others) =
-    decimal first ++ flat_map (λ byte. codes ", " ++ decimal byte) others
+bytes_in_decimal = with_commas decimal
 
 -- the bytes of a value, which the flag tells to be borrowed or owned
 abbrev pub data_shown : Bool → List ℕ → List ℕ
@@ -37,8 +35,8 @@ untyped_text type value borrowed =
 
 -- an attribute of this type and this value: as the typed attribute where there is one and it
 -- accepts the value; the flag tells a borrowed value from an owned one
-abbrev pub attribute_text : ℕ → List ℕ → Bool → Option (List ℕ)
+abbrev pub attribute_text : ℕ → List ℕ → Bool → List ℕ
 attribute_text type value borrowed =
     option_map_or (λ fault.
-    option_map_or (λ e. Some (malformed_text type value borrowed)) fault (value_text type value))
-    (value_fault type value) (Some (untyped_text type value borrowed))
+    option_map_or (λ e. malformed_text type value borrowed) fault (value_text type value))
+    (value_fault type value) (untyped_text type value borrowed)

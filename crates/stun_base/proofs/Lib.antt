@@ -1,2 +1,1 @@
 mod IdLemmas
-mod HexLemmas

@@ -1,9 +1,10 @@
 //! Bytes in hexadecimal.
 
-ghost use Rattle.std.specs.Fmt.{WritesOnOk};
+ghost use Rattle.std.specs.Prelude.{OnOk};
 ghost use Rattle.stun_grammar.specs.Names.{hex_byte};
 
 use std::fmt;
+use stun_text::{PrintText, TextSink, hex_digit};
 
 /// Bytes that print in hexadecimal, two digits for each, in lower case: `000aff`. It takes no
 /// memory.
@@ -11,11 +12,25 @@ use std::fmt;
 pub struct Hex<'a>(pub &'a [u8]);
 
 /// Writes a byte as two hexadecimal digits, in lower case.
-#[tactic(auto, using(std::proofs::lemmas::Fmt::hex_byte))]
-fn write_byte<W: fmt::Write>(f: &mut fmt::Formatter<W>, byte: u8) -> fmt::Result
-    ensures { WritesOnOk W.write_str_gives f.old result (hex_byte byte) f.new }
+fn put_byte<S: TextSink>(sink: &mut S, byte: u8) -> Result<(), S::Error>
+    ensures { OnOk result (S.wrote sink.old (hex_byte byte) sink.new) }
 {
-    write!(f, "{byte:02x}")
+    sink.put(hex_digit(byte / 16))?;
+    sink.put(hex_digit(byte % 16))?;
+    Ok(())
+}
+
+impl PrintText for Hex<'_> {
+    ghost use Rattle.stun_grammar.specs.Names.{hex};
+
+    ghost text = { λ bytes. hex bytes.0.now };
+
+    fn print<S: TextSink>(&self, sink: &mut S) -> Result<(), S::Error> {
+        for byte in self.0 {
+            put_byte(sink, *byte)?;
+        }
+        Ok(())
+    }
 }
 
 impl fmt::Display for Hex<'_> {
@@ -25,9 +40,6 @@ impl fmt::Display for Hex<'_> {
     ghost output = { λ bytes. Some (hex bytes.0.now) };
 
     fn fmt<W: fmt::Write>(&self, f: &mut fmt::Formatter<W>) -> fmt::Result {
-        for byte in self.0 {
-            write_byte(f, *byte)?;
-        }
-        Ok(())
+        self.print(f)
     }
 }

@@ -1,15 +1,16 @@
 //! The type of a message: its class and its method (RFC 8489, section 5).
 
-ghost use Rattle.std.specs.Prelude.{◌≡◌, ◌↔◌, ◌<◌, ◌≤◌, ◌++◌, ◌+◌, ◌^◌, IsTrue, Result, Ok, Err, IfOk, IfErr, length, drop, slice_range};
+ghost use Rattle.std.specs.Prelude.{◌≡◌, ◌↔◌, ◌<◌, ◌≤◌, ◌++◌, ◌+◌, ◌^◌, IsTrue, Result, Ok, Err, IfOk, IfErr, OnOk, length, drop, codes, slice_range};
 ghost use Rattle.stun_grammar.specs.Numbers.{be16, number};
-ghost use Rattle.stun_grammar.specs.Names.{method_name};
-ghost use Rattle.stun_base.specs.MessageTypes.{type_of, class_of, method_of, class_bits, is_response as responds};
+ghost use Rattle.stun_grammar.specs.Names.{method_name, method_text};
+ghost use Rattle.stun_base.specs.MessageTypes.{type_of, class_of, method_of, class_bits, class_name, is_response as responds};
 
 use byteorder::{BigEndian, ByteOrder};
 use std::alloc::Global;
 use std::fmt;
 use std::marker::Model;
-use stun_grammar::{StunParseError, StunWriteError};
+use stun_grammar::{StunParseError, StunWriteError, put_numbered};
+use stun_text::{PrintText, TextSink};
 
 /// The method of a message: a number below 0xf000, of which a message carries the low twelve bits
 /// (RFC 8489, section 5).
@@ -72,6 +73,16 @@ impl Method {
     }
 }
 
+impl PrintText for Method {
+    ghost use Rattle.stun_grammar.specs.Names.{method_text};
+
+    ghost text = { method_text };
+
+    fn print<S: TextSink>(&self, sink: &mut S) -> Result<(), S::Error> {
+        put_numbered(sink, self.0, self.name())
+    }
+}
+
 /// The number in decimal, and in parentheses the number in hexadecimal, in lower case and without
 /// leading zeros, and the name: `1(0x1: BINDING)`, `2748(0xabc: unknown)`.
 impl fmt::Display for Method {
@@ -81,9 +92,7 @@ impl fmt::Display for Method {
     ghost output = { λ method. Some (method_text method) };
 
     fn fmt<W: fmt::Write>(&self, f: &mut fmt::Formatter<W>) -> fmt::Result {
-        let value = self.0;
-        let name = self.name();
-        write!(f, "{value}(0x{value:x}: {name})")
+        self.print(f)
     }
 }
 
@@ -108,6 +117,18 @@ impl MessageClass {
         matches!(self, MessageClass::Success | MessageClass::Error)
     }
 
+    /// The name of the class: `Request`, `Indication`, `Success` or `Error`.
+    fn name(self) -> &'static str
+        ensures { result.now ≡ class_name self }
+    {
+        match self {
+            MessageClass::Request => "Request",
+            MessageClass::Indication => "Indication",
+            MessageClass::Success => "Success",
+            MessageClass::Error => "Error",
+        }
+    }
+
     /// The two bits of the class, at bits 4 and 8.
     fn to_bits(self) -> u16
         ensures { result ≡ class_bits self }
@@ -129,12 +150,7 @@ impl fmt::Debug for MessageClass {
     ghost debug_output = { λ class. Some (class_name class) };
 
     fn fmt<W: fmt::Write>(&self, f: &mut fmt::Formatter<W>) -> fmt::Result {
-        match self {
-            MessageClass::Request => f.write_str("Request"),
-            MessageClass::Indication => f.write_str("Indication"),
-            MessageClass::Success => f.write_str("Success"),
-            MessageClass::Error => f.write_str("Error"),
-        }
+        f.write_str(self.name())
     }
 }
 
@@ -216,6 +232,22 @@ impl MessageType {
         self.method() == method
     }
 
+    /// Writes the name of the class and the method: `Request, method: 1(0x1: BINDING)`.
+    ///
+    /// # Errors
+    ///
+    /// That of the sink.
+    pub fn put_class_and_method<S: TextSink>(self, sink: &mut S) -> Result<(), S::Error>
+        ensures { OnOk result (S.wrote sink.old
+            (class_name (class_of self) ++ codes ", method: " ++ method_text (method_of self))
+            sink.new) }
+    {
+        sink.put(self.class().name())?;
+        sink.put(", method: ")?;
+        self.method().print(sink)?;
+        Ok(())
+    }
+
     /// Writes the two bytes at the start of `dest`. The others keep their values.
     ///
     /// # Requires
@@ -270,6 +302,18 @@ impl MessageType {
     }
 }
 
+impl PrintText for MessageType {
+    ghost use Rattle.stun_base.specs.MessageTypes.{message_type_text};
+
+    ghost text = { message_type_text };
+
+    fn print<S: TextSink>(&self, sink: &mut S) -> Result<(), S::Error> {
+        sink.put("MessageType(class: ")?;
+        self.put_class_and_method(sink)?;
+        Ok(())
+    }
+}
+
 /// The class and the method, after a parenthesis that is not closed:
 /// `MessageType(class: Request, method: 1(0x1: BINDING)`.
 impl fmt::Display for MessageType {
@@ -279,8 +323,6 @@ impl fmt::Display for MessageType {
     ghost output = { λ mtype. Some (message_type_text mtype) };
 
     fn fmt<W: fmt::Write>(&self, f: &mut fmt::Formatter<W>) -> fmt::Result {
-        let class = self.class();
-        let method = self.method();
-        write!(f, "MessageType(class: {class:?}, method: {method}")
+        self.print(f)
     }
 }

@@ -4,6 +4,7 @@ ghost use Rattle.stun_base.specs.Drawing.{drawn_id};
 use rand_core::Rng;
 use std::fmt;
 use std::marker::Model;
+use stun_text::{PrintText, TextSink, put_hex};
 
 /// The magic cookie, which sets STUN apart from other protocols: four bytes at offset 4 of each
 /// header, big-endian (RFC 8489, section 5).
@@ -77,20 +78,25 @@ impl From<TransactionId> for u128 {
     }
 }
 
+impl PrintText for TransactionId {
+    ghost use Rattle.stun_base.specs.MessageTypes.{id_text};
+
+    ghost text = { id_text };
+
+    fn print<S: TextSink>(&self, sink: &mut S) -> Result<(), S::Error> {
+        sink.put("0x")?;
+        put_hex(sink, self.id)?;
+        Ok(())
+    }
+}
+
 impl fmt::Display for TransactionId {
     ghost use Rattle.std.specs.Prelude.{Some};
     ghost use Rattle.stun_base.specs.MessageTypes.{id_text};
 
     ghost output = { λ id. Some (id_text id) };
 
-    #[tactic(auto, using(crate::proofs::HexLemmas::digits_in_halves))]
     fn fmt<W: fmt::Write>(&self, f: &mut fmt::Formatter<W>) -> fmt::Result {
-        let high = (self.id >> 64) as u64;
-        let low = (self.id % (1 << 64)) as u64;
-        if high == 0 {
-            write!(f, "0x{low:x}")
-        } else {
-            write!(f, "0x{high:x}{low:016x}")
-        }
+        self.print(f)
     }
 }

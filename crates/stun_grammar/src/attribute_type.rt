@@ -1,9 +1,10 @@
-ghost use Rattle.std.specs.Prelude.{◌≡◌, ◌↔◌, ◌<◌, false, IsTrue};
+ghost use Rattle.std.specs.Prelude.{◌≡◌, ◌↔◌, ◌<◌, false, IsTrue, OnOk};
 ghost use Rattle.stun_grammar.specs.AttributeTypes.{is_ending, IsOrdinary};
-ghost use Rattle.stun_grammar.specs.Names.{attribute_name};
+ghost use Rattle.stun_grammar.specs.Names.{attribute_name, attribute_type_debug};
 
-use crate::attribute_types;
+use crate::{attribute_types, put_numbered};
 use std::fmt;
+use stun_text::{PrintText, TextSink, put_decimal};
 
 /// The type of an attribute: 16 bits (RFC 8489, section 14).
 ///
@@ -69,6 +70,20 @@ impl AttributeType {
     {
         attribute_types::is_ending(self.0)
     }
+
+    /// Writes the number in decimal, as `{:?}` prints it: `AttributeType(32)`.
+    ///
+    /// # Errors
+    ///
+    /// That of the sink.
+    pub fn put_debug<S: TextSink>(self, sink: &mut S) -> Result<(), S::Error>
+        ensures { OnOk result (S.wrote sink.old (attribute_type_debug self.0) sink.new) }
+    {
+        sink.put("AttributeType(")?;
+        put_decimal(sink, self.0 as u64)?;
+        sink.put(")")?;
+        Ok(())
+    }
 }
 
 impl From<u16> for AttributeType {
@@ -91,6 +106,16 @@ impl From<AttributeType> for u16 {
     }
 }
 
+impl PrintText for AttributeType {
+    ghost use Rattle.stun_grammar.specs.Names.{attribute_type_text};
+
+    ghost text = { λ atype. attribute_type_text atype.0 };
+
+    fn print<S: TextSink>(&self, sink: &mut S) -> Result<(), S::Error> {
+        put_numbered(sink, self.0, self.name())
+    }
+}
+
 impl fmt::Display for AttributeType {
     ghost use Rattle.std.specs.Prelude.{Some};
     ghost use Rattle.stun_grammar.specs.Names.{attribute_type_text};
@@ -98,9 +123,7 @@ impl fmt::Display for AttributeType {
     ghost output = { λ atype. Some (attribute_type_text atype.0) };
 
     fn fmt<W: fmt::Write>(&self, f: &mut fmt::Formatter<W>) -> fmt::Result {
-        let value = self.0;
-        let name = self.name();
-        write!(f, "{value}(0x{value:x}: {name})")
+        self.print(f)
     }
 }
 
@@ -115,7 +138,6 @@ impl fmt::Debug for AttributeType {
         if f.alternate() {
             return f.debug_tuple("AttributeType").field(&self.0).finish();
         }
-        let value = self.0;
-        write!(f, "AttributeType({value})")
+        self.put_debug(f)
     }
 }

@@ -15,6 +15,7 @@ mod error;
 mod integrity_algorithm;
 mod integrity_laws;
 mod laws;
+mod numbered;
 
 pub use adding_laws::message_grows;
 pub use attribute_type::AttributeType;
@@ -29,3 +30,4 @@ pub use laws::{
     length_is_stated, one_any_order, one_chain, one_longest_prefix, one_order, one_spelling,
     prefix_of_chain, refusals_of_parsing, right_fingerprint, written_is_read_back,
 };
+pub use numbered::put_numbered;

@@ -1,36 +1,51 @@
 //! How a message is printed.
 
-ghost use Rattle.std.specs.Prelude.{◌≡◌, None};
-ghost use Rattle.std.specs.Fmt.{WritesOnOk, DisplaysOnOk};
+ghost use Rattle.std.specs.Prelude.{◌≡◌, ◌++◌, None, OnOk};
 ghost use Rattle.stun_grammar.specs.Showing.{frame_fault, shown};
+ghost use Rattle.stun_base.specs.Data.{is_borrowed};
+ghost use Rattle.stun_attrs.specs.Raw.{raw_type, raw_data, raw_value};
+ghost use Rattle.stun_attrs.specs.PrintedAttributes.{attribute_text};
 ghost use Rattle.stun_read.specs.PrintedMessages.{head_text, attributes_text, message_text};
 
 use crate::iter_framed;
-use std::fmt;
+use stun_attrs::RawAttribute;
 use stun_base::{MessageHeader, read_header};
+use stun_text::{PrintText, TextSink};
 
 /// Prints what stands before the attributes: the class, the method and the transaction ID.
-fn print_head<W: fmt::Write>(header: &MessageHeader, f: &mut fmt::Formatter<W>) -> fmt::Result
-    ensures { WritesOnOk W.write_str_gives f.old result (head_text header.now) f.new }
+fn print_head<S: TextSink>(header: &MessageHeader, sink: &mut S) -> Result<(), S::Error>
+    ensures { OnOk result (S.wrote sink.old (head_text header.now) sink.new) }
 {
-    let class = header.get_type().class();
-    let method = header.get_type().method();
-    let id = header.transaction_id();
-    write!(
-        f,
-        "Message(class: {class:?}, method: {method}, transaction: {id}, attributes: ["
-    )
+    sink.put("Message(class: ")?;
+    header.get_type().put_class_and_method(sink)?;
+    sink.put(", transaction: ")?;
+    header.transaction_id().print(sink)?;
+    sink.put(", attributes: [")?;
+    Ok(())
+}
+
+/// Prints a text and an attribute behind it.
+fn print_led<S: TextSink>(
+    lead: &str,
+    attribute: &RawAttribute<'_>,
+    sink: &mut S,
+) -> Result<(), S::Error>
+    ensures { OnOk result (S.wrote sink.old (lead.now ++ attribute_text (raw_type attribute.now)
+        (raw_value attribute.now) (is_borrowed (raw_data attribute.now))) sink.new) }
+{
+    sink.put(lead)?;
+    attribute.print(sink)?;
+    Ok(())
 }
 
 /// Prints the attributes that `bytes` show, with a comma and a space between them.
-fn print_attributes<W: fmt::Write>(bytes: &[u8], f: &mut fmt::Formatter<W>) -> fmt::Result
+fn print_attributes<S: TextSink>(bytes: &[u8], sink: &mut S) -> Result<(), S::Error>
     requires { frame_fault bytes.now ≡ None }
-    ensures { DisplaysOnOk W.write_str_gives f.old result
-        (attributes_text (shown bytes.now)) f.new }
+    ensures { OnOk result (S.wrote sink.old (attributes_text (shown bytes.now)) sink.new) }
 {
     let mut lead = "";
     for (_offset, attribute) in iter_framed(bytes) {
-        write!(f, "{lead}{attribute}")?;
+        print_led(lead, &attribute, sink)?;
         lead = ", ";
     }
     Ok(())
@@ -44,13 +59,14 @@ fn print_attributes<W: fmt::Write>(bytes: &[u8], f: &mut fmt::Formatter<W>) -> f
 ///
 /// # Errors
 ///
-/// `fmt::Error` where the formatter refuses a part of the text.
-pub fn print_message<W: fmt::Write>(bytes: &[u8], f: &mut fmt::Formatter<W>) -> fmt::Result
+/// That of the sink.
+pub fn print_message<S: TextSink>(bytes: &[u8], sink: &mut S) -> Result<(), S::Error>
     requires { frame_fault bytes.now ≡ None }
-    ensures { DisplaysOnOk W.write_str_gives f.old result (message_text bytes.now) f.new }
+    ensures { OnOk result (S.wrote sink.old (message_text bytes.now) sink.new) }
 {
     let header = read_header(bytes);
-    print_head(&header, f)?;
-    print_attributes(bytes, f)?;
-    write!(f, "])")
+    print_head(&header, sink)?;
+    print_attributes(bytes, sink)?;
+    sink.put("])")?;
+    Ok(())
 }

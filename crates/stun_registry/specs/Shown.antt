@@ -18,7 +18,7 @@ use Rattle.stun_registry.specs.Registered.{registered_display}
 
 -- what plain `Display` prints of an attribute
 abbrev pub displayed : RawAttribute → Option (List ℕ)
-displayed raw = attribute_text (raw_type raw) (raw_value raw) (is_borrowed (raw_data raw))
+displayed raw = Some (attribute_text (raw_type raw) (raw_value raw) (is_borrowed (raw_data raw)))
 
 -- the function that prints the attributes of a type: none for a type that has a typed attribute
 abbrev pub display_of : {F : Type 0} {g : _} → Registry F g → ℕ → Option F

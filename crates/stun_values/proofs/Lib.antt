@@ -2,7 +2,8 @@ pub mod AlgorithmsLemmas
 pub mod ErrorValuesLemmas
 pub mod ListsLemmas
 mod OctetsLemmas
-mod AlgorithmNamesLemmas
+mod AlgorithmEntriesLemmas
 pub mod TextValuesLemmas
+mod TypesLemmas
 mod XorLemmas
 mod XoredTextLemmas

@@ -9,6 +9,7 @@ use Rattle.stun_grammar.specs.declared.integrity_algorithm.IntegrityAlgorithm.Th
 use Rattle.stun_grammar.specs.AttributeTypes.{PASSWORD_ALGORITHM, PASSWORD_ALGORITHMS}
 use Rattle.stun_grammar.specs.Names.{plain_text}
 use Rattle.stun_grammar.specs.Numbers.{be16, number}
+use Rattle.stun_text.specs.Lists.{with_commas}
 use Rattle.stun_values.specs.declared.algorithm.PasswordAlgorithmValue.{PasswordAlgorithmValue}
 use Rattle.stun_values.specs.declared.algorithm.PasswordAlgorithmValue.TheVariants.{MD5, SHA256}
 
@@ -81,14 +82,7 @@ algorithm_name SHA256 = codes "SHA256"
 
 -- names with a comma and a space between them
 abbrev pub algorithm_names : List PasswordAlgorithmValue → List ℕ
-algorithm_names [] = []
-algorithm_names (first ∷ others) =
-    algorithm_name first ++ flat_map (λ other. codes ", " ++ algorithm_name other) others
-
--- what stands in them for the algorithm at an index
-abbrev pub name_at : ℕ → PasswordAlgorithmValue → List ℕ
-name_at zero algorithm = algorithm_name algorithm
-name_at (suc index) algorithm = codes ", " ++ algorithm_name algorithm
+algorithm_names = with_commas algorithm_name
 
 -- an algorithm in an attribute, and a list of them, which stands in brackets
 abbrev pub algorithm_text : PasswordAlgorithmValue → List ℕ

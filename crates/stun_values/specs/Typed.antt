@@ -1,6 +1,6 @@
 -- The fifteen types that have a typed attribute: what the value of each has to be, and how it is
 -- printed.
-use Rattle.std.specs.Prelude.{ℕ, Bool, List, length, drop, Option, Some, None, ◌==◌, if◌then◌else◌}
+use Rattle.std.specs.Prelude.{ℕ, Bool, List, [], length, drop, Option, Some, None, ◌==◌, if◌then◌else◌}
 use Rattle.std.specs.Net.Text.{socket_text}
 use Rattle.std.specs.Option.{is_some, option_map, option_map_or}
 use Rattle.stun_grammar.specs.declared.error.StunParseError.{StunParseError}
@@ -16,7 +16,7 @@ use Rattle.stun_values.specs.Algorithms.{one_algorithm_fault, algorithms_fault, 
 use Rattle.stun_values.specs.FingerprintValues.{masked_bytes}
 use Rattle.stun_values.specs.ErrorValues.{error_fault, told_code, error_text}
 use Rattle.stun_values.specs.TextValues.{username_max, text_max, text_fault}
-use Rattle.stun_values.specs.TypeLists.{types_fault}
+use Rattle.stun_values.specs.TypeLists.{types_fault, types_in, types_text}
 
 -- the rule of a type
 unfoldable pub rule_of : ℕ → Option Rule
@@ -55,25 +55,25 @@ rule_fault Is.Types value = types_fault value
 rule_fault Is.Address value = address_fault value
 rule_fault Is.XorAddress value = address_fault value
 
--- how a value that is what a rule asks for is printed, after its type; the text of a list of types
--- is not stated
-abbrev pub rule_text : Rule → ℕ → List ℕ → Option (List ℕ)
-rule_text (Is.Plain most) type value = Some (plain_text type value)
-rule_text (Is.Quoted most) type value = Some (quoted_text type value)
-rule_text Is.ErrorCode type value = Some (error_text (told_code value) (drop 4 value))
-rule_text (Is.Hmac algorithm) type value = Some (hex_text type value)
-rule_text Is.Hash type value = Some (hex_text type value)
-rule_text Is.Checksum type value = Some (hex_text type (masked_bytes value))
-rule_text Is.Algorithm type value = Some (algorithm_text (algorithm_at value))
-rule_text Is.Algorithms type value = Some (algorithms_text (algorithms_in value))
-rule_text Is.Types type value = None
-rule_text Is.Address type value = Some (plain_text type (socket_text (address_in value)))
-rule_text Is.XorAddress type value = Some (plain_text type (xored_text (address_in value)))
+-- how a value that is what a rule asks for is printed, after its type
+abbrev pub rule_text : Rule → ℕ → List ℕ → List ℕ
+rule_text (Is.Plain most) type value = plain_text type value
+rule_text (Is.Quoted most) type value = quoted_text type value
+rule_text Is.ErrorCode type value = error_text (told_code value) (drop 4 value)
+rule_text (Is.Hmac algorithm) type value = hex_text type value
+rule_text Is.Hash type value = hex_text type value
+rule_text Is.Checksum type value = hex_text type (masked_bytes value)
+rule_text Is.Algorithm type value = algorithm_text (algorithm_at value)
+rule_text Is.Algorithms type value = algorithms_text (algorithms_in value)
+rule_text Is.Types type value = types_text (types_in value)
+rule_text Is.Address type value = plain_text type (socket_text (address_in value))
+rule_text Is.XorAddress type value = plain_text type (xored_text (address_in value))
 
 -- whether a value of a type is refused, and why; None where the type is not one of the fifteen
 abbrev pub value_fault : ℕ → List ℕ → Option (Option StunParseError)
 value_fault type value = option_map (λ rule. rule_fault rule value) (rule_of type)
 
--- how a value of a type is printed where reading accepts it
-abbrev pub value_text : ℕ → List ℕ → Option (List ℕ)
-value_text type value = option_map_or (λ rule. rule_text rule type value) (rule_of type) None
+-- how a value of a type is printed where reading accepts it; nothing where the type is not one of
+-- the fifteen
+abbrev pub value_text : ℕ → List ℕ → List ℕ
+value_text type value = option_map_or (λ rule. rule_text rule type value) (rule_of type) []

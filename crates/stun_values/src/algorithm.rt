@@ -1,13 +1,15 @@
 //! Password algorithms in four bytes each, read, written and printed (RFC 8489, section 14.11).
 
-ghost use Rattle.std.specs.Prelude.{◌≡◌, ◌+◌, ◌*◌, ◌%◌, ◌/◌, ◌≤◌, ◌++◌, List, Some, None, MatchResult, length, take, drop};
-ghost use Rattle.std.specs.Fmt.{WritesOnOk};
-ghost use Rattle.stun_values.specs.Algorithms.{algorithm_names, name_at, algorithm_encoding, algorithms_encoding, algorithm_fault, integrity_of, one_algorithm_fault, algorithms_fault, fault_within, algorithm_text, algorithms_text};
+ghost use Rattle.std.specs.Prelude.{◌≡◌, ◌+◌, ◌*◌, ◌%◌, ◌/◌, ◌≤◌, ◌++◌, List, Some, None, MatchResult, OnOk, length, take, drop};
+ghost use Rattle.stun_text.specs.Lists.{comma_before};
+ghost use Rattle.stun_values.specs.Algorithms.{algorithm_name, algorithm_names, algorithm_encoding, algorithms_encoding, algorithm_fault, integrity_of, one_algorithm_fault, algorithms_fault, fault_within, algorithm_text, algorithms_text};
 
+use crate::printed::put_type;
 use byteorder::{BigEndian, ByteOrder};
 use std::fmt;
 use stun_base::{AttributeType, StunParseError, number_at};
 use stun_grammar::{IntegrityAlgorithm, attribute_types};
+use stun_text::{PrintText, TextSink, put_comma};
 
 /// An algorithm by which a password is hashed (RFC 8489, section 18.5.1).
 #[derive(Debug, Clone, Copy, PartialEq, Eq)]
@@ -29,6 +31,16 @@ impl PasswordAlgorithmValue {
             PasswordAlgorithmValue::SHA256 => IntegrityAlgorithm::Sha256,
         }
     }
+
+    /// The name: `MD5` or `SHA256`.
+    fn name(&self) -> &'static str
+        ensures { result.now ≡ algorithm_name self.now }
+    {
+        match self {
+            PasswordAlgorithmValue::MD5 => "MD5",
+            PasswordAlgorithmValue::SHA256 => "SHA256",
+        }
+    }
 }
 
 /// `MD5` or `SHA256`.
@@ -39,54 +51,49 @@ impl fmt::Display for PasswordAlgorithmValue {
     ghost output = { λ algorithm. Some (algorithm_name algorithm) };
 
     fn fmt<W: fmt::Write>(&self, f: &mut fmt::Formatter<W>) -> fmt::Result {
-        match self {
-            PasswordAlgorithmValue::MD5 => write!(f, "MD5"),
-            PasswordAlgorithmValue::SHA256 => write!(f, "SHA256"),
-        }
+        f.write_str(self.name())
     }
 }
 
-/// Prints the name of the algorithm at an index of a list: after a comma and a space, unless it is
-/// the first.
-fn write_name<W: fmt::Write>(
-    f: &mut fmt::Formatter<W>,
+/// Writes the name of the algorithm at an index of a list, and what stands before it.
+fn put_name<S: TextSink>(
+    sink: &mut S,
     index: usize,
     algorithm: PasswordAlgorithmValue,
-) -> fmt::Result
-    ensures { WritesOnOk W.write_str_gives f.old result (name_at index algorithm) f.new }
+) -> Result<(), S::Error>
+    ensures { OnOk result
+        (S.wrote sink.old (comma_before index ++ algorithm_name algorithm) sink.new) }
 {
-    if index > 0 {
-        write!(f, ", {algorithm}")
-    } else {
-        write!(f, "{algorithm}")
-    }
+    put_comma(sink, index)?;
+    sink.put(algorithm.name())?;
+    Ok(())
 }
 
-/// Prints the names with a comma and a space between them.
-fn write_names<W: fmt::Write>(
-    f: &mut fmt::Formatter<W>,
+/// Writes the names with a comma and a space between them.
+fn put_names<S: TextSink>(
+    sink: &mut S,
     algorithms: &[PasswordAlgorithmValue],
-) -> fmt::Result
-    ensures { WritesOnOk W.write_str_gives f.old result (algorithm_names algorithms.now) f.new }
+) -> Result<(), S::Error>
+    ensures { OnOk result (S.wrote sink.old (algorithm_names algorithms.now) sink.new) }
 {
     for i in 0..algorithms.len() {
-        write_name(f, i, algorithms[i])?;
+        put_name(sink, i, algorithms[i])?;
     }
     Ok(())
 }
 
-/// Prints in the same way the names of the algorithms that a value is the encoding of.
-fn write_names_in<W: fmt::Write>(f: &mut fmt::Formatter<W>, value: &[u8]) -> fmt::Result
+/// Writes in the same way the names of the algorithms that a value is the encoding of.
+fn put_names_in<S: TextSink>(sink: &mut S, value: &[u8]) -> Result<(), S::Error>
     requires { fault_within (length value.now / 4) value.now ≡ None }
     ensures { (algorithms : List PasswordAlgorithmValue)
         → algorithms_encoding algorithms ≡ value.now
-        → WritesOnOk W.write_str_gives f.old result (algorithm_names algorithms) f.new }
+        → OnOk result (S.wrote sink.old (algorithm_names algorithms) sink.new) }
 {
     for i in 0..value.len() / 4 {
         let Ok(algorithm) = read_algorithm(&value[4 * i..]) else {
             unreachable!();
         };
-        write_name(f, i, algorithm)?;
+        put_name(sink, i, algorithm)?;
     }
     Ok(())
 }
@@ -229,15 +236,16 @@ pub fn check_algorithms(value: &[u8]) -> Result<(), StunParseError>
 ///
 /// # Errors
 ///
-/// `fmt::Error` where the formatter refuses a part of the text.
-pub fn print_algorithm<W: fmt::Write>(
-    f: &mut fmt::Formatter<W>,
+/// That of the sink.
+pub fn print_algorithm<S: TextSink>(
+    sink: &mut S,
     algorithm: PasswordAlgorithmValue,
-) -> fmt::Result
-    ensures { WritesOnOk W.write_str_gives f.old result (algorithm_text algorithm) f.new }
+) -> Result<(), S::Error>
+    ensures { OnOk result (S.wrote sink.old (algorithm_text algorithm) sink.new) }
 {
-    let atype = AttributeType(attribute_types::PASSWORD_ALGORITHM);
-    write!(f, "{atype}: {algorithm}")
+    put_type(sink, AttributeType(attribute_types::PASSWORD_ALGORITHM))?;
+    sink.put(algorithm.name())?;
+    Ok(())
 }
 
 /// Prints a PASSWORD-ALGORITHMS of these algorithms: the type, and after it the algorithms in
@@ -245,17 +253,18 @@ pub fn print_algorithm<W: fmt::Write>(
 ///
 /// # Errors
 ///
-/// `fmt::Error` where the formatter refuses a part of the text.
-pub fn print_algorithms<W: fmt::Write>(
-    f: &mut fmt::Formatter<W>,
+/// That of the sink.
+pub fn print_algorithms<S: TextSink>(
+    sink: &mut S,
     algorithms: &[PasswordAlgorithmValue],
-) -> fmt::Result
-    ensures { WritesOnOk W.write_str_gives f.old result (algorithms_text algorithms.now) f.new }
+) -> Result<(), S::Error>
+    ensures { OnOk result (S.wrote sink.old (algorithms_text algorithms.now) sink.new) }
 {
-    let atype = AttributeType(attribute_types::PASSWORD_ALGORITHMS);
-    write!(f, "{atype}: [")?;
-    write_names(f, algorithms)?;
-    write!(f, "]")
+    AttributeType(attribute_types::PASSWORD_ALGORITHMS).print(sink)?;
+    sink.put(": [")?;
+    put_names(sink, algorithms)?;
+    sink.put("]")?;
+    Ok(())
 }
 
 /// Prints in the same way the value of a PASSWORD-ALGORITHMS. It takes no memory.
@@ -266,15 +275,16 @@ pub fn print_algorithms<W: fmt::Write>(
 ///
 /// # Errors
 ///
-/// `fmt::Error` where the formatter refuses a part of the text.
-pub fn print_algorithms_in<W: fmt::Write>(f: &mut fmt::Formatter<W>, value: &[u8]) -> fmt::Result
+/// That of the sink.
+pub fn print_algorithms_in<S: TextSink>(sink: &mut S, value: &[u8]) -> Result<(), S::Error>
     requires { fault_within (length value.now / 4) value.now ≡ None }
     ensures { (algorithms : List PasswordAlgorithmValue)
         → algorithms_encoding algorithms ≡ value.now
-        → WritesOnOk W.write_str_gives f.old result (algorithms_text algorithms) f.new }
+        → OnOk result (S.wrote sink.old (algorithms_text algorithms) sink.new) }
 {
-    let atype = AttributeType(attribute_types::PASSWORD_ALGORITHMS);
-    write!(f, "{atype}: [")?;
-    write_names_in(f, value)?;
-    write!(f, "]")
+    AttributeType(attribute_types::PASSWORD_ALGORITHMS).print(sink)?;
+    sink.put(": [")?;
+    put_names_in(sink, value)?;
+    sink.put("]")?;
+    Ok(())
 }

@@ -2,8 +2,8 @@ ghost use Rattle.std.specs.Prelude.{◌≡◌, ◌/◌, None, length};
 ghost use Rattle.stun_values.specs.Algorithms.{fault_within, algorithms_encoding, algorithms_in};
 
 use crate::{check_algorithms, print_algorithms_in};
-use std::fmt;
 use stun_base::StunParseError;
+use stun_text::TextSink;
 
 /// A value that is a list of password algorithms, in four bytes each, which it borrows.
 #[derive(Clone, Copy)]
@@ -14,8 +14,7 @@ pub struct AlgorithmList<'a> {
 }
 
 impl<'a> AlgorithmList<'a> {
-    ghost use Rattle.std.specs.Prelude.{◌≡◌, Some, None, MatchResult};
-    ghost use Rattle.std.specs.Fmt.{WritesOnOk};
+    ghost use Rattle.std.specs.Prelude.{◌≡◌, Some, None, MatchResult, OnOk};
     ghost use Rattle.stun_values.specs.Algorithms.{algorithms_fault, algorithms_in, algorithms_text};
     ghost use Rattle.stun_values.specs.TypedValues.{list_bytes};
 
@@ -38,11 +37,11 @@ impl<'a> AlgorithmList<'a> {
     ///
     /// # Errors
     ///
-    /// `fmt::Error` where the formatter refuses a part of the text.
-    pub fn print<W: fmt::Write>(&self, f: &mut fmt::Formatter<W>) -> fmt::Result
-        ensures { WritesOnOk W.write_str_gives f.old result
-            (algorithms_text (algorithms_in (list_bytes self.now))) f.new }
+    /// That of the sink.
+    pub fn print<S: TextSink>(&self, sink: &mut S) -> Result<(), S::Error>
+        ensures { OnOk result (S.wrote sink.old
+            (algorithms_text (algorithms_in (list_bytes self.now))) sink.new) }
     {
-        print_algorithms_in(f, self.value)
+        print_algorithms_in(sink, self.value)
     }
 }

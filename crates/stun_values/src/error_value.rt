@@ -1,14 +1,14 @@
 //! A code and a reason as the bytes of a value, read and printed (RFC 8489, section 14.8).
 
-ghost use Rattle.std.specs.Prelude.{◌≡◌, ◌≤◌, true, false, Some, None, MatchOption, MatchResult, length, drop};
-ghost use Rattle.std.specs.Fmt.{WritesOnOk};
+ghost use Rattle.std.specs.Prelude.{◌≡◌, ◌≤◌, true, false, Some, None, MatchOption, MatchResult, OnOk, length, drop};
 ghost use Rattle.stun_values.specs.TextValues.{text_max};
 ghost use Rattle.stun_values.specs.ErrorValues.{told_code, tells_code, error_fault, error_text};
 
+use crate::printed::put_type;
 use crate::{TEXT_MAX, check_range};
-use std::fmt;
 use stun_base::{AttributeType, StunParseError};
 use stun_grammar::attribute_types;
+use stun_text::{TextSink, put_decimal};
 
 /// The code in a value of four bytes or more, if its class is 3 to 6 and its number at most 99.
 #[tactic(auto, using(crate::proofs::ErrorValuesLemmas::tells, crate::proofs::ErrorValuesLemmas::low_class, crate::proofs::ErrorValuesLemmas::high_class, crate::proofs::ErrorValuesLemmas::high_number))]
@@ -61,10 +61,14 @@ pub fn read_error(value: &[u8]) -> Result<(u16, &str), StunParseError>
 ///
 /// # Errors
 ///
-/// `fmt::Error` where the formatter refuses a part of the text.
-pub fn print_error<W: fmt::Write>(f: &mut fmt::Formatter<W>, code: u16, reason: &str) -> fmt::Result
-    ensures { WritesOnOk W.write_str_gives f.old result (error_text code reason.now) f.new }
+/// That of the sink.
+pub fn print_error<S: TextSink>(sink: &mut S, code: u16, reason: &str) -> Result<(), S::Error>
+    ensures { OnOk result (S.wrote sink.old (error_text code reason.now) sink.new) }
 {
-    let atype = AttributeType(attribute_types::ERROR_CODE);
-    write!(f, "{atype}: {code} '{reason}'")
+    put_type(sink, AttributeType(attribute_types::ERROR_CODE))?;
+    put_decimal(sink, code as u64)?;
+    sink.put(" '")?;
+    sink.put(reason)?;
+    sink.put("'")?;
+    Ok(())
 }

@@ -1,30 +1,42 @@
 //! How attributes are printed whose values are texts, bytes or addresses.
 
-ghost use Rattle.std.specs.Fmt.{WritesOnOk};
-ghost use Rattle.stun_grammar.specs.Names.{hex_text, plain_text, quoted_text};
+ghost use Rattle.std.specs.Prelude.{OnOk, codes, ◌++◌};
+ghost use Rattle.stun_grammar.specs.Names.{attribute_type_text, hex_text, plain_text, quoted_text};
 ghost use Rattle.std.specs.Net.Text.{socket_text};
 ghost use Rattle.stun_values.specs.Addresses.{xored_text};
 
 use crate::xored::write_xored;
-use std::fmt;
 use std::net::SocketAddr;
 use stun_base::{AttributeType, Hex};
+use stun_text::{PrintText, TextSink, put_socket};
+
+/// Writes what stands before the value of an attribute of this type: the type, a colon and a space.
+pub(crate) fn put_type<S: TextSink>(sink: &mut S, atype: AttributeType) -> Result<(), S::Error>
+    ensures { OnOk result
+        (S.wrote sink.old (attribute_type_text atype.0 ++ codes ": ") sink.new) }
+{
+    atype.print(sink)?;
+    sink.put(": ")?;
+    Ok(())
+}
 
 /// Prints an attribute of this type whose value is shown as bytes: the type, `: 0x`, and two
 /// hexadecimal digits for each byte, in lower case. It takes no memory.
 ///
 /// # Errors
 ///
-/// `fmt::Error` where the formatter refuses a part of the text.
-pub fn print_hex<W: fmt::Write>(
-    f: &mut fmt::Formatter<W>,
+/// That of the sink.
+pub fn print_hex<S: TextSink>(
+    sink: &mut S,
     atype: AttributeType,
     bytes: &[u8],
-) -> fmt::Result
-    ensures { WritesOnOk W.write_str_gives f.old result (hex_text atype.0 bytes.now) f.new }
+) -> Result<(), S::Error>
+    ensures { OnOk result (S.wrote sink.old (hex_text atype.0 bytes.now) sink.new) }
 {
-    let digits = Hex(bytes);
-    write!(f, "{atype}: 0x{digits}")
+    atype.print(sink)?;
+    sink.put(": 0x")?;
+    Hex(bytes).print(sink)?;
+    Ok(())
 }
 
 /// Prints an attribute of this type whose value is a text: the type, `: ` and the text. It takes no
@@ -32,15 +44,17 @@ pub fn print_hex<W: fmt::Write>(
 ///
 /// # Errors
 ///
-/// `fmt::Error` where the formatter refuses a part of the text.
-pub fn print_plain<W: fmt::Write>(
-    f: &mut fmt::Formatter<W>,
+/// That of the sink.
+pub fn print_plain<S: TextSink>(
+    sink: &mut S,
     atype: AttributeType,
     text: &str,
-) -> fmt::Result
-    ensures { WritesOnOk W.write_str_gives f.old result (plain_text atype.0 text.now) f.new }
+) -> Result<(), S::Error>
+    ensures { OnOk result (S.wrote sink.old (plain_text atype.0 text.now) sink.new) }
 {
-    write!(f, "{atype}: {text}")
+    put_type(sink, atype)?;
+    sink.put(text)?;
+    Ok(())
 }
 
 /// Prints an attribute of this type whose value is a text: the type, `: `, and the text between `'`
@@ -48,15 +62,19 @@ pub fn print_plain<W: fmt::Write>(
 ///
 /// # Errors
 ///
-/// `fmt::Error` where the formatter refuses a part of the text.
-pub fn print_quoted<W: fmt::Write>(
-    f: &mut fmt::Formatter<W>,
+/// That of the sink.
+pub fn print_quoted<S: TextSink>(
+    sink: &mut S,
     atype: AttributeType,
     text: &str,
-) -> fmt::Result
-    ensures { WritesOnOk W.write_str_gives f.old result (quoted_text atype.0 text.now) f.new }
+) -> Result<(), S::Error>
+    ensures { OnOk result (S.wrote sink.old (quoted_text atype.0 text.now) sink.new) }
 {
-    write!(f, "{atype}: '{text}'")
+    atype.print(sink)?;
+    sink.put(": '")?;
+    sink.put(text)?;
+    sink.put("'")?;
+    Ok(())
 }
 
 /// Prints an attribute of this type whose value is an address: the type, `: ` and the address. It
@@ -64,16 +82,17 @@ pub fn print_quoted<W: fmt::Write>(
 ///
 /// # Errors
 ///
-/// `fmt::Error` where the formatter refuses a part of the text.
-pub fn print_address<W: fmt::Write>(
-    f: &mut fmt::Formatter<W>,
+/// That of the sink.
+pub fn print_address<S: TextSink>(
+    sink: &mut S,
     atype: AttributeType,
     addr: SocketAddr,
-) -> fmt::Result
-    ensures { WritesOnOk W.write_str_gives f.old result (plain_text atype.0 (socket_text addr))
-        f.new }
+) -> Result<(), S::Error>
+    ensures { OnOk result (S.wrote sink.old (plain_text atype.0 (socket_text addr)) sink.new) }
 {
-    write!(f, "{atype}: {addr}")
+    put_type(sink, atype)?;
+    put_socket(sink, addr)?;
+    Ok(())
 }
 
 /// Prints an attribute of this type whose value is an address that was XORed: the type, `: `, and
@@ -81,15 +100,15 @@ pub fn print_address<W: fmt::Write>(
 ///
 /// # Errors
 ///
-/// `fmt::Error` where the formatter refuses a part of the text.
-pub fn print_xored<W: fmt::Write>(
-    f: &mut fmt::Formatter<W>,
+/// That of the sink.
+pub fn print_xored<S: TextSink>(
+    sink: &mut S,
     atype: AttributeType,
     addr: SocketAddr,
-) -> fmt::Result
-    ensures { WritesOnOk W.write_str_gives f.old result (plain_text atype.0 (xored_text addr))
-        f.new }
+) -> Result<(), S::Error>
+    ensures { OnOk result (S.wrote sink.old (plain_text atype.0 (xored_text addr)) sink.new) }
 {
-    write!(f, "{atype}: ")?;
-    write_xored(f, addr)
+    put_type(sink, atype)?;
+    write_xored(sink, addr)?;
+    Ok(())
 }

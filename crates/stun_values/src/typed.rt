@@ -1,7 +1,6 @@
 //! What values are read as, and how they are printed.
 
-ghost use Rattle.std.specs.Prelude.{◌≡◌, ℕ, Some, None, MatchOption, MatchResult};
-ghost use Rattle.std.specs.Fmt.{DisplaysOnOk};
+ghost use Rattle.std.specs.Prelude.{◌≡◌, ℕ, Some, None, MatchOption, MatchResult, OnOk};
 ghost use Rattle.stun_values.specs.Typed.{rule_fault, rule_text, value_fault, value_text};
 ghost use Rattle.stun_values.specs.TypedValues.{typed_text};
 
@@ -11,9 +10,9 @@ use crate::{
     print_types_in, print_xored, read_address, read_checksum, read_error, read_one, read_text,
     rule_of,
 };
-use std::fmt;
 use std::net::SocketAddr;
 use stun_base::{AttributeType, StunParseError};
+use stun_text::TextSink;
 
 /// What the value of a typed attribute was read as. It borrows the value.
 #[derive(Clone, Copy)]
@@ -109,25 +108,21 @@ impl TypedValue<'_> {
     ///
     /// # Errors
     ///
-    /// `fmt::Error` where the formatter refuses a part of the text.
-    pub fn print<W: fmt::Write>(
-        &self,
-        f: &mut fmt::Formatter<W>,
-        atype: AttributeType,
-    ) -> fmt::Result
-        ensures { DisplaysOnOk W.write_str_gives f.old result (typed_text atype.0 self.now) f.new }
+    /// That of the sink.
+    pub fn print<S: TextSink>(&self, sink: &mut S, atype: AttributeType) -> Result<(), S::Error>
+        ensures { OnOk result (S.wrote sink.old (typed_text atype.0 self.now) sink.new) }
     {
         match self {
-            TypedValue::Plain(text) => print_plain(f, atype, text),
-            TypedValue::Quoted(text) => print_quoted(f, atype, text),
-            TypedValue::ErrorCode(code, reason) => print_error(f, *code, reason),
-            TypedValue::Bytes(bytes) => print_hex(f, atype, bytes),
-            TypedValue::Checksum(checksum) => print_hex(f, atype, checksum),
-            TypedValue::Algorithm(algorithm) => print_algorithm(f, *algorithm),
-            TypedValue::Algorithms(list) => list.print(f),
-            TypedValue::Types(list) => print_types_in(f, list),
-            TypedValue::Address(addr) => print_address(f, atype, *addr),
-            TypedValue::XorAddress(addr) => print_xored(f, atype, *addr),
+            TypedValue::Plain(text) => print_plain(sink, atype, text),
+            TypedValue::Quoted(text) => print_quoted(sink, atype, text),
+            TypedValue::ErrorCode(code, reason) => print_error(sink, *code, reason),
+            TypedValue::Bytes(bytes) => print_hex(sink, atype, bytes),
+            TypedValue::Checksum(checksum) => print_hex(sink, atype, checksum),
+            TypedValue::Algorithm(algorithm) => print_algorithm(sink, *algorithm),
+            TypedValue::Algorithms(list) => list.print(sink),
+            TypedValue::Types(list) => print_types_in(sink, list),
+            TypedValue::Address(addr) => print_address(sink, atype, *addr),
+            TypedValue::XorAddress(addr) => print_xored(sink, atype, *addr),
         }
     }
 }

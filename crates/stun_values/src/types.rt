@@ -1,12 +1,13 @@
 //! A list of attribute types in two bytes each, tested and printed (RFC 8489, section 14.13).
 
-ghost use Rattle.std.specs.Prelude.{◌≡◌, ◌%◌, Some, None, MatchResult, length};
-ghost use Rattle.std.specs.Iterator.{IsFinite};
-ghost use Rattle.stun_values.specs.TypeLists.{types_fault};
+ghost use Rattle.std.specs.Prelude.{◌≡◌, ◌%◌, ◌++◌, Some, None, MatchResult, OnOk, length};
+ghost use Rattle.stun_grammar.specs.Names.{attribute_type_debug};
+ghost use Rattle.stun_text.specs.Lists.{with_commas, comma_before};
+ghost use Rattle.stun_values.specs.TypeLists.{types_fault, types_in, types_text, listed_text};
 
-use std::fmt;
 use stun_base::{AttributeType, StunParseError, number_at};
 use stun_grammar::attribute_types;
+use stun_text::{PrintText, TextSink, put_comma};
 
 /// Tests that a value is a list of types: it has an even number of bytes.
 ///
@@ -28,34 +29,52 @@ pub fn check_types(value: &[u8]) -> Result<(), StunParseError>
     Ok(())
 }
 
+/// Writes a type at an index of a list, as `{:?}` prints it, and what stands before it.
+fn put_listed<S: TextSink>(sink: &mut S, index: usize, atype: AttributeType) -> Result<(), S::Error>
+    ensures { OnOk result
+        (S.wrote sink.old (comma_before index ++ attribute_type_debug atype.0) sink.new) }
+{
+    put_comma(sink, index)?;
+    atype.put_debug(sink)?;
+    Ok(())
+}
+
+/// Writes the types with a comma and a space between them.
+fn put_types<S: TextSink>(sink: &mut S, types: &[AttributeType]) -> Result<(), S::Error>
+    ensures { OnOk result
+        (S.wrote sink.old (with_commas (λ type. attribute_type_debug type.0) types.now) sink.new) }
+{
+    for i in 0..types.len() {
+        put_listed(sink, i, types[i])?;
+    }
+    Ok(())
+}
+
+/// Writes in the same way the types in a value of an even number of bytes, two for each.
+fn put_types_in<S: TextSink>(sink: &mut S, value: &[u8]) -> Result<(), S::Error>
+    ensures { OnOk result
+        (S.wrote sink.old (with_commas attribute_type_debug (types_in value.now)) sink.new) }
+{
+    for i in 0..value.len() / 2 {
+        put_listed(sink, i, AttributeType(number_at(value, 2 * i)))?;
+    }
+    Ok(())
+}
+
 /// Prints an UNKNOWN-ATTRIBUTES of these types: its own type, and after it the list of types as
 /// `{:?}` prints it. It takes no memory.
 ///
-/// # Requires
-///
-/// The iterator may be asked for its next item, and comes to an end, as one over a slice does.
-///
 /// # Errors
 ///
-/// `fmt::Error` where the formatter refuses a part of the text.
-pub fn print_types<W: fmt::Write, I: Iterator<Item = AttributeType>>(
-    f: &mut fmt::Formatter<W>,
-    types: I,
-) -> fmt::Result
-    requires can { I.can_next types }
-    requires finite { IsFinite (I.remaining types) }
+/// That of the sink.
+pub fn print_types<S: TextSink>(sink: &mut S, types: &[AttributeType]) -> Result<(), S::Error>
+    ensures { OnOk result (S.wrote sink.old (listed_text types.now) sink.new) }
 {
-    let atype = AttributeType(attribute_types::UNKNOWN_ATTRIBUTES);
-    write!(f, "{atype}: [")?;
-    let mut is_first = true;
-    for listed in types {
-        if !is_first {
-            write!(f, ", ")?;
-        }
-        write!(f, "{listed:?}")?;
-        is_first = false;
-    }
-    write!(f, "]")
+    AttributeType(attribute_types::UNKNOWN_ATTRIBUTES).print(sink)?;
+    sink.put(": [")?;
+    put_types(sink, types)?;
+    sink.put("]")?;
+    Ok(())
 }
 
 /// Prints in the same way the value of an UNKNOWN-ATTRIBUTES that [`check_types`] accepts. It takes
@@ -63,10 +82,13 @@ pub fn print_types<W: fmt::Write, I: Iterator<Item = AttributeType>>(
 ///
 /// # Errors
 ///
-/// `fmt::Error` where the formatter refuses a part of the text.
-pub fn print_types_in<W: fmt::Write>(f: &mut fmt::Formatter<W>, value: &[u8]) -> fmt::Result {
-    print_types(
-        f,
-        (0..value.len() / 2).map(|i| AttributeType(number_at(value, 2 * i))),
-    )
+/// That of the sink.
+pub fn print_types_in<S: TextSink>(sink: &mut S, value: &[u8]) -> Result<(), S::Error>
+    ensures { OnOk result (S.wrote sink.old (types_text (types_in value.now)) sink.new) }
+{
+    AttributeType(attribute_types::UNKNOWN_ATTRIBUTES).print(sink)?;
+    sink.put(": [")?;
+    put_types_in(sink, value)?;
+    sink.put("]")?;
+    Ok(())
 }

@@ -1,16 +1,16 @@
 //! An address XORed with the magic cookie and a transaction ID (RFC 8489, section 14.2).
 
-ghost use Rattle.std.specs.Prelude.{◌≡◌, ◌≤◌, length};
-ghost use Rattle.std.specs.Fmt.{WritesOnOk};
+ghost use Rattle.std.specs.Prelude.{◌≡◌, ◌≤◌, ◌++◌, OnOk, codes, length};
+ghost use Rattle.std.specs.Net.Text.{socket_v6_text};
 ghost use Rattle.std.specs.Net.Addr.{is_ipv6};
 ghost use Rattle.std.specs.Net.Socket.{socket_ip};
 ghost use Rattle.stun_values.specs.Addresses.{octets, mask, xor_bytes, xored_text, IsXored};
 
 use crate::socket_value::{ipv4_of, ipv6_of};
 use byteorder::{BigEndian, ByteOrder};
-use std::fmt;
-use std::net::{IpAddr, SocketAddr};
+use std::net::{IpAddr, SocketAddr, SocketAddrV6};
 use stun_base::{MAGIC_COOKIE, TransactionId};
+use stun_text::{TextSink, put_socket, put_socket_v6};
 
 /// The magic cookie followed by the transaction ID, in sixteen bytes.
 fn mask_of(transaction: TransactionId) -> [u8; 16]
@@ -63,20 +63,31 @@ pub fn xor_addr(addr: SocketAddr, transaction: TransactionId) -> SocketAddr
     SocketAddr::new(xor_ip(addr.ip(), &mask), port)
 }
 
+/// Writes `XOR(`, an IPv6 address and `)`.
+fn put_under_xor<S: TextSink>(sink: &mut S, addr: SocketAddrV6) -> Result<(), S::Error>
+    ensures { OnOk result
+        (S.wrote sink.old (codes "XOR(" ++ socket_v6_text addr ++ codes ")") sink.new) }
+{
+    sink.put("XOR(")?;
+    put_socket_v6(sink, addr)?;
+    sink.put(")")?;
+    Ok(())
+}
+
 /// Prints an address that was XORed: of IPv4 the address without the XOR, since its XOR takes no
 /// transaction ID; of IPv6 `XOR(`, the address as it is, and `)`.
 ///
 /// # Errors
 ///
-/// `fmt::Error` where the formatter refuses a part of the text.
-pub fn write_xored<W: fmt::Write>(f: &mut fmt::Formatter<W>, addr: SocketAddr) -> fmt::Result
-    ensures { WritesOnOk W.write_str_gives f.old result (xored_text addr) f.new }
+/// That of the sink.
+pub fn write_xored<S: TextSink>(sink: &mut S, addr: SocketAddr) -> Result<(), S::Error>
+    ensures { OnOk result (S.wrote sink.old (xored_text addr) sink.new) }
 {
     match addr {
         SocketAddr::V4(_) => {
             let plain = xor_addr(addr, TransactionId::from(0));
-            write!(f, "{plain}")
+            put_socket(sink, plain)
         }
-        SocketAddr::V6(addr) => write!(f, "XOR({addr})"),
+        SocketAddr::V6(addr) => put_under_xor(sink, addr),
     }
 }

@@ -26,3 +26,5 @@ mod registry;
 mod texts;
 #[cfg(test)]
 mod written;
+#[cfg(test)]
+mod written_texts;

@@ -1,6 +1,7 @@
 //! What raw attributes print, each to the last byte.
 
 use crate::printed_values::assert_prints;
+use crate::written_texts::assert_attribute_writes;
 use std::alloc::Global;
 use std::fmt;
 use std::net::{IpAddr, Ipv6Addr, SocketAddr};
@@ -25,7 +26,10 @@ fn assert_prints_both(
 ) -> Result<(), Fail> {
     let raw = RawAttribute::new(AttributeType(atype), value)?;
     assert_prints(rt, alloc, &raw, borrowed)?;
-    assert_prints(rt, alloc, &raw.into_owned(alloc)?, owned)
+    assert_attribute_writes(rt, alloc, &raw, borrowed)?;
+    let raw = raw.into_owned(alloc)?;
+    assert_prints(rt, alloc, &raw, owned)?;
+    assert_attribute_writes(rt, alloc, &raw, owned)
 }
 
 /// Types, values that reading accepts, and what attributes of both print.

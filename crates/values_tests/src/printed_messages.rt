@@ -1,6 +1,7 @@
 //! What messages print, each to the last byte.
 
 use crate::printed_values::assert_prints;
+use crate::written_texts::assert_message_writes;
 use std::alloc::Global;
 use std::test::Fail;
 use stun_types::message::Message;
@@ -92,7 +93,9 @@ fn prints_what_is_shown(rt: HostRuntime) -> Result<(), Fail> {
     for &(length, attributes, shown) in &SHOWN {
         let bytes = message(rt.alloc(), length, attributes)?;
         let expected = printed(rt.alloc(), shown)?;
-        assert_prints(&rt, rt.alloc(), &Message::from_bytes(&bytes)?, &expected)?;
+        let shows = Message::from_bytes(&bytes)?;
+        assert_prints(&rt, rt.alloc(), &shows, &expected)?;
+        assert_message_writes(&rt, rt.alloc(), &shows, &expected)?;
     }
     Ok(())
 }

@@ -11,6 +11,7 @@ use stun_base::{
 use stun_read::{
     IntegrityOffsets, MessageAttributesIter, check_message, iter_framed, print_message,
 };
+use stun_text::{PrintText, TextSink, TextTooLong, write_text};
 
 /// A message, borrowed from the bytes that [`Message::from_bytes`] parsed.
 ///
@@ -173,18 +174,54 @@ impl<'a> Message<'a> {
     }
 }
 
+impl PrintText for Message<'_> {
+    ghost use Rattle.stun_read.specs.PrintedMessages.{message_text};
+    ghost use Rattle.stun_types.specs.Message.{message_bytes};
+
+    ghost text = { λ message. message_text (message_bytes message) };
+
+    #[tactic(auto, using(stun_grammar::proofs::ParsingLemmas::parsed_frame))]
+    fn print<S: TextSink>(&self, sink: &mut S) -> Result<(), S::Error> {
+        print_message(self.as_bytes(), sink)
+    }
+}
+
+impl Message<'_> {
+    ghost use Rattle.std.specs.Prelude.{◌≡◌, length};
+    ghost use Rattle.stun_text.specs.Slices.{laid_over, text_answer};
+    ghost use Rattle.stun_read.specs.PrintedMessages.{message_text};
+    ghost use Rattle.stun_types.specs.Message.{message_bytes};
+
+    /// Writes what the message prints as, in UTF-8, at the start of `to`, and returns how many
+    /// bytes that is. The bytes of `to` behind the text stay as they were. It goes over the
+    /// attributes once, takes no memory, and where `to` has room it succeeds.
+    ///
+    /// # Errors
+    ///
+    /// [`TextTooLong`] where the text has more bytes than `to`, with the length of the text: a
+    /// slice of that length has room. `to` then holds the first bytes of the text, as many as it
+    /// has room for, and a character may be cut at its end.
+    pub fn write_text(&self, to: &mut [u8]) -> Result<usize, TextTooLong>
+        ensures answer { result
+            ≡ text_answer (length (message_text (message_bytes self.now))) (length to.old) }
+        ensures text { to.new ≡ laid_over (message_text (message_bytes self.now)) to.old }
+    {
+        write_text(self, to)
+    }
+}
+
 /// The class, the method, the transaction ID, and the attributes that the message shows, each as it
 /// is printed by itself: `Message(class: Request, method: 1(0x1: BINDING), transaction: 0x7392,
 /// attributes: [29(0x1d: PASSWORD-ALGORITHM): SHA256])`. It goes over the attributes once, and
 /// takes no memory.
 impl fmt::Display for Message<'_> {
+    ghost use Rattle.std.specs.Prelude.{Some};
     ghost use Rattle.stun_read.specs.PrintedMessages.{message_text};
     ghost use Rattle.stun_types.specs.Message.{message_bytes};
 
-    ghost output = { λ message. message_text (message_bytes message) };
+    ghost output = { λ message. Some (message_text (message_bytes message)) };
 
-    #[tactic(auto, using(stun_grammar::proofs::ParsingLemmas::parsed_frame))]
     fn fmt<W: fmt::Write>(&self, f: &mut fmt::Formatter<W>) -> fmt::Result {
-        print_message(self.as_bytes(), f)
+        self.print(f)
     }
 }

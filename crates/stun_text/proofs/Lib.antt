@@ -1,0 +1,5 @@
+mod HexLemmas
+mod GroupsLemmas
+mod TextsLemmas
+pub mod Joining
+pub mod ListsLemmas

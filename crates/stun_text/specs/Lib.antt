@@ -1,0 +1,4 @@
+pub mod Writing
+pub mod Slices
+pub mod SlicesLaws
+pub mod Lists

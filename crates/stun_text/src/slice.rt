@@ -1,0 +1,83 @@
+//! A slice that takes text.
+
+ghost use Rattle.std.specs.Prelude.{◌≡◌, ◌++◌, ◌-◌, ◌+◌, ◌^◌, length, take, drop, min};
+ghost use Rattle.stun_text.specs.Slices.{laid_over};
+
+use crate::TextSink;
+use std::convert::Infallible;
+use thiserror::Error;
+
+/// A text is longer than the slice that it was written to.
+#[derive(Clone, Copy, Debug, PartialEq, Eq, Error)]
+#[error("The text has {length} bytes")]
+pub struct TextTooLong {
+    /// How many bytes the text has; `usize::MAX` where they are more than that.
+    pub length: usize,
+}
+
+/// Lays a text over the start of a slice, as far as the slice reaches.
+fn lay_over(to: &mut [u8], text: &[u8])
+    ensures { to.new ≡ laid_over text.now to.old }
+{
+    let count = text.len().min(to.len());
+    to[..count].copy_from_slice(&text[..count]);
+}
+
+/// A slice that takes text from its first byte on. It keeps as much of the text as it has room for,
+/// and counts all of it, so it never refuses a piece.
+#[derive(Drop)]
+pub struct TextSlice<'a> {
+    to: &'a mut [u8],
+    length: usize,
+}
+
+impl<'a> TextSlice<'a> {
+    ghost use Rattle.std.specs.Prelude.{◌≡◌, ◌^◌, ◌-◌, length, min, Result, Ok, Err};
+    ghost use Rattle.stun_text.specs.Slices.{laid_over, SliceWrote, text_answer};
+
+    /// A slice with no text in it yet.
+    pub fn new(to: &'a mut [u8]) -> Self
+        ensures to { result.to.now ≡ to.old }
+        ensures length { result.length ≡ 0 }
+        ensures same { result.to.ghost_name ≡ to.entry.ghost_name }
+    {
+        TextSlice { to, length: 0 }
+    }
+
+    /// How many bytes the text has, if it fits.
+    ///
+    /// # Errors
+    ///
+    /// How many it has, where they are more than the slice.
+    pub fn finish(self) -> Result<usize, TextTooLong>
+        ensures answer { result ≡ text_answer self.entry.length (length self.entry.to.now) }
+        ensures slice { self.exit.0.now ≡ self.entry.to.now }
+    {
+        let TextSlice { to, length } = self;
+        if length <= to.len() {
+            Ok(length)
+        } else {
+            Err(TextTooLong { length })
+        }
+    }
+}
+
+impl<'a> TextSink for TextSlice<'a> {
+    ghost use Rattle.stun_text.specs.Slices.{SliceWrote};
+    ghost use Rattle.stun_text.specs.SlicesLaws.{slice_nothing, slice_joins};
+
+    type Error = Infallible;
+
+    ghost wrote = { SliceWrote };
+
+    fn put(&mut self, text: &str) -> Result<(), Infallible> {
+        let start = self.length.min(self.to.len());
+        lay_over(&mut self.to[start..], text.as_bytes());
+        self.length = self.length.saturating_add(text.len());
+        Ok(())
+    }
+
+    ghost nothing = { slice_nothing };
+
+    ghost joins = { slice_joins };
+}

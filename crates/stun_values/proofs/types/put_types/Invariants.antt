@@ -1,0 +1,9 @@
+use Rattle.std.proofs.Common.{take}
+use Rattle.stun_grammar.specs.Names.{attribute_type_debug}
+use Rattle.stun_text.specs.Lists.{with_commas}
+use Rattle.stun_values.proofs.types.put_types.Given as goal
+
+-- the types so far are written
+abbrev pub invariant-loop-i : goal.invariant-loop-i
+invariant-loop-i g l =
+    g.S.TextSink.wrote l.fn.sink (with_commas (λ type. attribute_type_debug type.0) (take l.i l.types)) l.sink
