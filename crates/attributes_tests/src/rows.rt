@@ -11,7 +11,11 @@ use ice_attrs::{IceControlled, IceControlling, Priority, UseCandidate};
 use std::alloc::Global;
 use std::net::{IpAddr, Ipv4Addr, Ipv6Addr, SocketAddr};
 use std::test::Fail;
-use stun_types::attribute::{AttributeType, ErrorCode, RawAttribute};
+use stun_types::attribute::{
+    AttributeType, BorrowValue, ErrorCode, MessageIntegrity, MessageIntegritySha256, RawAttribute,
+    Software, Userhash,
+};
+use stun_types::data::Data;
 use stun_types::message::{
     BINDING, IntegrityAlgorithm, Message, MessageClass, MessageIntegrityCredentials, MessageType,
     MessageWriteMutSlice, MessageWriteVec, StunParseError, StunWriteError, TransactionId,
@@ -427,5 +431,26 @@ fn values_are_read_and_shown(rt: HostRuntime) -> Result<(), Fail> {
         let wrong = shown_otherwise(alloc, &registry, rows)?;
         assert!(rt; wrong.is_none(), "{wrong:?}");
     }
+    Ok(())
+}
+
+/// Whether a raw attribute is made that borrows the value, which is these bytes.
+fn is_borrowed<A: BorrowValue>(attribute: &A, value: &[u8]) -> bool {
+    let raw = RawAttribute::from(attribute);
+    let borrows = matches!(raw.value(), Data::Borrowed(_));
+    borrows && raw.get_type() == attribute.get_type() && raw.value().as_bytes() == value
+}
+
+#[test]
+fn values_that_are_held_are_borrowed(rt: HostRuntime) -> Result<(), Fail> {
+    let alloc = rt.alloc();
+    let bytes = [7; 32];
+    assert!(rt; is_borrowed(&Software::new(alloc, "stun-types")?, b"stun-types"));
+    assert!(rt; is_borrowed(&MessageIntegrity::new([7; 20]), &bytes[..20]));
+    assert!(rt; is_borrowed(&MessageIntegritySha256::new(&bytes[..16])?, &bytes[..16]));
+    assert!(rt; is_borrowed(&Userhash::new(bytes), &bytes));
+    assert!(rt; is_borrowed(&UseCandidate::new(), &[]));
+    assert!(rt; is_borrowed(&PeerData::new(&[1, 2, 0xFF])?, &[1, 2, 0xFF]));
+    assert!(rt; is_borrowed(&ThirdPartyAuthorization::new(alloc, "turn1")?, b"turn1"));
     Ok(())
 }

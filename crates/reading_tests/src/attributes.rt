@@ -24,6 +24,7 @@ fn reads_attribute_headers(rt: HostRuntime) -> Result<(), Fail> {
     let header = AttributeHeader::from_bytes(&[0x80, 0x22, 0x00, 0x0A, 0x73])?;
     assert!(rt; (header.get_type().value(), header.length()) == (0x8022, 10));
     assert!(rt; header.to_bytes() == [0x80, 0x22, 0x00, 0x0A]);
+    assert!(rt; <[u8; 4]>::from(header) == [0x80, 0x22, 0x00, 0x0A]);
     Ok(())
 }
 

@@ -1,5 +1,6 @@
 //! Bytes that are borrowed or owned.
 
+use std::boxed::BoxedSlice;
 use std::test::Fail;
 use stun_types::data::{Data, DataOwned, DataSlice};
 use stun_types::message::Message;
@@ -23,8 +24,11 @@ fn tells_borrowed_from_owned(rt: HostRuntime) -> Result<(), Fail> {
 fn takes_bytes_out(rt: HostRuntime) -> Result<(), Fail> {
     let slice = DataSlice::from([1, 2].as_slice());
     assert!(rt; slice.take() == [1, 2].as_slice());
+    assert!(rt; <&[u8]>::from(slice) == [1, 2].as_slice());
     let owned: DataOwned = slice.to_owned(rt.alloc())?;
     assert!(rt; owned.clone(rt.alloc())? == owned);
+    let copy = BoxedSlice::<u8>::from(owned.clone(rt.alloc())?);
+    assert!(rt; &copy[..] == [1, 2].as_slice());
     let bytes = owned.take();
     assert!(rt; &bytes[..] == [1, 2].as_slice());
     let again = Data::from(bytes);

@@ -3,7 +3,7 @@ ghost use Rattle.std.specs.String.{string_bytes};
 
 use std::alloc::Global;
 use std::fmt;
-use stun_attrs::{Attribute, EncodeValue, ReadValue, TypedAttribute, copy_to_start};
+use stun_attrs::{Attribute, BorrowValue, EncodeValue, ReadValue, TypedAttribute, copy_to_start};
 use stun_base::{StunParseError, StunWriteError};
 use stun_grammar::attribute_types;
 use stun_values::{print_plain, print_quoted, read_text};
@@ -98,6 +98,12 @@ impl<const TYPE: u16, const MAX: u16> EncodeValue for TextAttribute<TYPE, MAX> {
 
     fn held_bytes(&self) -> Option<&[u8]> {
         Some(self.text().as_bytes())
+    }
+}
+
+impl<const TYPE: u16, const MAX: u16> BorrowValue for TextAttribute<TYPE, MAX> {
+    fn value_bytes(&self) -> &[u8] {
+        self.text().as_bytes()
     }
 }
 

@@ -1,7 +1,9 @@
-ghost use Rattle.std.specs.Prelude.{◌≤◌, length};
+//! Raw attributes that borrow their value.
+
+ghost use Rattle.std.specs.Prelude.{◌≡◌, ◌≤◌, length};
 ghost use Rattle.stun_attrs.specs.Raw.{Borrows};
 
-use crate::RawAttribute;
+use crate::{Attribute, RawAttribute};
 use stun_base::{AttributeHeader, AttributeType};
 
 /// The raw attribute of this type and value, which it borrows.
@@ -15,4 +17,22 @@ pub fn borrowed_attribute<'a>(atype: AttributeType, value: &'a [u8]) -> RawAttri
 {
     let length = value.len() as u16;
     RawAttribute::borrowed(AttributeHeader { atype, length }, value)
+}
+
+/// An attribute that holds its value as it is encoded, so that a raw attribute can borrow it:
+/// `RawAttribute::from(&attribute)` takes no memory.
+pub trait BorrowValue: Attribute {
+    /// The encoding of the value.
+    fn value_bytes(&self) -> &[u8]
+        ensures { result.now ≡ Self.value self.now };
+}
+
+impl<'a, A: BorrowValue> From<&'a A> for RawAttribute<'a> {
+    ghost from_gives = { λ attribute raw. Borrows (A.atype attribute.now) (A.value attribute.now) raw };
+
+    fn from(attribute: &'a A) -> Self {
+        // For the prover: the value has at most 65535 bytes.
+        let _length = attribute.length();
+        borrowed_attribute(attribute.get_type(), attribute.value_bytes())
+    }
 }

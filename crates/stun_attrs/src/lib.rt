@@ -15,7 +15,7 @@ mod typed;
 mod walk;
 
 pub use attribute::{Attribute, AttributeFromRaw, AttributeStaticType, AttributeWrite};
-pub use borrowed::borrowed_attribute;
+pub use borrowed::{BorrowValue, borrowed_attribute};
 pub use check::check_type;
 pub use encoding::{EncodeValue, copy_to_start, to_owned_raw, write_attribute, write_encoded};
 pub use owned::owned_attribute;

@@ -78,6 +78,14 @@ impl AttributeHeader {
     }
 }
 
+impl From<AttributeHeader> for [u8; 4] {
+    ghost from_gives = { λ header bytes. bytes ≡ be16 header.atype.0 ++ be16 header.length };
+
+    fn from(header: AttributeHeader) -> [u8; 4] {
+        header.to_bytes()
+    }
+}
+
 /// The least multiple of 4 that is at least `len`: how many bytes a value of `len` bytes takes with
 /// its padding (RFC 8489, section 14).
 ///

@@ -72,6 +72,14 @@ impl<'a> From<&'a [u8]> for DataSlice<'a> {
     }
 }
 
+impl<'a> From<DataSlice<'a>> for &'a [u8] {
+    ghost from_gives = { λ slice bytes. bytes.now ≡ slice_bytes slice };
+
+    fn from(slice: DataSlice<'a>) -> &'a [u8] {
+        slice.take()
+    }
+}
+
 impl fmt::Debug for DataSlice<'_> {
     ghost debug_output = { λ slice. slice_text (slice_bytes slice) };
 
@@ -122,6 +130,14 @@ impl From<BoxedSlice<u8>> for DataOwned {
 
     fn from(bytes: BoxedSlice<u8>) -> Self {
         DataOwned { bytes }
+    }
+}
+
+impl From<DataOwned> for BoxedSlice<u8> {
+    ghost from_gives = { λ owned bytes. boxed_slice_items bytes ≡ owned_bytes owned };
+
+    fn from(owned: DataOwned) -> BoxedSlice<u8> {
+        owned.take()
     }
 }
 

@@ -1,7 +1,7 @@
 use crate::compare::same_bytes;
 use std::alloc::Global;
 use std::fmt;
-use stun_attrs::{Attribute, EncodeValue, ReadValue, TypedAttribute, copy_to_start};
+use stun_attrs::{Attribute, BorrowValue, EncodeValue, ReadValue, TypedAttribute, copy_to_start};
 use stun_base::{StunParseError, StunWriteError};
 use stun_grammar::{IntegrityAlgorithm, attribute_types};
 use stun_keys::keys::IntegrityKey;
@@ -94,6 +94,12 @@ impl EncodeValue for MessageIntegrity {
 
     fn held_bytes(&self) -> Option<&[u8]> {
         Some(self.hmac())
+    }
+}
+
+impl BorrowValue for MessageIntegrity {
+    fn value_bytes(&self) -> &[u8] {
+        self.hmac()
     }
 }
 

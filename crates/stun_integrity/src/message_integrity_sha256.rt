@@ -3,7 +3,7 @@ ghost use Rattle.std.specs.Prelude.{◌≡◌, ◌↔◌, ◌<◌, ◌≤◌, �
 use crate::compare::same_bytes;
 use std::alloc::{AllocError, Global};
 use std::fmt;
-use stun_attrs::{Attribute, EncodeValue, ReadValue, TypedAttribute, copy_to_start};
+use stun_attrs::{Attribute, BorrowValue, EncodeValue, ReadValue, TypedAttribute, copy_to_start};
 use stun_base::{StunParseError, StunWriteError};
 use stun_grammar::{IntegrityAlgorithm, attribute_types};
 use stun_keys::keys::IntegrityKey;
@@ -174,6 +174,12 @@ impl EncodeValue for MessageIntegritySha256 {
 
     fn held_bytes(&self) -> Option<&[u8]> {
         Some(self.hmac())
+    }
+}
+
+impl BorrowValue for MessageIntegritySha256 {
+    fn value_bytes(&self) -> &[u8] {
+        self.hmac()
     }
 }
 

@@ -4,7 +4,7 @@ ghost use Rattle.stun_integrity.specs.Userhash.{hash_bytes};
 use sha2::{Digest, Sha256};
 use std::alloc::Global;
 use std::fmt;
-use stun_attrs::{Attribute, EncodeValue, ReadValue, TypedAttribute, copy_to_start};
+use stun_attrs::{Attribute, BorrowValue, EncodeValue, ReadValue, TypedAttribute, copy_to_start};
 use stun_base::StunParseError;
 use stun_grammar::attribute_types;
 use stun_values::{check_hash_length, print_hex};
@@ -72,6 +72,12 @@ impl EncodeValue for Userhash {
 
     fn held_bytes(&self) -> Option<&[u8]> {
         Some(self.hash())
+    }
+}
+
+impl BorrowValue for Userhash {
+    fn value_bytes(&self) -> &[u8] {
+        self.hash()
     }
 }
 

@@ -8,7 +8,7 @@ use std::alloc::Global;
 use std::fmt;
 use std::marker::PhantomData;
 use stun_attrs::{
-    Attribute, AttributeFromRaw, AttributeStaticType, AttributeWrite, RawAttribute,
+    Attribute, AttributeFromRaw, AttributeStaticType, AttributeWrite, BorrowValue, RawAttribute,
     borrowed_attribute, check_type, write_attribute,
 };
 use stun_base::{AttributeType, Data, Hex, StunParseError, StunWriteError};
@@ -119,6 +119,12 @@ impl<K: AttributeKind> AttributeWrite for BytesAttribute<K, ShortBytes<'_>> {
     /// The raw attribute borrows the bytes, which takes no memory.
     fn to_raw(&self, _alloc: Global) -> Result<RawAttribute<'_>, StunWriteError> {
         Ok(borrowed_attribute(AttributeType(K::NUMBER), self.data()))
+    }
+}
+
+impl<K: AttributeKind> BorrowValue for BytesAttribute<K, ShortBytes<'_>> {
+    fn value_bytes(&self) -> &[u8] {
+        self.data()
     }
 }
 

@@ -2,7 +2,7 @@ use crate::AttributeKind;
 use std::alloc::Global;
 use std::fmt;
 use std::marker::PhantomData;
-use stun_attrs::{EncodeValue, ReadValue, TypedAttribute};
+use stun_attrs::{BorrowValue, EncodeValue, ReadValue, TypedAttribute};
 use stun_base::StunParseError;
 use stun_values::check_length;
 
@@ -44,6 +44,12 @@ impl<K> EncodeValue for EmptyAttribute<K> {
 
     fn held_bytes(&self) -> Option<&[u8]> {
         Some(&[])
+    }
+}
+
+impl<K: AttributeKind> BorrowValue for EmptyAttribute<K> {
+    fn value_bytes(&self) -> &[u8] {
+        &[]
     }
 }
 

@@ -3,8 +3,8 @@
 pub mod typed;
 
 pub use stun_attrs::{
-    Attribute, AttributeFromRaw, AttributeStaticType, AttributeWrite, EncodeValue, RawAttribute,
-    ReadValue, TypedAttribute, is_read_back,
+    Attribute, AttributeFromRaw, AttributeStaticType, AttributeWrite, BorrowValue, EncodeValue,
+    RawAttribute, ReadValue, TypedAttribute, is_read_back,
 };
 pub use stun_base::{AttributeHeader, AttributeType, pad_attribute_len};
 pub use stun_kinds::{

@@ -1,6 +1,6 @@
 use std::alloc::Global;
 use std::fmt;
-use stun_types::attribute::{EncodeValue, ReadValue, TextAttribute, TypedAttribute};
+use stun_types::attribute::{BorrowValue, EncodeValue, ReadValue, TextAttribute, TypedAttribute};
 use stun_types::message::{StunParseError, StunWriteError};
 
 /// THIRD-PARTY-AUTHORIZATION: the server takes tokens that another server issues, and has this name
@@ -64,6 +64,12 @@ impl EncodeValue for ThirdPartyAuthorization {
 
     fn held_bytes(&self) -> Option<&[u8]> {
         Some(self.server().as_bytes())
+    }
+}
+
+impl BorrowValue for ThirdPartyAuthorization {
+    fn value_bytes(&self) -> &[u8] {
+        self.server().as_bytes()
     }
 }
 
