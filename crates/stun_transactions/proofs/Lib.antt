@@ -2,4 +2,5 @@ mod BeyondLemmas
 mod FirstPollLemmas
 mod RowsLemmas
 mod RunsLemmas
+mod SlotsLemmas
 mod TakingLemmas

@@ -1,6 +1,6 @@
 -- How a transaction goes on in time (RFC 8489, sections 6.2.1 and 6.2.2). Moments are nanoseconds
 -- from the beginning of the caller's clock.
-use Rattle.std.specs.Prelude.{◌≡◌, ℕ, ◌+◌, ◌*◌, ◌<◌, ◌≤◌, Bool, true, false, ◌⊎◌, Option, None, Some, is_some, min, nat_lt, ◌-◌, ◌&&◌, ◌==◌, MatchOption, if◌then◌else◌}
+use Rattle.std.specs.Prelude.{◌≡◌, ℕ, ◌+◌, ◌*◌, ◌<◌, ◌≤◌, Bool, true, false, ◌⊎◌, Option, None, Some, is_some, min, nat_lt, nat_le, ◌-◌, ◌&&◌, ◌||◌, ◌==◌, MatchOption, if◌then◌else◌}
 use Rattle.std.specs.Duration.{as_nanos, max_nanos}
 use Rattle.std.specs.declared.time.Duration.{Duration}
 use Rattle.stun_transactions.specs.declared.plan.Plan.{Plan}
@@ -22,6 +22,11 @@ begun now = record { sent = 0; last = now; clock = now; violated = false; end = 
 -- when something is to be done: an interval after the last request was handed out
 abbrev pub due : Plan → Course → ℕ
 due plan course = as_nanos course.last + wait_in plan course.sent * 1_000_000
+
+-- whether a poll hands out the request, or tells an end
+abbrev pub is_ready : Plan → Course → Duration → Bool
+is_ready plan course now =
+    is_some course.end || nat_le (due plan course) (as_nanos (later course.clock now))
 
 -- how a transaction ends when its time is up: where responses were discarded since they weren't
 -- authentic, that is told instead (RFC 8489, sections 9.1.4 and 9.2.5)

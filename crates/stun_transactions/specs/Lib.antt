@@ -7,5 +7,6 @@ pub mod Outcomes
 pub mod Terms
 pub mod Receiving
 pub mod Transactions
+pub mod Slots
 pub mod Runs
 pub mod Taking

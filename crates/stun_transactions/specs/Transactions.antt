@@ -1,5 +1,6 @@
 -- What contracts show of a transaction.
-use Rattle.std.specs.Prelude.{◌≡◌, ℕ, List}
+use Rattle.std.specs.Prelude.{◌≡◌, ℕ, true, List, Option, None, is_some, MatchOption, min}
+use Rattle.std.specs.Duration.{as_nanos, max_nanos}
 use Rattle.std.specs.declared.time.Duration.{Duration}
 use Rattle.stun_base.specs.declared.transport.TransportType.{TransportType}
 use Rattle.stun_transactions.specs.declared.schedule.Schedule.{Schedule}
@@ -7,7 +8,7 @@ use Rattle.stun_transactions.specs.declared.guard.Protection.{Protection}
 use Rattle.stun_transactions.specs.declared.course.Course.{Course}
 use Rattle.stun_transactions.specs.declared.terms.Terms.{Terms}
 use Rattle.stun_transactions.specs.declared.transaction.Transaction.{Transaction}
-use Rattle.stun_transactions.specs.Courses.{begun}
+use Rattle.stun_transactions.specs.Courses.{begun, due}
 use Rattle.stun_transactions.specs.Terms.{AreTerms}
 
 -- what it was begun with
@@ -24,3 +25,10 @@ pub record Begins (r : List ℕ) (schedule : Schedule) (transport : TransportTyp
   pub terms : AreTerms r (record { schedule = schedule; transport = transport }) protection
       (terms_of transaction)
   pub course : course_of transaction ≡ begun now
+
+-- the moment at which it is to be polled next, where it goes on
+abbrev pub Wakes : Transaction → Option Duration → Type 0
+Wakes transaction moment =
+    MatchOption moment (is_some (course_of transaction).end ≡ true)
+    (λ at. ((course_of transaction).end ≡ None)
+    × (as_nanos at ≡ min (due (terms_of transaction).plan (course_of transaction)) max_nanos))

@@ -1,8 +1,8 @@
 //! How far a transaction has come, and what time does to it.
 
-ghost use Rattle.std.specs.Prelude.{◌≡◌, ◌↔◌, ◌+◌, ◌≤◌, IsTrue};
-ghost use Rattle.std.specs.Duration.{as_nanos};
-ghost use Rattle.stun_transactions.specs.Courses.{later, begun, ended_by, Polls, TellsTime};
+ghost use Rattle.std.specs.Prelude.{◌≡◌, ◌↔◌, ◌+◌, ◌≤◌, IsTrue, min};
+ghost use Rattle.std.specs.Duration.{as_nanos, max_nanos};
+ghost use Rattle.stun_transactions.specs.Courses.{later, begun, due, is_ready, ended_by, Polls, TellsTime};
 ghost use Rattle.stun_transactions.specs.Outcomes.{after, is_open, end_of_failure};
 
 use crate::plan::Plan;
@@ -98,6 +98,29 @@ impl Course {
         }
     }
 
+    /// When something is to be done, or the greatest moment where that is later still.
+    pub(crate) fn due(&self, plan: &Plan) -> Duration
+        ensures { as_nanos result ≡ min (due plan.now self.now) max_nanos }
+    {
+        let wait = Duration::from_millis(plan.wait(self.sent));
+        self.last.saturating_add(wait)
+    }
+
+    /// Whether that moment has come.
+    fn is_due(&self, plan: &Plan, at: Duration) -> bool
+        ensures { IsTrue result ↔ (due plan.now self.now ≤ as_nanos at) }
+    {
+        let wait = Duration::from_millis(plan.wait(self.sent));
+        has_passed(self.last, wait, at)
+    }
+
+    /// Whether a poll now hands out the request, or tells an end.
+    pub(crate) fn is_ready(&self, plan: &Plan, now: Duration) -> bool
+        ensures { result ≡ is_ready plan.now self.now now }
+    {
+        self.end.is_some() || self.is_due(plan, later(self.clock, now))
+    }
+
     /// What is to be done now.
     pub(crate) fn poll(&mut self, plan: &Plan, now: Duration) -> Action
         ensures { Polls plan.now self.old now result self.new }
@@ -106,10 +129,9 @@ impl Course {
             return Action::Ended(end);
         }
         let now = later(self.clock, now);
-        let wait = Duration::from_millis(plan.wait(self.sent));
         self.clock = now;
-        if !has_passed(self.last, wait, now) {
-            return Action::WaitUntil(self.last.saturating_add(wait));
+        if !self.is_due(plan, now) {
+            return Action::WaitUntil(self.due(plan));
         }
         if self.sent < plan.requests() {
             self.sent += 1;

@@ -13,10 +13,12 @@ mod laws;
 mod plan;
 mod received;
 mod schedule;
+mod slots;
 mod terms;
 #[cfg(test)]
 mod tests;
 mod transaction;
+mod transactions;
 
 pub use course::{Action, End};
 pub use guard::Protection;
@@ -26,5 +28,7 @@ pub use laws::{
 };
 pub use received::{Discard, Failure, Received};
 pub use schedule::{Schedule, ScheduleError};
+pub use slots::{AddError, Task};
 pub use terms::BeginError;
 pub use transaction::Transaction;
+pub use transactions::Transactions;

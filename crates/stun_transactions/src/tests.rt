@@ -1,6 +1,7 @@
 //! Tables of moments and of received messages.
 
 mod example;
+mod many;
 mod messages;
 mod moments;
 mod responses;

@@ -10,7 +10,7 @@ use crate::terms::{BeginError, Terms};
 use std::time::Duration;
 use stun_types::TransportType;
 use stun_types::attribute::AttributeType;
-use stun_types::message::Message;
+use stun_types::message::{Message, TransactionId};
 
 /// A client's transaction: a request that is sent until it is answered, or given up (RFC 8489,
 /// section 6.2).
@@ -28,11 +28,11 @@ pub struct Transaction {
 impl Transaction {
     ghost use Rattle.std.specs.Prelude.{◌≡◌, None, Some, MatchResult};
     ghost use Rattle.stun_types.specs.Message.{message_bytes};
-    ghost use Rattle.stun_transactions.specs.Courses.{Polls, ended_by, TellsTime};
+    ghost use Rattle.stun_transactions.specs.Courses.{Polls, is_ready, ended_by, TellsTime};
     ghost use Rattle.stun_transactions.specs.Outcomes.{outcome_of, Holds, after};
     ghost use Rattle.stun_transactions.specs.Terms.{begin_fault};
     ghost use Rattle.stun_transactions.specs.Receiving.{heard};
-    ghost use Rattle.stun_transactions.specs.Transactions.{terms_of, course_of, Begins};
+    ghost use Rattle.stun_transactions.specs.Transactions.{terms_of, course_of, Begins, Wakes};
 
     /// A transaction of a request, which is to be sent over a transport, by a schedule. Its first
     /// poll hands the request out.
@@ -60,6 +60,31 @@ impl Transaction {
         let terms = Terms::new(request, plan, protection)?;
         let course = Course::new(now);
         Ok(Transaction { terms, course })
+    }
+
+    /// The transaction ID of the request and of its response.
+    pub fn id(&self) -> TransactionId
+        ensures { result ≡ (terms_of self.now).id }
+    {
+        self.terms.id
+    }
+
+    /// When a poll has something to do, if no message is received before: from this moment on it
+    /// hands out the request, or tells that time is up. `None` where the transaction has ended.
+    pub fn next_wake(&self) -> Option<Duration>
+        ensures { Wakes self.now result }
+    {
+        match self.course.end {
+            Some(_) => None,
+            None => Some(self.course.due(&self.terms.plan)),
+        }
+    }
+
+    /// Whether a poll now answers something else than `WaitUntil`.
+    pub fn is_ready(&self, now: Duration) -> bool
+        ensures { result ≡ is_ready (terms_of self.now).plan (course_of self.now) now }
+    {
+        self.course.is_ready(&self.terms.plan, now)
     }
 
     /// What is to be done now.
@@ -95,9 +120,28 @@ impl Transaction {
         if !self.course.is_open() {
             return Received::NotForThis;
         }
-        let Ok(message) = Message::from_bytes(bytes) else {
+        match Message::from_bytes(bytes) {
+            Ok(message) => self.receive_message(message, understood),
+            Err(_) => Received::NotForThis,
+        }
+    }
+
+    /// As [`Transaction::receive`], for a message that is parsed already.
+    pub fn receive_message<'m>(
+        &mut self,
+        message: Message<'m>,
+        understood: &[AttributeType],
+    ) -> Received<'m>
+        ensures outcome { outcome_of result ≡ heard (terms_of self.old) (course_of self.old)
+            understood.now (message_bytes message.entry) }
+        ensures message { Holds result (message_bytes message.entry) }
+        ensures course { course_of self.new ≡ after (heard (terms_of self.old) (course_of self.old)
+            understood.now (message_bytes message.entry)) (course_of self.old) }
+        ensures terms { terms_of self.new ≡ terms_of self.old }
+    {
+        if !self.course.is_open() {
             return Received::NotForThis;
-        };
+        }
         let outcome = outcome(&self.terms, understood, &message);
         self.course.hear(outcome);
         with_message(outcome, message)
@@ -113,12 +157,20 @@ impl Transaction {
         self.course.round_trip(now)
     }
 
+    /// Ends the transaction, unless it has ended.
+    pub(crate) fn end_by(&mut self, end: End)
+        ensures course { course_of self.new ≡ ended_by end (course_of self.old) }
+        ensures terms { terms_of self.new ≡ terms_of self.old }
+    {
+        self.course.end_by(end);
+    }
+
     /// Ends the transaction, unless it has ended: the caller wants no response any more.
     pub fn cancel(&mut self)
         ensures course { course_of self.new ≡ ended_by End.Cancelled (course_of self.old) }
         ensures terms { terms_of self.new ≡ terms_of self.old }
     {
-        self.course.end_by(End::Cancelled);
+        self.end_by(End::Cancelled);
     }
 
     /// Ends the transaction, unless it has ended: the transport failed, as by a hard ICMP error or
@@ -127,6 +179,6 @@ impl Transaction {
         ensures course { course_of self.new ≡ ended_by End.TransportFailed (course_of self.old) }
         ensures terms { terms_of self.new ≡ terms_of self.old }
     {
-        self.course.end_by(End::TransportFailed);
+        self.end_by(End::TransportFailed);
     }
 }

@@ -36,7 +36,7 @@ fn protection(alloc: Global, guard: Guard) -> Result<Protection, StunWriteError>
 type Asked<'a> = (Guard, &'a [u8], TransportType);
 
 /// What is told of a message that is received.
-fn told(received: Received<'_>) -> Outcome {
+pub fn told(received: Received<'_>) -> Outcome {
     match received {
         Received::NotForThis => NotForThis,
         Received::Discarded(reason) => Discarded(reason),

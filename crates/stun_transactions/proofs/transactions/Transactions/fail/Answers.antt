@@ -1,0 +1,9 @@
+use Rattle.std.proofs.Common.{refl}
+use Rattle.stun_transactions.specs.declared.course.End.TheVariants.{TransportFailed}
+use Rattle.stun_transactions.specs.Slots.{ending, place_of}
+use Rattle.stun_transactions.proofs.SlotsLemmas.{changed_distinct}
+use Rattle.stun_transactions.proofs.transactions.Transactions.fail.Goals as goal
+
+pub invariant_of-self : goal.invariant_of-self
+invariant_of-self g c =
+    rw c.end_by.ensures.slots (changed_distinct (ending TransportFailed) (λ t. refl) (place_of c.args.id c.self.inside.slots) c.self.inside.slots c.self.invariant)

@@ -1,0 +1,156 @@
+//! Many transactions of a client.
+
+use crate::course::End;
+use crate::guard::Protection;
+use crate::received::Received;
+use crate::schedule::Schedule;
+use crate::slots;
+use crate::slots::{AddError, Task};
+use crate::transaction::Transaction;
+use std::array;
+use std::marker::Model;
+use std::time::Duration;
+use stun_types::TransportType;
+use stun_types::attribute::AttributeType;
+use stun_types::message::{Message, TransactionId};
+
+/// Up to `N` transactions, each found by its transaction ID, for a client with many requests under
+/// way. They lie in the value itself: it allocates nothing.
+///
+/// Each call is that of one transaction, and leaves the others as they are. The caller keeps the
+/// bytes of the requests, and sends those with the ID that [`Transactions::poll`] tells. A
+/// transaction stays, and its ID with it, until `poll` has told its end. Each call looks at up to
+/// `N` slots, however many messages come: this is meant for an `N` of at most 64.
+#[derive(Debug, Drop)]
+pub struct Transactions<const N: usize> {
+    slots: [Option<Transaction>; N],
+}
+
+impl<const N: usize> Model for Transactions<N> {
+    ghost use Rattle.std.specs.Prelude.{List, Option};
+    ghost use Rattle.stun_transactions.specs.declared.transaction.Transaction.{Transaction};
+    ghost use Rattle.stun_transactions.specs.Slots.{HasDistinctIds};
+
+    ghost Value = { List (Option Transaction) };
+
+    ghost view = { λ transactions. transactions.slots };
+
+    ghost invariant = { λ transactions. HasDistinctIds transactions.slots };
+}
+
+impl<const N: usize> Transactions<N> {
+    ghost use Rattle.std.specs.Prelude.{◌≡◌, None, Some, is_some, length, option_map, option_copied, MatchResult};
+    ghost use Rattle.std.specs.List.{All};
+    ghost use Rattle.std.specs.Duration.{as_nanos};
+    ghost use Rattle.stun_types.specs.Message.{message_bytes};
+    ghost use Rattle.stun_transactions.specs.Slots.{HasDistinctIds, place_of, held, changed, add_fault, Adds, soonest, PollsSlots, hearing, ending, addressee, Tells};
+
+    /// No transactions.
+    pub fn new() -> Transactions<N>
+        ensures free { All (λ slot. slot ≡ None) result }
+        ensures slots { length result ≡ N }
+    {
+        Transactions {
+            slots: array::from_fn(|_| None),
+        }
+    }
+
+    /// Begins a transaction, as [`Transaction::new`] does: the next poll hands its request out.
+    ///
+    /// # Errors
+    ///
+    /// The first of these that applies; nothing is changed then:
+    ///
+    /// - `Begin(error)` where [`Transaction::new`] answers this error;
+    /// - `InUse` where a transaction with the request's ID is there, be it one that has ended and
+    ///   whose end isn't told yet;
+    /// - `Full` where there are `N` transactions.
+    pub fn begin(
+        &mut self,
+        request: &Message<'_>,
+        schedule: Schedule,
+        transport: TransportType,
+        protection: Protection,
+        now: Duration,
+    ) -> Result<(), AddError>
+        ensures { MatchResult result
+            (λ _. (add_fault protection (message_bytes request.now) self.old ≡ None)
+            × Adds (message_bytes request.now) schedule transport protection now self.old self.new)
+            (λ e. (add_fault protection (message_bytes request.now) self.old ≡ Some e)
+            × (self.new ≡ self.old)) }
+    {
+        match Transaction::new(request, schedule, transport, protection, now) {
+            Ok(transaction) => slots::add(&mut self.slots, transaction),
+            Err(error) => Err(AddError::Begin(error)),
+        }
+    }
+
+    /// The transaction with this ID. Once it has ended, it is there until [`Transactions::poll`]
+    /// has told its end.
+    pub fn get(&self, id: TransactionId) -> Option<&Transaction>
+        ensures distinct { HasDistinctIds self.now }
+        ensures found { option_copied result ≡ held self.now (place_of id self.now) }
+    {
+        slots::held(&self.slots, id)
+    }
+
+    /// When a poll has something to do, if no message is received before: 0 where an end is yet to
+    /// be told, and `None` where there is no transaction. Nothing is changed.
+    pub fn next_wake(&self) -> Option<Duration>
+        ensures { option_map as_nanos result ≡ soonest self.now }
+    {
+        slots::soonest(&self.slots)
+    }
+
+    /// What is to be done now, for the first transaction that has something to do. Call it until it
+    /// answers `WaitUntil` or `Idle`.
+    ///
+    /// - `Send(id)`: send the request with this ID, as for `Send` of [`Transaction::poll`].
+    /// - `Ended(id, end)`: this transaction has ended, or ends now since its time is up. Each end is
+    ///   told once: the transaction is gone, and its slot and its ID are free.
+    /// - `WaitUntil(time)`: nothing before `time`, which is the soonest moment at which one of them
+    ///   has something to do, unless a message is received.
+    /// - `Idle`: there is no transaction.
+    pub fn poll(&mut self, now: Duration) -> Task
+        ensures { PollsSlots self.old now result self.new }
+    {
+        slots::poll(&mut self.slots, now)
+    }
+
+    /// What the bytes of a received message are: the transaction ID of the message, and what
+    /// [`Transaction::receive`] of the transaction with this ID answers (RFC 8489, section 6.3).
+    /// `None` where they are no message, or there is no such transaction; nothing is changed then.
+    ///
+    /// The bytes are parsed once. `understood` is as for [`Transaction::receive`].
+    pub fn receive<'m>(
+        &mut self,
+        bytes: &'m [u8],
+        understood: &[AttributeType],
+    ) -> Option<(TransactionId, Received<'m>)>
+        ensures told { Tells (held self.old (addressee bytes.now self.old)) understood.now bytes.now
+            result }
+        ensures slots { self.new
+            ≡ changed (hearing understood.now bytes.now) (addressee bytes.now self.old) self.old }
+    {
+        slots::receive(&mut self.slots, bytes, understood)
+    }
+
+    /// Ends the transaction with this ID, as [`Transaction::cancel`] does, and tells whether there
+    /// is one.
+    pub fn cancel(&mut self, id: TransactionId) -> bool
+        ensures found { result ≡ is_some (place_of id self.old) }
+        ensures slots { self.new ≡ changed (ending End.Cancelled) (place_of id self.old) self.old }
+    {
+        slots::end_by(&mut self.slots, id, End::Cancelled)
+    }
+
+    /// Ends the transaction with this ID, as [`Transaction::fail`] does, and tells whether there is
+    /// one.
+    pub fn fail(&mut self, id: TransactionId) -> bool
+        ensures found { result ≡ is_some (place_of id self.old) }
+        ensures slots { self.new
+            ≡ changed (ending End.TransportFailed) (place_of id self.old) self.old }
+    {
+        slots::end_by(&mut self.slots, id, End::TransportFailed)
+    }
+}
