@@ -1,11 +1,15 @@
 -- What the program does with its arguments, and how it tells how it ended.
-use Rattle.std.specs.Prelude.{◌≡◌, ℕ, ◌<◌, ◌^◌, ◌⊎◌, List, [], ◌∷◌, ◌++◌, codes, Option}
+use Rattle.std.specs.Prelude.{◌≡◌, ℕ, ◌<◌, ◌^◌, ◌⊎◌, Bool, true, false, ◌&&◌, nat_lt, nat_le, List, [], ◌∷◌, ◌++◌, codes, length, Option, None, Some}
 use Rattle.std.specs.Str.Parse.{IsNumeral, without_leading_plus, digits_value}
-use Rattle.stun_ask.specs.declared.ask.Answer.TheVariants.{Mapped, Unmapped, Refused, Failed, NotAnswered}
+use Rattle.stun_keys.specs.Keys.{IsKey}
+use Rattle.stun_attributes.specs.Texts.{text_bytes}
+use Rattle.stun_ask.specs.declared.ask.Answer.TheVariants.{Mapped, Unmapped, Refused, Failed, NotAuthentic, NotAnswered}
 use Rattle.stun_ask.specs.declared.engine.RunEnd.{RunEnd}
-use Rattle.stun_ask.specs.declared.engine.RunEnd.TheVariants.{Asked, Answered, Usage, TooLong, ReadFailed, WriteFailed, NoMemory}
+use Rattle.stun_ask.specs.declared.engine.RunEnd.TheVariants.{Asked, Answered, Usage, TooLong, ReadFailed, NoMemory}
 use Rattle.stun_ask.specs.declared.program.Task.{Task}
 use Rattle.stun_ask.specs.declared.program.Task.TheVariants.{Ask, Tell}
+use Rattle.stun_ask.specs.declared.query.Login.{Login}
+use Rattle.stun_ask.specs.declared.query.Query.{Query}
 use Rattle.stun_ask.specs.AskRun.{EndsAsking, EndsTelling}
 
 -- ---- Its arguments
@@ -16,40 +20,82 @@ IsIdText text id =
     IsNumeral 16 (without_leading_plus text)
     × (digits_value 16 (without_leading_plus text) ≡ id) × (id < 2 ^ 96)
 
--- a verb and a transaction ID tell a task
-abbrev pub IsTask : (verb id : List ℕ) → Task → Type 0
-IsTask verb text (Ask id) = (verb ≡ codes "request") × IsIdText text id
-IsTask verb text (Tell id) = (verb ≡ codes "response") × IsIdText text id
+-- whether these are a user name and a password: neither is empty (RFC 8265, section 4.2.2), and the
+-- name has at most as many bytes as a USERNAME
+abbrev pub are_user_and_password : (user password : List ℕ) → Bool
+are_user_and_password user password =
+    nat_lt 0 (length user) && (nat_lt 0 (length password) && nat_le (length user) 513)
 
--- the arguments after the program's name are a verb and a transaction ID
+-- the login of a user name and a password, whose key is the password
+pub record IsLogin (user password : List ℕ) (login : Login) : Type 0 where
+  pub fits : are_user_and_password user password ≡ true
+  pub username_is : text_bytes login.username ≡ user
+  pub key_is : IsKey None password login.key
+
+-- how the run ends where they are none, or an allocation failed
+abbrev pub IsLoginRefused : (user password : List ℕ) → RunEnd → Type 0
+IsLoginRefused user password Usage = are_user_and_password user password ≡ false
+IsLoginRefused user password NoMemory = Unit {0}
+IsLoginRefused user password _ = ⊥
+
+-- the arguments after the transaction ID: a user name and a password, or none
+abbrev pub AreLogin : List (List ℕ) → Option Login → Type 0
+AreLogin [] login = login ≡ None
+AreLogin (user ∷ password ∷ []) (Some login) = IsLogin user password login
+AreLogin _ login = ⊥
+
+-- how the run ends where they are neither, or an allocation failed
+abbrev pub AreNoLogin : List (List ℕ) → RunEnd → Type 0
+AreNoLogin others Usage = (login : Option Login) → ¬ (AreLogin others login)
+AreNoLogin others NoMemory = Unit {0}
+AreNoLogin others _ = ⊥
+
+-- a transaction ID, and the arguments after it, tell a query
+pub record IsQuery (id : List ℕ) (others : List (List ℕ)) (query : Query) : Type 0 where
+  pub id_is : IsIdText id query.id
+  pub login_is : AreLogin others query.login
+
+-- a verb tells what is done with a query
+abbrev pub IsTaskOf : List ℕ → Query → Task → Type 0
+IsTaskOf verb query (Ask asked) = (verb ≡ codes "request") × (asked ≡ query)
+IsTaskOf verb query (Tell asked) = (verb ≡ codes "response") × (asked ≡ query)
+
+-- the arguments tell a task: the program's name, a verb, a transaction ID, and a login or none
 abbrev pub Gives : List (List ℕ) → Task → Type 0
-Gives (name ∷ verb ∷ id ∷ []) task = IsTask verb id task
+Gives (name ∷ verb ∷ id ∷ others) task =
+    (query : Query) × IsQuery id others query × IsTaskOf verb query task
 Gives _ task = ⊥
+
+-- how the run ends where the arguments give no task, or an allocation failed
+abbrev pub IsRefused : List (List ℕ) → RunEnd → Type 0
+IsRefused arguments Usage = (task : Task) → ¬ (Gives arguments task)
+IsRefused arguments NoMemory = Unit {0}
+IsRefused arguments _ = ⊥
 
 -- what the program has read and written, by its task and by how it ended
 abbrev pub EndsTask : Task → RunEnd → (left left' held held' : Option (List ℕ)) → Type 0
-EndsTask (Ask id) end left left' held held' = EndsAsking id end held held' × (left' ≡ left)
-EndsTask (Tell id) end left left' held held' = EndsTelling id end left left' held held'
+EndsTask (Ask query) end left left' held held' = EndsAsking query end held held' × (left' ≡ left)
+EndsTask (Tell query) end left left' held held' = EndsTelling query end left left' held held'
 
--- the same by its arguments: nothing where they give no task
+-- the same by its arguments: nothing where they are refused
 abbrev pub EndsOn :
     List (List ℕ) → RunEnd → (left left' held held' : Option (List ℕ)) → Type 0
 EndsOn arguments end left left' held held' =
     ((task : Task) × Gives arguments task × EndsTask task end left left' held held')
-    ⊎ (((task : Task) → ¬ (Gives arguments task))
-    × (end ≡ Usage) × (left' ≡ left) × (held' ≡ held))
+    ⊎ (IsRefused arguments end × (left' ≡ left) × (held' ≡ held))
 
 -- ---- How it ended
 
 -- the exit status: 0 where the request or an address was written, 1 where the code of an error was,
--- 3 where a response tells neither, 4 where there is no response to the request, and 2 with every
--- other end
+-- 3 where a response tells neither, 4 where there is no authentic response to the request, and 2 with
+-- every other end
 abbrev pub exit_status : RunEnd → ℕ
 exit_status Asked = 0
 exit_status (Answered (Mapped address)) = 0
 exit_status (Answered (Refused code)) = 1
 exit_status (Answered Unmapped) = 3
 exit_status (Answered Failed) = 3
+exit_status (Answered NotAuthentic) = 4
 exit_status (Answered NotAnswered) = 4
 exit_status _ = 2
 
@@ -57,8 +103,9 @@ exit_status _ = 2
 abbrev pub last_line : RunEnd → List ℕ
 last_line (Answered Unmapped) = codes "no address" ++ 10 ∷ []
 last_line (Answered Failed) = codes "the response can't be taken" ++ 10 ∷ []
+last_line (Answered NotAuthentic) = codes "the response isn't authentic" ++ 10 ∷ []
 last_line (Answered NotAnswered) = codes "no response to the request" ++ 10 ∷ []
-last_line Usage = codes "usage: stun_ask request|response ID" ++ 10 ∷ []
+last_line Usage = codes "usage: stun_ask request|response ID [USER PASSWORD]" ++ 10 ∷ []
 last_line TooLong = codes "input too long" ++ 10 ∷ []
 last_line ReadFailed = codes "read failed" ++ 10 ∷ []
 last_line NoMemory = codes "out of memory" ++ 10 ∷ []

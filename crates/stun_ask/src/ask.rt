@@ -1,21 +1,24 @@
 //! The request, and what its response tells.
 
-ghost use Rattle.std.specs.Prelude.{◌≡◌, IfOk};
+ghost use Rattle.std.specs.Prelude.{◌≡◌, None, Some, IfOk};
+ghost use Rattle.stun_grammar.specs.Names.{BINDING};
+ghost use Rattle.stun_base.specs.declared.message_type.MessageClass.TheVariants.{Request};
+ghost use Rattle.stun_base.specs.MessageTypes.{type_of};
 ghost use Rattle.stun_types.specs.Message.{message_bytes};
-ghost use Rattle.stun_transactions.specs.Outcomes.{is_open};
-ghost use Rattle.stun_transactions.specs.Transactions.{terms_of, course_of};
-ghost use Rattle.stun_ask.specs.Ask.{request, IsSent, MapsTo, Tells, IsPolled};
+ghost use Rattle.stun_ask.specs.Ask.{request_by, request, protection_of, IsSent, MapsTo, Tells, IsPolled};
 
+use crate::query::{Login, Query};
 use std::alloc::{AllocError, Global};
 use std::net::SocketAddr;
 use std::time::Duration;
-use stun_transactions::{Action, Protection, Received, Schedule, Transaction};
-use stun_types::attribute::XorMappedAddress;
+use stun_transactions::{Action, Protection, Received, Schedule, Transaction, response_address};
+use stun_types::TransportType;
+use stun_types::attribute::AttributeWrite;
 use stun_types::message::{
-    BINDING, Message, MessageClass, MessageType, MessageWriteVec, TransactionId,
+    BINDING, IntegrityAlgorithm, Message, MessageClass, MessageType, MessageWriteVec, Step,
+    TransactionId, write_steps,
 };
 use stun_types::prelude::*;
-use stun_types::{TransportType, found_has_its_type};
 
 /// What a datagram tells of the request.
 #[derive(Clone, Copy, PartialEq, Eq)]
@@ -28,18 +31,67 @@ pub enum Answer {
     Refused(u16),
     /// The response can't be taken.
     Failed,
+    /// It is a response, but not an authentic one.
+    NotAuthentic,
     /// It is no response to the request.
     NotAnswered,
 }
 
-/// The binding request with a transaction ID. The error says that an allocation failed.
-pub fn request(alloc: Global, id: TransactionId) -> Result<Vec<u8>, AllocError>
-    ensures { IfOk result (λ text. text.items ≡ request id) }
+/// The message type of a binding request.
+fn binding_request() -> MessageType
+    ensures { result ≡ type_of Request BINDING }
 {
-    let mtype = MessageType::from_class_method(MessageClass::Request, BINDING);
-    match Message::builder(mtype, id, MessageWriteVec::new(alloc)) {
+    MessageType::from_class_method(MessageClass::Request, BINDING)
+}
+
+/// The binding request that nobody signs. The error says that an allocation failed.
+#[tactic(auto, unfolding(stun_grammar::specs::Sending::body_from))]
+fn unsigned(alloc: Global, id: TransactionId) -> Result<Vec<u8>, AllocError>
+    ensures { IfOk result (λ text. text.items ≡ request_by id None) }
+{
+    match Message::builder(binding_request(), id, MessageWriteVec::new(alloc)) {
         Ok(write) => Ok(write.finish()),
         Err(_) => Err(AllocError),
+    }
+}
+
+/// The binding request that this login signs, by both algorithms, since it isn't known which ones
+/// the server takes (RFC 8489, section 9.1.2). The error says that an allocation failed: a message
+/// of one user name and two HMACs is refused nothing.
+fn signed(alloc: Global, id: TransactionId, login: &Login) -> Result<Vec<u8>, AllocError>
+    ensures { IfOk result (λ text. text.items ≡ request_by id (Some login.now)) }
+{
+    let mut verdicts = [Ok(()); 3];
+    let steps: [Step<'_, &dyn AttributeWrite>; 3] = [
+        Step::Add(&login.username),
+        Step::SignKey(&login.key, IntegrityAlgorithm::Sha1),
+        Step::SignKey(&login.key, IntegrityAlgorithm::Sha256),
+    ];
+    let vector = MessageWriteVec::new(alloc);
+    let written = write_steps(alloc, binding_request(), id, &steps, &mut verdicts, vector);
+    match (written, verdicts) {
+        (Ok(write), [Ok(()), Ok(()), Ok(())]) => Ok(write.finish()),
+        _ => Err(AllocError),
+    }
+}
+
+/// The binding request of a query. The error says that an allocation failed.
+pub fn request(alloc: Global, query: &Query) -> Result<Vec<u8>, AllocError>
+    ensures { IfOk result (λ text. text.items ≡ request query.now) }
+{
+    match &query.login {
+        None => unsigned(alloc, query.id),
+        Some(login) => signed(alloc, query.id, login),
+    }
+}
+
+/// How the request is protected.
+fn protection(login: Option<Login>) -> Protection
+    ensures { result ≡ protection_of login }
+{
+    match login {
+        None => Protection::Unprotected,
+        Some(login) => Protection::ShortTerm(login.key),
     }
 }
 
@@ -54,16 +106,16 @@ fn polled(mut transaction: Transaction) -> Result<Transaction, AllocError>
 }
 
 /// A transaction of the request, which is sent.
-fn sent(bytes: &[u8]) -> Result<Transaction, AllocError>
-    ensures { IfOk result (IsSent bytes.now) }
+fn sent(bytes: &[u8], login: Option<Login>) -> Result<Transaction, AllocError>
+    ensures { IfOk result (IsSent bytes.now login) }
 {
     let Ok(request) = Message::from_bytes(bytes) else {
         return Err(AllocError);
     };
     let schedule = Schedule::new_default();
-    let unprotected = Protection::Unprotected;
+    let protection = protection(login);
     let now = Duration::ZERO;
-    match Transaction::new(&request, schedule, TransportType::Udp, unprotected, now) {
+    match Transaction::new(&request, schedule, TransportType::Udp, protection, now) {
         Ok(transaction) => polled(transaction),
         Err(_) => Err(AllocError),
     }
@@ -73,25 +125,25 @@ fn sent(bytes: &[u8]) -> Result<Transaction, AllocError>
 fn mapped(alloc: Global, response: &Message<'_>) -> Answer
     ensures { MapsTo (message_bytes response.now) result }
 {
-    found_has_its_type();
-    match response.attribute::<XorMappedAddress>(alloc) {
-        Ok(mapped) => Answer::Mapped(mapped.addr(response.transaction_id())),
+    match response_address(alloc, response) {
+        Ok(address) => Answer::Mapped(address),
         Err(_) => Answer::Unmapped,
     }
 }
 
-/// What a datagram tells of the binding request with a transaction ID. The error says that an
-/// allocation failed: the request that this makes parses, and its first poll sends it.
+/// What a datagram tells of the binding request of a query. The error says that an allocation
+/// failed: the request that this makes parses, and its first poll sends it.
 #[tactic(auto, using(crate::proofs::AskLemmas::heard_told))]
-pub fn read_answer(alloc: Global, id: TransactionId, datagram: &[u8]) -> Result<Answer, AllocError>
-    ensures { IfOk result (Tells id datagram.now) }
+pub fn read_answer(alloc: Global, query: Query, datagram: &[u8]) -> Result<Answer, AllocError>
+    ensures { IfOk result (Tells query datagram.now) }
 {
-    let bytes = request(alloc, id)?;
-    let mut transaction = sent(&bytes)?;
+    let bytes = request(alloc, &query)?;
+    let mut transaction = sent(&bytes, query.login)?;
     match transaction.receive(datagram, &[]) {
         Received::Success(response) => Ok(mapped(alloc, &response)),
         Received::Error(_, code) => Ok(Answer::Refused(code)),
         Received::Failed(_) => Ok(Answer::Failed),
-        Received::NotForThis | Received::Discarded(_) => Ok(Answer::NotAnswered),
+        Received::Discarded(_) => Ok(Answer::NotAuthentic),
+        Received::NotForThis => Ok(Answer::NotAnswered),
     }
 }

@@ -5,11 +5,11 @@ ghost use Rattle.stun_ask.specs.Ask.{answer_text};
 ghost use Rattle.stun_ask.specs.AskRun.{EndsAsking, EndsTelling, end_of_input};
 
 use crate::ask::{Answer, read_answer, request};
+use crate::query::Query;
 use std::alloc::{AllocError, Global};
 use std::io::{Read, Write};
 use stun_base::GREATEST_LENGTH;
 use stun_streams::{InputError, read_all, write_all};
-use stun_types::message::TransactionId;
 
 /// How a run ends.
 #[derive(Clone, Copy, PartialEq, Eq)]
@@ -54,14 +54,14 @@ fn answer_text(alloc: Global, answer: Answer) -> Result<String, AllocError>
     Ok(text)
 }
 
-/// Writes the binding request with a transaction ID, made in memory that `alloc` gives.
+/// Writes the binding request of a query, made in memory that `alloc` gives.
 ///
 /// The run ends with `Asked` where the whole request was written, with `WriteFailed` where a prefix
 /// of it was, and with `NoMemory` where an allocation failed, and nothing was written.
-pub fn ask<W: Write>(alloc: Global, id: TransactionId, writer: &mut W) -> RunEnd
-    ensures { EndsAsking id result (W.contents writer.old) (W.contents writer.new) }
+pub fn ask<W: Write>(alloc: Global, query: &Query, writer: &mut W) -> RunEnd
+    ensures { EndsAsking query.now result (W.contents writer.old) (W.contents writer.new) }
 {
-    let text = match request(alloc, id) {
+    let text = match request(alloc, query) {
         Ok(text) => text,
         Err(_) => return RunEnd::NoMemory,
     };
@@ -72,19 +72,19 @@ pub fn ask<W: Write>(alloc: Global, id: TransactionId, writer: &mut W) -> RunEnd
 }
 
 /// Reads a datagram up to the end of `reader`, at most 65555 bytes, and writes the line of what it
-/// tells of the binding request with a transaction ID; no line where that is neither an address nor
-/// the code of an error.
+/// tells of the binding request of a query; no line where that is neither an address nor the code
+/// of an error.
 ///
 /// The run ends with `Answered` where the line was written. It ends with `WriteFailed` where a
 /// prefix of it was written. With every other end nothing was written: `TooLong` where there are
 /// more bytes to read, `ReadFailed` where a read failed, `NoMemory` where an allocation failed.
 pub fn tell<R: Read, W: Write>(
     alloc: Global,
-    id: TransactionId,
+    query: Query,
     reader: &mut R,
     writer: &mut W,
 ) -> RunEnd
-    ensures { EndsTelling id result
+    ensures { EndsTelling query result
         (R.remaining reader.old) (R.remaining reader.new)
         (W.contents writer.old) (W.contents writer.new) }
 {
@@ -92,7 +92,7 @@ pub fn tell<R: Read, W: Write>(
         Ok(input) => input,
         Err(e) => return end_without_input(e),
     };
-    let told = match read_answer(alloc, id, &input) {
+    let told = match read_answer(alloc, query, &input) {
         Ok(told) => told,
         Err(_) => return RunEnd::NoMemory,
     };

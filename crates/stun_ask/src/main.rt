@@ -5,6 +5,7 @@
 mod ask;
 mod engine;
 mod program;
+mod query;
 
 use program::{end_without_arguments, run_on, status_of};
 use std::env;

@@ -1,25 +1,27 @@
 //! The program: what its arguments mean, and the status that it ends with.
 
-ghost use Rattle.std.specs.Prelude.{◌≡◌, ◌≢◌, ℕ, map, MatchOption, MatchResult};
+ghost use Rattle.std.specs.Prelude.{◌≡◌, ◌≢◌, ℕ, map, codes, MatchOption, MatchResult};
 ghost use Rattle.std.specs.String.{string_bytes};
 ghost use Rattle.std.specs.Vec.Iter.{into_iter_items};
 ghost use Rattle.stun_ask.specs.declared.program.Task.{Task};
-ghost use Rattle.stun_ask.specs.AskProgram.{IsIdText, IsTask, Gives, EndsTask, EndsOn, exit_status, last_line};
+ghost use Rattle.stun_ask.specs.AskProgram.{IsIdText, IsLogin, IsLoginRefused, AreLogin, AreNoLogin, IsTaskOf, Gives, IsRefused, EndsTask, EndsOn, exit_status, last_line};
 
 use crate::ask::Answer;
 use crate::engine::{RunEnd, ask, tell};
+use crate::query::{Login, Query};
 use std::alloc::Global;
 use std::env::Args;
 use std::io::{ErrorKind, Read, Write};
-use stun_types::message::TransactionId;
+use stun_types::attribute::Username;
+use stun_types::message::{ShortTermCredentials, StunWriteError, TransactionId};
 
 /// What the program is to do.
-#[derive(Clone, Copy, PartialEq, Eq)]
+#[derive(Drop)]
 pub enum Task {
-    /// Write the request with this transaction ID.
-    Ask(TransactionId),
+    /// Write the request.
+    Ask(Query),
     /// Read the response to it.
-    Tell(TransactionId),
+    Tell(Query),
 }
 
 /// The transaction ID that a text spells in hexadecimal.
@@ -36,29 +38,68 @@ fn id_in(text: &str) -> Option<TransactionId>
     }
 }
 
-/// The task of a verb and a transaction ID.
-fn task_in(verb: &str, id: &str) -> Option<Task>
-    ensures { MatchOption result
-        ((task : Task) → ¬ (IsTask verb.now id.now task))
-        (IsTask verb.now id.now) }
+/// The login of a user name and a password. Neither may be empty, and the name has at most 513
+/// bytes.
+fn login_in(alloc: Global, user: &str, password: String) -> Result<Login, RunEnd>
+    ensures { MatchResult result
+        (IsLogin user.now (string_bytes password))
+        (IsLoginRefused user.now (string_bytes password)) }
 {
-    let id = id_in(id)?;
+    if user.is_empty() || password.is_empty() {
+        return Err(RunEnd::Usage);
+    }
+    let username = match Username::new(alloc, user) {
+        Ok(username) => username,
+        Err(StunWriteError::OutOfMemory) => return Err(RunEnd::NoMemory),
+        Err(_) => return Err(RunEnd::Usage),
+    };
+    match ShortTermCredentials::new(password).make_key(alloc) {
+        Ok(key) => Ok(Login { username, key }),
+        Err(_) => Err(RunEnd::NoMemory),
+    }
+}
+
+/// The login that the arguments after the transaction ID tell, if there are any.
+fn login_of(alloc: Global, arguments: Args) -> Result<Option<Login>, RunEnd>
+    ensures { MatchResult result
+        (AreLogin (map string_bytes (into_iter_items arguments)))
+        (AreNoLogin (map string_bytes (into_iter_items arguments))) }
+{
+    let mut arguments = arguments;
+    let Some(user) = arguments.next() else {
+        return Ok(None);
+    };
+    let Some(password) = arguments.next() else {
+        return Err(RunEnd::Usage);
+    };
+    if arguments.next().is_some() {
+        return Err(RunEnd::Usage);
+    }
+    let login = login_in(alloc, user.as_str(), password)?;
+    Ok(Some(login))
+}
+
+/// The task of a verb.
+fn task_in(verb: &str, query: Query) -> Option<Task>
+    ensures { MatchOption result
+        ((verb.now ≢ codes "request") × (verb.now ≢ codes "response"))
+        (IsTaskOf verb.now query) }
+{
     if verb == "request" {
-        Some(Task::Ask(id))
+        Some(Task::Ask(query))
     } else if verb == "response" {
-        Some(Task::Tell(id))
+        Some(Task::Tell(query))
     } else {
         None
     }
 }
 
-/// The task that the arguments give: a verb and a transaction ID after the program's name. Without
-/// them, or with more arguments, the usage is wrong.
-fn task_of(arguments: Args) -> Result<Task, RunEnd>
+/// The task that the arguments give: a verb and a transaction ID after the program's name, and a
+/// user name and a password, or neither. With others the usage is wrong.
+fn task_of(alloc: Global, arguments: Args) -> Result<Task, RunEnd>
     ensures { MatchResult result
         (Gives (map string_bytes (into_iter_items arguments)))
-        (λ e. (e ≡ RunEnd.Usage)
-        × ((task : Task) → ¬ (Gives (map string_bytes (into_iter_items arguments)) task))) }
+        (IsRefused (map string_bytes (into_iter_items arguments))) }
 {
     let mut arguments = arguments;
     let Some(_name) = arguments.next() else {
@@ -70,10 +111,11 @@ fn task_of(arguments: Args) -> Result<Task, RunEnd>
     let Some(id) = arguments.next() else {
         return Err(RunEnd::Usage);
     };
-    match arguments.next() {
-        Some(_) => Err(RunEnd::Usage),
-        None => task_in(verb.as_str(), id.as_str()).ok_or(RunEnd::Usage),
-    }
+    let Some(id) = id_in(id.as_str()) else {
+        return Err(RunEnd::Usage);
+    };
+    let login = login_of(alloc, arguments)?;
+    task_in(verb.as_str(), Query { id, login }).ok_or(RunEnd::Usage)
 }
 
 /// Does a task. To write the request nothing is read.
@@ -83,13 +125,14 @@ fn run_task<R: Read, W: Write>(alloc: Global, task: Task, reader: &mut R, writer
         (W.contents writer.old) (W.contents writer.new) }
 {
     match task {
-        Task::Ask(id) => ask(alloc, id, writer),
-        Task::Tell(id) => tell(alloc, id, reader, writer),
+        Task::Ask(query) => ask(alloc, &query, writer),
+        Task::Tell(query) => tell(alloc, query, reader, writer),
     }
 }
 
 /// Does what the arguments tell. They are checked before anything is read: where they are wrong,
-/// the run ends with `Usage`, and nothing is read or written.
+/// the run ends with `Usage`, and nothing is read or written. Nor is it where an allocation failed
+/// that a login takes, and the run ends with `NoMemory`.
 pub fn run_on<R: Read, W: Write>(
     alloc: Global,
     arguments: Args,
@@ -100,7 +143,7 @@ pub fn run_on<R: Read, W: Write>(
         (R.remaining reader.old) (R.remaining reader.new)
         (W.contents writer.old) (W.contents writer.new) }
 {
-    match task_of(arguments) {
+    match task_of(alloc, arguments) {
         Ok(task) => run_task(alloc, task, reader, writer),
         Err(end) => end,
     }
@@ -128,8 +171,9 @@ pub fn status_of(end: RunEnd) -> (u8, &'static str)
         RunEnd::Answered(Answer::Refused(_)) => (1, ""),
         RunEnd::Answered(Answer::Unmapped) => (3, "no address\n"),
         RunEnd::Answered(Answer::Failed) => (3, "the response can't be taken\n"),
+        RunEnd::Answered(Answer::NotAuthentic) => (4, "the response isn't authentic\n"),
         RunEnd::Answered(Answer::NotAnswered) => (4, "no response to the request\n"),
-        RunEnd::Usage => (2, "usage: stun_ask request|response ID\n"),
+        RunEnd::Usage => (2, "usage: stun_ask request|response ID [USER PASSWORD]\n"),
         RunEnd::TooLong => (2, "input too long\n"),
         RunEnd::ReadFailed => (2, "read failed\n"),
         RunEnd::WriteFailed => (2, ""),

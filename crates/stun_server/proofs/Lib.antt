@@ -1,2 +1,2 @@
 mod ReplyLemmas
-mod SizesLemmas
+pub mod SizesLemmas

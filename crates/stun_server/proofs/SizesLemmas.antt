@@ -115,12 +115,12 @@ request_by r (Some y) bytes parses found =
     let eight = takes_eight (is_unknown []) 20 attributes y refl s.each (ap (find is_fingerprint) (sym s.shown_is) ∙ found) four in
     omega (arith, same, eight, (header_there r (frame_there r frame)).0, length-drop 20 r, ap length s.whole, length-append (encodings attributes) s.others)
 
-request_is : (r : List ℕ) → IsBytes r → parse_fault r ≡ None → 20 + 4 * length (unknown_types [] r) + tail_of (nth r FINGERPRINT 0) ≤ length r
+pub request_is : (r : List ℕ) → IsBytes r → parse_fault r ≡ None → 20 + 4 * length (unknown_types [] r) + tail_of (nth r FINGERPRINT 0) ≤ length r
 request_is r bytes parses = request_by r (nth r FINGERPRINT 0) bytes parses (sym (first_kept is_fingerprint (shown r)))
 
 -- ---- What a reply has
 
-short_value : (id : ℕ) (source : SocketAddr) → length (xored_value id source) ≤ 20
+pub short_value : (id : ℕ) (source : SocketAddr) → length (xored_value id source) ≤ 20
 short_value id source =
     let ip = octets (socket_ip source) in
     omega (arith, length-map (zip ip (mask id)) (λ (pair : ℕ × ℕ). bit_xor pair.0 pair.1), length-zip ip (mask id))
@@ -141,7 +141,7 @@ unknown_short r x xs few =
     omega (arith, twos, length-message (response_type ErrorClass r) (id_field r) (unknown_reply types), length-canonical SOFTWARE (codes "stun-types") (lit< tt) (lit< tt), length-canonical ERROR_CODE (error_value 420 (codes "Unknown Attributes")) (lit< tt) (lit< tt), length-canonical UNKNOWN_ATTRIBUTES (types_encoding types) (lit< tt) (omega (arith, twos, few)), length-append (encoding own_software) (encoding error ++ (encoding listed ++ [])), length-append (encoding error) (encoding listed ++ []), length-append (encoding listed) [], ap padded_length twos)
 
 -- a reply without its FINGERPRINT, by the unknown types
-abbrev reply_for : SocketAddr → List ℕ → List AttributeType → List ℕ
+abbrev pub reply_for : SocketAddr → List ℕ → List AttributeType → List ℕ
 reply_for source r types =
     option_map_or (response ErrorClass r) (if eqb (length types) 0 then (if lacks [] r then Some bad_reply else None) else Some (unknown_reply types)) (response Success r (success_reply source r))
 

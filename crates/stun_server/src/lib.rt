@@ -5,3 +5,4 @@ mod binding;
 mod laws;
 
 pub use binding::reply;
+pub use laws::replies_are_small;

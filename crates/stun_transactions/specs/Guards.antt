@@ -1,13 +1,13 @@
 -- Which responses are discarded, by how the request was protected (RFC 8489, sections 9.1.4 and
 -- 9.2.5).
-use Rattle.std.specs.Prelude.{ℕ, Bool, true, false, not, ◌||◌, ◌&&◌, List, Option, None, Some, is_some, Result, Ok, Err, is_ok, if◌then◌else◌}
+use Rattle.std.specs.Prelude.{◌≡◌, ℕ, Bool, true, false, not, ◌||◌, ◌&&◌, List, Option, None, Some, is_some, Result, Ok, Err, is_ok, if◌then◌else◌}
 use Rattle.stun_grammar.specs.declared.error.ValidateError.{ValidateError}
 use Rattle.stun_grammar.specs.declared.integrity_algorithm.IntegrityAlgorithm.{IntegrityAlgorithm}
 use Rattle.stun_grammar.specs.declared.integrity_algorithm.IntegrityAlgorithm.TheVariants.{Sha1, Sha256}
 use Rattle.stun_grammar.specs.AttributeTypes.{MESSAGE_INTEGRITY, MESSAGE_INTEGRITY_SHA256}
 use Rattle.stun_grammar.specs.Verdicts.{is_checked_type, verdict}
 use Rattle.stun_keys.specs.declared.keys.integrity_key.IntegrityKey.{IntegrityKey}
-use Rattle.stun_keys.specs.Keys.{key_bytes, key_algorithm}
+use Rattle.stun_keys.specs.Keys.{key_bytes, key_algorithm, IsKey}
 use Rattle.stun_read.specs.LookingUp.{nth}
 use Rattle.stun_transactions.specs.declared.guard.Protection.{Protection}
 use Rattle.stun_transactions.specs.declared.guard.Protection.TheVariants.{Unprotected, ShortTerm, LongTerm}
@@ -33,6 +33,14 @@ abbrev pub protects : Protection → Bool
 protects Unprotected = false
 protects (ShortTerm key) = true
 protects (LongTerm key) = true
+
+-- what is kept of a protection, to validate responses: a long-term key works with both algorithms
+-- (RFC 8489, section 9.2.5)
+abbrev pub IsKeptAs : Protection → Protection → Type 0
+IsKeptAs Unprotected kept = kept ≡ Unprotected
+IsKeptAs (ShortTerm key) kept = kept ≡ ShortTerm key
+IsKeptAs (LongTerm key) (LongTerm kept) = IsKey None (key_bytes key) kept
+IsKeptAs (LongTerm key) _ = ⊥
 
 -- what a validation of d with the key answers
 abbrev pub validated : IntegrityKey → List ℕ → Result IntegrityAlgorithm ValidateError

@@ -3,6 +3,7 @@ pub mod Schedules
 pub mod Courses
 pub mod Responses
 pub mod Guards
+pub mod Mapped
 pub mod Outcomes
 pub mod Terms
 pub mod Receiving

@@ -9,7 +9,7 @@ use Rattle.stun_transactions.specs.declared.guard.Protection.{Protection}
 use Rattle.stun_transactions.specs.declared.terms.Terms.{Terms}
 use Rattle.stun_transactions.specs.declared.terms.BeginError.{BeginError}
 use Rattle.stun_transactions.specs.declared.terms.BeginError.TheVariants.{NotARequest, NotSigned, Signed}
-use Rattle.stun_transactions.specs.Guards.{signed_by, is_signed, protects}
+use Rattle.stun_transactions.specs.Guards.{signed_by, is_signed, protects, IsKeptAs}
 
 -- whether a class is that of a request
 abbrev pub is_request : MessageClass → Bool
@@ -37,7 +37,7 @@ pub record AreTerms (r : List ℕ) (plan : Plan) (protection : Protection)
   pub method_is : terms.method ≡ method_of (type_field r)
   pub id_is : terms.id ≡ id_field r
   pub signed_is : terms.signed ≡ signed_by r
-  pub protection_is : terms.protection ≡ protection
+  pub protection_is : IsKeptAs protection terms.protection
 
 -- whether d is a response to the request: it has the request's method and transaction ID
 abbrev pub is_answer : Terms → List ℕ → Bool

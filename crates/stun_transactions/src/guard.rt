@@ -11,15 +11,16 @@ use stun_types::attribute::{
 };
 use stun_types::message::{IntegrityAlgorithm, IntegrityKey, Message, MessageClass, ValidateError};
 
-/// How a request is protected, and with which key (RFC 8489, section 9). A key that was made for
-/// one algorithm validates by that algorithm's attribute alone, a key with no algorithm by either.
+/// How a request is protected, and with which key (RFC 8489, section 9).
 #[derive(Debug, Drop)]
 pub enum Protection {
     /// It isn't signed, and no response is validated.
     Unprotected,
-    /// It is signed by a short-term credential (section 9.1).
+    /// It is signed by a short-term credential (section 9.1). A key that was made for one algorithm
+    /// validates by that algorithm's attribute alone, a key with no algorithm by either.
     ShortTerm(IntegrityKey),
-    /// It is signed by a long-term credential (section 9.2).
+    /// It is signed by a long-term credential (section 9.2). Whatever the key was made for, a
+    /// response validates by either attribute (section 9.2.5).
     LongTerm(IntegrityKey),
 }
 
@@ -114,7 +115,18 @@ fn long_term_fault(key: &IntegrityKey, message: &Message<'_>) -> Option<Discard>
 impl Protection {
     ghost use Rattle.std.specs.Prelude.{◌≡◌};
     ghost use Rattle.stun_types.specs.Message.{message_bytes};
-    ghost use Rattle.stun_transactions.specs.Guards.{guard_fault, protects};
+    ghost use Rattle.stun_transactions.specs.Guards.{guard_fault, protects, IsKeptAs};
+
+    /// What a transaction keeps of it, to validate responses: a long-term key works with both
+    /// algorithms (RFC 8489, section 9.2.5).
+    pub(crate) fn for_responses(self) -> Protection
+        ensures { IsKeptAs self result }
+    {
+        match self {
+            Protection::LongTerm(key) => Protection::LongTerm(key.for_both()),
+            other => other,
+        }
+    }
 
     /// Whether a credential protects the request.
     pub(crate) fn protects(&self) -> bool

@@ -10,6 +10,7 @@ mod course;
 mod guard;
 mod judge;
 mod laws;
+mod mapped;
 mod plan;
 mod received;
 mod schedule;
@@ -26,6 +27,7 @@ pub use laws::{
     ends_are_final, first_poll_sends, other_calls_stay, requests_are_spaced, taken_is_right,
     waits_make_the_row,
 };
+pub use mapped::{mapped_address, response_address};
 pub use received::{Discard, Failure, Received};
 pub use schedule::{Schedule, ScheduleError};
 pub use slots::{AddError, Task};

@@ -70,7 +70,7 @@ impl Terms {
                 method: request.method(),
                 id: request.transaction_id(),
                 signed,
-                protection,
+                protection: protection.for_responses(),
             }),
         }
     }

@@ -38,7 +38,7 @@ pub struct IntegrityKey {
 }
 
 impl IntegrityKey {
-    ghost use Rattle.std.specs.Prelude.{◌≡◌, IfOk, IfErr, map};
+    ghost use Rattle.std.specs.Prelude.{◌≡◌, None, IfOk, IfErr, map};
     ghost use Rattle.std.specs.List.{concat};
     ghost use Rattle.stun_grammar.specs.Hmac.{hmac};
     ghost use Rattle.stun_keys.specs.Keys.{key_bytes, key_algorithm, serves, IsKey};
@@ -101,6 +101,19 @@ impl IntegrityKey {
         ensures { result ≡ key_algorithm self.now }
     {
         self.algorithm
+    }
+
+    /// The same key with no algorithm, which works with both. RFC 8489 ties a long-term key to a
+    /// password algorithm and not to an HMAC (section 18.5.1): the MD5 of `username:realm:password`
+    /// may be the key of an HMAC-SHA256 too. Nothing is copied.
+    pub fn for_both(self) -> Self
+        ensures { IsKey None (key_bytes self) result }
+    {
+        IntegrityKey {
+            algorithm: None,
+            bytes: self.bytes,
+            kept: self.kept,
+        }
     }
 
     /// Whether the key works with an algorithm: it was made for that one, or has none.

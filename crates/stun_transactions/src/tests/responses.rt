@@ -12,7 +12,7 @@ use std::time::Duration;
 use stun_types::TransportType;
 use stun_types::TransportType::{Tcp, Udp};
 use stun_types::attribute::AttributeType;
-use stun_types::message::{IntegrityKey, Message, StunWriteError};
+use stun_types::message::{IntegrityAlgorithm, IntegrityKey, Message, StunWriteError};
 
 /// How a request is protected.
 #[derive(Clone, Copy)]
@@ -20,15 +20,21 @@ enum Guard {
     Unprotected,
     Short,
     Long,
+    /// By a key that was made for HMAC-SHA1.
+    LongSha1,
 }
 
 /// The protection by the key `secret`.
 fn protection(alloc: Global, guard: Guard) -> Result<Protection, StunWriteError> {
-    let key = IntegrityKey::new(alloc, b"secret", None)?;
+    let algorithm = match guard {
+        Guard::LongSha1 => Some(IntegrityAlgorithm::Sha1),
+        _ => None,
+    };
+    let key = IntegrityKey::new(alloc, b"secret", algorithm)?;
     Ok(match guard {
         Guard::Unprotected => Protection::Unprotected,
         Guard::Short => Protection::ShortTerm(key),
-        Guard::Long => Protection::LongTerm(key),
+        Guard::Long | Guard::LongSha1 => Protection::LongTerm(key),
     })
 }
 
@@ -95,6 +101,7 @@ fn outcomes(rt: HostRuntime) -> Result<(), Fail> {
     let short_both = (Guard::Short, messages::REQUEST_BOTH.as_slice(), Udp);
     let short_tcp = (Guard::Short, messages::REQUEST_SHA1.as_slice(), Tcp);
     let long = (Guard::Long, messages::REQUEST_SHA1.as_slice(), Udp);
+    let long_sha1 = (Guard::LongSha1, messages::REQUEST_SHA1.as_slice(), Udp);
     let long_tcp = (Guard::Long, messages::REQUEST_SHA1.as_slice(), Tcp);
     let rows = [
         (plain, messages::SUCCESS.as_slice(), Success),
@@ -137,6 +144,13 @@ fn outcomes(rt: HostRuntime) -> Result<(), Fail> {
         (long, messages::ERROR_400.as_slice(), UNSIGNED_400),
         (long, messages::ERROR_400_SHA1.as_slice(), Error(400)),
         (long, messages::ERROR_500.as_slice(), NOT_AUTHENTIC),
+        (long_sha1, messages::SUCCESS_SHA1.as_slice(), Success),
+        (long_sha1, messages::SUCCESS_SHA256.as_slice(), Success),
+        (
+            long_sha1,
+            messages::SUCCESS_OTHER_KEY.as_slice(),
+            NOT_AUTHENTIC,
+        ),
         (long_tcp, messages::ERROR_400.as_slice(), UNSIGNED_400),
         (long_tcp, messages::ERROR_500.as_slice(), VIOLATED),
     ];

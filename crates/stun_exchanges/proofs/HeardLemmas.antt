@@ -1,0 +1,47 @@
+-- What a transaction that waits for a response is told of one.
+use Rattle.std.proofs.Common.{◌≡◌, ℕ, Bool, true, false, List, [], Option, None, Some, refl, sym, ap, ◌∙◌}
+use Rattle.std.specs.Prelude.{not, ◌&&◌, is_some, ◌==◌, if◌then◌else◌}
+use Rattle.std.specs.Option.{option_map_or}
+use Rattle.std.proofs.lemmas.Bool.{eq-eqb}
+use Rattle.stun_grammar.specs.Headers.{type_field, id_field}
+use Rattle.stun_grammar.specs.Parsing.{parse_fault}
+use Rattle.stun_base.specs.MessageTypes.{class_of, method_of, is_response}
+use Rattle.stun_types.specs.Replies.{Answers}
+use Rattle.stun_transactions.specs.declared.guard.Protection.{Protection}
+use Rattle.stun_transactions.specs.declared.received.Discard.{Discard}
+use Rattle.stun_transactions.specs.declared.received.Outcome.{Outcome}
+use Rattle.stun_transactions.specs.declared.received.Outcome.TheVariants.{NotForThis}
+use Rattle.stun_transactions.specs.Guards.{guard_fault}
+use Rattle.stun_transactions.specs.Outcomes.{is_open}
+use Rattle.stun_transactions.specs.Receiving.{content, discarded}
+use Rattle.stun_transactions.specs.Terms.{is_answer}
+use Rattle.stun_exchanges.specs.Learning.{IsHeardAs}
+
+told_of : (ongoing parses answers : Bool) (kept : Option Discard) (out : Discard → Outcome) (taken told : Outcome) → ongoing ≡ true → parses ≡ true → answers ≡ true → kept ≡ None → taken ≡ told
+    → (if ongoing && parses then (if answers then option_map_or out kept taken else NotForThis) else NotForThis) ≡ told
+told_of true true true None out taken told o p a k same = same
+told_of true true true (Some reason) out taken told o p a k same = absurd cc
+told_of true true false kept out taken told o p a k same = absurd cc
+told_of true false answers kept out taken told o p a k same = absurd cc
+told_of false parses answers kept out taken told o p a k same = absurd cc
+
+both : (a b c : Bool) → a ≡ true → b ≡ true → c ≡ true → (a && (b && c)) ≡ true
+both true true true x y z = refl
+both true true false x y z = absurd cc
+both true false c x y z = absurd cc
+both false b c x y z = absurd cc
+
+-- a message that answers the request is told by what it has in it
+pub heard_as : (told : Outcome) (r d : List ℕ) → parse_fault d ≡ None → Answers d r → content [] d ≡ told → IsHeardAs told r d
+heard_as told r d parses answers has = record {
+  parses = parses;
+  answers = answers;
+  heard_is = λ terms course awaits.
+      told_of (is_open course) (not (is_some (parse_fault d))) (is_answer terms d) (guard_fault terms.protection terms.signed d) (discarded terms.plan.transport) (content [] d) told
+      awaits.ongoing
+      (ap (λ (o : Option _). not (is_some o)) parses)
+      (both (is_response (class_of (type_field d))) (method_of (type_field d) == terms.method) (id_field d == terms.id) answers.response
+      (eq-eqb (method_of (type_field d)) terms.method (answers.method ∙ sym awaits.method_is)) (eq-eqb (id_field d) terms.id (answers.id ∙ sym awaits.id_is)))
+      (ap (λ (p : Protection). guard_fault p terms.signed d) awaits.unprotected)
+      has;
+}

@@ -1,0 +1,4 @@
+mod WritableLemmas
+mod HeardLemmas
+mod AddressLemmas
+mod LearningLemmas

@@ -1,0 +1,70 @@
+-- What a client learns of the reply to its request (RFC 8489, sections 6.3.1, 6.3.3, 6.3.4 and 14.2).
+use Rattle.std.specs.Prelude.{◌≡◌, ℕ, List, [], true, Option, None, Some, Result, IsOkAnd, IsSomeAnd}
+use Rattle.std.specs.Net.Socket.{socket_ip, socket_port}
+use Rattle.std.specs.declared.net.socket_addr.SocketAddr.{SocketAddr}
+use Rattle.stun_grammar.specs.declared.error.StunParseError.{StunParseError}
+use Rattle.stun_grammar.specs.AttributeTypes.{UNKNOWN_ATTRIBUTES}
+use Rattle.stun_grammar.specs.Headers.{type_field, id_field}
+use Rattle.stun_grammar.specs.Names.{BINDING}
+use Rattle.stun_grammar.specs.Parsing.{parse_fault}
+use Rattle.stun_base.specs.declared.message_type.MessageClass.TheVariants.{Request}
+use Rattle.stun_base.specs.MessageTypes.{class_of, method_of}
+use Rattle.stun_read.specs.LookingUp.{nth}
+use Rattle.stun_types.specs.Replies.{Answers, unknown_types}
+use Rattle.stun_values.specs.Addresses.{IsInRange, plain_socket}
+use Rattle.stun_values.specs.TypeLists.{types_encoding}
+use Rattle.stun_transactions.specs.declared.course.Course.{Course}
+use Rattle.stun_transactions.specs.declared.guard.Protection.TheVariants.{Unprotected}
+use Rattle.stun_transactions.specs.declared.received.Outcome.{Outcome}
+use Rattle.stun_transactions.specs.declared.received.Outcome.TheVariants.{Success, Error}
+use Rattle.stun_transactions.specs.declared.terms.Terms.{Terms}
+use Rattle.stun_transactions.specs.Mapped.{ReadsAnswer}
+use Rattle.stun_transactions.specs.Outcomes.{is_open}
+use Rattle.stun_transactions.specs.Receiving.{heard}
+use Rattle.stun_server.specs.Reply.{reply}
+
+-- r is a message, and a binding request
+pub record IsBindingRequest (r : List ℕ) : Type 0 where
+  pub parses : parse_fault r ≡ None
+  pub class_is : class_of (type_field r) ≡ Request
+  pub method_is : method_of (type_field r) ≡ BINDING
+
+-- the address without flow info and scope ID
+abbrev pub without_flow : SocketAddr → SocketAddr
+without_flow a = plain_socket (socket_ip a) (socket_port a)
+
+-- a transaction of the unsigned request r waits for its response
+pub record Awaits (r : List ℕ) (terms : Terms) (course : Course) : Type 0 where
+  pub method_is : terms.method ≡ method_of (type_field r)
+  pub id_is : terms.id ≡ id_field r
+  pub unprotected : terms.protection ≡ Unprotected
+  pub ongoing : is_open course ≡ true
+
+-- d is a message, a response to the request r, and each transaction that waits for one is told this
+-- of it
+pub record IsHeardAs (told : Outcome) (r d : List ℕ) : Type 0 where
+  pub parses : parse_fault d ≡ None
+  pub answers : Answers d r
+  pub heard_is : (terms : Terms) (course : Course) → Awaits r terms course
+      → heard terms course [] d ≡ told
+
+-- whatever is read of d, as an answer to r, is this address
+abbrev pub TellsOnly : SocketAddr → (r d : List ℕ) → Type 0
+TellsOnly a r d =
+    (result : Result (Option SocketAddr) StunParseError) → ReadsAnswer r d result
+    → IsOkAnd result (λ told. IsSomeAnd told (λ read. IsInRange read → read ≡ a))
+
+-- the reply to r, which came from an address, tells the client this address
+pub record Learns (source : SocketAddr) (r : List ℕ) : Type 0 where
+  pub text : List ℕ
+  pub replied : reply source r ≡ Some text
+  pub taken : IsHeardAs Success r text
+  pub address : TellsOnly (without_flow source) r text
+
+-- the reply to r tells the client which types it may not show
+pub record LearnsError (source : SocketAddr) (r : List ℕ) : Type 0 where
+  pub text : List ℕ
+  pub replied : reply source r ≡ Some text
+  pub taken : IsHeardAs (Error 420) r text
+  pub types : IsSomeAnd (nth text UNKNOWN_ATTRIBUTES 0)
+      (λ shown. shown.value ≡ types_encoding (unknown_types [] r))

@@ -1,0 +1,48 @@
+//! The address that a response tells.
+
+ghost use Rattle.stun_types.specs.Message.{message_bytes};
+ghost use Rattle.stun_transactions.specs.Mapped.{ReadsMapped, ReadsAnswer};
+
+use std::alloc::Global;
+use std::net::SocketAddr;
+use stun_types::attribute::XorMappedAddress;
+use stun_types::found_has_its_type;
+use stun_types::message::{Message, MessageClass, StunParseError};
+
+/// The address in the first XOR-MAPPED-ADDRESS that a response shows: that from which the server saw
+/// the request come (RFC 8489, section 14.2). It takes no memory.
+///
+/// # Errors
+///
+/// `MissingAttribute` of this type where the response shows none, and the errors of reading
+/// [`XorMappedAddress`] where its value isn't an address.
+pub fn response_address(alloc: Global, response: &Message<'_>) -> Result<SocketAddr, StunParseError>
+    ensures { ReadsMapped (message_bytes response.now) result }
+{
+    found_has_its_type();
+    let mapped = response.attribute::<XorMappedAddress>(alloc)?;
+    Ok(mapped.addr(response.transaction_id()))
+}
+
+/// The address from which the server saw a request come, as received bytes tell it; `None` where
+/// they are a message, but no success response to the request. Nothing is validated: that is what
+/// [`Transaction::receive`](crate::Transaction::receive) does. It takes no memory.
+///
+/// # Errors
+///
+/// Those of [`Message::from_bytes`] where the bytes are no message, and else those of
+/// [`response_address`].
+pub fn mapped_address(
+    alloc: Global,
+    request: &Message<'_>,
+    bytes: &[u8],
+) -> Result<Option<SocketAddr>, StunParseError>
+    ensures { ReadsAnswer (message_bytes request.now) bytes.now result }
+{
+    let response = Message::from_bytes(bytes)?;
+    if !response.answers(request) || !response.has_class(MessageClass::Success) {
+        return Ok(None);
+    }
+    let address = response_address(alloc, &response)?;
+    Ok(Some(address))
+}
