@@ -3,7 +3,7 @@
 //! `tshark` reads the messages as they are meant.
 
 use ice_attrs::{IceControlling, Priority, UseCandidate};
-use std::alloc::{AllocError, Global};
+use std::alloc::Global;
 use std::net::{IpAddr, Ipv4Addr, SocketAddr};
 use std::test::Fail;
 use stun_types::attribute::{
@@ -11,11 +11,11 @@ use stun_types::attribute::{
     XorMappedAddress,
 };
 use stun_types::message::{
-    BINDING, IntegrityAlgorithm, LongTermKeyCredentials, Message, MessageClass,
-    MessageIntegrityCredentials, MessageType, MessageWriteVec, Method, TransactionId,
+    BINDING, IntegrityAlgorithm, Message, MessageClass, MessageType, MessageWriteVec, Method,
+    TransactionId,
 };
 use stun_types::prelude::*;
-use test_messages::short_term;
+use test_messages::{long_term_in, short_term};
 use turn_attrs::{Lifetime, RequestedTransport, XorRelayedAddress, methods};
 
 /// A connectivity check that nominates its pair, signed with the password of the peer.
@@ -99,14 +99,6 @@ fn of(class: MessageClass, method: Method) -> MessageType {
     MessageType::from_class_method(class, method)
 }
 
-/// The credentials of the TURN client.
-fn long_term(alloc: Global) -> Result<MessageIntegrityCredentials, AllocError> {
-    let username = String::from_str(alloc, "user")?;
-    let password = String::from_str(alloc, "pass")?;
-    let realm = String::from_str(alloc, "example.org")?;
-    Ok(MessageIntegrityCredentials::from(LongTermKeyCredentials::new(username, password, realm)))
-}
-
 #[test]
 fn nominates_a_pair(rt: HostRuntime) -> Result<(), Fail> {
     let alloc = rt.alloc();
@@ -171,7 +163,7 @@ fn asks_for_an_allocation(rt: HostRuntime) -> Result<(), Fail> {
 #[test]
 fn allocates_with_credentials(rt: HostRuntime) -> Result<(), Fail> {
     let alloc = rt.alloc();
-    let credentials = long_term(alloc)?;
+    let credentials = long_term_in(alloc, "example.org")?;
     let id = TransactionId::from(0x7502);
     let vector = MessageWriteVec::new(alloc);
     let mut request = Message::builder(of(MessageClass::Request, methods::ALLOCATE), id, vector)?;
@@ -197,7 +189,7 @@ fn allocates_with_credentials(rt: HostRuntime) -> Result<(), Fail> {
 #[test]
 fn reads_an_allocation(rt: HostRuntime) -> Result<(), Fail> {
     let alloc = rt.alloc();
-    let credentials = long_term(alloc)?;
+    let credentials = long_term_in(alloc, "example.org")?;
     let request = Message::from_bytes(&ALLOCATE_SIGNED)?;
     assert!(rt; request.method() == methods::ALLOCATE);
     assert!(rt; request.validate_integrity(alloc, &credentials) == Ok(IntegrityAlgorithm::Sha1));

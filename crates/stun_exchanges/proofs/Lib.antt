@@ -2,3 +2,4 @@ mod WritableLemmas
 mod HeardLemmas
 mod AddressLemmas
 mod LearningLemmas
+mod ForgingLemmas

@@ -65,12 +65,17 @@ pub fn short_term(
     Ok(MessageIntegrityCredentials::from(ShortTermCredentials::new(password)))
 }
 
-/// The credentials of the username `user` and the password `pass` in the realm `realm`.
-pub fn long_term(alloc: Global) -> Result<MessageIntegrityCredentials, AllocError> {
+/// The credentials of the username `user` and the password `pass` in a realm.
+pub fn long_term_in(alloc: Global, realm: &str) -> Result<MessageIntegrityCredentials, AllocError> {
     let username = String::from_str(alloc, "user")?;
     let password = String::from_str(alloc, "pass")?;
-    let realm = String::from_str(alloc, "realm")?;
+    let realm = String::from_str(alloc, realm)?;
     Ok(MessageIntegrityCredentials::from(LongTermKeyCredentials::new(username, password, realm)))
+}
+
+/// Those in the realm `realm`.
+pub fn long_term(alloc: Global) -> Result<MessageIntegrityCredentials, AllocError> {
+    long_term_in(alloc, "realm")
 }
 
 /// A text of that many letters.
