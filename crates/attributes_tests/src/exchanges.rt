@@ -12,7 +12,7 @@ use stun_types::attribute::{
 };
 use stun_types::message::{
     BINDING, IntegrityAlgorithm, Message, MessageClass, MessageType, MessageWriteVec, Method,
-    TransactionId,
+    StunWriteError, TransactionId,
 };
 use stun_types::prelude::*;
 use test_messages::{long_term_in, short_term};
@@ -92,7 +92,9 @@ fn relayed() -> SocketAddr {
 }
 
 /// The nonce of the server.
-static NONCE: &str = "obMatJos2AAACf//499k954d";
+fn nonce(alloc: Global) -> Result<Nonce, StunWriteError> {
+    Nonce::new(alloc, "obMatJos2AAACf//499k954d")
+}
 
 /// The type of a message.
 fn of(class: MessageClass, method: Method) -> MessageType {
@@ -154,7 +156,7 @@ fn asks_for_an_allocation(rt: HostRuntime) -> Result<(), Fail> {
     let mut refused = Message::builder(of(MessageClass::Error, methods::ALLOCATE), id, vector)?;
     refused.add_attribute(&ErrorCode::builder(401).build(alloc)?)?;
     refused.add_attribute(&Realm::new(alloc, "example.org")?)?;
-    refused.add_attribute(&Nonce::new(alloc, NONCE)?)?;
+    refused.add_attribute(&nonce(alloc)?)?;
     refused.add_fingerprint()?;
     assert!(rt; refused.data() == CHALLENGED.as_slice());
     Ok(())
@@ -171,7 +173,7 @@ fn allocates_with_credentials(rt: HostRuntime) -> Result<(), Fail> {
     request.add_attribute(&Lifetime::new(600))?;
     request.add_attribute(&Username::new(alloc, "user")?)?;
     request.add_attribute(&Realm::new(alloc, "example.org")?)?;
-    request.add_attribute(&Nonce::new(alloc, NONCE)?)?;
+    request.add_attribute(&nonce(alloc)?)?;
     request.add_message_integrity(alloc, &credentials, IntegrityAlgorithm::Sha1)?;
     request.add_fingerprint()?;
     assert!(rt; request.data() == ALLOCATE_SIGNED.as_slice());

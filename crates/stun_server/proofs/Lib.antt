@@ -1,2 +1,3 @@
 mod ReplyLemmas
+mod RefusalsLemmas
 pub mod SizesLemmas

@@ -1,9 +1,9 @@
 -- How long a reply is beside its request.
-use Rattle.std.proofs.Common.{◌≡◌, ℕ, zero, suc, ◌+◌, ◌*◌, ◌^◌, ◌<◌, ◌≤◌, Bool, true, false, cond, eqb, List, [], ◌∷◌, ◌++◌, length, drop, map, Option, Some, None, inl, inr, refl, sym, ap, ◌∙◌, lit<, arith}
+use Rattle.std.proofs.Common.{◌≡◌, ℕ, ◌+◌, ◌*◌, ◌≤◌, Bool, true, false, cond, eqb, List, [], ◌∷◌, ◌++◌, length, drop, map, Option, Some, None, inl, inr, refl, sym, ap, ◌∙◌, lit<, arith}
 use Rattle.std.specs.Prelude.{◌⊎◌, if◌then◌else◌, bit_xor, find, is_some, slice_get, codes}
 use Rattle.std.specs.List.{filter, zip, AllByRecursion}
 use Rattle.std.specs.Option.{option_map_or}
-use Rattle.std.specs.Net.Socket.{socket_ip, socket_port}
+use Rattle.std.specs.Net.Socket.{socket_ip}
 use Rattle.std.specs.declared.net.socket_addr.SocketAddr.{SocketAddr}
 use Rattle.std.proofs.lemmas.List.{length-append, length-drop, length-map}
 use Rattle.std.proofs.lemmas.Slice.Zip.{length-zip}
@@ -17,7 +17,6 @@ use Rattle.stun_grammar.specs.Chains.{Shown, chain, placed}
 use Rattle.stun_grammar.specs.Showing.{frame_fault, shown, shown_prefix}
 use Rattle.stun_grammar.specs.Parsing.{body_fault, parse_fault}
 use Rattle.stun_grammar.specs.Fingerprints.{fingerprint_value}
-use Rattle.stun_grammar.specs.Writing.{message_encoding}
 use Rattle.stun_grammar.specs.Adding.{appended}
 use Rattle.stun_grammar.specs.Names.{BINDING}
 use Rattle.stun_grammar.proofs.AttributesLemmas.{length-encoding, length-encoding-is}
@@ -32,12 +31,12 @@ use Rattle.stun_base.specs.declared.message_type.MessageClass.{MessageClass}
 use Rattle.stun_base.specs.declared.message_type.MessageClass.TheVariants.{Request, Indication, Success, Error as ErrorClass}
 use Rattle.stun_base.specs.MessageTypes.{class_of, method_of}
 use Rattle.stun_read.specs.LookingUp.{nth}
-use Rattle.stun_values.specs.Addresses.{octets, mask, xor_bytes}
+use Rattle.stun_values.specs.Addresses.{octets, mask}
 use Rattle.stun_values.specs.ErrorValues.{error_value}
 use Rattle.stun_values.specs.TypeLists.{types_encoding}
 use Rattle.stun_values.proofs.ListsLemmas.{length_of_twos}
-use Rattle.stun_types.specs.Replies.{response_type, own_software, bad_reply, unknown_reply, is_unknown, lacks, shown_types, unknown_types}
-use Rattle.stun_server.specs.Reply.{xored_value, success_reply, response, finished, unfinished_reply, binding_reply, reply_by_type, reply}
+use Rattle.stun_types.specs.Replies.{response_type, own_software, bad_reply, unknown_reply, is_unknown, lacks, unknown_types}
+use Rattle.stun_server.specs.Reply.{xored_value, success_reply, response, unfinished_reply, binding_reply, reply_by_type, reply}
 use Rattle.stun_server.specs.Sizes.{IsSmall}
 
 -- ---- What a request has at least
@@ -118,6 +117,10 @@ request_by r (Some y) bytes parses found =
 pub request_is : (r : List ℕ) → IsBytes r → parse_fault r ≡ None → 20 + 4 * length (unknown_types [] r) + tail_of (nth r FINGERPRINT 0) ≤ length r
 request_is r bytes parses = request_by r (nth r FINGERPRINT 0) bytes parses (sym (first_kept is_fingerprint (shown r)))
 
+-- so it shows few unknown types
+pub few_types : (r : List ℕ) → IsBytes r → parse_fault r ≡ None → length (unknown_types [] r) ≤ 16384
+few_types r bytes parses = omega (arith, request_is r bytes parses, framed_length r (framed r parses), field_fits r bytes)
+
 -- ---- What a reply has
 
 pub short_value : (id : ℕ) (source : SocketAddr) → length (xored_value id source) ≤ 20
@@ -125,14 +128,14 @@ short_value id source =
     let ip = octets (socket_ip source) in
     omega (arith, length-map (zip ip (mask id)) (λ (pair : ℕ × ℕ). bit_xor pair.0 pair.1), length-zip ip (mask id))
 
-success_short : (source : SocketAddr) (r : List ℕ) → length (response Success r (success_reply source r)) ≤ 60
+pub success_short : (source : SocketAddr) (r : List ℕ) → length (response Success r (success_reply source r)) ≤ 60
 success_short source r =
     let value = xored_value (id_field r) source in
     let short = short_value (id_field r) source in
     let mapped = canonical XOR_MAPPED_ADDRESS value in
     omega (arith, short, length-message (response_type Success r) (id_field r) (success_reply source r), length-canonical XOR_MAPPED_ADDRESS value (lit< tt) (omega (arith, short)), length-canonical SOFTWARE (codes "stun-types") (lit< tt) (lit< tt), length-append (encoding mapped) (encoding own_software ++ []), length-append (encoding own_software) [])
 
-unknown_short : (r : List ℕ) (x : AttributeType) (xs : List AttributeType) → length (x ∷ xs) ≤ 16384 → length (response ErrorClass r (unknown_reply (x ∷ xs))) ≡ 68 + padded_length (2 * length (x ∷ xs))
+pub unknown_short : (r : List ℕ) (x : AttributeType) (xs : List AttributeType) → length (x ∷ xs) ≤ 16384 → length (response ErrorClass r (unknown_reply (x ∷ xs))) ≡ 68 + padded_length (2 * length (x ∷ xs))
 unknown_short r x xs few =
     let types = x ∷ xs in
     let error = canonical ERROR_CODE (error_value 420 (codes "Unknown Attributes")) in

@@ -24,4 +24,4 @@ pub returns-in-Ok-binding_response : goal.returns-in-Ok-binding_response
 returns-in-Ok-binding_response c =
     let parsed = c.in-Ok.ensures in
     let request : class_of (type_field (message_bytes c.in-Ok.request)) ≡ Request = search rules in
-    one_to_binding c.args.source c.args.datagram.now (message_bytes c.in-Ok.request) c.in-Ok-binding_response.text.items parsed.0 parsed.1 request (search rules) c.in-Ok-binding_response.ensures
+    one_to_binding c.args.source c.args.datagram.now (message_bytes c.in-Ok.request) c.in-Ok-binding_response.text.items parsed.0 parsed.1 request (search rules) c.in-Ok-binding_response.ensures.text
