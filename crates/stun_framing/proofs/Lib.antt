@@ -1,0 +1,5 @@
+mod FramingLemmas
+mod GatheringLemmas
+mod StreamsLemmas
+mod CutsLemmas
+mod RunsLemmas
