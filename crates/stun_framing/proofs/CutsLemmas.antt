@@ -7,7 +7,7 @@ use Rattle.std.proofs.lemmas.List.Elements.{All-head, All-tail}
 use Rattle.stun_grammar.specs.Numbers.{IsBytes}
 use Rattle.stun_grammar.specs.Headers.{begins, length_field}
 use Rattle.stun_grammar.specs.Showing.{frame_fault}
-use Rattle.stun_grammar.proofs.HeadersLemmas.{header, header_length, field_fits, frame-whole, begins_some, begins_from, whole_begins, begins_whole}
+use Rattle.stun_grammar.proofs.HeadersLemmas.{header, header_there, header_length, frame_there, framed_length, field_fits, frame-whole, begins_some, begins_from, whole_begins, begins_whole}
 use Rattle.stun_framing.specs.declared.error.StreamFault.{StreamFault}
 use Rattle.stun_framing.specs.Framing.{stated_length, IsMessage, IsCut, MayBegin, header_refusal, length_refusal, stream_fault}
 use Rattle.stun_framing.specs.Gathering.{IsKept}
@@ -61,6 +61,12 @@ first_message room b sound whole =
 
 pub framed : (room : ℕ) (m : List ℕ) → IsMessage room m → frame_fault m ≡ None
 framed room m is = frame-whole m (header m (least_length room m is) is.header) is.whole
+
+pub taken : (room : ℕ) (m : List ℕ) → frame_fault m ≡ None → length m % 4 ≡ 0 → length m ≤ room → IsMessage room m
+taken room m e fours fits =
+    let there = header_there m (frame_there m e) in
+    let whole = framed_length m e in
+    record { header = there.1; whole = whole; padded = omega (arith, whole, fours); fits = fits }
 
 -- no message is longer than the greatest
 pub longest : (room : ℕ) (m : List ℕ) → IsMessage room m → IsBytes m → length m ≤ 65552

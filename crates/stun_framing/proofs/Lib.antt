@@ -3,3 +3,4 @@ mod GatheringLemmas
 mod StreamsLemmas
 mod CutsLemmas
 mod RunsLemmas
+pub mod ComingLemmas

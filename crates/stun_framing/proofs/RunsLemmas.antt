@@ -18,27 +18,27 @@ use Rattle.stun_framing.proofs.StreamsLemmas.{nothing_faults}
 use Rattle.stun_framing.proofs.CutsLemmas.{no_fault_in, whole_in, first_message}
 
 -- where a stream stands that may still have messages
-record Runs (room : ℕ) (stream : Stream) : Type 0 where
-  sound : stream_fault room stream.pending ≡ None
-  part : is_whole stream.pending ≡ false
+pub record Runs (room : ℕ) (stream : Stream) : Type 0 where
+  pub sound : stream_fault room stream.pending ≡ None
+  pub part : is_whole stream.pending ≡ false
 
 -- where one stands that has ended, by what is to come
-record Ended (room : ℕ) (stream : Stream) (coming : List ℕ) (error : StreamError) : Type 0 where
-  none : stream.message ≡ None
-  offset_is : error.offset ≡ stream.offset
-  fault_is : stream_fault room (stream.pending ++ coming) ≡ Some error.fault
+pub record Ended (room : ℕ) (stream : Stream) (coming : List ℕ) (error : StreamError) : Type 0 where
+  pub none : stream.message ≡ None
+  pub offset_is : error.offset ≡ stream.offset
+  pub fault_is : stream_fault room (stream.pending ++ coming) ≡ Some error.fault
 
 -- where a stream stands behind so many bytes of messages
-record Stands (room n : ℕ) (stream : Stream) (coming : List ℕ) : Type 0 where
-  room_is : stream.room ≡ room
-  offset_is : stream.offset ≡ offset_of n
-  ends : MatchOption stream.error (Runs room stream) (Ended room stream coming)
+pub record Stands (room n : ℕ) (stream : Stream) (coming : List ℕ) : Type 0 where
+  pub room_is : stream.room ≡ room
+  pub offset_is : stream.offset ≡ offset_of n
+  pub ends : MatchOption stream.error (Runs room stream) (Ended room stream coming)
 
 -- what a call yields, and where the stream stands then
-record Steps (room n : ℕ) (stream : Stream) (coming : List ℕ) (new : Stream) (coming' : List ℕ) : Type 0 where
-  joined_is : stream.pending ++ coming ≡ concat (message_in new.message) ++ (new.pending ++ coming')
-  each : All (IsMessage room) (message_in new.message)
-  stands : Stands room (n + length (concat (message_in new.message))) new coming'
+pub record Steps (room n : ℕ) (stream : Stream) (coming : List ℕ) (new : Stream) (coming' : List ℕ) : Type 0 where
+  pub joined_is : stream.pending ++ coming ≡ concat (message_in new.message) ++ (new.pending ++ coming')
+  pub each : All (IsMessage room) (message_in new.message)
+  pub stands : Stands room (n + length (concat (message_in new.message))) new coming'
 
 -- ---- One call
 
@@ -76,7 +76,7 @@ offsets_add : (offset n k : ℕ) → offset ≡ offset_of n → offset_of (offse
 offsets_add offset n k e = ap (λ (m : ℕ). min (m + k) 18446744073709551615) e ∙ omega arith
 
 -- a stream that hasn't ended
-runs_on : (room : ℕ) (stream : Stream) (coming : List ℕ) → stream.error ≡ None → Runs room stream → MatchOption stream.error (Runs room stream) (Ended room stream coming)
+pub runs_on : (room : ℕ) (stream : Stream) (coming : List ℕ) → stream.error ≡ None → Runs room stream → MatchOption stream.error (Runs room stream) (Ended room stream coming)
 runs_on room stream coming running runs = subst (λ (o : Option StreamError). MatchOption o (Runs room stream) (Ended room stream coming)) (sym running) runs
 
 -- a piece that makes a message whole
@@ -161,10 +161,10 @@ goes_on room n stream piece behind stands runs running sound =
     ]
 
 -- how a stream stands that has ended, and that hasn't
-runs_if : (room : ℕ) (stream : Stream) (coming : List ℕ) → MatchOption stream.error (Runs room stream) (Ended room stream coming) → stream.error ≡ None → Runs room stream
+pub runs_if : (room : ℕ) (stream : Stream) (coming : List ℕ) → MatchOption stream.error (Runs room stream) (Ended room stream coming) → stream.error ≡ None → Runs room stream
 runs_if room stream coming ends e = subst (λ (o : Option StreamError). MatchOption o (Runs room stream) (Ended room stream coming)) e ends
 
-ended_if : (room : ℕ) (stream : Stream) (coming : List ℕ) (error : StreamError) → MatchOption stream.error (Runs room stream) (Ended room stream coming) → stream.error ≡ Some error → Ended room stream coming error
+pub ended_if : (room : ℕ) (stream : Stream) (coming : List ℕ) (error : StreamError) → MatchOption stream.error (Runs room stream) (Ended room stream coming) → stream.error ≡ Some error → Ended room stream coming error
 ended_if room stream coming error ends e = subst (λ (o : Option StreamError). MatchOption o (Runs room stream) (Ended room stream coming)) e ends
 
 step_on : (room n : ℕ) (stream : Stream) (piece behind : List ℕ) → Stands room n stream (piece ++ behind)
@@ -190,7 +190,7 @@ step_on room n stream piece behind stands =
           ]
     ]
 
-step : (room n : ℕ) (stream : Stream) (piece coming : List ℕ) → Stands room n stream coming → ((behind : List ℕ) × (coming ≡ piece ++ behind))
+pub step : (room n : ℕ) (stream : Stream) (piece coming : List ℕ) → Stands room n stream coming → ((behind : List ℕ) × (coming ≡ piece ++ behind))
     → Steps room n stream coming (left stream piece) (untaken stream piece coming)
 step room n stream piece coming stands (behind, e) =
     subst (λ (xs : List ℕ). Steps room n stream xs (left stream piece) (untaken stream piece xs)) (sym e)
@@ -200,9 +200,9 @@ step room n stream piece coming stands (behind, e) =
 
 -- what all calls yield
 record Ends (room n : ℕ) (stream : Stream) (coming : List ℕ) (pieces : List (List ℕ)) : Type 0 where
-  joined_is : stream.pending ++ coming ≡ concat (yielded stream pieces) ++ ((left_by stream pieces).pending ++ left_over stream coming pieces)
-  each : All (IsMessage room) (yielded stream pieces)
-  stands : Stands room (n + length (concat (yielded stream pieces))) (left_by stream pieces) (left_over stream coming pieces)
+  pub joined_is : stream.pending ++ coming ≡ concat (yielded stream pieces) ++ ((left_by stream pieces).pending ++ left_over stream coming pieces)
+  pub each : All (IsMessage room) (yielded stream pieces)
+  pub stands : Stands room (n + length (concat (yielded stream pieces))) (left_by stream pieces) (left_over stream coming pieces)
 
 run : (room n : ℕ) (stream : Stream) (coming : List ℕ) (pieces : List (List ℕ)) → Stands room n stream coming → IsHandedOver stream coming pieces → Ends room n stream coming pieces
 run room n stream coming [] stands handed = record {
@@ -240,13 +240,13 @@ none_by_fault room rest fault told m behind is e =
     let sound = ap (stream_fault room) e ∙ no_fault_in room m behind is in
     cc (sound, told)
 
-none_by_part : (room : ℕ) (rest : List ℕ) → is_whole rest ≡ false → (m behind : List ℕ) → IsMessage room m → rest ≡ m ++ behind → ⊥
+pub none_by_part : (room : ℕ) (rest : List ℕ) → is_whole rest ≡ false → (m behind : List ℕ) → IsMessage room m → rest ≡ m ++ behind → ⊥
 none_by_part room rest part m behind is e =
     let whole = ap is_whole e ∙ whole_in room m behind is in
     cc (whole, part)
 
 -- a stream that has ended says so
-says_ended : (room : ℕ) (bytes : List ℕ) (messages : List (List ℕ)) (stream : Stream) (coming : List ℕ) (error : StreamError)
+pub says_ended : (room : ℕ) (bytes : List ℕ) (messages : List (List ℕ)) (stream : Stream) (coming : List ℕ) (error : StreamError)
     → bytes ≡ concat messages ++ (stream.pending ++ coming) → All (IsMessage room) messages → stream.offset ≡ offset_of (length (concat messages))
     → Ended room stream coming error → stream.error ≡ Some error → Says room bytes messages stream.error
 says_ended room bytes messages stream coming error joins each at ended e =

@@ -1,9 +1,9 @@
 -- Pieces of a stream, one after another: what they yield, and where it stops.
-use Rattle.std.specs.Prelude.{◌≡◌, ℕ, ◌⊎◌, List, [], ◌∷◌, ◌++◌, length, drop, Option, None, Some, IsSome, option_map, Result, Ok, Err}
+use Rattle.std.specs.Prelude.{◌≡◌, ℕ, ◌⊎◌, false, List, [], ◌∷◌, ◌++◌, length, drop, Option, None, Some, IsSome, option_map, Result, Ok, Err}
 use Rattle.std.specs.List.{concat}
 use Rattle.stun_framing.specs.declared.error.StreamError.{StreamError}
 use Rattle.stun_framing.specs.Framing.{IsCut, stream_fault}
-use Rattle.stun_framing.specs.Streams.{Stream, offset_of, answer, left}
+use Rattle.stun_framing.specs.Streams.{Stream, is_whole, offset_of, answer, left}
 
 -- how many bytes of a piece are taken
 abbrev pub taken_of : Result ℕ StreamError → ℕ
@@ -62,3 +62,13 @@ pub record Says (room : ℕ) (bytes : List ℕ) (messages : List (List ℕ)) (er
   pub rest : List ℕ
   pub cut : IsCut room bytes messages rest
   pub error_is : error ≡ ending room messages rest
+
+-- so much of a stream has come: these messages, and then the pending bytes of one that isn't whole
+pub record HasCome (room : ℕ) (bytes : List ℕ) (messages : List (List ℕ)) (stream : Stream)
+    : Type 0 where
+  pub cut : IsCut room bytes messages stream.pending
+  pub room_is : stream.room ≡ room
+  pub offset_is : stream.offset ≡ offset_of (length (concat messages))
+  pub running : stream.error ≡ None
+  pub sound : stream_fault room stream.pending ≡ None
+  pub part : is_whole stream.pending ≡ false
