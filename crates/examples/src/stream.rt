@@ -1,6 +1,7 @@
 //! Messages in the bytes of a stream, as TCP and TLS carry them (RFC 8489, section 6.2.2).
 
-use stun_types::message::{Message, StunParseError, message_length};
+use stun_framing::{MessageStream, StreamError};
+use stun_types::message::{Message, MessageClass, StunParseError, message_length};
 
 /// The first message in a buffer that holds the bytes of a stream, and the bytes behind it; `None`
 /// where more of the message has yet to come.
@@ -13,4 +14,27 @@ pub fn first_message(buffer: &[u8]) -> Result<Option<(Message<'_>, &[u8])>, Stun
     }
     let (prefix, behind) = buffer.split_at(length);
     Ok(Some((Message::from_bytes(prefix)?, behind)))
+}
+
+/// Whether these bytes are a request.
+fn is_request(bytes: &[u8]) -> bool {
+    match Message::from_bytes(bytes) {
+        Ok(message) => message.has_class(MessageClass::Request),
+        Err(_) => false,
+    }
+}
+
+/// Takes a received piece of a stream, and counts the requests that it makes whole. The stream keeps
+/// what has come of a message until the rest of it comes.
+pub fn requests_in(stream: &mut MessageStream<'_>, piece: &[u8]) -> Result<usize, StreamError> {
+    let mut requests: usize = 0;
+    let mut rest = piece;
+    while !rest.is_empty() {
+        let taken = stream.push(rest)?;
+        rest = &rest[taken..];
+        if stream.message().is_some_and(is_request) {
+            requests = requests.saturating_add(1);
+        }
+    }
+    Ok(requests)
 }

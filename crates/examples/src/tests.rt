@@ -5,10 +5,11 @@ mod vectors;
 use crate::client::{mapped_address, request_in, signed_request};
 use crate::own::{Location, Session, Version};
 use crate::server::User;
-use crate::stream::first_message;
+use crate::stream::{first_message, requests_in};
 use crate::{printer, server};
 use std::net::{IpAddr, Ipv4Addr, SocketAddr};
 use std::test::Fail;
+use stun_framing::MessageStream;
 use stun_types::message::{
     BINDING, Message, MessageClass, MessageType, MessageWriteVec, StunWriteError, TransactionId,
 };
@@ -161,5 +162,13 @@ fn stream_is_cut_into_messages(rt: HostRuntime) -> Result<(), Fail> {
     }
     assert!(rt; bytes.is_empty());
     assert!(rt; first_message(b"\xFF").is_err());
+    let mut buffer = [0; 128];
+    let mut messages = MessageStream::new(&mut buffer);
+    let mut requests: usize = 0;
+    for piece in stream.chunks(11) {
+        requests = requests.saturating_add(requests_in(&mut messages, piece)?);
+    }
+    assert!(rt; requests == 2 && messages.pending().is_empty());
+    assert!(rt; requests_in(&mut messages, b"\xFF").is_err());
     Ok(())
 }

@@ -1,0 +1,6 @@
+mod FramingLemmas
+mod GatheringLemmas
+mod StreamsLemmas
+mod CutsLemmas
+mod RunsLemmas
+pub mod ComingLemmas

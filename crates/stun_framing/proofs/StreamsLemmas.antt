@@ -1,0 +1,208 @@
+-- What a piece leaves, by the fields of a stream.
+use Rattle.std.proofs.Common.{◌≡◌, ℕ, ◌+◌, ◌-◌, ◌<◌, ◌≤◌, Bool, true, false, List, [], ◌++◌, length, take, min, Option, Some, None, Ok, Err, refl, sym, ap, subst, ◌∙◌, inl, inr, arith}
+use Rattle.std.specs.Prelude.{if◌then◌else◌, option_map}
+use Rattle.std.proofs.lemmas.Bool.{cases_lt, cases_Bool, eqb-true, eq-eqb, ne_eqb}
+use Rattle.std.proofs.lemmas.List.{length-append, length-take}
+use Rattle.stun_grammar.specs.Headers.{begins}
+use Rattle.stun_framing.specs.declared.error.StreamFault.{StreamFault}
+use Rattle.stun_framing.specs.declared.error.StreamError.{StreamError}
+use Rattle.stun_framing.specs.declared.gather.Kept.{Kept}
+use Rattle.stun_framing.specs.Framing.{stated_length, stream_fault}
+use Rattle.stun_framing.specs.Gathering.{wanted_for, IsKept, HoldsFirst, Refuses}
+use Rattle.stun_framing.specs.Streams.{Stream, is_whole, of_first, offset_of, answer_of, with_bytes, left_of, answer, left}
+use Rattle.stun_framing.specs.Fields.{is_all, pending_of, offset_behind, stream_of, IsStream}
+use Rattle.stun_framing.proofs.FramingLemmas.{first_is, kept_of, wanted_long, wanted_short, least_wanted, wanted_stays, whole_wanted, whole_if, not_whole}
+
+-- ---- Streams by their fields
+
+-- streams are the same if their fields are
+same_stream : (a b : Stream) → a.room ≡ b.room → a.offset ≡ b.offset → a.pending ≡ b.pending → a.message ≡ b.message → a.error ≡ b.error → a ≡ b
+same_stream a b room offset pending message error =
+    λ i. record { room = room i; offset = offset i; pending = pending i; message = message i; error = error i }
+
+-- ---- Before a piece
+
+-- nothing of a message
+pub nothing_faults : (room : ℕ) → stream_fault room [] ≡ None
+unfolding stream_fault begins
+nothing_faults room = refl
+
+pub nothing_kept : (room : ℕ) → 20 ≤ room → IsKept room [] 20
+nothing_kept room least = record { sound = nothing_faults room; wanted_is = refl; within = omega arith; fits = least }
+
+pub begun_is : (buffer : List ℕ) → 20 ≤ length buffer → IsStream buffer (record { held = 0; wanted = 20 }) None
+begun_is buffer least = record { room = least; bound = omega arith; sound = nothing_kept (length buffer) least; ended = λ there. omega arith }
+
+-- what is kept of a message that isn't whole
+pub record IsPending (buffer : List ℕ) (kept : Kept) : Type 0 where
+  pub bound : kept.held < kept.wanted
+  pub within : kept.held ≤ length buffer
+  pub sound : IsKept (length buffer) (take kept.held buffer) kept.wanted
+
+part_pending : (buffer : List ℕ) (kept : Kept) (error : Option StreamError) → IsStream buffer kept error → (kept.held ≡ kept.wanted → ⊥) → IsPending buffer kept
+part_pending buffer kept error is part = record {
+  bound = omega (arith, is.sound.within, is.bound, length-take kept.held buffer, part);
+  within = is.bound;
+  sound = is.sound;
+}
+
+pub pending_is : (buffer : List ℕ) (kept : Kept) (error : Option StreamError) → IsStream buffer kept error → IsPending buffer (pending_of kept)
+pending_is buffer kept error is = elim (cases_Bool (is_all kept)) [
+  | inl all ↦ subst (IsPending buffer) (sym (ap (λ (b : Bool). if b then record { held = 0; wanted = 20 } else kept) all))
+      (record { bound = omega arith; within = omega arith; sound = nothing_kept (length buffer) is.room })
+  | inr part ↦ subst (IsPending buffer) (sym (ap (λ (b : Bool). if b then record { held = 0; wanted = 20 } else kept) part))
+      (part_pending buffer kept error is (λ e. let all : is_all kept ≡ true = eq-eqb kept.held kept.wanted e in cc (all, part)))
+]
+
+-- ---- A piece that goes on
+
+-- how many bytes are held of the first message, and whether these are all
+held_is : (b new : List ℕ) (kept : Kept) → HoldsFirst b kept new → kept.held ≡ min (wanted_for b) (length b)
+held_is b new kept holds =
+    omega (arith, ap length holds.bytes, length-take kept.held new, length-take (wanted_for b) b, holds.held)
+
+all_if : (b new : List ℕ) (kept : Kept) → HoldsFirst b kept new → is_all kept ≡ is_whole b
+all_if b new kept holds =
+    let held = held_is b new kept holds in
+    let wanted = holds.wanted in
+    elim (cases_lt (length b) 20) [
+      | inl short ↦
+          let wanted_is = wanted_short b short in
+          ne_eqb kept.held kept.wanted (λ e. omega (arith, e, held, wanted, wanted_is)) ∙ sym (not_whole b (omega arith))
+      | inr long ↦
+          let wanted_is = wanted_long b long in
+          elim (cases_lt (length b) (stated_length b)) [
+            | inl part ↦ ne_eqb kept.held kept.wanted (λ e. omega (arith, e, held, wanted, wanted_is)) ∙ sym (not_whole b part)
+            | inr all ↦ eq-eqb kept.held kept.wanted (omega (arith, held, wanted, wanted_is)) ∙ sym (whole_if b long all)
+          ]
+    ]
+
+first_held : (b new : List ℕ) (kept : Kept) → HoldsFirst b kept new → take kept.held new ≡ of_first b
+first_held b new kept holds = holds.bytes ∙ sym (first_is b)
+
+-- what is held after a piece
+pub gathered_is : (b new : List ℕ) (kept : Kept) → 20 ≤ length new → HoldsFirst b kept new → IsStream new kept None
+gathered_is b new kept least holds = record {
+  room = least;
+  bound = holds.held;
+  sound = subst (λ (xs : List ℕ). IsKept (length new) xs kept.wanted) (sym holds.bytes)
+      (subst (λ (n : ℕ). IsKept (length new) (take (wanted_for b) b) n) (sym holds.wanted) (kept_of (length new) b least holds.sound));
+  ended = λ there. absurd (cc there);
+}
+
+-- the stream after a piece
+with_bytes_is : (b new : List ℕ) (kept : Kept) (stream : Stream) → length new ≡ stream.room → HoldsFirst b kept new → stream.error ≡ None
+    → stream_of new kept (offset_behind stream.offset kept) None ≡ with_bytes stream b
+with_bytes_is b new kept stream same holds running =
+    let all = all_if b new kept holds in
+    let first = first_held b new kept holds in
+    elim (cases_Bool (is_whole b)) [
+      | inl whole ↦
+          let there : is_all kept ≡ true = all ∙ whole in
+          let n : kept.held ≡ stated_length b = omega (arith, eqb-true kept.held kept.wanted there, holds.wanted, whole_wanted b whole) in
+          rw (there, whole) (same_stream _ _ same
+          (ap (λ (k : ℕ). offset_of (stream.offset + k)) n) refl
+          (ap (λ (xs : List ℕ). Some xs) (first ∙ ap (λ (w : Bool). if w then take (stated_length b) b else b) whole)) (sym running))
+      | inr part ↦
+          let away : is_all kept ≡ false = all ∙ part in
+          let held : take kept.held new ≡ b = first ∙ ap (λ (w : Bool). if w then take (stated_length b) b else b) part in
+          rw (away, part) (same_stream _ _ same refl held refl (sym running))
+    ]
+
+refusal_is : (room offset : ℕ) (b : List ℕ) → stream_fault room b ≡ None
+    → option_map {T = StreamFault} {U = StreamError} (λ fault. record { offset = offset; fault = fault }) (stream_fault room b) ≡ None
+refusal_is room offset b sound = ap (option_map {T = StreamFault} {U = StreamError} (λ fault. record { offset = offset; fault = fault })) sound
+
+pub left_is : (old new piece : List ℕ) (kept after : Kept) (offset : ℕ) → length new ≡ length old → HoldsFirst (take (pending_of kept).held old ++ piece) after new
+    → stream_of new after (offset_behind offset after) None ≡ left (stream_of old kept offset None) piece
+left_is old new piece kept after offset same holds =
+    let stream = stream_of old kept offset None in
+    let b = take (pending_of kept).held old ++ piece in
+    let sound : stream_fault (length old) b ≡ None = ap (λ (n : ℕ). stream_fault n b) (sym same) ∙ holds.sound in
+    with_bytes_is b new after stream same holds refl
+    ∙ ap (λ (told : Option StreamError). left_of told stream b) (sym (refusal_is (length old) offset b sound))
+
+pub answer_is : (old new piece : List ℕ) (kept after : Kept) (offset : ℕ) → length new ≡ length old → (pending_of kept).held ≤ length old → HoldsFirst (take (pending_of kept).held old ++ piece) after new
+    → Ok (after.held - (pending_of kept).held) ≡ answer (stream_of old kept offset None) piece
+answer_is old new piece kept after offset same within holds =
+    let before = (pending_of kept).held in
+    let b = take before old ++ piece in
+    let sound : stream_fault (length old) b ≡ None = ap (λ (n : ℕ). stream_fault n b) (sym same) ∙ holds.sound in
+    let held : length (of_first b) ≡ after.held = omega (arith, sym (ap length (first_held b new after holds)), length-take after.held new, holds.held) in
+    let long : length (take before old) ≡ before = omega (arith, within, length-take before old) in
+    let taken : after.held - before ≡ length (of_first b) - length (take before old) = omega (arith, held, long) in
+    ap (λ (n : ℕ). Ok n) taken
+    ∙ ap (λ (told : Option StreamError). answer_of told (length (of_first b) - length (take before old))) (sym (refusal_is (length old) offset b sound))
+
+-- how many bytes of a piece are taken
+pub record Takes (before after : ℕ) (piece : List ℕ) : Type 0 where
+  pub grows : before ≤ after
+  pub bound : after - before ≤ length piece
+  pub some : 0 < length piece → 0 < after - before
+
+-- more bytes are wanted than are pending
+more_wanted : (old piece : List ℕ) (before : Kept) → IsPending old before → before.held < wanted_for (take before.held old ++ piece)
+more_wanted old piece before pending =
+    let h = take before.held old in
+    let long : length h ≡ before.held = omega (arith, pending.within, length-take before.held old) in
+    elim (cases_lt before.held 20) [
+      | inl short ↦ omega (arith, least_wanted (h ++ piece), short)
+      | inr least ↦ omega (arith, wanted_stays h piece (omega (arith, long, least)), pending.bound, pending.sound.wanted_is)
+    ]
+
+pub takes : (old new piece : List ℕ) (before after : Kept) → IsPending old before → HoldsFirst (take before.held old ++ piece) after new → Takes before.held after.held piece
+takes old new piece before after pending holds =
+    let h = take before.held old in
+    let long : length h ≡ before.held = omega (arith, pending.within, length-take before.held old) in
+    let held = held_is (h ++ piece) new after holds in
+    let more = more_wanted old piece before pending in
+    let all : length (h ++ piece) ≡ before.held + length piece = omega (arith, length-append h piece, long) in
+    record {
+      grows = omega (arith, held, more, all);
+      bound = omega (arith, held, more, all);
+      some = λ there. omega (arith, held, more, all);
+    }
+
+-- ---- A piece that ends the stream
+
+refused_is_told : (room offset : ℕ) (b : List ℕ) (fault : StreamFault) → stream_fault room b ≡ Some fault
+    → option_map {T = StreamFault} {U = StreamError} (λ fault. record { offset = offset; fault = fault }) (stream_fault room b) ≡ Some (record { offset = offset; fault = fault })
+refused_is_told room offset b fault e = ap (option_map {T = StreamFault} {U = StreamError} (λ fault. record { offset = offset; fault = fault })) e
+
+-- what is pending isn't whole
+part_of : (kept : Kept) → kept.held < kept.wanted → is_all kept ≡ false
+part_of kept part = ne_eqb kept.held kept.wanted (λ e. omega (arith, e, part))
+
+pub refused_left : (old new piece : List ℕ) (kept : Kept) (offset : ℕ) (fault : StreamFault) → length new ≡ length old → IsPending old (pending_of kept)
+    → Refuses (pending_of kept).held piece fault old new
+    → stream_of new (pending_of kept) offset (Some (record { offset = offset; fault = fault })) ≡ left (stream_of old kept offset None) piece
+refused_left old new piece kept offset fault same pending refuses =
+    let stream = stream_of old kept offset None in
+    let b = take (pending_of kept).held old ++ piece in
+    let error : StreamError = record { offset = offset; fault = fault } in
+    rw (part_of (pending_of kept) pending.bound) (same_stream _ _ same refl refuses.kept refl refl)
+    ∙ ap (λ (told : Option StreamError). left_of told stream b) (sym (refused_is_told (length old) offset b fault refuses.fault_is))
+
+pub refused_answer : (old new piece : List ℕ) (kept : Kept) (offset : ℕ) (fault : StreamFault)
+    → Refuses (pending_of kept).held piece fault old new
+    → Err (record { offset = offset; fault = fault }) ≡ answer (stream_of old kept offset None) piece
+refused_answer old new piece kept offset fault refuses =
+    let b = take (pending_of kept).held old ++ piece in
+    ap (λ (told : Option StreamError). answer_of told (length (of_first b) - length (take (pending_of kept).held old)))
+    (sym (refused_is_told (length old) offset b fault refuses.fault_is))
+
+pub refused_is : (old new piece : List ℕ) (kept : Kept) (fault : StreamFault) (error : StreamError) → length new ≡ length old → 20 ≤ length old → IsPending old kept
+    → Refuses kept.held piece fault old new → IsStream new kept (Some error)
+refused_is old new piece kept fault error same least pending refuses = record {
+  room = omega (arith, same, least);
+  bound = omega (arith, same, pending.within);
+  sound = subst (λ (n : ℕ). IsKept n (take kept.held new) kept.wanted) (sym same)
+      (subst (λ (xs : List ℕ). IsKept (length old) xs kept.wanted) (sym refuses.kept) pending.sound);
+  ended = λ there. pending.bound;
+}
+
+-- ---- A stream that has ended
+
+pub ended_left : (buffer piece : List ℕ) (kept : Kept) (offset : ℕ) (error : StreamError) → IsStream buffer kept (Some error)
+    → stream_of buffer kept offset (Some error) ≡ left (stream_of buffer kept offset (Some error)) piece
+ended_left buffer piece kept offset error is = rw (part_of kept (is.ended refl)) refl

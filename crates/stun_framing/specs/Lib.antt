@@ -1,0 +1,5 @@
+pub mod Framing
+pub mod Streams
+pub mod Runs
+pub mod Gathering
+pub mod Fields

@@ -1,0 +1,71 @@
+-- A stream of which so much has come, and what a further piece leads to.
+use Rattle.std.specs.Prelude.{ℕ, ◌+◌, ◌-◌, ◌^◌, min, Bool, ◌&&◌, List, [], ◌++◌, length, take, nat_le, if◌then◌else◌, Option, None, Some, option_map, Result, Ok, Err}
+use Rattle.std.specs.Option.{option_or}
+use Rattle.stun_framing.specs.declared.error.StreamError.{StreamError}
+use Rattle.stun_framing.specs.Framing.{stated_length, stream_fault}
+
+-- how many bytes the buffer takes, the offset in the stream of the pending bytes, which are those of a
+-- message that isn't whole, the message that the last piece made whole, and how the stream ended
+pub record Stream : Type 0 where
+  pub room : ℕ
+  pub offset : ℕ
+  pub pending : List ℕ
+  pub message : Option (List ℕ)
+  pub error : Option StreamError
+
+-- a stream of which nothing has come
+abbrev pub begun : (room : ℕ) → Stream
+begun room = record { room = room; offset = 0; pending = []; message = None; error = None }
+
+-- ---- One piece
+
+-- the bytes of a message so far, once a piece has come
+abbrev pub joined : Stream → List ℕ → List ℕ
+joined stream piece = stream.pending ++ piece
+
+-- b begins with a whole message, if with any
+abbrev pub is_whole : List ℕ → Bool
+is_whole b = nat_le 20 (length b) && nat_le (stated_length b) (length b)
+
+-- the bytes of b that belong to the message with which it begins
+abbrev pub of_first : List ℕ → List ℕ
+of_first b = if is_whole b then take (stated_length b) b else b
+
+-- an offset of a stream in 64 bits: the greatest one stands for those beyond
+abbrev pub offset_of : ℕ → ℕ
+offset_of n = min n (2 ^ 64 - 1)
+
+-- how the stream ends with a piece, if it does: as it has ended before, or by the bytes so far
+abbrev pub refusal : Stream → List ℕ → Option StreamError
+refusal stream piece = option_or stream.error
+    (option_map (λ fault. record { offset = stream.offset; fault = fault })
+    (stream_fault stream.room (joined stream piece)))
+
+-- a piece is answered by how many of its bytes are taken, or by how the stream ended
+abbrev pub answer_of : Option StreamError → (taken : ℕ) → Result ℕ StreamError
+answer_of None taken = Ok taken
+answer_of (Some error) taken = Err error
+
+abbrev pub answer : Stream → List ℕ → Result ℕ StreamError
+answer stream piece =
+    answer_of (refusal stream piece)
+    (length (of_first (joined stream piece)) - length stream.pending)
+
+-- a stream with these bytes of a message: a whole one is no longer pending
+abbrev pub with_bytes : Stream → List ℕ → Stream
+with_bytes stream b =
+    if is_whole b
+    then record stream {
+      offset = offset_of (stream.offset + stated_length b);
+      pending = [];
+      message = Some (of_first b);
+    }
+    else record stream { pending = b; message = None }
+
+-- the stream that a piece leaves
+abbrev pub left_of : Option StreamError → Stream → List ℕ → Stream
+left_of None stream b = with_bytes stream b
+left_of (Some error) stream b = record stream { message = None; error = Some error }
+
+abbrev pub left : Stream → List ℕ → Stream
+left stream piece = left_of (refusal stream piece) stream (joined stream piece)

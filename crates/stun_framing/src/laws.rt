@@ -1,0 +1,64 @@
+//! Laws of streams. Each function does nothing: its contract is the law.
+
+ghost use Rattle.std.specs.Prelude.{◌≡◌, ℕ, ◌%◌, ◌≤◌, List, [], ◌++◌, length, take, None, Some, Ok, Err};
+ghost use Rattle.stun_grammar.specs.Numbers.{IsBytes};
+ghost use Rattle.stun_grammar.specs.Showing.{frame_fault};
+ghost use Rattle.stun_framing.specs.declared.error.StreamError.{StreamError};
+ghost use Rattle.stun_framing.specs.declared.error.StreamFault.{StreamFault};
+ghost use Rattle.stun_framing.specs.Framing.{IsMessage, IsCut, MayBegin, stream_fault};
+ghost use Rattle.stun_framing.specs.Streams.{Stream, begun, answer, left};
+ghost use Rattle.stun_framing.specs.Runs.{message_in, IsHandedOver, left_by, yielded, IsDone, Says, HasCome};
+
+use crate::message_stream::GREATEST_MESSAGE;
+
+/// However the bytes of a stream are cut into pieces: the messages that the calls yield, and where
+/// and why they stop, are those that the bytes say.
+#[tactic(auto, using(crate::proofs::RunsLemmas::said))]
+pub fn cuts_change_nothing()
+    ensures { (room : ℕ) (bytes : List ℕ) (pieces : List (List ℕ))
+        → IsHandedOver (begun room) bytes pieces → IsDone (begun room) bytes pieces
+        → Says room bytes (yielded (begun room) pieces) (left_by (begun room) pieces).error }
+{}
+
+/// The bytes of a stream are cut into messages and a rest in one way alone.
+pub fn one_cut()
+    ensures { (room : ℕ) (bytes : List ℕ) (messages others : List (List ℕ)) (rest other : List ℕ)
+        → IsCut room bytes messages rest → IsCut room bytes others other
+        → (messages ≡ others) × (rest ≡ other) }
+{}
+
+/// A message of a stream is a header and as many bytes as it states, so that none is refused for its
+/// length; all such bytes are one where their length is a multiple of 4 and the buffer takes them;
+/// and none is longer than [`GREATEST_MESSAGE`](crate::GREATEST_MESSAGE).
+pub fn messages_are_framed()
+    ensures framed { (room : ℕ) (m : List ℕ) → IsMessage room m → frame_fault m ≡ None }
+    ensures taken { (room : ℕ) (m : List ℕ) → frame_fault m ≡ None → length m % 4 ≡ 0
+        → length m ≤ room → IsMessage room m }
+    ensures longest { (room : ℕ) (m : List ℕ) → IsMessage room m → IsBytes m
+        → length m ≤ GREATEST_MESSAGE }
+{}
+
+/// What ends a stream is no beginning of one; and from the fourth byte on, with which the length
+/// field is there, what doesn't end it is.
+#[tactic(auto, using(crate::proofs::CutsLemmas::refused, crate::proofs::CutsLemmas::goes_on))]
+pub fn faults_are_right()
+    ensures refused { (room : ℕ) (b : List ℕ) (fault : StreamFault)
+        → stream_fault room b ≡ Some fault → ¬ (MayBegin room b) }
+    ensures goes_on { (room : ℕ) (b : List ℕ) → 20 ≤ room → 4 ≤ length b
+        → stream_fault room b ≡ None → MayBegin room b }
+{}
+
+/// A call that is answered `Ok` takes the bytes that it says, and yields what they make whole; one
+/// that is refused says what the bytes up to its own say. So a loop over calls may keep how much of
+/// a stream has come, from none on.
+pub fn calls_go_on()
+    ensures none { (room : ℕ) → HasCome room [] [] (begun room) }
+    ensures comes { (room : ℕ) (bytes : List ℕ) (messages : List (List ℕ)) (stream : Stream)
+        (piece : List ℕ) (taken : ℕ) → HasCome room bytes messages stream
+        → answer stream piece ≡ Ok taken
+        → HasCome room (bytes ++ take taken piece)
+        (messages ++ message_in (left stream piece).message) (left stream piece) }
+    ensures stops { (room : ℕ) (bytes : List ℕ) (messages : List (List ℕ)) (stream : Stream)
+        (piece : List ℕ) (error : StreamError) → HasCome room bytes messages stream
+        → answer stream piece ≡ Err error → Says room (bytes ++ piece) messages (Some error) }
+{}

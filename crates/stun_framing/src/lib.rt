@@ -1,0 +1,18 @@
+//! Messages out of a stream of bytes that comes in pieces of any size, as TCP and TLS carry them
+//! (RFC 8489, section 6.2.2).
+//!
+//! A [`MessageStream`] is handed the pieces, and yields each message whole. It has no socket, and it
+//! allocates nothing.
+#![tactic(auto)]
+
+mod error;
+mod fault;
+mod gather;
+mod laws;
+mod message_stream;
+#[cfg(test)]
+mod tests;
+
+pub use error::{StreamError, StreamFault};
+pub use laws::{calls_go_on, cuts_change_nothing, faults_are_right, messages_are_framed, one_cut};
+pub use message_stream::{GREATEST_MESSAGE, MessageStream};

@@ -1,0 +1,181 @@
+//! A stream of messages.
+
+ghost use Rattle.std.specs.Prelude.{◌≡◌};
+ghost use Rattle.stun_framing.specs.Fields.{pending_of, offset_behind};
+
+use crate::error::StreamError;
+use crate::gather::{Kept, NOTHING, gather};
+use std::marker::Model;
+
+/// The greatest length of a message in a stream, in bytes: a buffer of this length takes any.
+///
+/// It is a header and the greatest length field that is a multiple of 4, as it is of every message
+/// (RFC 8489, section 5).
+pub const GREATEST_MESSAGE: usize = 65552;
+
+/// What is kept of a message that isn't whole.
+fn pending_of(kept: Kept) -> Kept
+    ensures { result ≡ pending_of kept }
+{
+    if kept.held == kept.wanted {
+        return NOTHING;
+    }
+    kept
+}
+
+/// The offset of what comes next, where what is kept began at `offset`.
+fn offset_behind(offset: u64, kept: Kept) -> u64
+    ensures { result ≡ offset_behind offset kept }
+{
+    if kept.held == kept.wanted {
+        return offset.saturating_add(kept.held as u64);
+    }
+    offset
+}
+
+/// The messages of a stream of bytes that comes in pieces of any size, as over TCP and TLS: one
+/// behind the other, with nothing between them (RFC 8489, section 6.2.2).
+///
+/// It gathers the bytes of one message at a time in a buffer of the caller's, where each is copied
+/// once, and allocates nothing. What it yields doesn't depend on how the stream was cut.
+///
+/// ```
+/// let mut buffer = [0; GREATEST_MESSAGE];
+/// let mut stream = MessageStream::new(&mut buffer);
+/// // with each piece that is received
+/// let mut rest = piece;
+/// while !rest.is_empty() {
+///     let taken = stream.push(rest)?;
+///     rest = &rest[taken..];
+///     if let Some(message) = stream.message() {
+///         let message = Message::from_bytes(message)?;
+///     }
+/// }
+/// // when the connection has ended
+/// let cut = !stream.pending().is_empty();
+/// ```
+#[derive(Debug, Drop)]
+pub struct MessageStream<'b> {
+    buffer: &'b mut [u8],
+    kept: Kept,
+    offset: u64,
+    error: Option<StreamError>,
+}
+
+impl<'b> Model for MessageStream<'b> {
+    ghost use Rattle.stun_framing.specs.Streams.{Stream};
+    ghost use Rattle.stun_framing.specs.Fields.{stream_of, IsStream};
+
+    ghost Value = { Stream };
+
+    ghost view = { λ s. stream_of s.buffer.now s.kept s.offset s.error };
+
+    ghost invariant = { λ s. IsStream s.buffer.now s.kept s.error };
+}
+
+impl<'b> MessageStream<'b> {
+    ghost use Rattle.std.specs.Prelude.{◌≡◌, ◌≤◌, ◌<◌, length, Some, None, IfOk, IfSome, MatchOption};
+    ghost use Rattle.stun_framing.specs.Framing.{IsMessage};
+    ghost use Rattle.stun_framing.specs.Streams.{begun, answer, left};
+
+    /// A stream of which nothing has come. What `buffer` holds doesn't matter; messages that are
+    /// longer than it end the stream.
+    ///
+    /// # Requires
+    ///
+    /// `buffer` has at least twenty bytes, those of a header.
+    pub fn new(buffer: &'b mut [u8]) -> MessageStream<'b>
+        requires { 20 ≤ length buffer.old }
+        ensures { result ≡ begun (length buffer.old) }
+    {
+        MessageStream {
+            buffer,
+            kept: NOTHING,
+            offset: 0,
+            error: None,
+        }
+    }
+
+    /// Takes the bytes at the start of `piece` that belong to the message that is coming, and
+    /// returns how many these are. [`MessageStream::message`] then has the message, if they made it
+    /// whole. The next piece begins with the first byte that wasn't taken.
+    ///
+    /// All of `piece` is taken, unless a message ends before, and at least one byte where there is
+    /// one. A message that an earlier call made whole is gone.
+    ///
+    /// # Errors
+    ///
+    /// No message begins where one had to: the stream has ended, and each further call answers this
+    /// error, and changes nothing. It is answered with the first byte that shows it, whatever
+    /// follows:
+    ///
+    /// - `NotStun` with the first byte, or with one of the magic cookie, the fifth to the eighth;
+    /// - `NotPadded` or else `TooLong` with the fourth byte, the last of the length field.
+    pub fn push(&mut self, piece: &[u8]) -> Result<usize, StreamError>
+        ensures answer { result ≡ answer self.old piece.now }
+        ensures left { self.new ≡ left self.old piece.now }
+        ensures bound { IfOk result (λ taken. taken ≤ length piece.now) }
+        ensures progress { IfOk result (λ taken. 0 < length piece.now → 0 < taken) }
+    {
+        if let Some(error) = self.error {
+            return Err(error);
+        }
+        let pending = pending_of(self.kept);
+        match gather(self.buffer, pending, piece) {
+            Ok(kept) => {
+                self.offset = offset_behind(self.offset, kept);
+                self.kept = kept;
+                Ok(kept.held - pending.held)
+            }
+            Err(fault) => {
+                let error = StreamError {
+                    offset: self.offset,
+                    fault,
+                };
+                self.kept = pending;
+                self.error = Some(error);
+                Err(error)
+            }
+        }
+    }
+
+    /// The bytes of the message that the last call of [`MessageStream::push`] made whole: a header
+    /// and as many bytes as it states. The rest of a message is for `Message::from_bytes` to judge.
+    ///
+    /// `None` where that call left a message pending or was refused, and before the first one.
+    pub fn message(&self) -> Option<&[u8]>
+        ensures is { MatchOption result (self.now.message ≡ None)
+            (λ message. self.now.message ≡ Some message.now) }
+        ensures whole { IfSome result (λ message. IsMessage self.now.room message.now) }
+    {
+        if self.kept.held < self.kept.wanted {
+            return None;
+        }
+        Some(&self.buffer[..self.kept.held])
+    }
+
+    /// The bytes that have come of a message that isn't whole. Where there are none, the stream may
+    /// end here; else it was cut within a message.
+    ///
+    /// Once the stream has ended by an error, these are the bytes before the refused piece.
+    pub fn pending(&self) -> &[u8]
+        ensures { result.now ≡ self.now.pending }
+    {
+        &self.buffer[..pending_of(self.kept).held]
+    }
+
+    /// The offset in the stream at which the pending bytes begin, or the next byte where there are
+    /// none: the lengths of all messages that were yielded. `u64::MAX` where they are more.
+    pub fn offset(&self) -> u64
+        ensures { result ≡ self.now.offset }
+    {
+        self.offset
+    }
+
+    /// How the stream ended, if it did: the error that [`MessageStream::push`] answers.
+    pub fn error(&self) -> Option<StreamError>
+        ensures { result ≡ self.now.error }
+    {
+        self.error
+    }
+}

@@ -1,0 +1,147 @@
+//! Streams that are cut anywhere, in a buffer of 32 bytes.
+
+ghost use Rattle.std.specs.Prelude.{◌<◌};
+
+use crate::StreamFault::{NotPadded, NotStun, TooLong};
+use crate::{MessageStream, StreamError, StreamFault};
+use std::test::Fail;
+
+const SHORT: &[u8] = b"\x00\x01\x00\x00\x21\x12\xA4\x42abcdefghijkl";
+
+const LONGER: &[u8] =
+    b"\x01\x01\x00\x08\x21\x12\xA4\x42bcdefghijklm\x00\x24\x00\x04\x6E\x00\x01\xFF";
+
+const LONGEST: &[u8] = b"\x3F\xFF\x00\x0C\x21\x12\xA4\x42cdefghijklmn\x80\x22\x00\x08somebody";
+
+/// Whether this message is at a place among others.
+fn is_at(place: usize, messages: &[&[u8]], message: &[u8]) -> bool {
+    match messages.get(place) {
+        Some(wanted) => *wanted == message,
+        None => false,
+    }
+}
+
+/// Whether a stream yields these messages, and then ends so or has so many bytes pending, where its
+/// bytes come in pieces of `size`.
+fn yields(
+    bytes: &[u8],
+    size: usize,
+    messages: &[&[u8]],
+    pending: usize,
+    end: Option<StreamError>,
+) -> bool
+    requires { 0 < size }
+{
+    let mut buffer = [0xEE; 32];
+    let mut stream = MessageStream::new(&mut buffer);
+    let mut count: usize = 0;
+    let mut same = true;
+    for piece in bytes.chunks(size) {
+        let mut rest = piece;
+        while !rest.is_empty() {
+            let Ok(taken) = stream.push(rest) else {
+                break;
+            };
+            rest = &rest[taken..];
+            if let Some(message) = stream.message() {
+                same &= is_at(count, messages, message);
+                count = count.saturating_add(1);
+            }
+        }
+    }
+    let is_over = end.is_some() || stream.pending().len() == pending;
+    same && count == messages.len() && stream.error() == end && is_over
+}
+
+#[test]
+fn cut_anywhere(rt: HostRuntime) -> Result<(), Fail> {
+    let none: &[&[u8]] = &[];
+    let rows: [(&str, &[&[u8]], &[u8], Option<StreamFault>); 14] = [
+        ("nothing", none, b"", None),
+        ("three messages", &[SHORT, LONGER, LONGEST], b"", None),
+        ("a cut message", &[LONGER, SHORT], &LONGEST[..31], None),
+        ("a cut header", &[LONGEST], &LONGER[..19], None),
+        ("a length field cut", &[SHORT], b"\x00\x01\x00", None),
+        ("a cookie cut", none, b"\x3F\xFF\x00\x0C\x21\x12\xA4", None),
+        ("another protocol", none, b"GET / HTTP/1.1", Some(NotStun)),
+        ("a first byte of 64", &[SHORT], b"\x40", Some(NotStun)),
+        (
+            "a cookie's first byte",
+            &[SHORT],
+            b"\x00\x01\x00\x00\x20",
+            Some(NotStun),
+        ),
+        (
+            "its last byte",
+            &[LONGER],
+            b"\x00\x01\x00\x00\x21\x12\xA4\x43",
+            Some(NotStun),
+        ),
+        (
+            "a length field of 6",
+            &[SHORT],
+            b"\x00\x01\x00\x06",
+            Some(NotPadded(6)),
+        ),
+        (
+            "TLS",
+            none,
+            b"\x16\x03\x01\x02\x00\x01\x00",
+            Some(NotPadded(258)),
+        ),
+        (
+            "four bytes too many",
+            &[SHORT],
+            b"\x00\x01\x00\x10",
+            Some(TooLong(36)),
+        ),
+        (
+            "the greatest length",
+            none,
+            b"\x00\x01\xFF\xFC",
+            Some(TooLong(65552)),
+        ),
+    ];
+    for (name, messages, rest, fault) in rows {
+        let mut bytes = Vec::new(rt.alloc());
+        for message in messages {
+            bytes.extend_from_slice(message)?;
+        }
+        let offset = bytes.len() as u64;
+        let end = fault.map(|fault| StreamError { offset, fault });
+        bytes.extend_from_slice(rest)?;
+        for size in 1..=bytes.len().max(1) {
+            let right = yields(&bytes, size, messages, rest.len(), end);
+            assert!(rt; right, "{name}, in pieces of {size}");
+        }
+    }
+    Ok(())
+}
+
+#[test]
+fn calls(rt: HostRuntime) -> Result<(), Fail> {
+    let refused = StreamError {
+        offset: 48,
+        fault: NotStun,
+    };
+    let none: &[u8] = b"";
+    let rows: [(&[u8], Result<usize, StreamError>, Option<&[u8]>, &[u8], u64); 9] = [
+        (b"", Ok(0), None, none, 0),
+        (SHORT, Ok(20), Some(SHORT), none, 20),
+        (b"", Ok(0), None, none, 20),
+        (&LONGER[..27], Ok(27), None, &LONGER[..27], 20),
+        (b"\xFFmore", Ok(1), Some(LONGER), none, 48),
+        (b"more", Err(refused), None, none, 48),
+        (SHORT, Err(refused), None, none, 48),
+        (b"", Err(refused), None, none, 48),
+        (b"\x00", Err(refused), None, none, 48),
+    ];
+    let mut buffer = [0; 32];
+    let mut stream = MessageStream::new(&mut buffer);
+    for (piece, answer, message, pending, offset) in rows {
+        assert!(rt; stream.push(piece) == answer && stream.error() == answer.err());
+        assert!(rt; stream.message() == message);
+        assert!(rt; stream.pending() == pending && stream.offset() == offset);
+    }
+    Ok(())
+}
