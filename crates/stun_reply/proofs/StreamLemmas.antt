@@ -17,32 +17,16 @@ use Rattle.stun_streams.specs.Streams.{WritesPart}
 use Rattle.stun_streams.proofs.KnownBytesLemmas.{Consumes-append, Appends-append, Appends-keep}
 use Rattle.stun_reply.specs.declared.stream.StreamEnd.{StreamEnd}
 use Rattle.stun_reply.specs.declared.stream.StreamEnd.TheVariants.{Complete, Cut, NoMessage, ReadFailed, WriteFailed, NoMemory}
-use Rattle.stun_reply.specs.StreamRun.{room, answers_to, answer_to, Serves, ReadsFirst, AnswersFirst, EndsStream}
+use Rattle.stun_reply.specs.StreamRun.{room, answers_to, answer_to, Serves, ReadsFirst, EndsStream}
 use Rattle.stun_reply.specs.StreamSteps.{end_of, Gives, Takes, Stops, Serving}
 
 -- ---- Known bytes
-
-keeps_same : (a : Option (List ℕ)) → Keeps a a
-keeps_same None = tt
-keeps_same (Some x) = refl
-
-pub keeps_on : (a b c : Option (List ℕ)) → Keeps a b → Keeps b c → Keeps a c
-keeps_on None b c p q = tt
-keeps_on (Some x) None c p q = absurd p
-keeps_on (Some x) (Some y) None p q = absurd q
-keeps_on (Some x) (Some y) (Some z) p q = q ∙ p
 
 pub consumes_behind : (a b c : Option (List ℕ)) (xs : List ℕ) → Keeps a b → Consumes b c xs → Consumes a c xs
 consumes_behind None b c xs p q = tt
 consumes_behind (Some x) None c xs p q = absurd p
 consumes_behind (Some x) (Some y) None xs p q = absurd q
 consumes_behind (Some x) (Some y) (Some z) xs p q = sym p ∙ q
-
-consumes_then : (a b c : Option (List ℕ)) (xs : List ℕ) → Consumes a b xs → Keeps b c → Consumes a c xs
-consumes_then None b c xs p q = tt
-consumes_then (Some x) None c xs p q = absurd p
-consumes_then (Some x) (Some y) None xs p q = absurd q
-consumes_then (Some x) (Some y) (Some z) xs p q = p ∙ ap (λ (zs : List ℕ). xs ++ zs) (sym q)
 
 consumes_none : (a : Option (List ℕ)) → Consumes a a []
 consumes_none None = tt
@@ -111,27 +95,6 @@ reads_first source left left' held held' stream behind serving = record {
   joined = ap (λ (xs : List ℕ). xs ++ behind) serving.come.cut.joined ∙ append_assoc (concat serving.messages) stream.pending behind;
   each = serving.come.cut.each;
 }
-
--- these are answered
-pub answered : (source : SocketAddr) (left left' held held' : Option (List ℕ)) (stream : Stream) (behind : List ℕ)
-    → Serving source left left' held held' stream behind → AnswersFirst source left left' held held'
-answered source left left' held held' stream behind serving =
-    (serving.messages, reads_first source left left' held held' stream behind serving, serving.written)
-
-pub read_failed : (source : SocketAddr) (left mid new held held' : Option (List ℕ)) (stream : Stream) (behind : List ℕ)
-    → Serving source left mid held held' stream behind → Keeps mid new → AnswersFirst source left new held held'
-read_failed source left mid new held held' stream behind serving keeps =
-    let first = reads_first source left mid held held' stream behind serving in (
-      serving.messages,
-      record {
-        input = first.input;
-        rest = first.rest;
-        read = consumes_then left mid new first.input first.read keeps;
-        joined = first.joined;
-        each = first.each;
-      },
-      serving.written,
-    )
 
 -- the input ends
 pub ended : (source : SocketAddr) (left mid new held held' : Option (List ℕ)) (stream : Stream) (behind piece : List ℕ)

@@ -64,10 +64,8 @@ fn datagram_task(address: &str, port: &str) -> Option<Task>
         ((task : Task) → ¬ (IsDatagramTask address.now port.now task))
         (IsDatagramTask address.now port.now) }
 {
-    match source_in(address, port) {
-        Some(source) => Some(Task::Datagram(source)),
-        None => None,
-    }
+    let source = source_in(address, port)?;
+    Some(Task::Datagram(source))
 }
 
 /// The task of a flag, an address and a port.
@@ -79,10 +77,8 @@ fn stream_task(flag: &str, address: &str, port: &str) -> Option<Task>
     if flag != "-s" {
         return None;
     }
-    match source_in(address, port) {
-        Some(source) => Some(Task::Stream(source)),
-        None => None,
-    }
+    let source = source_in(address, port)?;
+    Some(Task::Stream(source))
 }
 
 /// The task that the arguments give: an IP address and a port after the program's name, or `-s` and
