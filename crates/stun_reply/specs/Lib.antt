@@ -1,2 +1,4 @@
 pub mod ReplyRun
+pub mod StreamRun
+pub mod StreamSteps
 pub mod ReplyProgram

@@ -5,9 +5,13 @@ use Rattle.std.specs.Net.Grammar.{IsIpText}
 use Rattle.std.specs.Str.Parse.{IsNumeral, digits_value, without_leading_plus}
 use Rattle.std.specs.declared.net.socket_addr.SocketAddr.{SocketAddr}
 use Rattle.stun_values.specs.Addresses.{IsPlain}
-use Rattle.stun_reply.specs.declared.engine.RunEnd.{RunEnd}
-use Rattle.stun_reply.specs.declared.engine.RunEnd.TheVariants.{Replied, NoReply, Usage, TooLong, ReadFailed, NoMemory}
+use Rattle.stun_reply.specs.declared.engine.RunEnd.TheVariants as Run
+use Rattle.stun_reply.specs.declared.stream.StreamEnd.TheVariants as OfStream
+use Rattle.stun_reply.specs.declared.program.Task.{Task}
+use Rattle.stun_reply.specs.declared.program.End.{End}
+use Rattle.stun_reply.specs.declared.program.End.TheVariants.{Usage, NoMemory, Datagram, Stream}
 use Rattle.stun_reply.specs.ReplyRun.{Ends}
+use Rattle.stun_reply.specs.StreamRun.{EndsStream}
 
 -- ---- The arguments
 
@@ -34,32 +38,59 @@ pub record IsSource (address port : List ℕ) (source : SocketAddr) : Type 0 whe
   pub number : IsPortNumber port (socket_port source)
   pub plain : IsPlain source
 
--- the arguments after the program's name are the address and the port that the datagram came from
-abbrev pub Gives : List (List ℕ) → SocketAddr → Type 0
-Gives (name ∷ address ∷ port ∷ []) source = IsSource address port source
-Gives _ source = ⊥
+-- an address and a port are where a datagram came from
+abbrev pub IsDatagramTask : (address port : List ℕ) → Task → Type 0
+IsDatagramTask address port (Task.Datagram source) = IsSource address port source
+IsDatagramTask address port (Task.Stream source) = ⊥
 
--- what the program has read and written, by its arguments and by how it ended: what a run has with
--- the address that they give, and nothing where they give none
-abbrev pub EndsOn :
-    List (List ℕ) → RunEnd → (left left' held held' : Option (List ℕ)) → Type 0
+-- and behind `-s` where a stream comes from
+abbrev pub IsStreamTask : (flag address port : List ℕ) → Task → Type 0
+IsStreamTask flag address port (Task.Stream source) =
+    (flag ≡ codes "-s") × IsSource address port source
+IsStreamTask flag address port (Task.Datagram source) = ⊥
+
+-- the arguments after the program's name give a task
+abbrev pub Gives : List (List ℕ) → Task → Type 0
+Gives (name ∷ address ∷ port ∷ []) task = IsDatagramTask address port task
+Gives (name ∷ flag ∷ address ∷ port ∷ []) task = IsStreamTask flag address port task
+Gives _ task = ⊥
+
+-- what a task has read and written, by how it ended
+abbrev pub EndsTask : Task → End → (left left' held held' : Option (List ℕ)) → Type 0
+EndsTask (Task.Datagram source) (Datagram end) left left' held held' =
+    Ends source end left left' held held'
+EndsTask (Task.Stream source) (Stream end) left left' held held' =
+    EndsStream source end left left' held held'
+EndsTask _ _ left left' held held' = ⊥
+
+-- what the program has read and written, by its arguments and by how it ended: what the task has
+-- that they give, and nothing where they give none
+abbrev pub EndsOn : List (List ℕ) → End → (left left' held held' : Option (List ℕ)) → Type 0
 EndsOn arguments end left left' held held' =
-    ((source : SocketAddr) × Gives arguments source × Ends source end left left' held held')
-    ⊎ (((source : SocketAddr) → ¬ (Gives arguments source))
+    ((task : Task) × Gives arguments task × EndsTask task end left left' held held')
+    ⊎ (((task : Task) → ¬ (Gives arguments task))
     × (end ≡ Usage) × (left' ≡ left) × (held' ≡ held))
 
 -- ---- How it ended
 
--- the exit status: 0 where a reply was written; 1 where there is none; 2 with every other end
-abbrev pub exit_status : RunEnd → ℕ
-exit_status Replied = 0
-exit_status NoReply = 1
+-- the exit status: 0 where a reply was written, or a stream ended behind a message; 1 where there is
+-- no reply; 3 where no message begins in a stream, and 4 where it is cut; 2 with every other end
+abbrev pub exit_status : End → ℕ
+exit_status (Datagram Run.Replied) = 0
+exit_status (Datagram Run.NoReply) = 1
+exit_status (Stream OfStream.Complete) = 0
+exit_status (Stream (OfStream.NoMessage error)) = 3
+exit_status (Stream (OfStream.Cut offset)) = 4
 exit_status _ = 2
 
--- the line on standard error: for each failure, except a failed write
-abbrev pub last_line : RunEnd → List ℕ
-last_line Usage = codes "usage: stun_reply ADDRESS PORT" ++ 10 ∷ []
-last_line TooLong = codes "input too long" ++ 10 ∷ []
-last_line ReadFailed = codes "read failed" ++ 10 ∷ []
+-- the line on standard error that doesn't depend on the input: for each failure, except a failed
+-- write
+abbrev pub last_line : End → List ℕ
+last_line Usage = codes "usage: stun_reply [-s] ADDRESS PORT" ++ 10 ∷ []
 last_line NoMemory = codes "out of memory" ++ 10 ∷ []
+last_line (Datagram Run.TooLong) = codes "input too long" ++ 10 ∷ []
+last_line (Datagram Run.ReadFailed) = codes "read failed" ++ 10 ∷ []
+last_line (Datagram Run.NoMemory) = codes "out of memory" ++ 10 ∷ []
+last_line (Stream OfStream.ReadFailed) = codes "read failed" ++ 10 ∷ []
+last_line (Stream OfStream.NoMemory) = codes "out of memory" ++ 10 ∷ []
 last_line _ = []

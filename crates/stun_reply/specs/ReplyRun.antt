@@ -8,7 +8,7 @@ use Rattle.stun_streams.specs.Streams.{ReadsAll, ReadsTooMuch, WritesPart}
 use Rattle.stun_streams.specs.declared.InputError.{InputError}
 use Rattle.stun_streams.specs.declared.InputError.TheVariants as Input
 use Rattle.stun_reply.specs.declared.engine.RunEnd.{RunEnd}
-use Rattle.stun_reply.specs.declared.engine.RunEnd.TheVariants.{Replied, NoReply, Usage, TooLong, ReadFailed, WriteFailed, NoMemory}
+use Rattle.stun_reply.specs.declared.engine.RunEnd.TheVariants.{Replied, NoReply, TooLong, ReadFailed, WriteFailed, NoMemory}
 use Rattle.stun_server.specs.Reply.{reply}
 
 -- the whole input is a datagram from an address, to which this is the reply
@@ -41,7 +41,6 @@ Ends source TooLong left left' held held' =
     ReadsTooMuch greatest_length left left' × Keeps held held'
 Ends source ReadFailed left left' held held' = Keeps held held'
 Ends source NoMemory left left' held held' = Keeps held held'
-Ends source Usage left left' held held' = ⊥
 
 -- how the run ends when reading fails
 abbrev pub end_of_input : InputError → RunEnd

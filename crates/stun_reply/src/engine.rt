@@ -17,8 +17,6 @@ pub enum RunEnd {
     Replied,
     /// The datagram deserves no reply.
     NoReply,
-    /// The arguments aren't an address and a port, or couldn't be read.
-    Usage,
     /// The input is longer than a message may be.
     TooLong,
     /// A read failed.
@@ -50,7 +48,7 @@ fn end_without_input(e: InputError) -> RunEnd
 /// none, and nothing was written. It ends with `WriteFailed` where a prefix of the reply was
 /// written, and then a write failed or took no bytes. With every other end nothing was written:
 /// `TooLong` where there are more than 65555 bytes to read, `ReadFailed` where a read failed,
-/// `NoMemory` where an allocation failed. It never ends with `Usage`.
+/// `NoMemory` where an allocation failed.
 pub fn run<R: Read, W: Write>(
     alloc: Global,
     source: SocketAddr,

@@ -1,11 +1,12 @@
 //! Answers the STUN request on standard input, which came from the address and the port that the
-//! arguments give.
+//! arguments give, or with `-s` each request of a stream.
 #![tactic(auto)]
 
 mod engine;
 mod program;
+mod stream;
 
-use program::{end_without_arguments, run_on, status_of};
+use program::{end_without_arguments, run_on, status_of, tell_offset};
 use std::env;
 use std::io::Write;
 use std::process::ExitCode;
@@ -17,5 +18,6 @@ fn main(rt: HostRuntime) -> ExitCode {
     };
     let (status, line) = status_of(end);
     let _ = rt.stderr().write_all(line.as_bytes());
+    let _ = tell_offset(end, &mut rt.stderr());
     ExitCode::from(status)
 }

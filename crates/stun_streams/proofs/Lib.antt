@@ -1,1 +1,1 @@
-mod KnownBytesLemmas
+pub mod KnownBytesLemmas
