@@ -49,8 +49,8 @@ field_refusal room n =
 abbrev pub length_refusal : (room : ℕ) → List ℕ → Option StreamFault
 length_refusal room b = if nat_lt (length b) 4 then None else field_refusal room (length_field b)
 
--- why no message begins with b, whatever follows it, by the first byte that shows it: one of the
--- first four, the last of these with the length field, or one of the magic cookie
+-- why no message begins with b, whatever follows it, by the first byte that shows it: the first one,
+-- the fourth, with which the length field is there, or one of the magic cookie
 unfoldable pub stream_fault : (room : ℕ) → List ℕ → Option StreamFault
 stream_fault room b =
     option_or (header_refusal (take 4 b)) (option_or (length_refusal room b) (header_refusal b))

@@ -21,7 +21,7 @@ fn may_begin(bytes: &[u8]) -> bool
     }
 }
 
-/// That no header begins with these bytes.
+/// Why no header begins with these bytes, whatever follows them.
 fn header_refusal(bytes: &[u8]) -> Option<StreamFault>
     ensures { result ≡ header_refusal bytes.now }
 {
@@ -31,7 +31,7 @@ fn header_refusal(bytes: &[u8]) -> Option<StreamFault>
     Some(StreamFault::NotStun)
 }
 
-/// That no message for which there is room has this length field.
+/// Why no message for which there is room has this length field.
 fn field_refusal(room: usize, field: u16) -> Option<StreamFault>
     ensures { result ≡ field_refusal room field }
 {
