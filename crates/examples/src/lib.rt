@@ -2,9 +2,9 @@
 #![tactic(auto)]
 
 pub mod client;
+pub mod login;
 pub mod own;
 pub mod printer;
-pub mod server;
 pub mod stream;
 #[cfg(test)]
 mod tests;

@@ -3,13 +3,15 @@
 mod vectors;
 
 use crate::client::{mapped_address, request_in, signed_request};
+use crate::login::login_request;
 use crate::own::{Location, Session, Version};
-use crate::server::User;
+use crate::printer;
 use crate::stream::{first_message, requests_in};
-use crate::{printer, server};
 use std::net::{IpAddr, Ipv4Addr, SocketAddr};
 use std::test::Fail;
+use stun_authentication::{NoRetry, challenge_of};
 use stun_framing::MessageStream;
+use stun_types::attribute::PasswordAlgorithmValue;
 use stun_types::message::{
     BINDING, Message, MessageClass, MessageType, MessageWriteVec, StunWriteError, TransactionId,
 };
@@ -36,6 +38,12 @@ static BARE: [u8; 28] = [
 static BARE_IN_A_SLICE: [u8; 30] = [
     0x00, 0x01, 0x00, 0x08, 0x21, 0x12, 0xA4, 0x42, 0x00, 0x00, 0x00, 0x00, 0x00, 0x00, 0x00, 0x00,
     0x00, 0x00, 0x03, 0xE8, 0x80, 0x28, 0x00, 0x04, 0x37, 0x56, 0xC0, 0x7F, 0xFF, 0xFF,
+];
+
+/// The password algorithms of a client that supports both.
+static BOTH: [PasswordAlgorithmValue; 2] = [
+    PasswordAlgorithmValue::MD5,
+    PasswordAlgorithmValue::SHA256,
 ];
 
 /// Where the requests come from.
@@ -67,50 +75,96 @@ fn client_asks_and_reads(rt: HostRuntime) -> Result<(), Fail> {
 }
 
 #[test]
-fn server_replies(rt: HostRuntime) -> Result<(), Fail> {
+fn login_answers(rt: HostRuntime) -> Result<(), Fail> {
     let alloc = rt.alloc();
-    let user = User::new(alloc, "user", "pass", "example.org")?;
-    let rows: [(&str, &[u8], &[u8]); 8] = [
-        ("unsigned", &vectors::UNSIGNED, &vectors::UNAUTHORIZED),
+    let rows: [(&str, &[u8], &[u8]); 3] = [
+        ("by name", &vectors::CHALLENGE, &vectors::ANSWER),
         (
-            "without nonce",
-            &vectors::WITHOUT_NONCE,
-            &vectors::BAD_REQUEST,
+            "by hash",
+            &vectors::CHALLENGE_BY_HASH,
+            &vectors::ANSWER_BY_HASH,
         ),
         (
-            "of another user",
-            &vectors::OF_ANOTHER_USER,
-            &vectors::UNAUTHORIZED,
-        ),
-        (
-            "with a wrong HMAC",
-            &vectors::WITH_A_WRONG_HMAC,
-            &vectors::UNAUTHORIZED,
-        ),
-        (
-            "with an old nonce",
-            &vectors::WITH_AN_OLD_NONCE,
-            &vectors::STALE_NONCE,
-        ),
-        (
-            "with PRIORITY",
-            &vectors::WITH_PRIORITY,
-            &vectors::UNKNOWN_ATTRIBUTE,
-        ),
-        ("signed", &vectors::SIGNED, &vectors::SUCCESS),
-        (
-            "with SHA-256",
-            &vectors::SIGNED_WITH_SHA256,
-            &vectors::SUCCESS_WITH_SHA256,
+            "without a list",
+            &vectors::STALE_WITHOUT_A_LIST,
+            &vectors::ANSWER_WITHOUT_A_LIST,
         ),
     ];
-    for (name, request, expected) in rows {
-        let reply = server::reply(alloc, &user, "one", source(), request)?;
-        assert!(rt; reply.as_deref() == Some(expected), "{name}");
+    for (name, response, expected) in rows {
+        let response = Message::from_bytes(response)?;
+        let challenge = challenge_of(&response, &BOTH, None);
+        let challenge = challenge.ok().ok_or("no challenge")?;
+        let request = login_request(alloc, 0x7392, &challenge, "user", "pass")?;
+        assert!(rt; request.as_slice() == expected, "{name}");
     }
-    for datagram in [&vectors::SUCCESS[..], &vectors::UNSIGNED[..19]] {
-        assert!(rt; server::reply(alloc, &user, "one", source(), datagram)?.is_none());
+    Ok(())
+}
+
+/// Why a client that has answered a challenge, and then gets this response, doesn't ask again.
+fn refusal(response: &[u8], supported: &[PasswordAlgorithmValue]) -> Option<NoRetry> {
+    let before = Message::from_bytes(&vectors::CHALLENGE).ok()?;
+    let before = challenge_of(&before, &BOTH, None).ok()?;
+    let response = Message::from_bytes(response).ok()?;
+    challenge_of(&response, supported, Some(before)).err()
+}
+
+#[test]
+fn login_stops(rt: HostRuntime) -> Result<(), Fail> {
+    let md5 = [PasswordAlgorithmValue::MD5];
+    let sha256 = [PasswordAlgorithmValue::SHA256];
+    let rows: [(&str, &[u8], &[PasswordAlgorithmValue], Option<NoRetry>); 9] = [
+        (
+            "success",
+            &vectors::SUCCESS,
+            &BOTH,
+            Some(NoRetry::NotAChallenge),
+        ),
+        (
+            "a promised list is gone",
+            &vectors::CHALLENGE_WITHOUT_THE_LIST,
+            &BOTH,
+            Some(NoRetry::BidDown),
+        ),
+        (
+            "list and cookie are gone",
+            &vectors::STALE_WITHOUT_A_LIST,
+            &BOTH,
+            Some(NoRetry::BidDown),
+        ),
+        (
+            "no realm",
+            &vectors::STALE_WITHOUT_A_REALM,
+            &BOTH,
+            Some(NoRetry::BidDown),
+        ),
+        (
+            "unknown algorithm",
+            &vectors::CHALLENGE_OF_OTHERS,
+            &BOTH,
+            Some(NoRetry::NoAlgorithm),
+        ),
+        (
+            "the same realm",
+            &vectors::CHALLENGE,
+            &BOTH,
+            Some(NoRetry::SameCredentials),
+        ),
+        (
+            "another realm",
+            &vectors::CHALLENGE_OF_ANOTHER_REALM,
+            &BOTH,
+            None,
+        ),
+        ("stale", &vectors::STALE, &md5, None),
+        ("stale, and SHA-256 alone", &vectors::STALE, &sha256, None),
+    ];
+    for (name, response, supported, expected) in rows {
+        assert!(rt; refusal(response, supported) == expected, "{name}");
     }
+    let first = Message::from_bytes(&vectors::STALE_WITHOUT_A_REALM)?;
+    assert!(rt; challenge_of(&first, &BOTH, None).err() == Some(NoRetry::Incomplete));
+    let plain = Message::from_bytes(&vectors::STALE_WITHOUT_A_LIST)?;
+    assert!(rt; challenge_of(&plain, &sha256, None).err() == Some(NoRetry::NoAlgorithm));
     Ok(())
 }
 

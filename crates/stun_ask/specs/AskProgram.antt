@@ -7,7 +7,8 @@ use Rattle.stun_ask.specs.declared.ask.Answer.TheVariants.{Mapped, Unmapped, Ref
 use Rattle.stun_ask.specs.declared.engine.RunEnd.{RunEnd}
 use Rattle.stun_ask.specs.declared.engine.RunEnd.TheVariants.{Asked, Answered, Usage, TooLong, ReadFailed, NoMemory}
 use Rattle.stun_ask.specs.declared.program.Task.{Task}
-use Rattle.stun_ask.specs.declared.program.Task.TheVariants.{Ask, Tell}
+use Rattle.stun_ask.specs.declared.program.Verb.{Verb}
+use Rattle.stun_ask.specs.declared.program.Verb.TheVariants.{Request, Response}
 use Rattle.stun_ask.specs.declared.query.Login.{Login}
 use Rattle.stun_ask.specs.declared.query.Query.{Query}
 use Rattle.stun_ask.specs.AskRun.{EndsAsking, EndsTelling}
@@ -35,7 +36,7 @@ pub record IsLogin (user password : List ℕ) (login : Login) : Type 0 where
 -- how the run ends where they are none, or an allocation failed
 abbrev pub IsLoginRefused : (user password : List ℕ) → RunEnd → Type 0
 IsLoginRefused user password Usage = are_user_and_password user password ≡ false
-IsLoginRefused user password NoMemory = Unit {0}
+IsLoginRefused user password NoMemory = are_user_and_password user password ≡ true
 IsLoginRefused user password _ = ⊥
 
 -- the arguments after the transaction ID: a user name and a password, or none
@@ -47,7 +48,7 @@ AreLogin _ login = ⊥
 -- how the run ends where they are neither, or an allocation failed
 abbrev pub AreNoLogin : List (List ℕ) → RunEnd → Type 0
 AreNoLogin others Usage = (login : Option Login) → ¬ (AreLogin others login)
-AreNoLogin others NoMemory = Unit {0}
+AreNoLogin (user ∷ password ∷ []) NoMemory = are_user_and_password user password ≡ true
 AreNoLogin others _ = ⊥
 
 -- a transaction ID, and the arguments after it, tell a query
@@ -55,27 +56,37 @@ pub record IsQuery (id : List ℕ) (others : List (List ℕ)) (query : Query) : 
   pub id_is : IsIdText id query.id
   pub login_is : AreLogin others query.login
 
--- a verb tells what is done with a query
-abbrev pub IsTaskOf : List ℕ → Query → Task → Type 0
-IsTaskOf verb query (Ask asked) = (verb ≡ codes "request") × (asked ≡ query)
-IsTaskOf verb query (Tell asked) = (verb ≡ codes "response") × (asked ≡ query)
+-- a text is a verb
+abbrev pub IsVerb : List ℕ → Verb → Type 0
+IsVerb text Request = text ≡ codes "request"
+IsVerb text Response = text ≡ codes "response"
 
 -- the arguments tell a task: the program's name, a verb, a transaction ID, and a login or none
 abbrev pub Gives : List (List ℕ) → Task → Type 0
-Gives (name ∷ verb ∷ id ∷ others) task =
-    (query : Query) × IsQuery id others query × IsTaskOf verb query task
+Gives (name ∷ verb ∷ id ∷ others) task = IsVerb verb task.verb × IsQuery id others task.query
 Gives _ task = ⊥
 
--- how the run ends where the arguments give no task, or an allocation failed
+-- a verb, a transaction ID, a user name and a password, which want memory for the key
+pub record WantsMemory (verb id user password : List ℕ) : Type 0 where
+  pub verb_is : (told : Verb) × IsVerb verb told
+  pub id_is : (number : ℕ) × IsIdText id number
+  pub fits : are_user_and_password user password ≡ true
+
+-- how the run ends where the arguments give no task; or they do, with a login, and an allocation
+-- failed
 abbrev pub IsRefused : List (List ℕ) → RunEnd → Type 0
 IsRefused arguments Usage = (task : Task) → ¬ (Gives arguments task)
-IsRefused arguments NoMemory = Unit {0}
+IsRefused (name ∷ verb ∷ id ∷ user ∷ password ∷ []) NoMemory = WantsMemory verb id user password
 IsRefused arguments _ = ⊥
 
--- what the program has read and written, by its task and by how it ended
+-- what the program has read and written, by what it is to do and by how it ended
+abbrev pub EndsVerb : Verb → Query → RunEnd → (left left' held held' : Option (List ℕ)) → Type 0
+EndsVerb Request query end left left' held held' =
+    EndsAsking query end held held' × (left' ≡ left)
+EndsVerb Response query end left left' held held' = EndsTelling query end left left' held held'
+
 abbrev pub EndsTask : Task → RunEnd → (left left' held held' : Option (List ℕ)) → Type 0
-EndsTask (Ask query) end left left' held held' = EndsAsking query end held held' × (left' ≡ left)
-EndsTask (Tell query) end left left' held held' = EndsTelling query end left left' held held'
+EndsTask task end left left' held held' = EndsVerb task.verb task.query end left left' held held'
 
 -- the same by its arguments: nothing where they are refused
 abbrev pub EndsOn :

@@ -1,10 +1,11 @@
 //! The program: what its arguments mean, and the status that it ends with.
 
-ghost use Rattle.std.specs.Prelude.{◌≡◌, ◌≢◌, ℕ, map, codes, MatchOption, MatchResult};
+ghost use Rattle.std.specs.Prelude.{◌≡◌, ◌≢◌, ℕ, map, MatchOption, MatchResult};
 ghost use Rattle.std.specs.String.{string_bytes};
 ghost use Rattle.std.specs.Vec.Iter.{into_iter_items};
 ghost use Rattle.stun_ask.specs.declared.program.Task.{Task};
-ghost use Rattle.stun_ask.specs.AskProgram.{IsIdText, IsLogin, IsLoginRefused, AreLogin, AreNoLogin, IsTaskOf, Gives, IsRefused, EndsTask, EndsOn, exit_status, last_line};
+ghost use Rattle.stun_ask.specs.declared.program.Verb.{Verb};
+ghost use Rattle.stun_ask.specs.AskProgram.{IsIdText, IsLogin, IsLoginRefused, AreLogin, AreNoLogin, IsVerb, Gives, IsRefused, EndsTask, EndsOn, exit_status, last_line};
 
 use crate::ask::Answer;
 use crate::engine::{RunEnd, ask, tell};
@@ -15,13 +16,20 @@ use std::io::{ErrorKind, Read, Write};
 use stun_types::attribute::Username;
 use stun_types::message::{ShortTermCredentials, StunWriteError, TransactionId};
 
+/// What the program is to do with a query.
+#[derive(Clone, Copy, PartialEq, Eq)]
+pub enum Verb {
+    /// Write the request.
+    Request,
+    /// Read the response to it.
+    Response,
+}
+
 /// What the program is to do.
 #[derive(Drop)]
-pub enum Task {
-    /// Write the request.
-    Ask(Query),
-    /// Read the response to it.
-    Tell(Query),
+pub struct Task {
+    verb: Verb,
+    query: Query,
 }
 
 /// The transaction ID that a text spells in hexadecimal.
@@ -79,16 +87,16 @@ fn login_of(alloc: Global, arguments: Args) -> Result<Option<Login>, RunEnd>
     Ok(Some(login))
 }
 
-/// The task of a verb.
-fn task_in(verb: &str, query: Query) -> Option<Task>
+/// The verb that a text is.
+fn verb_in(text: &str) -> Option<Verb>
     ensures { MatchOption result
-        ((verb.now ≢ codes "request") × (verb.now ≢ codes "response"))
-        (IsTaskOf verb.now query) }
+        ((verb : Verb) → ¬ (IsVerb text.now verb))
+        (IsVerb text.now) }
 {
-    if verb == "request" {
-        Some(Task::Ask(query))
-    } else if verb == "response" {
-        Some(Task::Tell(query))
+    if text == "request" {
+        Some(Verb::Request)
+    } else if text == "response" {
+        Some(Verb::Response)
     } else {
         None
     }
@@ -111,11 +119,15 @@ fn task_of(alloc: Global, arguments: Args) -> Result<Task, RunEnd>
     let Some(id) = arguments.next() else {
         return Err(RunEnd::Usage);
     };
+    let Some(verb) = verb_in(verb.as_str()) else {
+        return Err(RunEnd::Usage);
+    };
     let Some(id) = id_in(id.as_str()) else {
         return Err(RunEnd::Usage);
     };
     let login = login_of(alloc, arguments)?;
-    task_in(verb.as_str(), Query { id, login }).ok_or(RunEnd::Usage)
+    let query = Query { id, login };
+    Ok(Task { verb, query })
 }
 
 /// Does a task. To write the request nothing is read.
@@ -124,9 +136,9 @@ fn run_task<R: Read, W: Write>(alloc: Global, task: Task, reader: &mut R, writer
         (R.remaining reader.old) (R.remaining reader.new)
         (W.contents writer.old) (W.contents writer.new) }
 {
-    match task {
-        Task::Ask(query) => ask(alloc, &query, writer),
-        Task::Tell(query) => tell(alloc, query, reader, writer),
+    match task.verb {
+        Verb::Request => ask(alloc, &task.query, writer),
+        Verb::Response => tell(alloc, task.query, reader, writer),
     }
 }
 

@@ -31,7 +31,8 @@ use Rattle.stun_types.specs.Replies.{Answers, response_type, own_software, error
 use Rattle.stun_transactions.specs.declared.received.Failure.TheVariants as Failure
 use Rattle.stun_transactions.specs.declared.received.Outcome.{Outcome}
 use Rattle.stun_transactions.specs.Receiving.{content, content_by_class}
-use Rattle.stun_transactions.specs.Responses.{is_beyond, first_beyond, shown_code, value_code}
+use Rattle.stun_authentication.specs.Codes.{shown_code, value_code}
+use Rattle.stun_transactions.specs.Responses.{is_beyond, first_beyond}
 use Rattle.stun_server.specs.Reply.{xored_value, success_reply, response, finished, unfinished_reply, binding_reply, reply_by_type, reply}
 use Rattle.stun_server.proofs.SizesLemmas.{reply_for, request_is}
 use Rattle.stun_exchanges.specs.Learning.{IsBindingRequest, Learns, LearnsError}

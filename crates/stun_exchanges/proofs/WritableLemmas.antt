@@ -2,7 +2,6 @@
 use Rattle.std.proofs.Common.{◌≡◌, ℕ, zero, suc, ◌+◌, ◌*◌, ◌^◌, ◌<◌, ◌≤◌, List, [], ◌∷◌, ◌++◌, length, take, drop, Option, Some, None, inl, inr, refl, sym, ap, subst, lit<, arith}
 use Rattle.std.specs.Prelude.{◌⊎◌, fold, is_some, codes, if◌then◌else◌}
 use Rattle.std.specs.declared.net.socket_addr.SocketAddr.{SocketAddr}
-use Rattle.std.proofs.lemmas.Bool.{le-ltb}
 use Rattle.std.proofs.lemmas.List.{append-nil, length-append, length-take, length-drop}
 use Rattle.stun_grammar.specs.declared.attribute_type.AttributeType.{AttributeType}
 use Rattle.stun_grammar.specs.Numbers.{IsBytes}
@@ -14,7 +13,7 @@ use Rattle.stun_grammar.specs.Parsing.{parse_fault}
 use Rattle.stun_grammar.specs.Writing.{message_encoding, IsWritable}
 use Rattle.stun_grammar.specs.Steps.{Step, add, finger, value_length, appended_by}
 use Rattle.stun_grammar.specs.Sending.{MayFollow}
-use Rattle.stun_grammar.specs.Adding.{appended, grown_length, order_refusal, room_refusal}
+use Rattle.stun_grammar.specs.Adding.{appended, order_refusal}
 use Rattle.stun_grammar.proofs.AddingLemmas.{message_more, fingerprint_length}
 use Rattle.stun_grammar.proofs.HeadersLemmas.{header_there}
 use Rattle.stun_grammar.proofs.NumbersLemmas.{IsBytes-take, IsBytes-drop}
@@ -27,6 +26,7 @@ use Rattle.stun_values.specs.TypeLists.{types_encoding}
 use Rattle.stun_values.proofs.ListsLemmas.{length_of_twos}
 use Rattle.stun_types.specs.Replies.{response_type, own_software, unknown_reply}
 use Rattle.stun_server.specs.Reply.{xored_value, success_reply}
+use Rattle.stun_server.proofs.RefusalsLemmas.{no_refusal, software_length, error_length}
 use Rattle.stun_server.proofs.SizesLemmas.{short_value}
 
 -- ---- A transaction ID has ninety-six bits
@@ -52,11 +52,9 @@ id_small r bytes parses =
 -- a step that no attribute before it bars may follow, where the message stays short enough
 follows : (type id : ℕ) (before : List Attribute) (step : Step) → order_refusal step (types before) ≡ None → length (encodings before) + attribute_length (value_length step) ≤ 65535
     → MayFollow type id before step
-unfolding room_refusal
 follows type id before step none short =
-    let len = length (message_encoding type id before) in
     let size = length-message type id before in
-    rw (none, le-ltb len 20 (omega (arith, size)), le-ltb 65555 (grown_length len (value_length step)) (omega (arith, size, short))) refl
+    no_refusal step (types before) (length (message_encoding type id before)) none (omega (arith, size)) (omega (arith, size, short))
 
 -- a reply without its FINGERPRINT may be written, and one may follow
 pub record IsUnfinished (type id : ℕ) (attributes : List Attribute) : Type 0 where
@@ -95,22 +93,19 @@ error_unfinished r x xs few type_fits id_fits =
     let listed = canonical UNKNOWN_ATTRIBUTES value in
     let twos = length_of_twos (x ∷ xs) in
     let small : length value < 2 ^ 16 = omega (arith, twos, few) in
-    let software_is = length-canonical SOFTWARE (codes "stun-types") (lit< tt) (lit< tt) in
-    let error_is = length-canonical ERROR_CODE code (lit< tt) (lit< tt) in
-    let one : length (encodings (own_software ∷ [])) ≡ 16 = omega (arith, software_is, length-append (encoding own_software) []) in
-    let two : length (encodings (own_software ∷ error ∷ [])) ≡ 44 = omega (arith, software_is, error_is, length-append (encoding own_software) (encoding error ++ []), length-append (encoding error) []) in
     let first = step_writable kind id [] (add SOFTWARE (codes "stun-types")) (none_writable kind id type_fits id_fits) (follows kind id [] (add SOFTWARE (codes "stun-types")) refl (omega arith)) (lit< tt, lit< tt) (λ e. omega (arith, e), λ e. omega (arith, e), λ e. omega (arith, e)) in
-    let second = step_writable kind id (own_software ∷ []) (add ERROR_CODE code) first (follows kind id (own_software ∷ []) (add ERROR_CODE code) refl (omega (arith, one))) (lit< tt, lit< tt) (λ e. omega (arith, e), λ e. omega (arith, e), λ e. omega (arith, e)) in
+    let second = step_writable kind id (own_software ∷ []) (add ERROR_CODE code) first (follows kind id (own_software ∷ []) (add ERROR_CODE code) refl (omega (arith, software_length))) (lit< tt, lit< tt) (λ e. omega (arith, e), λ e. omega (arith, e), λ e. omega (arith, e)) in
     record {
-      writable = step_writable kind id (own_software ∷ error ∷ []) (add UNKNOWN_ATTRIBUTES value) second (follows kind id (own_software ∷ error ∷ []) (add UNKNOWN_ATTRIBUTES value) refl (omega (arith, two, twos, few))) (lit< tt, small) (λ e. omega (arith, e), λ e. omega (arith, e), λ e. omega (arith, e));
+      writable = step_writable kind id (own_software ∷ error ∷ []) (add UNKNOWN_ATTRIBUTES value) second (follows kind id (own_software ∷ error ∷ []) (add UNKNOWN_ATTRIBUTES value) refl (omega (arith, error_length, twos, few))) (lit< tt, small) (λ e. omega (arith, e), λ e. omega (arith, e), λ e. omega (arith, e));
       unbarred = refl;
       short = omega (
         arith,
         twos,
         few,
-        software_is,
-        error_is,
+        error_length,
         length-canonical UNKNOWN_ATTRIBUTES value (lit< tt) small,
+        length-append (encoding own_software) (encoding error ++ []),
+        length-append (encoding error) [],
         length-append (encoding own_software) (encoding error ++ (encoding listed ++ [])),
         length-append (encoding error) (encoding listed ++ []),
         length-append (encoding listed) [],

@@ -1,3 +1,3 @@
 mod ReplyLemmas
-mod RefusalsLemmas
+pub mod RefusalsLemmas
 pub mod SizesLemmas

@@ -56,22 +56,32 @@ unfolding refusal
 not_refused before a small none short =
     rw (le-ltb 65535 (length a.value) small, no_refusal (add a.type a.value) (types before) (20 + length (encodings before)) none (omega arith) (omega (arith, short))) refl
 
+-- the attributes before the list take sixteen bytes, and 44
+pub software_length : length (encodings (own_software ∷ [])) ≡ 16
+software_length = omega (arith, length-canonical SOFTWARE (codes "stun-types") (lit< tt) (lit< tt), length-append (encoding own_software) [])
+
+pub error_length : length (encodings (own_software ∷ error_attribute 420 (codes "Unknown Attributes") ∷ [])) ≡ 44
+error_length =
+    let error = error_attribute 420 (codes "Unknown Attributes") in
+    omega (
+      arith,
+      length-canonical SOFTWARE (codes "stun-types") (lit< tt) (lit< tt),
+      length-canonical ERROR_CODE (error_value 420 (codes "Unknown Attributes")) (lit< tt) (lit< tt),
+      length-append (encoding own_software) (encoding error ++ []),
+      length-append (encoding error) [],
+    )
+
 -- none of its attributes is refused
 pub none_first : (types : List AttributeType) → length types ≤ 16384 → (x : AttributeType) (xs : List AttributeType) → types ≡ x ∷ xs → first_refusal None [] (unknown_reply types) ≡ None
 unfolding first_refusal order_refusal
 none_first types few x xs is =
-    let code = error_value 420 (codes "Unknown Attributes") in
     let value = types_encoding (x ∷ xs) in
     let error = error_attribute 420 (codes "Unknown Attributes") in
     let listed = canonical UNKNOWN_ATTRIBUTES value in
     let twos = length_of_twos (x ∷ xs) in
     let count : length (x ∷ xs) ≤ 16384 = omega (arith, ap length is, few) in
-    let software_is = length-canonical SOFTWARE (codes "stun-types") (lit< tt) (lit< tt) in
-    let error_is = length-canonical ERROR_CODE code (lit< tt) (lit< tt) in
-    let one : length (encodings (own_software ∷ [])) ≡ 16 = omega (arith, software_is, length-append (encoding own_software) []) in
-    let two : length (encodings (own_software ∷ error ∷ [])) ≡ 44 = omega (arith, software_is, error_is, length-append (encoding own_software) (encoding error ++ []), length-append (encoding error) []) in
     ap (λ (ts : List AttributeType). first_refusal None [] (unknown_reply ts)) is
-    ∙ rw (not_refused [] own_software (omega arith) refl (omega arith), not_refused (own_software ∷ []) error (omega arith) refl (omega (arith, one)), not_refused (own_software ∷ error ∷ []) listed (omega (arith, twos, count)) refl (omega (arith, two, twos, count))) refl
+    ∙ rw (not_refused [] own_software (omega arith) refl (omega arith), not_refused (own_software ∷ []) error (omega arith) refl (omega (arith, software_length)), not_refused (own_software ∷ error ∷ []) listed (omega (arith, twos, count)) refl (omega (arith, error_length, twos, count))) refl
 
 -- ---- Adding to a writer
 

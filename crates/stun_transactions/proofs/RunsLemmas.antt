@@ -2,7 +2,7 @@
 use Rattle.std.proofs.Common.{◌≡◌, ℕ, ◌+◌, ◌*◌, ◌≤◌, Bool, true, false, List, [], ◌∷◌, Option, None, Some, refl, sym, ap, ◌∙◌, subst, inl, inr}
 use Rattle.std.specs.Prelude.{MatchOption, is_some, not, ◌&&◌, nat_lt, if◌then◌else◌}
 use Rattle.stun_grammar.specs.declared.attribute_type.AttributeType.{AttributeType}
-use Rattle.stun_transactions.specs.declared.received.Discard.TheVariants.{NotAuthentic, UnsignedBadRequest}
+use Rattle.stun_transactions.specs.declared.received.Discard.TheVariants.{NotAuthentic, BidDown, UnsignedBadRequest}
 use Rattle.stun_transactions.specs.declared.received.Outcome.{Outcome}
 use Rattle.stun_transactions.specs.declared.received.Outcome.TheVariants.{NotForThis, Discarded, Failed, Success, Error}
 use Rattle.stun_transactions.specs.declared.terms.Terms.{Terms}
@@ -90,6 +90,7 @@ nothing_sent plan course (call ∷ calls) end ended run =
 same_sent : (o : Outcome) (course : Course) → (after o course).sent ≡ course.sent
 same_sent NotForThis course = refl
 same_sent (Discarded NotAuthentic) course = refl
+same_sent (Discarded BidDown) course = refl
 same_sent (Discarded UnsignedBadRequest) course = refl
 same_sent (Failed failure) course = refl
 same_sent Success course = refl
@@ -98,6 +99,7 @@ same_sent (Error code) course = refl
 same_last : (o : Outcome) (course : Course) → (after o course).last ≡ course.last
 same_last NotForThis course = refl
 same_last (Discarded NotAuthentic) course = refl
+same_last (Discarded BidDown) course = refl
 same_last (Discarded UnsignedBadRequest) course = refl
 same_last (Failed failure) course = refl
 same_last Success course = refl

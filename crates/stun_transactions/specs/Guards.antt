@@ -9,12 +9,13 @@ use Rattle.stun_grammar.specs.Verdicts.{is_checked_type, verdict}
 use Rattle.stun_keys.specs.declared.keys.integrity_key.IntegrityKey.{IntegrityKey}
 use Rattle.stun_keys.specs.Keys.{key_bytes, key_algorithm, IsKey}
 use Rattle.stun_read.specs.LookingUp.{nth}
+use Rattle.stun_authentication.specs.Challenges.{is_bid_down}
+use Rattle.stun_authentication.specs.Codes.{response_code, is_code, is_challenge}
 use Rattle.stun_transactions.specs.declared.guard.Protection.{Protection}
 use Rattle.stun_transactions.specs.declared.guard.Protection.TheVariants.{Unprotected, ShortTerm, LongTerm}
 use Rattle.stun_transactions.specs.declared.guard.Signed.{Signed}
 use Rattle.stun_transactions.specs.declared.received.Discard.{Discard}
-use Rattle.stun_transactions.specs.declared.received.Discard.TheVariants.{NotAuthentic, UnsignedBadRequest}
-use Rattle.stun_transactions.specs.Responses.{response_code, is_code}
+use Rattle.stun_transactions.specs.declared.received.Discard.TheVariants.{NotAuthentic, BidDown, UnsignedBadRequest}
 
 -- which integrity attributes d shows
 abbrev pub signed_by : List ℕ → Signed
@@ -58,21 +59,19 @@ abbrev pub short_term_fault : IntegrityKey → Signed → List ℕ → Option Di
 short_term_fault key signed d =
     if accepts signed (validated key d) then None else Some NotAuthentic
 
--- whether d asks for credentials, which a server that doesn't know them can't sign
-abbrev pub is_challenge : List ℕ → Bool
-is_challenge d = is_code 401 (response_code d) || is_code 438 (response_code d)
-
 -- whether d says that the request is bad, and is not signed
 abbrev pub is_unsigned_bad_request : List ℕ → Bool
 is_unsigned_bad_request d = is_code 400 (response_code d) && not (is_signed (signed_by d))
 
--- by a long-term credential: a challenge is taken, signed or not; an unsigned 400 is discarded; and
--- so is what doesn't validate (RFC 8489, section 9.2.5)
+-- by a long-term credential: a challenge is taken, signed or not; discarded are then a response
+-- whose nonce promises PASSWORD-ALGORITHMS and that shows none, an unsigned 400, and what doesn't
+-- validate (RFC 8489, section 9.2.5)
 abbrev pub long_term_fault : IntegrityKey → List ℕ → Option Discard
 long_term_fault key d =
     if is_challenge d then None
+    else (if is_bid_down d then Some BidDown
     else (if is_unsigned_bad_request d then Some UnsignedBadRequest
-    else (if is_ok (validated key d) then None else Some NotAuthentic))
+    else (if is_ok (validated key d) then None else Some NotAuthentic)))
 
 -- why d is discarded as a response to a request that was protected so
 abbrev pub guard_fault : Protection → Signed → List ℕ → Option Discard

@@ -1,7 +1,7 @@
 -- What is told of a received message, and what it does to the course of the transaction.
 use Rattle.std.specs.Prelude.{◌≡◌, ℕ, List, Bool, true, not, ◌&&◌, Some, is_some, nat_lt}
 use Rattle.stun_types.specs.Message.{message_bytes}
-use Rattle.stun_transactions.specs.declared.received.Discard.TheVariants.{NotAuthentic, UnsignedBadRequest}
+use Rattle.stun_transactions.specs.declared.received.Discard.TheVariants.{NotAuthentic, BidDown, UnsignedBadRequest}
 use Rattle.stun_transactions.specs.declared.received.Failure.{Failure}
 use Rattle.stun_transactions.specs.declared.received.Outcome.{Outcome}
 use Rattle.stun_transactions.specs.declared.received.Received.{Received}
@@ -33,6 +33,7 @@ end_of_failure _ = Refused
 abbrev pub after : Outcome → Course → Course
 after Outcome.NotForThis course = course
 after (Outcome.Discarded NotAuthentic) course = record course { violated = true }
+after (Outcome.Discarded BidDown) course = course
 after (Outcome.Discarded UnsignedBadRequest) course = course
 after (Outcome.Failed failure) course = record course { end = Some (end_of_failure failure) }
 after Outcome.Success course = record course { end = Some Answered }

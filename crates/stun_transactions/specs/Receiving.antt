@@ -10,14 +10,15 @@ use Rattle.stun_base.specs.declared.message_type.MessageClass.TheVariants.{Error
 use Rattle.stun_base.specs.declared.transport.TransportType.{TransportType}
 use Rattle.stun_base.specs.declared.transport.TransportType.TheVariants.{Udp, Tcp}
 use Rattle.stun_base.specs.MessageTypes.{class_of}
+use Rattle.stun_authentication.specs.Codes.{shown_code}
 use Rattle.stun_transactions.specs.declared.received.Discard.{Discard}
-use Rattle.stun_transactions.specs.declared.received.Discard.TheVariants.{NotAuthentic, UnsignedBadRequest}
+use Rattle.stun_transactions.specs.declared.received.Discard.TheVariants.{NotAuthentic, BidDown, UnsignedBadRequest}
 use Rattle.stun_transactions.specs.declared.received.Failure.TheVariants.{IntegrityViolated, UnknownAttribute, NoErrorCode}
 use Rattle.stun_transactions.specs.declared.received.Outcome.{Outcome}
 use Rattle.stun_transactions.specs.declared.received.Outcome.TheVariants.{NotForThis, Discarded, Failed, Success, Error}
 use Rattle.stun_transactions.specs.declared.course.Course.{Course}
 use Rattle.stun_transactions.specs.declared.terms.Terms.{Terms}
-use Rattle.stun_transactions.specs.Responses.{shown_code, first_beyond}
+use Rattle.stun_transactions.specs.Responses.{first_beyond}
 use Rattle.stun_transactions.specs.Guards.{guard_fault}
 use Rattle.stun_transactions.specs.Terms.{is_answer}
 use Rattle.stun_transactions.specs.Outcomes.{is_open}
@@ -26,6 +27,7 @@ use Rattle.stun_transactions.specs.Outcomes.{is_open}
 -- ends the transaction
 abbrev pub discarded : TransportType → Discard → Outcome
 discarded Tcp NotAuthentic = Failed IntegrityViolated
+discarded Tcp BidDown = Discarded BidDown
 discarded Tcp UnsignedBadRequest = Discarded UnsignedBadRequest
 discarded Udp reason = Discarded reason
 

@@ -5,12 +5,12 @@ use Rattle.stun_grammar.specs.Parsing.{parse_fault}
 use Rattle.stun_grammar.specs.Accepting.{IsAuthenticThrough}
 use Rattle.stun_keys.specs.declared.keys.integrity_key.IntegrityKey.{IntegrityKey}
 use Rattle.stun_keys.specs.Keys.{key_bytes, key_algorithm}
+use Rattle.stun_authentication.specs.Codes.{is_challenge}
 use Rattle.stun_transactions.specs.declared.guard.Protection.{Protection}
 use Rattle.stun_transactions.specs.declared.guard.Protection.TheVariants.{Unprotected, ShortTerm, LongTerm}
 use Rattle.stun_transactions.specs.declared.received.Outcome.{Outcome}
 use Rattle.stun_transactions.specs.declared.received.Outcome.TheVariants.{Success, Error}
 use Rattle.stun_transactions.specs.declared.terms.Terms.{Terms}
-use Rattle.stun_transactions.specs.Guards.{is_challenge}
 use Rattle.stun_transactions.specs.Terms.{is_answer}
 
 -- whether a response is taken

@@ -178,7 +178,8 @@ impl Course {
         ensures { self.new ≡ after outcome self.old }
     {
         match outcome {
-            Outcome::NotForThis | Outcome::Discarded(Discard::UnsignedBadRequest) => {}
+            Outcome::NotForThis
+            | Outcome::Discarded(Discard::BidDown | Discard::UnsignedBadRequest) => {}
             Outcome::Discarded(Discard::NotAuthentic) => self.violated = true,
             Outcome::Failed(failure) => self.end = Some(end_of_failure(failure)),
             Outcome::Success | Outcome::Error(_) => self.end = Some(End::Answered),

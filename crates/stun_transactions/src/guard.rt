@@ -2,14 +2,14 @@
 
 ghost use Rattle.std.specs.Prelude.{◌≡◌};
 ghost use Rattle.stun_types.specs.Message.{message_bytes};
-ghost use Rattle.stun_transactions.specs.Responses.{shown_code, response_code};
 ghost use Rattle.stun_transactions.specs.Guards.{signed_by, is_signed, accepts, short_term_fault, long_term_fault};
 
 use crate::received::Discard;
+use stun_authentication::{is_bid_down, is_challenge, response_code};
 use stun_types::attribute::{
-    AttributeStaticType, ErrorCode, MessageIntegrity, MessageIntegritySha256, read_error,
+    AttributeStaticType, ErrorCode, MessageIntegrity, MessageIntegritySha256,
 };
-use stun_types::message::{IntegrityAlgorithm, IntegrityKey, Message, MessageClass, ValidateError};
+use stun_types::message::{IntegrityAlgorithm, IntegrityKey, Message, ValidateError};
 
 /// How a request is protected, and with which key (RFC 8489, section 9).
 #[derive(Debug, Drop)]
@@ -63,27 +63,6 @@ fn accepts(signed: Signed, verdict: Result<IntegrityAlgorithm, ValidateError>) -
     }
 }
 
-/// The code that a message shows, if its first ERROR-CODE tells one.
-pub(crate) fn shown_code(message: &Message<'_>) -> Option<u16>
-    ensures { result ≡ shown_code (message_bytes message.now) }
-{
-    let raw = message.raw_attribute(ErrorCode::TYPE)?;
-    match read_error(raw.value().as_bytes()) {
-        Ok((code, _reason)) => Some(code),
-        Err(_) => None,
-    }
-}
-
-/// The code of an error response.
-fn response_code(message: &Message<'_>) -> Option<u16>
-    ensures { result ≡ response_code (message_bytes message.now) }
-{
-    match message.class() {
-        MessageClass::Error => shown_code(message),
-        _ => None,
-    }
-}
-
 /// Why a response to a request that a short-term credential protects is discarded.
 fn short_term_fault(key: &IntegrityKey, signed: Signed, message: &Message<'_>) -> Option<Discard>
     ensures { result ≡ short_term_fault key.now signed (message_bytes message.now) }
@@ -99,12 +78,14 @@ fn short_term_fault(key: &IntegrityKey, signed: Signed, message: &Message<'_>) -
 fn long_term_fault(key: &IntegrityKey, message: &Message<'_>) -> Option<Discard>
     ensures { result ≡ long_term_fault key.now (message_bytes message.now) }
 {
-    match response_code(message) {
-        Some(ErrorCode::UNAUTHORIZED | ErrorCode::STALE_NONCE) => return None,
-        Some(ErrorCode::BAD_REQUEST) if !signed_by(message).is_signed() => {
-            return Some(Discard::UnsignedBadRequest);
-        }
-        _ => {}
+    if is_challenge(message) {
+        return None;
+    }
+    if is_bid_down(message) {
+        return Some(Discard::BidDown);
+    }
+    if response_code(message) == Some(ErrorCode::BAD_REQUEST) && !signed_by(message).is_signed() {
+        return Some(Discard::UnsignedBadRequest);
     }
     match message.validate_integrity_with_key(key) {
         Ok(_) => None,

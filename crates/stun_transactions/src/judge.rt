@@ -8,9 +8,9 @@ ghost use Rattle.stun_types.specs.Message.{message_bytes};
 ghost use Rattle.stun_transactions.specs.Responses.{own_types, is_beyond, first_beyond};
 ghost use Rattle.stun_transactions.specs.Receiving.{outcome, content, content_by_class, discarded};
 
-use crate::guard::shown_code;
 use crate::received::{Discard, Failure, Outcome};
 use crate::terms::Terms;
+use stun_authentication::shown_code;
 use stun_types::TransportType;
 use stun_types::attribute::{
     AttributeStaticType, AttributeType, ErrorCode, MessageIntegrity, MessageIntegritySha256, Nonce,

@@ -12,6 +12,10 @@ use stun_types::message::Message;
 pub enum Discard {
     /// It isn't authentic (RFC 8489, sections 9.1.4 and 9.2.5).
     NotAuthentic,
+    /// Its nonce promises PASSWORD-ALGORITHMS, and it shows none, to a request that a long-term
+    /// credential protects: somebody on the way may have taken it out. A 401 or a 438 is not
+    /// discarded so (RFC 8489, section 9.2.5).
+    BidDown,
     /// It is an error response with the code 400 and with no integrity attribute, to a request that
     /// a long-term credential protects (RFC 8489, section 9.2.5).
     UnsignedBadRequest,

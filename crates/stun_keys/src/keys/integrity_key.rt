@@ -109,8 +109,16 @@ impl IntegrityKey {
     pub fn for_both(self) -> Self
         ensures { IsKey None (key_bytes self) result }
     {
+        self.made_for(None)
+    }
+
+    /// The same key, as if it had been made for this algorithm, or with none: so a validation with
+    /// it looks at the integrity attribute of that algorithm alone. Nothing is copied.
+    pub fn made_for(self, algorithm: Option<IntegrityAlgorithm>) -> Self
+        ensures { IsKey algorithm (key_bytes self) result }
+    {
         IntegrityKey {
-            algorithm: None,
+            algorithm,
             bytes: self.bytes,
             kept: self.kept,
         }

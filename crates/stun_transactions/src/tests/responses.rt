@@ -86,6 +86,8 @@ const NOT_AUTHENTIC: Outcome = Discarded(Discard::NotAuthentic);
 
 const UNSIGNED_400: Outcome = Discarded(Discard::UnsignedBadRequest);
 
+const BID_DOWN: Outcome = Discarded(Discard::BidDown);
+
 const VIOLATED: Outcome = Failed(Failure::IntegrityViolated);
 
 const BEYOND: Outcome = Failed(Failure::UnknownAttribute(AttributeType(0x7FFF)));
@@ -144,6 +146,11 @@ fn outcomes(rt: HostRuntime) -> Result<(), Fail> {
         (long, messages::ERROR_400.as_slice(), UNSIGNED_400),
         (long, messages::ERROR_400_SHA1.as_slice(), Error(400)),
         (long, messages::ERROR_500.as_slice(), NOT_AUTHENTIC),
+        (long, messages::SUCCESS_BID_DOWN.as_slice(), BID_DOWN),
+        (long, messages::SUCCESS_ALGORITHMS.as_slice(), Success),
+        (long, messages::ERROR_400_BID_DOWN.as_slice(), BID_DOWN),
+        (long, messages::ERROR_401_BID_DOWN.as_slice(), Error(401)),
+        (short, messages::SUCCESS_BID_DOWN.as_slice(), Success),
         (long_sha1, messages::SUCCESS_SHA1.as_slice(), Success),
         (long_sha1, messages::SUCCESS_SHA256.as_slice(), Success),
         (
@@ -153,6 +160,7 @@ fn outcomes(rt: HostRuntime) -> Result<(), Fail> {
         ),
         (long_tcp, messages::ERROR_400.as_slice(), UNSIGNED_400),
         (long_tcp, messages::ERROR_500.as_slice(), VIOLATED),
+        (long_tcp, messages::SUCCESS_BID_DOWN.as_slice(), BID_DOWN),
     ];
     for (place, (asked, bytes, outcome)) in rows.iter().enumerate() {
         let mut transaction = sent(alloc, *asked)?;
@@ -181,6 +189,7 @@ fn ends(rt: HostRuntime) -> Result<(), Fail> {
         messages::SUCCESS_SHA1.as_slice(),
     ];
     let bad_request = [messages::ERROR_400.as_slice()];
+    let bid_down = [messages::SUCCESS_BID_DOWN.as_slice()];
     let then_unsigned = [messages::ERROR_400.as_slice(), messages::SUCCESS.as_slice()];
     let rows = [
         (short, &unsigned[..0], End::TimedOut),
@@ -190,6 +199,8 @@ fn ends(rt: HostRuntime) -> Result<(), Fail> {
         (long, bad_request.as_slice(), End::TimedOut),
         (long, then_unsigned.as_slice(), End::IntegrityViolated),
         (long_tcp, bad_request.as_slice(), End::TimedOut),
+        (long, bid_down.as_slice(), End::TimedOut),
+        (long_tcp, bid_down.as_slice(), End::TimedOut),
     ];
     for (place, (asked, heard, end)) in rows.iter().enumerate() {
         assert!(rt;

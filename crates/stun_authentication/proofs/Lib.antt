@@ -1,0 +1,4 @@
+mod AcceptingRowsLemmas
+mod CookiesLemmas
+mod EntriesLemmas
+mod RefusingLemmas

@@ -1,0 +1,19 @@
+use Rattle.stun_grammar.proofs.AcceptingLemmas.{is_authentic, is_authentic_through}
+use Rattle.stun_authentication.proofs.AcceptingRowsLemmas.{proved, proved_by_both, short_term_proof, long_term_proof}
+use Rattle.stun_authentication.proofs.laws.accepted_is_authentic.Goals as goal
+
+pub returns-clause-short_term : goal.returns-clause-short_term
+returns-clause-short_term c = λ policy keys d key a reply bytes parsed e.
+    is_authentic_through policy.algorithm (λ _. key) d a bytes parsed (proved policy d key a (short_term_proof policy keys d key a reply e))
+
+pub returns-clause-long_term : goal.returns-clause-long_term
+returns-clause-long_term c = λ policy realm nonces keys d key a reply bytes parsed e.
+    is_authentic_through policy.algorithm (λ _. key) d a bytes parsed (proved policy d key a (long_term_proof policy realm nonces keys d key a reply e))
+
+pub returns-clause-short_term_whole : goal.returns-clause-short_term_whole
+returns-clause-short_term_whole c = λ policy keys d key a reply bytes parsed both e.
+    is_authentic (λ _. key) d a bytes parsed (proved_by_both policy d key a both (short_term_proof policy keys d key a reply e))
+
+pub returns-clause-long_term_whole : goal.returns-clause-long_term_whole
+returns-clause-long_term_whole c = λ policy realm nonces keys d key a reply bytes parsed both e.
+    is_authentic (λ _. key) d a bytes parsed (proved_by_both policy d key a both (long_term_proof policy realm nonces keys d key a reply e))

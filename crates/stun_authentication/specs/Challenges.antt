@@ -1,0 +1,121 @@
+-- A client's half of the long-term credential mechanism (RFC 8489, section 9.2.5). Each row
+-- answers, or hands on to the next.
+use Rattle.std.specs.Prelude.{ℕ, Bool, false, not, ◌||◌, ◌&&◌, List, Option, None, Some, is_some, Result, Ok, Err, nat_eq, if◌then◌else◌, option_and_then}
+use Rattle.std.specs.Cmp.Lexicographic.{pointwise}
+use Rattle.std.specs.Option.{option_map, option_map_or}
+use Rattle.stun_grammar.specs.declared.integrity_algorithm.IntegrityAlgorithm.{IntegrityAlgorithm}
+use Rattle.stun_grammar.specs.declared.integrity_algorithm.IntegrityAlgorithm.TheVariants.{Sha1, Sha256}
+use Rattle.stun_grammar.specs.AttributeTypes.{REALM, NONCE, PASSWORD_ALGORITHMS}
+use Rattle.stun_values.specs.declared.algorithm.PasswordAlgorithmValue.{PasswordAlgorithmValue}
+use Rattle.stun_values.specs.declared.algorithm.PasswordAlgorithmValue.TheVariants.{MD5}
+use Rattle.stun_values.specs.Algorithms.{algorithm_number}
+use Rattle.stun_values.specs.TextValues.{text_max, text_fault}
+use Rattle.stun_authentication.specs.declared.challenge.Challenge.{Challenge}
+use Rattle.stun_authentication.specs.declared.challenge.NoRetry.{NoRetry}
+use Rattle.stun_authentication.specs.declared.challenge.NoRetry.TheVariants.{NotAChallenge, BidDown, Incomplete, NoAlgorithm, SameCredentials}
+use Rattle.stun_authentication.specs.Codes.{is_code, response_code, is_challenge}
+use Rattle.stun_authentication.specs.Cookies.{security_features, promises_algorithms, is_anonymous}
+use Rattle.stun_authentication.specs.Identities.{value_of}
+use Rattle.stun_authentication.specs.Lists.{numbered, first_listed}
+
+-- what a server asks a client's next request to carry: REALM, NONCE, PASSWORD-ALGORITHMS if there
+-- is one, the algorithm of the key, and whether the user is named by USERHASH
+pub record Asked : Type 0 where
+  pub realm : List ℕ
+  pub nonce : List ℕ
+  pub list : Option (List ℕ)
+  pub algorithm : PasswordAlgorithmValue
+  pub anonymous : Bool
+
+abbrev pub asked_by : Challenge → Asked
+asked_by c = record {
+  realm = c.realm.now;
+  nonce = c.nonce.now;
+  list = option_map (λ value. value.now) c.list;
+  algorithm = c.algorithm;
+  anonymous = c.anonymous;
+}
+
+-- the algorithm by which the request is signed: SHA-256 alone where there is a list (the last
+-- paragraph), and else SHA-1, for a server of RFC 5389
+abbrev pub signing_by : Option (List ℕ) → IntegrityAlgorithm
+signing_by None = Sha1
+signing_by (Some list) = Sha256
+
+abbrev pub signing_algorithm : Asked → IntegrityAlgorithm
+signing_algorithm asked = signing_by asked.list
+
+-- the list of d
+abbrev pub list_of : List ℕ → Option (List ℕ)
+list_of d = value_of d PASSWORD_ALGORITHMS
+
+-- the nonce of d promises a list, and there is none (the first paragraph and the fourth)
+abbrev pub is_bid_down : List ℕ → Bool
+is_bid_down d =
+    option_map_or (λ nonce. promises_algorithms nonce) (value_of d NONCE) false
+    && not (is_some (list_of d))
+
+-- whether the challenge before had a list
+abbrev pub had_list : Option Asked → Bool
+had_list before = option_map_or (λ asked. is_some asked.list) before false
+
+-- the text in an attribute of d
+abbrev pub text_in : ℕ → List ℕ → Option (List ℕ)
+text_in most value = if is_some (text_fault most value) then None else Some value
+
+abbrev pub text_of : ℕ → ℕ → List ℕ → Option (List ℕ)
+text_of most type d = option_and_then (λ value. text_in most value) (value_of d type)
+
+-- the algorithm of the key: the first one on the list that the client supports (the second
+-- paragraph), and MD5 where there is no list
+abbrev pub selected : List PasswordAlgorithmValue → Option (List ℕ) → Option PasswordAlgorithmValue
+selected supported None = numbered supported (algorithm_number MD5)
+selected supported (Some list) = first_listed supported list
+
+-- whether d refuses the credentials of this realm that the request had (the end of the second
+-- paragraph): the password is the same, and the user
+abbrev pub repeats : Option Asked → List ℕ → List ℕ → Bool
+repeats before realm d =
+    is_code 401 (response_code d)
+    && option_map_or (λ asked. pointwise nat_eq asked.realm realm) before false
+
+-- ---- The rows, the last one first
+
+-- the request is not sent again with the credentials that were refused
+abbrev pub by_credentials : Option Asked → Asked → List ℕ → Result Asked NoRetry
+by_credentials before asked d =
+    if repeats before asked.realm d then Err SameCredentials else Ok asked
+
+-- an algorithm that is supported
+abbrev pub by_algorithm : List PasswordAlgorithmValue → Option Asked → (realm nonce : List ℕ)
+    → List ℕ → Result Asked NoRetry
+by_algorithm supported before realm nonce d =
+    option_map_or
+    (λ algorithm. by_credentials before (record {
+      realm = realm;
+      nonce = nonce;
+      list = list_of d;
+      algorithm = algorithm;
+      anonymous = is_anonymous (security_features nonce);
+    }) d)
+    (selected supported (list_of d)) (Err NoAlgorithm)
+
+-- REALM and NONCE, which the request copies (the second paragraph)
+abbrev pub by_texts : List PasswordAlgorithmValue → Option Asked → List ℕ → Result Asked NoRetry
+by_texts supported before d =
+    option_map_or (λ realm.
+    option_map_or (λ nonce. by_algorithm supported before realm nonce d)
+    (text_of text_max NONCE d) (Err Incomplete))
+    (text_of text_max REALM d) (Err Incomplete)
+
+-- a list that was promised, or that the challenge before had, is there (the first paragraph)
+abbrev pub by_list : List PasswordAlgorithmValue → Option Asked → List ℕ → Result Asked NoRetry
+by_list supported before d =
+    if is_bid_down d || (had_list before && not (is_some (list_of d))) then Err BidDown
+    else by_texts supported before d
+
+-- what d asks a client to carry that supports these algorithms, after the challenge before; or why
+-- its request isn't sent again
+abbrev pub challenge_of : List PasswordAlgorithmValue → Option Asked → List ℕ → Result Asked NoRetry
+challenge_of supported before d =
+    if is_challenge d then by_list supported before d else Err NotAChallenge

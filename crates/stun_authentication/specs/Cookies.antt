@@ -1,0 +1,61 @@
+-- The beginning of a nonce that tells the security features of its server (RFC 8489, sections 9.2
+-- and 18.1).
+use Rattle.std.specs.Prelude.{ℕ, Bool, true, false, ◌&&◌, List, ◌++◌, codes, length, slice_index, Option, None, Some, is_some, nat_eq, nat_le, position, bit_and, ◌==◌, not, if◌then◌else◌}
+use Rattle.std.specs.List.{starts_with}
+use Rattle.std.specs.Option.{option_map}
+use Rattle.stun_authentication.specs.declared.cookie.SecurityFeatures.{SecurityFeatures}
+
+-- the characters of base64, in the order of the six bits that each stands for (RFC 4648, section 4)
+abbrev pub base64 : List ℕ
+base64 = codes "ABCDEFGHIJKLMNOPQRSTUVWXYZabcdefghijklmnopqrstuvwxyz0123456789+/"
+
+-- the six bits that a character stands for
+unfoldable pub six_bits : ℕ → Option ℕ
+six_bits character = position (λ known. known == character) base64
+
+-- bits 0 and 1 of the 24 are the two most significant of the first six
+abbrev pub features_of : ℕ → SecurityFeatures
+features_of first = record {
+  password_algorithms = not (bit_and first 0x20 == 0);
+  username_anonymity = not (bit_and first 0x10 == 0);
+}
+
+-- whether the nonce has four characters of base64 behind its first nine bytes
+abbrev pub spells_bits : List ℕ → Bool
+spells_bits nonce =
+    is_some (six_bits (slice_index nonce 9)) && (is_some (six_bits (slice_index nonce 10))
+    && (is_some (six_bits (slice_index nonce 11)) && is_some (six_bits (slice_index nonce 12))))
+
+-- whether it begins with a nonce cookie
+abbrev pub has_cookie : List ℕ → Bool
+has_cookie nonce =
+    nat_le 13 (length nonce) && (starts_with nat_eq nonce (codes "obMatJos2") && spells_bits nonce)
+
+-- the features that a nonce tells of, if it begins with a nonce cookie
+unfoldable pub security_features : List ℕ → Option SecurityFeatures
+security_features nonce =
+    if has_cookie nonce then option_map features_of (six_bits (slice_index nonce 9)) else None
+
+-- whether it tells that PASSWORD-ALGORITHMS is sent with it
+abbrev pub promises : Option SecurityFeatures → Bool
+promises None = false
+promises (Some features) = features.password_algorithms
+
+abbrev pub promises_algorithms : List ℕ → Bool
+promises_algorithms nonce = promises (security_features nonce)
+
+-- whether it tells that USERHASH serves
+abbrev pub is_anonymous : Option SecurityFeatures → Bool
+is_anonymous None = false
+is_anonymous (Some features) = features.username_anonymity
+
+-- the nonce cookie of these features, by the two bits
+abbrev pub four_characters : (algorithms anonymity : Bool) → List ℕ
+four_characters false false = codes "AAAA"
+four_characters true false = codes "gAAA"
+four_characters false true = codes "QAAA"
+four_characters true true = codes "wAAA"
+
+abbrev pub cookie : SecurityFeatures → List ℕ
+cookie features =
+    codes "obMatJos2" ++ four_characters features.password_algorithms features.username_anonymity

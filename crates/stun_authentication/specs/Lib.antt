@@ -1,0 +1,12 @@
+pub mod Answers
+pub mod Challenges
+pub mod Codes
+pub mod Cookies
+pub mod Identities
+pub mod Lists
+pub mod Logins
+pub mod LongTerm
+pub mod Lookups
+pub mod Policies
+pub mod Refusing
+pub mod ShortTerm

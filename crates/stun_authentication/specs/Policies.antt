@@ -1,0 +1,54 @@
+-- Which integrity attributes count, and whether they are right (RFC 8489, sections 9.1.3, 9.2.4 and
+-- 14.6).
+use Rattle.std.specs.Prelude.{◌≡◌, ℕ, Bool, true, false, ◌||◌, List, length, Option, Some, None, is_some, Result, Ok, Err, nat_le, if◌then◌else◌}
+use Rattle.std.specs.Option.{option_map_or}
+use Rattle.stun_grammar.specs.declared.error.ValidateError.{ValidateError}
+use Rattle.stun_grammar.specs.declared.integrity_algorithm.IntegrityAlgorithm.{IntegrityAlgorithm}
+use Rattle.stun_grammar.specs.declared.integrity_algorithm.IntegrityAlgorithm.TheVariants.{Sha1, Sha256}
+use Rattle.stun_grammar.specs.AttributeTypes.{MESSAGE_INTEGRITY, MESSAGE_INTEGRITY_SHA256}
+use Rattle.stun_grammar.specs.Verdicts.{type_of_algorithm, is_checked_type, verdict}
+use Rattle.stun_keys.specs.declared.keys.integrity_key.IntegrityKey.{IntegrityKey}
+use Rattle.stun_keys.specs.Keys.{IsKey}
+use Rattle.stun_read.specs.LookingUp.{nth}
+use Rattle.stun_authentication.specs.declared.policy.Policy.{Policy}
+
+-- whether d shows the integrity attribute of the algorithm that serves, or of one of both
+abbrev pub shows_served : Option IntegrityAlgorithm → List ℕ → Bool
+shows_served None d =
+    is_some (nth d MESSAGE_INTEGRITY 0) || is_some (nth d MESSAGE_INTEGRITY_SHA256 0)
+shows_served (Some algorithm) d = is_some (nth d (type_of_algorithm algorithm) 0)
+
+-- whether d shows an integrity attribute that counts
+abbrev pub is_signed : Policy → List ℕ → Bool
+is_signed policy d = shows_served policy.algorithm d
+
+-- whether the HMAC of this algorithm has enough bytes in d: only that of a
+-- MESSAGE-INTEGRITY-SHA256 may be cut (section 14.6)
+abbrev pub is_long_enough : Policy → IntegrityAlgorithm → List ℕ → Bool
+is_long_enough policy Sha1 d = true
+is_long_enough policy Sha256 d =
+    option_map_or (λ a. nat_le policy.shortest (length a.value)) (nth d MESSAGE_INTEGRITY_SHA256 0)
+    false
+
+-- what a validation of d answers with a key: of the attribute that counts, and of
+-- MESSAGE-INTEGRITY-SHA256 where both do
+abbrev pub validated : Policy → List ℕ → List ℕ → Result IntegrityAlgorithm ValidateError
+validated policy key d = verdict (is_checked_type policy.algorithm) (λ _. key) d
+
+-- the algorithm that it answers, where the HMAC is long enough
+abbrev pub proved_by : Policy → List ℕ → Result IntegrityAlgorithm ValidateError
+    → Option IntegrityAlgorithm
+proved_by policy d (Ok algorithm) =
+    if is_long_enough policy algorithm d then Some algorithm else None
+proved_by policy d (Err e) = None
+
+-- the algorithm whose HMAC in d is right under the key, where it counts
+abbrev pub proof_of : Policy → List ℕ → List ℕ → Option IntegrityAlgorithm
+proof_of policy key d = proved_by policy d (validated policy key d)
+
+-- the algorithm, and a key with these bytes that works with both; or there is neither
+abbrev pub Proves : List ℕ → Option IntegrityAlgorithm → Option (IntegrityKey × IntegrityAlgorithm)
+    → Type 0
+Proves key None found = found ≡ None
+Proves key (Some algorithm) (Some found) = IsKey None key found.0 × (found.1 ≡ algorithm)
+Proves key (Some algorithm) None = ⊥

@@ -1,0 +1,51 @@
+-- The error response to a request that is refused (RFC 8489, sections 9.1.3 and 9.2.4).
+use Rattle.std.specs.Prelude.{◌≡◌, ℕ, List, [], ◌∷◌, ◌++◌, Option, None, Some, Result, OnOk}
+use Rattle.stun_grammar.specs.declared.error.StunWriteError.{StunWriteError}
+use Rattle.stun_grammar.specs.Attributes.{Attribute, canonical}
+use Rattle.stun_grammar.specs.AttributeTypes.{REALM, NONCE, PASSWORD_ALGORITHMS}
+use Rattle.stun_grammar.specs.Writing.{message_encoding}
+use Rattle.stun_write.specs.Writers.{Writer}
+use Rattle.stun_attributes.specs.declared.password_algorithms.PasswordAlgorithms.{PasswordAlgorithms}
+use Rattle.stun_attributes.specs.MakingErrors.{default_reason}
+use Rattle.stun_attributes.specs.Passwords.{held_algorithms}
+use Rattle.stun_attributes.specs.Texts.{text_bytes}
+use Rattle.stun_types.specs.Replies.{error_attribute}
+use Rattle.stun_values.specs.Algorithms.{algorithms_encoding}
+use Rattle.stun_authentication.specs.declared.answer.Refusal.{Refusal}
+use Rattle.stun_authentication.specs.declared.answer.Refusal.TheVariants.{BadRequest, Unauthenticated, StaleNonce}
+use Rattle.stun_authentication.specs.declared.refusing.Demand.{Demand}
+use Rattle.stun_authentication.specs.Answers.{refusal_code}
+
+-- PASSWORD-ALGORITHMS, if there are algorithms
+abbrev pub listed : Option PasswordAlgorithms → List Attribute
+listed None = []
+listed (Some algorithms) =
+    canonical PASSWORD_ALGORITHMS (algorithms_encoding (held_algorithms algorithms)) ∷ []
+
+-- what a 401 and a 438 ask for
+abbrev pub demanded : Demand → List Attribute
+demanded demand =
+    canonical REALM (text_bytes demand.realm) ∷ canonical NONCE (text_bytes demand.nonce)
+    ∷ listed demand.algorithms
+
+-- what a refusal carries beside its code: a 400 nothing, and under short-term credentials, where
+-- nothing is asked for, no refusal anything
+abbrev pub carried : Refusal → Option Demand → List Attribute
+carried BadRequest demand = []
+carried Unauthenticated None = []
+carried Unauthenticated (Some demand) = demanded demand
+carried StaleNonce None = []
+carried StaleNonce (Some demand) = demanded demand
+
+-- the attributes of the response
+abbrev pub refusal_attributes : Refusal → Option Demand → List Attribute
+refusal_attributes refusal demand =
+    error_attribute (refusal_code refusal) (default_reason (refusal_code refusal))
+    ∷ carried refusal demand
+
+-- a message that is written gets these attributes more, behind those that it has
+pub record Lengthens (result : Result (Unit {0}) StunWriteError) (old new : Writer)
+    (more : List Attribute) : Type 0 where
+  pub written : (kind id : ℕ) (before : List Attribute)
+      → old.bytes ≡ message_encoding kind id before
+      → OnOk result (new.bytes ≡ message_encoding kind id (before ++ more))

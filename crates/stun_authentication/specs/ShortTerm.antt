@@ -1,0 +1,41 @@
+-- A server's checks by the short-term credential mechanism, in their order (RFC 8489, section
+-- 9.1.3). Each row answers, or hands on to the next.
+use Rattle.std.specs.Prelude.{ℕ, List, Option, if◌then◌else◌}
+use Rattle.std.specs.Option.{option_map_or}
+use Rattle.stun_grammar.specs.AttributeTypes.{USERNAME}
+use Rattle.stun_grammar.specs.Headers.{type_field}
+use Rattle.stun_base.specs.MessageTypes.{class_of, is_response}
+use Rattle.stun_authentication.specs.declared.answer.Refusal.{Refusal}
+use Rattle.stun_authentication.specs.declared.answer.Refusal.TheVariants.{BadRequest, Unauthenticated}
+use Rattle.stun_authentication.specs.declared.policy.Policy.{Policy}
+use Rattle.stun_authentication.specs.Answers.{Decision, accept, discard, rejected}
+use Rattle.stun_authentication.specs.Identities.{value_of}
+use Rattle.stun_authentication.specs.Policies.{is_signed, proof_of}
+
+-- how d is rejected
+abbrev pub reject : List ℕ → Refusal → Decision
+reject d refusal = rejected (class_of (type_field d)) refusal
+
+-- the third check: the HMAC under the user's key. The reply is signed by the algorithm of the
+-- attribute that was checked (the fourth paragraph)
+abbrev pub by_hmac : Policy → List ℕ → List ℕ → Decision
+by_hmac policy key d =
+    option_map_or (λ algorithm. accept key algorithm algorithm) (proof_of policy key d)
+    (reject d Unauthenticated)
+
+-- the second: the user
+abbrev pub by_user : Policy → (keys : List ℕ → Option (List ℕ)) → List ℕ → List ℕ → Decision
+by_user policy keys user d =
+    option_map_or (λ key. by_hmac policy key d) (keys user) (reject d Unauthenticated)
+
+-- the first: an integrity attribute that counts, and USERNAME
+abbrev pub by_attributes : Policy → (keys : List ℕ → Option (List ℕ)) → List ℕ → Decision
+by_attributes policy keys d =
+    if is_signed policy d then
+    option_map_or (λ user. by_user policy keys user d) (value_of d USERNAME) (reject d BadRequest)
+    else reject d BadRequest
+
+-- what becomes of d: a response is no server's to check
+abbrev pub short_term : Policy → (keys : List ℕ → Option (List ℕ)) → List ℕ → Decision
+short_term policy keys d =
+    if is_response (class_of (type_field d)) then discard else by_attributes policy keys d

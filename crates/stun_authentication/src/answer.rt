@@ -1,0 +1,69 @@
+//! What a server answers to a request that it authenticates.
+
+ghost use Rattle.std.specs.Prelude.{◌≡◌};
+ghost use Rattle.stun_base.specs.MessageTypes.{class_of};
+ghost use Rattle.stun_grammar.specs.Headers.{type_field};
+ghost use Rattle.stun_types.specs.Message.{message_bytes};
+ghost use Rattle.stun_authentication.specs.Answers.{Tells, rejected, refusal_code};
+
+use stun_types::attribute::ErrorCode;
+use stun_types::message::{IntegrityAlgorithm, IntegrityKey, Message, MessageClass};
+
+/// A message that is accepted, and by what its reply is signed.
+#[derive(Debug, Drop)]
+pub struct Accepted {
+    /// The key of the user, which works with both algorithms: the reply is signed with it.
+    pub key: IntegrityKey,
+    /// The algorithm whose HMAC in the message was right.
+    pub algorithm: IntegrityAlgorithm,
+    /// The algorithm that the reply is signed by.
+    pub reply_algorithm: IntegrityAlgorithm,
+}
+
+/// Why a request is refused: the code of the error response.
+#[derive(Clone, Copy, Debug, PartialEq, Eq)]
+pub enum Refusal {
+    /// 400: an attribute is missing.
+    BadRequest,
+    /// 401: the request isn't signed, or its user is unknown, or its HMAC is wrong.
+    Unauthenticated,
+    /// 438: the nonce isn't valid.
+    StaleNonce,
+}
+
+impl Refusal {
+    ghost use Rattle.std.specs.Prelude.{◌≡◌};
+    ghost use Rattle.stun_authentication.specs.Answers.{refusal_code};
+
+    /// The code of the error response.
+    pub fn code(self) -> u16
+        ensures { result ≡ refusal_code self }
+    {
+        match self {
+            Refusal::BadRequest => ErrorCode::BAD_REQUEST,
+            Refusal::Unauthenticated => ErrorCode::UNAUTHORIZED,
+            Refusal::StaleNonce => ErrorCode::STALE_NONCE,
+        }
+    }
+}
+
+/// What becomes of a message that a server authenticates.
+#[derive(Debug, Drop)]
+pub enum Authentication {
+    /// It is from this user.
+    Accepted(Accepted),
+    /// It is refused by an error response, which isn't signed.
+    Refused(Refusal),
+    /// It is dropped, and nothing is answered.
+    Discarded,
+}
+
+/// How a message is rejected: a request by an error response, and any other silently.
+pub(crate) fn rejected(message: &Message<'_>, refusal: Refusal) -> Authentication
+    ensures { Tells (rejected (class_of (type_field (message_bytes message.now))) refusal) result }
+{
+    match message.class() {
+        MessageClass::Request => Authentication::Refused(refusal),
+        _ => Authentication::Discarded,
+    }
+}

@@ -1,0 +1,40 @@
+//! The code that a response tells (RFC 8489, section 14.8).
+
+ghost use Rattle.std.specs.Prelude.{◌≡◌};
+ghost use Rattle.stun_types.specs.Message.{message_bytes};
+ghost use Rattle.stun_authentication.specs.Codes.{shown_code, response_code, is_challenge};
+
+use stun_types::attribute::{AttributeStaticType, ErrorCode, read_error};
+use stun_types::message::{Message, MessageClass};
+
+/// The code that a message shows, if its first ERROR-CODE tells one: 300 to 699, with a reason that
+/// is a text.
+pub fn shown_code(message: &Message<'_>) -> Option<u16>
+    ensures { result ≡ shown_code (message_bytes message.now) }
+{
+    let raw = message.raw_attribute(ErrorCode::TYPE)?;
+    match read_error(raw.value().as_bytes()) {
+        Ok((code, _reason)) => Some(code),
+        Err(_) => None,
+    }
+}
+
+/// The code of an error response; `None` for a message of another class.
+pub fn response_code(message: &Message<'_>) -> Option<u16>
+    ensures { result ≡ response_code (message_bytes message.now) }
+{
+    match message.class() {
+        MessageClass::Error => shown_code(message),
+        _ => None,
+    }
+}
+
+/// Whether a message asks for credentials: an error response with the code 401 or 438.
+pub fn is_challenge(message: &Message<'_>) -> bool
+    ensures { result ≡ is_challenge (message_bytes message.now) }
+{
+    matches!(
+        response_code(message),
+        Some(ErrorCode::UNAUTHORIZED | ErrorCode::STALE_NONCE)
+    )
+}

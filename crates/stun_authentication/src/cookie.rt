@@ -1,0 +1,61 @@
+//! The beginning of a nonce that tells the security features of its server (RFC 8489, sections 9.2
+//! and 18.1).
+
+ghost use Rattle.std.specs.Prelude.{◌≡◌};
+ghost use Rattle.stun_authentication.specs.Cookies.{security_features, cookie, six_bits};
+
+/// The characters of base64, in the order of the six bits that each stands for (RFC 4648, section
+/// 4).
+const BASE64: [u8; 64] = *b"ABCDEFGHIJKLMNOPQRSTUVWXYZabcdefghijklmnopqrstuvwxyz0123456789+/";
+
+/// The security features that a server tells a client of at the beginning of its nonces (RFC 8489,
+/// section 18.1).
+#[derive(Clone, Copy, Debug, Default, PartialEq, Eq)]
+pub struct SecurityFeatures {
+    /// The server sends the list of its password algorithms, PASSWORD-ALGORITHMS, with the nonce.
+    /// Bit 0, the most significant one.
+    pub password_algorithms: bool,
+    /// The server knows its users by USERHASH too. Bit 1.
+    pub username_anonymity: bool,
+}
+
+/// The thirteen bytes with which a nonce begins whose server has these features: `obMatJos2`, and
+/// 24 bits in base64, of which bits 2 to 23 are 0 (RFC 8489, section 9.2).
+pub fn nonce_cookie(features: SecurityFeatures) -> &'static str
+    ensures { result.now ≡ cookie features }
+{
+    match (features.password_algorithms, features.username_anonymity) {
+        (false, false) => "obMatJos2AAAA",
+        (true, false) => "obMatJos2gAAA",
+        (false, true) => "obMatJos2QAAA",
+        (true, true) => "obMatJos2wAAA",
+    }
+}
+
+/// The six bits that a character of base64 stands for.
+#[tactic(auto, unfolding(crate::specs::Cookies::six_bits))]
+fn six_bits(character: u8) -> Option<usize>
+    ensures { result ≡ six_bits character }
+{
+    BASE64.iter().position(|known| *known == character)
+}
+
+/// The security features that a nonce tells of, or `None` where it doesn't begin with a nonce
+/// cookie: `obMatJos2`, and four characters of base64, which spell 24 bits (RFC 8489, section 9.2).
+/// Bits 2 to 23 may be anything.
+#[tactic(auto, unfolding(crate::specs::Cookies::security_features))]
+pub fn security_features(nonce: &[u8]) -> Option<SecurityFeatures>
+    ensures { result ≡ security_features nonce.now }
+{
+    if nonce.len() < 13 || !nonce.starts_with(b"obMatJos2") {
+        return None;
+    }
+    let first = six_bits(nonce[9])?;
+    six_bits(nonce[10])?;
+    six_bits(nonce[11])?;
+    six_bits(nonce[12])?;
+    Some(SecurityFeatures {
+        password_algorithms: first & 0x20 != 0,
+        username_anonymity: first & 0x10 != 0,
+    })
+}

@@ -1,0 +1,45 @@
+//! Who a request says that it comes from.
+
+ghost use Rattle.std.specs.Prelude.{◌≡◌};
+ghost use Rattle.std.specs.Option.{option_map};
+ghost use Rattle.stun_types.specs.Message.{message_bytes};
+ghost use Rattle.stun_authentication.specs.Identities.{value_of, identity_of, who};
+
+use stun_types::attribute::{AttributeStaticType, AttributeType, Userhash, Username};
+use stun_types::data::Data;
+use stun_types::message::Message;
+
+/// Who a request says that it comes from: the value of its USERNAME or of its USERHASH.
+#[derive(Clone, Copy, Debug)]
+pub enum Identity<'a> {
+    /// The value of a USERNAME: UTF-8, unless the client is broken.
+    Name(&'a [u8]),
+    /// The value of a USERHASH: the 32 bytes of the SHA-256 of `username:realm`, unless the client
+    /// is broken (RFC 8489, section 14.4). `Userhash::compute` makes that of a user.
+    Hash(&'a [u8]),
+}
+
+/// The value of the first attribute of a type that a message shows, borrowed from its bytes.
+pub(crate) fn value_of<'a>(message: &Message<'a>, atype: AttributeType) -> Option<&'a [u8]>
+    ensures { value_of (message_bytes message.now) atype.0
+        ≡ option_map (λ value. value.now) result }
+{
+    match message.raw_attribute(atype)?.into_value() {
+        Data::Borrowed(value) => Some(value.take()),
+        Data::Owned(_) => unreachable!(),
+    }
+}
+
+/// Who a message says that it comes from: `None` where it shows neither USERNAME nor USERHASH, or
+/// both.
+pub(crate) fn identity_of<'a>(message: &Message<'a>) -> Option<Identity<'a>>
+    ensures { identity_of (message_bytes message.now) ≡ option_map who result }
+{
+    let name = value_of(message, Username::TYPE);
+    let hash = value_of(message, Userhash::TYPE);
+    match (name, hash) {
+        (Some(name), None) => Some(Identity::Name(name)),
+        (None, Some(hash)) => Some(Identity::Hash(hash)),
+        _ => None,
+    }
+}

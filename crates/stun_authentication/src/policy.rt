@@ -1,0 +1,89 @@
+//! Which integrity attributes count for a server.
+
+ghost use Rattle.std.specs.Prelude.{◌≡◌};
+ghost use Rattle.stun_types.specs.Message.{message_bytes};
+ghost use Rattle.stun_keys.specs.Keys.{key_bytes, IsKey};
+
+use stun_types::attribute::{AttributeStaticType, MessageIntegrity, MessageIntegritySha256};
+use stun_types::message::{IntegrityAlgorithm, IntegrityKey, Message};
+
+/// Which integrity attributes count for a server.
+///
+/// `Policy::default()` takes both algorithms, and a MESSAGE-INTEGRITY-SHA256 of 32 bytes alone.
+#[derive(Clone, Copy, Debug, PartialEq, Eq)]
+pub struct Policy {
+    /// The one algorithm that serves, or `None` where both do. The integrity attribute of an
+    /// algorithm that doesn't serve counts as absent.
+    pub algorithm: Option<IntegrityAlgorithm>,
+    /// How many bytes a MESSAGE-INTEGRITY-SHA256 has at least. A usage may say 16, 20, 24 or 28;
+    /// otherwise it is 32 (RFC 8489, section 14.6).
+    pub shortest: usize,
+}
+
+impl Default for Policy {
+    ghost use Rattle.std.specs.Prelude.{◌≡◌, None};
+
+    ghost is_default = { λ policy. (policy.algorithm ≡ None) × (policy.shortest ≡ 32) };
+
+    fn default() -> Self {
+        Policy {
+            algorithm: None,
+            shortest: 32,
+        }
+    }
+}
+
+impl Policy {
+    ghost use Rattle.std.specs.Prelude.{◌≡◌};
+    ghost use Rattle.stun_types.specs.Message.{message_bytes};
+    ghost use Rattle.stun_keys.specs.Keys.{key_bytes, IsKey};
+    ghost use Rattle.stun_authentication.specs.Policies.{is_signed, is_long_enough, proof_of, Proves};
+
+    /// Whether a message shows an integrity attribute that counts.
+    pub(crate) fn is_signed(self, message: &Message<'_>) -> bool
+        ensures { result ≡ is_signed self (message_bytes message.now) }
+    {
+        match self.algorithm {
+            Some(IntegrityAlgorithm::Sha1) => message.has_attribute(MessageIntegrity::TYPE),
+            Some(IntegrityAlgorithm::Sha256) => message.has_attribute(MessageIntegritySha256::TYPE),
+            None => {
+                message.has_attribute(MessageIntegrity::TYPE)
+                    || message.has_attribute(MessageIntegritySha256::TYPE)
+            }
+        }
+    }
+
+    /// Whether the HMAC of this algorithm has enough bytes in a message.
+    fn is_long_enough(self, algorithm: IntegrityAlgorithm, message: &Message<'_>) -> bool
+        ensures { result ≡ is_long_enough self algorithm (message_bytes message.now) }
+    {
+        match algorithm {
+            IntegrityAlgorithm::Sha1 => true,
+            IntegrityAlgorithm::Sha256 => {
+                match message.raw_attribute(MessageIntegritySha256::TYPE) {
+                    Some(raw) => self.shortest <= raw.value().as_bytes().len(),
+                    None => false,
+                }
+            }
+        }
+    }
+
+    /// The algorithm whose HMAC in a message is right under a key, where it counts; and the key,
+    /// which then works with both algorithms.
+    pub(crate) fn proof_of(
+        self,
+        key: IntegrityKey,
+        message: &Message<'_>,
+    ) -> Option<(IntegrityKey, IntegrityAlgorithm)>
+        ensures { Proves (key_bytes key)
+            (proof_of self (key_bytes key) (message_bytes message.now)) result }
+    {
+        let key = key.made_for(self.algorithm);
+        match message.validate_integrity_with_key(&key) {
+            Ok(algorithm) if self.is_long_enough(algorithm, message) => {
+                Some((key.for_both(), algorithm))
+            }
+            _ => None,
+        }
+    }
+}
