@@ -11,6 +11,19 @@ use stun_types::message::{
 };
 use stun_types::prelude::*;
 
+/// Adds the list of password algorithms that a challenge offers, as it is, and the algorithm that
+/// the client takes of it, where there is a list.
+fn add_algorithms(
+    challenge: &Challenge<'_>,
+    message: &mut MessageWriteVec,
+) -> Result<(), StunWriteError> {
+    let Some(list) = challenge.password_algorithms() else {
+        return Ok(());
+    };
+    message.add_any_attribute(&RawAttribute::new(PasswordAlgorithms::TYPE, list)?)?;
+    message.add_attribute(&PasswordAlgorithm::new(challenge.password_algorithm()))
+}
+
 /// The binding request that answers a challenge: with the user's name, or its hash, and what the
 /// challenge asks for, signed.
 pub fn login_request(
@@ -31,11 +44,7 @@ pub fn login_request(
     }
     message.add_attribute(&Realm::new(alloc, realm)?)?;
     message.add_attribute(&Nonce::new(alloc, challenge.nonce())?)?;
-    if let Some(list) = challenge.password_algorithms() {
-        let list = RawAttribute::new(PasswordAlgorithms::TYPE, list)?;
-        message.add_attribute(&list)?;
-        message.add_attribute(&PasswordAlgorithm::new(challenge.password_algorithm()))?;
-    }
+    add_algorithms(challenge, &mut message)?;
     let copy = |text| String::from_str(alloc, text).map_err(|_| StunWriteError::OutOfMemory);
     let credentials = LongTermKeyCredentials::new(copy(name)?, copy(password)?, copy(realm)?);
     let key = credentials.make_key(alloc, challenge.password_algorithm().as_integrity())?;
