@@ -1,7 +1,8 @@
 /* Measures an implementation of stun_bench.h: one line for each workload, with its bytes, the least and the
  * median nanoseconds of a round, and the answer of one round. The driver makes all inputs itself and knows each
  * answer beforehand; it ends with status 1 where an answer is another one. With the word `quick` it runs each
- * workload once, and measures nothing. */
+ * workload once, and measures nothing. With the word `growth` it measures how the work grows with the number of
+ * attributes. */
 #define _POSIX_C_SOURCE 199309L
 #include <stdio.h>
 #include <time.h>
@@ -75,8 +76,8 @@ static void relayed(Text *message, size_t behind) {
 /* ---- workloads: each knows its answer */
 
 enum {
-    PARSE, ITERATE, SHORT_KEY, LONG_KEY, VALIDATE, HMAC, WRITE_VEC, WRITE_SLICE, PLAIN_VEC, PLAIN_SLICE, EMPTIES, CRC,
-    TYPED
+    PARSE, ITERATE, FIND, PRINT, SHORT_KEY, LONG_KEY, VALIDATE, CREDENTIALS, RECEIVE, HMAC, USERNAME, WRITE_VEC,
+    WRITE_SLICE, PLAIN_VEC, PLAIN_SLICE, EMPTIES, CRC, TYPED
 };
 
 typedef struct {
@@ -88,7 +89,7 @@ typedef struct {
     uint64_t answer;
 } Workload;
 
-static uint8_t destination[8192];
+static uint8_t destination[MOST];
 
 static uint64_t run(const Workload *w, uint64_t rounds) {
     const uint8_t *bytes = w->text->bytes, *user = (const uint8_t *)w->user, *password = (const uint8_t *)PASSWORD;
@@ -96,8 +97,14 @@ static uint64_t run(const Workload *w, uint64_t rounds) {
     uint32_t algorithm = (uint32_t)w->algorithm;
     uint64_t sum = 0;
     switch (w->kind) {
+    case FIND:
+        return stun_bench_find(bytes, length, w->type, rounds);
     case VALIDATE:
         return stun_bench_validate(bytes, length, password, password_length, rounds);
+    case CREDENTIALS:
+        return stun_bench_validate_credentials(bytes, length, password, password_length, rounds);
+    case RECEIVE:
+        return stun_bench_receive(bytes, length, password, password_length, rounds);
     case HMAC:
         return stun_bench_hmac(bytes, length, password, password_length, algorithm, rounds);
     case WRITE_VEC:
@@ -105,6 +112,10 @@ static uint64_t run(const Workload *w, uint64_t rounds) {
     case WRITE_SLICE:
         return stun_bench_write_slice(user, user_length, password, password_length, algorithm, destination,
                                       sizeof destination, rounds);
+    case PLAIN_VEC:
+        return stun_bench_write_plain_vec(user, user_length, rounds);
+    case PLAIN_SLICE:
+        return stun_bench_write_plain_slice(user, user_length, destination, sizeof destination, rounds);
     }
     for (uint64_t i = 0; i < rounds; i++) switch (w->kind) {
         case PARSE: sum += stun_bench_parse(bytes, length); break;
@@ -114,8 +125,8 @@ static uint64_t run(const Workload *w, uint64_t rounds) {
         case LONG_KEY:
             sum += stun_bench_long_key(user, user_length, (const uint8_t *)"realm", 5, password, password_length, algorithm);
             break;
-        case PLAIN_VEC: sum += stun_bench_write_plain_vec(user, user_length); break;
-        case PLAIN_SLICE: sum += stun_bench_write_plain_slice(user, user_length, destination, sizeof destination); break;
+        case PRINT: sum += stun_bench_print(bytes, length); break;
+        case USERNAME: sum += stun_bench_username(user, user_length); break;
         case EMPTIES: sum += stun_bench_write_empties(w->type, destination, sizeof destination); break;
         case TYPED: sum += stun_bench_typed(w->type, bytes, length); break;
         }
@@ -137,6 +148,20 @@ static uint64_t iterate_answer(const Text *message) {
 
 static uint64_t write_answer(const Text *message) {
     return (uint64_t)message->length << 32 | get32(message->bytes + message->length - 4);
+}
+
+/* The offset of the first attribute of a type, or 0. */
+static uint64_t find_answer(const Text *message, uint32_t type) {
+    for (size_t at = 20; at < message->length;) {
+        uint32_t header = get32(message->bytes + at);
+        if (header >> 16 == type) return at;
+        at += 4 + ((header & 0xFFFF) + 3) / 4 * 4;
+    }
+    return 0;
+}
+
+static uint64_t receive_answer(const Text *message, uint64_t verdict) {
+    return verdict + (find_answer(message, 0x0006) << 8) + (find_answer(message, 0x0024) << 24);
 }
 
 /* The HMAC that an integrity attribute holds behind the message. */
@@ -207,11 +232,45 @@ static int try(const Workload *w, int quick) {
     return 0;
 }
 
+/* How many bytes the text of a message with n such attributes has. */
+static uint64_t print_answer(uint32_t n) {
+    static const char head[] =
+        "Message(class: Request, method: 1(0x1: BINDING), transaction: 0x102030405060708090a0b0c, attributes: [";
+    static const char each[] = "RawAttribute (type: AttributeType(49152), len: 0, data: Borrowed(DataSlice([])))";
+    return strlen(head) + n * strlen(each) + (n - 1) * strlen(", ") + strlen("])");
+}
+
+/* How the work grows with the number of attributes, each of type 0xC000 and without a value. */
+static int growth(void) {
+    static const uint32_t counts[] = {1, 10, 100, 1000, 16000};
+    static Text plain, with_hmac;
+    int right = 1;
+    for (size_t i = 0; i < COUNT(counts); i++) {
+        uint32_t n = counts[i];
+        begin(&plain);
+        for (uint32_t k = 0; k < n; k++) add(&plain, 0xC000, "", 0);
+        with_hmac = plain, sign(&with_hmac, 1);
+        printf("%u attributes\n", n);
+        const Workload workloads[] = {
+            {"parse", PARSE, 0, 0, NULL, &plain, parse_answer(&plain)},
+            {"iterate", ITERATE, 0, 0, NULL, &plain, iterate_answer(&plain)},
+            {"look up a type that is not there", FIND, 0, 0xC001, NULL, &with_hmac, 0},
+            {"look up MESSAGE-INTEGRITY", FIND, 0, 0x0008, NULL, &with_hmac, plain.length},
+            {"add them", EMPTIES, 0, n, NULL, &plain, write_answer(&plain)},
+            {"print", PRINT, 0, 0, NULL, &plain, print_answer(n)},
+            {"validate, SHA-1", VALIDATE, 1, 0, NULL, &with_hmac, 1},
+        };
+        for (size_t k = 0; k < COUNT(workloads); k++) right &= try(&workloads[k], 0);
+    }
+    return right;
+}
+
 int main(int count, char **words) {
     static Text header, algorithm, check, check_256, plain, packet, packet_finger, packet_1, packet_256, empties, many;
     static Text plain_256, packet_plain, empties_1, empties_1000, empties_2000;
     static Text key, address, software, error;
     int quick = count > 1 && strcmp(words[1], "quick") == 0, right = 1;
+    if (count > 1 && strcmp(words[1], "growth") == 0) return growth() ? 0 : 1;
     begin(&header);
     begin(&algorithm);
     add(&algorithm, 0x001D, "\0\2\0\0", 4);
@@ -248,11 +307,17 @@ int main(int count, char **words) {
         {"iterate a packet", ITERATE, 0, 0, NULL, &packet, iterate_answer(&packet)},
         {"iterate a packet with FINGERPRINT", ITERATE, 0, 0, NULL, &packet_finger, iterate_answer(&packet_finger)},
         {"iterate 16,000 attributes", ITERATE, 0, 0, NULL, &empties, iterate_answer(&empties)},
+        {"find two attributes: the first", FIND, 0, 0x0006, NULL, &check, find_answer(&check, 0x0006)},
+        {"find two attributes: the second", FIND, 0, 0x0024, NULL, &check, find_answer(&check, 0x0024)},
         {"validate an ICE check, SHA-1", VALIDATE, 1, 0, NULL, &check, 1},
         {"validate an ICE check, SHA-256", VALIDATE, 2, 0, NULL, &check_256, 2},
         {"validate a packet, SHA-1", VALIDATE, 1, 0, NULL, &packet_1, 1},
         {"validate a packet, SHA-256", VALIDATE, 2, 0, NULL, &packet_256, 2},
         {"validate 16,000 attributes, SHA-1", VALIDATE, 1, 0, NULL, &empties_1, 1},
+        {"validate by credentials, SHA-1", CREDENTIALS, 1, 0, NULL, &check, 1},
+        {"validate by credentials, SHA-256", CREDENTIALS, 2, 0, NULL, &check_256, 2},
+        {"receive an ICE check, SHA-1", RECEIVE, 1, 0, NULL, &check, receive_answer(&check, 1)},
+        {"receive an ICE check, SHA-256", RECEIVE, 2, 0, NULL, &check_256, receive_answer(&check_256, 2)},
         {"HMAC of an ICE check, SHA-1", HMAC, 1, 0, NULL, &plain, hmac_answer(&plain, 1)},
         {"HMAC of an ICE check, SHA-256", HMAC, 2, 0, NULL, &plain_256, hmac_answer(&plain_256, 2)},
         {"HMAC of a packet, SHA-1", HMAC, 1, 0, NULL, &packet_plain, hmac_answer(&packet_plain, 1)},
@@ -260,12 +325,13 @@ int main(int count, char **words) {
         {"short-term key, twice", SHORT_KEY, 1, 0, NULL, &key, 1},
         {"long-term key by MD5, twice", LONG_KEY, 1, 0, USER, &key, 1},
         {"long-term key by SHA-256, twice", LONG_KEY, 2, 0, USER, &key, 1},
+        {"make a USERNAME", USERNAME, 0, 0, USER, &plain, strlen(USER)},
         {"write a plain check, vector", PLAIN_VEC, 0, 0, USER, &plain, write_answer(&plain)},
         {"write a plain check, slice", PLAIN_SLICE, 0, 0, USER, &plain, write_answer(&plain)},
-        {"write a check, SHA-1, vector", WRITE_VEC, 1, 0, USER, &check, write_answer(&check)},
-        {"write a check, SHA-1, slice", WRITE_SLICE, 1, 0, USER, &check, write_answer(&check)},
-        {"write a check, SHA-256, vector", WRITE_VEC, 2, 0, SHORT_USER, &check_256, write_answer(&check_256)},
-        {"write a check, SHA-256, slice", WRITE_SLICE, 2, 0, SHORT_USER, &check_256, write_answer(&check_256)},
+        {"send an ICE check, SHA-1, vector", WRITE_VEC, 1, 0, USER, &check, write_answer(&check)},
+        {"send an ICE check, SHA-1, slice", WRITE_SLICE, 1, 0, USER, &check, write_answer(&check)},
+        {"send an ICE check, SHA-256, vector", WRITE_VEC, 2, 0, SHORT_USER, &check_256, write_answer(&check_256)},
+        {"send an ICE check, SHA-256, slice", WRITE_SLICE, 2, 0, SHORT_USER, &check_256, write_answer(&check_256)},
         {"write 1,000 empty attributes", EMPTIES, 0, 1000, NULL, &empties_1000, write_answer(&empties_1000)},
         {"write 2,000 empty attributes", EMPTIES, 0, 2000, NULL, &empties_2000, write_answer(&empties_2000)},
         {"CRC of an ICE check", CRC, 0, 0, NULL, &check, reference_crc(check.bytes, check.length)},

@@ -68,7 +68,7 @@ pub fn attribute_at<'a>(
     }
     let stated = number_at(rest, 2);
     let length = stated as usize;
-    let padded = 4 + pad_attribute_len(length);
+    let padded = pad_attribute_len(4 + length);
     if rest.len() < padded {
         return Err(cut_off(offset, length, bytes.len()));
     }

@@ -6,7 +6,7 @@ ghost use Rattle.stun_grammar.specs.Verdicts.{is_checked_type, verdict};
 ghost use Rattle.stun_keys.specs.Keys.{IsKey, key_bytes, credentials_key, credentials_algorithm};
 ghost use Rattle.stun_bench.specs.Answers.{none, algorithm_of as algorithm_told, hmac_number, verdict_number};
 
-use crate::reading::prefix;
+use crate::reading::{offset_of, prefix};
 use std::alloc::Global;
 use stun_integrity::{hmac_sha1_at, hmac_sha256_at};
 use stun_types::message::keys::{
@@ -155,6 +155,61 @@ pub extern "C" fn stun_bench_validate(
     let mut sum: u64 = 0;
     for _ in 0..rounds {
         sum = sum.wrapping_add(verdict_of(parsed.validate_integrity_with_key(&key)));
+    }
+    sum
+}
+
+/// Parses a message, makes the short-term credentials of a password, validates the message with them
+/// `rounds` times, and returns the sum of the verdicts' numbers.
+#[unsafe(no_mangle)]
+pub extern "C" fn stun_bench_validate_credentials(
+    alloc: Global,
+    message: &[u8],
+    password: &[u8],
+    rounds: u64,
+) -> u64 {
+    let Ok(parsed) = Message::from_bytes(message) else {
+        return NONE;
+    };
+    let Some(credentials) = short_term(alloc, password) else {
+        return NONE;
+    };
+    let mut sum: u64 = 0;
+    for _ in 0..rounds {
+        sum = sum.wrapping_add(verdict_of(parsed.validate_integrity(alloc, &credentials)));
+    }
+    sum
+}
+
+/// Parses a message, looks up its USERNAME and its PRIORITY, and validates it with a key: the number
+/// of the verdict, and the two offsets above its low 8 and 24 bits.
+fn received(message: &[u8], key: &IntegrityKey) -> u64 {
+    let Ok(parsed) = Message::from_bytes(message) else {
+        return NONE;
+    };
+    let username = offset_of(&parsed, 0x0006);
+    let priority = offset_of(&parsed, 0x0024);
+    let verdict = verdict_of(parsed.validate_integrity_with_key(key));
+    verdict
+        .wrapping_add(username << 8)
+        .wrapping_add(priority << 24)
+}
+
+/// Makes the short-term key of a password, receives a message with it `rounds` times, and returns
+/// the sum of the numbers.
+#[unsafe(no_mangle)]
+pub extern "C" fn stun_bench_receive(
+    alloc: Global,
+    message: &[u8],
+    password: &[u8],
+    rounds: u64,
+) -> u64 {
+    let Some(key) = short_key(alloc, password) else {
+        return NONE;
+    };
+    let mut sum: u64 = 0;
+    for _ in 0..rounds {
+        sum = sum.wrapping_add(received(message, &key));
     }
     sum
 }

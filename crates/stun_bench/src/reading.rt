@@ -8,8 +8,10 @@ ghost use Rattle.stun_grammar.specs.Numbers.{number};
 ghost use Rattle.stun_attrs.specs.Raw.{raw_type, raw_value};
 ghost use Rattle.stun_bench.specs.Answers.{mixed};
 
+use crate::keys::NONE;
+use std::alloc::Global;
 use stun_keys::digest::crc32;
-use stun_types::attribute::RawAttribute;
+use stun_types::attribute::{AttributeType, RawAttribute};
 use stun_types::message::{Message, MessageAttributesIter};
 
 /// The first four bytes, as one number; 0 where there are fewer.
@@ -66,6 +68,43 @@ pub extern "C" fn stun_bench_iterate(message: &[u8]) -> u64
         sum = mix(sum, offset, &attribute);
     }
     sum
+}
+
+/// The offset of the first attribute of a type that a message shows, or 0.
+pub(crate) fn offset_of(message: &Message<'_>, atype: u16) -> u64 {
+    match message.raw_attribute_and_offset(AttributeType(atype)) {
+        Some((offset, _attribute)) => offset as u64,
+        None => 0,
+    }
+}
+
+/// Parses a message, looks up the first attribute of a type `rounds` times, and returns the sum of
+/// the offsets.
+#[unsafe(no_mangle)]
+pub extern "C" fn stun_bench_find(message: &[u8], atype: u32, rounds: u64) -> u64 {
+    let (Ok(parsed), Ok(atype)) = (Message::from_bytes(message), u16::try_from(atype)) else {
+        return NONE;
+    };
+    let mut sum: u64 = 0;
+    for _ in 0..rounds {
+        // The sum stays below 2^63, which the compiler can't know: no round can be left out.
+        let wanted = atype ^ ((sum >> 63) as u16);
+        sum = sum.wrapping_add(offset_of(&parsed, wanted));
+    }
+    sum
+}
+
+/// Parses a message, and returns the length of its text, or `NONE` where it is refused or an
+/// allocation failed.
+#[unsafe(no_mangle)]
+pub extern "C" fn stun_bench_print(alloc: Global, message: &[u8]) -> u64 {
+    let Ok(parsed) = Message::from_bytes(message) else {
+        return NONE;
+    };
+    match parsed.to_string(alloc) {
+        Ok(text) => text.len() as u64,
+        Err(_) => NONE,
+    }
 }
 
 /// The CRC-32 of bytes.

@@ -154,33 +154,12 @@ fn empties_slice(alloc: Global, count: u32, destination: &mut [u8]) -> Result<us
     Ok(message.finish())
 }
 
-/// The number of a signed check that is written into a vector, or `NONE`.
-fn signed_vector_answer(alloc: Global, user: &[u8], key: &IntegrityKey, algorithm: u32) -> u64 {
-    let Some(username) = username_of(alloc, user) else {
-        return NONE;
-    };
-    match signed_vector(alloc, &username, key, algorithm_of(algorithm)) {
+/// The number of what is written into a vector, or `NONE`.
+fn vector_answer(written: Result<Vec<u8>, StunWriteError>) -> u64 {
+    match written {
         Ok(message) => answer_of(&message),
         Err(_) => NONE,
     }
-}
-
-/// The number of a signed check that is written into a slice, or `NONE`.
-fn signed_slice_answer(
-    alloc: Global,
-    user: &[u8],
-    key: &IntegrityKey,
-    algorithm: u32,
-    destination: &mut [u8],
-) -> u64 {
-    if destination.len() < MessageHeader::LENGTH {
-        return NONE;
-    }
-    let Some(username) = username_of(alloc, user) else {
-        return NONE;
-    };
-    let written = signed_slice(alloc, &username, key, algorithm_of(algorithm), destination);
-    slice_answer(destination, written)
 }
 
 /// The number of the message written into a slice, or `NONE`.
@@ -191,24 +170,36 @@ fn slice_answer(destination: &[u8], written: Result<usize, StunWriteError>) -> u
     }
 }
 
-/// Writes a check without integrity into a vector with 128 bytes ready, and returns its number.
+/// Makes a USERNAME, and returns the length of its text, or `NONE`.
 #[unsafe(no_mangle)]
-pub extern "C" fn stun_bench_write_plain_vec(alloc: Global, user: &[u8]) -> u64 {
-    let Some(username) = username_of(alloc, user) else {
-        return NONE;
-    };
-    match plain_vector(alloc, &username) {
-        Ok(message) => answer_of(&message),
-        Err(_) => NONE,
+pub extern "C" fn stun_bench_username(alloc: Global, user: &[u8]) -> u64 {
+    match username_of(alloc, user) {
+        Some(username) => username.username().len() as u64,
+        None => NONE,
     }
 }
 
-/// Writes a check without integrity into the slice `destination`, and returns its number.
+/// Writes a check without integrity `rounds` times, each time into a new vector with 128 bytes
+/// ready, and returns the sum of their numbers.
+#[unsafe(no_mangle)]
+pub extern "C" fn stun_bench_write_plain_vec(alloc: Global, user: &[u8], rounds: u64) -> u64 {
+    let Some(username) = username_of(alloc, user) else {
+        return NONE;
+    };
+    let mut sum: u64 = 0;
+    for _ in 0..rounds {
+        sum = sum.wrapping_add(vector_answer(plain_vector(alloc, &username)));
+    }
+    sum
+}
+
+/// As [`stun_bench_write_plain_vec`], into the slice `destination` each time.
 #[unsafe(no_mangle)]
 pub extern "C" fn stun_bench_write_plain_slice(
     alloc: Global,
     user: &[u8],
     destination: &mut [u8],
+    rounds: u64,
 ) -> u64 {
     if destination.len() < MessageHeader::LENGTH {
         return NONE;
@@ -216,8 +207,12 @@ pub extern "C" fn stun_bench_write_plain_slice(
     let Some(username) = username_of(alloc, user) else {
         return NONE;
     };
-    let written = plain_slice(alloc, &username, destination);
-    slice_answer(destination, written)
+    let mut sum: u64 = 0;
+    for _ in 0..rounds {
+        let written = plain_slice(alloc, &username, destination);
+        sum = sum.wrapping_add(slice_answer(destination, written));
+    }
+    sum
 }
 
 /// Writes a request with `count` attributes without a value into the slice `destination`, and
@@ -245,12 +240,14 @@ pub extern "C" fn stun_bench_write_vec(
     algorithm: u32,
     rounds: u64,
 ) -> u64 {
-    let Some(key) = short_key(alloc, password) else {
+    let (Some(username), Some(key)) = (username_of(alloc, user), short_key(alloc, password)) else {
         return NONE;
     };
+    let algorithm = algorithm_of(algorithm);
     let mut sum: u64 = 0;
     for _ in 0..rounds {
-        sum = sum.wrapping_add(signed_vector_answer(alloc, user, &key, algorithm));
+        let written = signed_vector(alloc, &username, &key, algorithm);
+        sum = sum.wrapping_add(vector_answer(written));
     }
     sum
 }
@@ -265,12 +262,17 @@ pub extern "C" fn stun_bench_write_slice(
     destination: &mut [u8],
     rounds: u64,
 ) -> u64 {
-    let Some(key) = short_key(alloc, password) else {
+    if destination.len() < MessageHeader::LENGTH {
+        return NONE;
+    }
+    let (Some(username), Some(key)) = (username_of(alloc, user), short_key(alloc, password)) else {
         return NONE;
     };
+    let algorithm = algorithm_of(algorithm);
     let mut sum: u64 = 0;
     for _ in 0..rounds {
-        sum = sum.wrapping_add(signed_slice_answer(alloc, user, &key, algorithm, destination));
+        let written = signed_slice(alloc, &username, &key, algorithm, destination);
+        sum = sum.wrapping_add(slice_answer(destination, written));
     }
     sum
 }

@@ -1,6 +1,8 @@
 -- The checksum, byte by byte: a shift of a XOR is the XOR of the shifts, so each byte can be shifted alone, and the
 -- register after all of them is the XOR of what they become.
-use Rattle.std.proofs.Common.{◌≡◌, ◌⊎◌, ℕ, zero, suc, ◌+◌, ◌*◌, ◌/◌, ◌%◌, ◌^◌, ◌<◌, List, [], ◌∷◌, length, fold, bit_xor, inl, inr, refl, ap, ap₂, sym, ◌∙◌, arith}
+use Rattle.std.proofs.Common.{◌≡◌, ◌⊎◌, ℕ, zero, suc, ◌+◌, ◌*◌, ◌/◌, ◌%◌, ◌^◌, ◌<◌, List, [], ◌∷◌, ◌++◌, length, fold, bit_xor, inl, inr, refl, ap, ap₂, sym, ◌∙◌, arith}
+use Rattle.std.proofs.lemmas.List.Sums.{fold-append}
+use Rattle.std.proofs.lemmas.List.{length-append}
 use Rattle.std.specs.Int.Bits.{xor_assoc, xor_self, xor_zero_r}
 use Rattle.std.proofs.lemmas.Bool.{cases_eq}
 use Rattle.std.proofs.lemmas.Nat.{xor_comm, xor_shr, xor_mod, xor_block}
@@ -123,31 +125,62 @@ fold-shifted_apart [] r = refl
 fold-shifted_apart (b ∷ bytes) r =
     fold-cons b bytes r ∙ ap (bit_xor (shifted_by (8 * length (b ∷ bytes)) (bit_xor (r % 256) b))) (fold-shifted_apart bytes (r / 256))
 
--- two XORs of four numbers, as the code takes them
-in_turn : (a b c d e f g h : ℕ)
-    → bit_xor a (bit_xor b (bit_xor c (bit_xor d (bit_xor e (bit_xor f (bit_xor g (bit_xor h 0)))))))
-    ≡ bit_xor (bit_xor (bit_xor (bit_xor a b) c) d) (bit_xor (bit_xor (bit_xor e f) g) h)
-in_turn a b c d e f g h =
-    let second : bit_xor e (bit_xor f (bit_xor g (bit_xor h 0))) ≡ bit_xor (bit_xor (bit_xor e f) g) h =
-    ap (λ (x : ℕ). bit_xor e (bit_xor f (bit_xor g x))) (xor_zero_r h) ∙ sym (xor_assoc (bit_xor e f) g h ∙ xor_assoc e f (bit_xor g h)) in
-    let all = bit_xor (bit_xor (bit_xor e f) g) h in
-    ap (λ (x : ℕ). bit_xor a (bit_xor b (bit_xor c (bit_xor d x)))) second
-    ∙ sym (xor_assoc (bit_xor (bit_xor a b) c) d all ∙ xor_assoc (bit_xor a b) c (bit_xor d all) ∙ xor_assoc a b (bit_xor c (bit_xor d all)))
+-- bytes behind others: those before are shifted on by as many
+pub fold_behind : (before behind : List ℕ) (r : ℕ)
+    → fold after_byte r (before ++ behind) ≡ bit_xor (shifted_by (8 * length behind) (fold after_byte r before)) (fold after_byte 0 behind)
+fold_behind before behind r =
+    let register = fold after_byte r before in
+    fold-append after_byte r before behind ∙ fold-xor behind 0 register ∙ xor_comm (fold after_byte 0 behind) (shifted_by (8 * length behind) register)
 
--- eight bytes, the first four of them with the four of the register
-pub fold_eight : (a b c d e f g h r : ℕ) → r < 2 ^ 32
-    → fold after_byte r (a ∷ b ∷ c ∷ d ∷ e ∷ f ∷ g ∷ h ∷ [])
-    ≡ bit_xor
-    (bit_xor
-    (bit_xor (bit_xor (shifted_by 64 (bit_xor (r % 256) a)) (shifted_by 56 (bit_xor (r / 256 % 256) b))) (shifted_by 48 (bit_xor (r / 65536 % 256) c)))
-    (shifted_by 40 (bit_xor (r / 16777216 % 256) d)))
-    (bit_xor (bit_xor (bit_xor (shifted_by 32 e) (shifted_by 24 f)) (shifted_by 16 g)) (shifted_by 8 h))
-fold_eight a b c d e f g h r fits =
+-- four bytes: those of the register, its lowest first, are XORed into them
+pub fold_four : (a b c d r : ℕ) → r < 2 ^ 32
+    → fold after_byte 0 (bit_xor (r % 256) a ∷ bit_xor (r / 256 % 256) b ∷ bit_xor (r / 65536 % 256) c ∷ bit_xor (r / 16777216 % 256) d ∷ [])
+    ≡ fold after_byte r (a ∷ b ∷ c ∷ d ∷ [])
+fold_four a b c d r fits =
     let third : r / 256 / 256 ≡ r / 65536 = omega arith in
     let fourth : r / 256 / 256 / 256 ≡ r / 16777216 = omega arith in
     let none : r / 256 / 256 / 256 / 256 ≡ 0 = omega arith in
-    let first_two = λ (x : ℕ). bit_xor (shifted_by 64 (bit_xor (r % 256) a)) (bit_xor (shifted_by 56 (bit_xor (r / 256 % 256) b)) x) in
-    let next_two = λ (x y z : ℕ). bit_xor (shifted_by 48 (bit_xor (x % 256) c)) (bit_xor (shifted_by 40 (bit_xor (y % 256) d)) (shifted_apart z (e ∷ f ∷ g ∷ h ∷ []))) in
-    let moved : next_two (r / 256 / 256) (r / 256 / 256 / 256) (r / 256 / 256 / 256 / 256) ≡ next_two (r / 65536) (r / 16777216) 0 = λ i. next_two (third i) (fourth i) (none i) in
-    fold-shifted_apart (a ∷ b ∷ c ∷ d ∷ e ∷ f ∷ g ∷ h ∷ []) r ∙ ap first_two moved
-    ∙ in_turn (shifted_by 64 (bit_xor (r % 256) a)) (shifted_by 56 (bit_xor (r / 256 % 256) b)) (shifted_by 48 (bit_xor (r / 65536 % 256) c)) (shifted_by 40 (bit_xor (r / 16777216 % 256) d)) (shifted_by 32 e) (shifted_by 24 f) (shifted_by 16 g) (shifted_by 8 h)
+    let first_two = λ (x : ℕ). bit_xor (shifted_by 32 (bit_xor (r % 256) a)) (bit_xor (shifted_by 24 (bit_xor (r / 256 % 256) b)) x) in
+    let last_two = λ (x y z : ℕ). bit_xor (shifted_by 16 (bit_xor (x % 256) c)) (bit_xor (shifted_by 8 (bit_xor (y % 256) d)) z) in
+    let moved : last_two (r / 256 / 256) (r / 256 / 256 / 256) (r / 256 / 256 / 256 / 256) ≡ last_two (r / 65536) (r / 16777216) 0 = λ i. last_two (third i) (fourth i) (none i) in
+    fold-shifted_apart (bit_xor (r % 256) a ∷ bit_xor (r / 256 % 256) b ∷ bit_xor (r / 65536 % 256) c ∷ bit_xor (r / 16777216 % 256) d ∷ []) 0
+    ∙ sym (fold-shifted_apart (a ∷ b ∷ c ∷ d ∷ []) r ∙ ap first_two moved)
+
+-- four bytes and n bytes of zeros behind them, as the code takes them: each is shifted out alone
+pub fold_four_apart : (a b c d n : ℕ)
+    → bit_xor (bit_xor (bit_xor (shifted_by (8 * (n + 3 + 1)) a) (shifted_by (8 * (n + 2 + 1)) b)) (shifted_by (8 * (n + 1 + 1)) c)) (shifted_by (8 * (n + 1)) d)
+    ≡ shifted_by (8 * n) (fold after_byte 0 (a ∷ b ∷ c ∷ d ∷ []))
+fold_four_apart a b c d n =
+    let on = shifted_by (8 * n) in
+    let a_on : on (shifted_by 32 a) ≡ shifted_by (8 * (n + 3 + 1)) a = let e : 32 + 8 * n ≡ 8 * (n + 3 + 1) = omega arith in sym (shifted_by-add 32 (8 * n) a) ∙ ap (λ (k : ℕ). shifted_by k a) e in
+    let b_on : on (shifted_by 24 b) ≡ shifted_by (8 * (n + 2 + 1)) b = let e : 24 + 8 * n ≡ 8 * (n + 2 + 1) = omega arith in sym (shifted_by-add 24 (8 * n) b) ∙ ap (λ (k : ℕ). shifted_by k b) e in
+    let c_on : on (shifted_by 16 c) ≡ shifted_by (8 * (n + 1 + 1)) c = let e : 16 + 8 * n ≡ 8 * (n + 1 + 1) = omega arith in sym (shifted_by-add 16 (8 * n) c) ∙ ap (λ (k : ℕ). shifted_by k c) e in
+    let d_on : on (shifted_by 8 d) ≡ shifted_by (8 * (n + 1)) d = let e : 8 + 8 * n ≡ 8 * (n + 1) = omega arith in sym (shifted_by-add 8 (8 * n) d) ∙ ap (λ (k : ℕ). shifted_by k d) e in
+    let x = shifted_by 32 a in
+    let y = shifted_by 24 b in
+    let z = shifted_by 16 c in
+    let w = shifted_by 8 d in
+    let turned : fold after_byte 0 (a ∷ b ∷ c ∷ d ∷ []) ≡ bit_xor (bit_xor (bit_xor x y) z) w =
+    fold-shifted_apart (a ∷ b ∷ c ∷ d ∷ []) 0 ∙ ap (λ (l : ℕ). bit_xor x (bit_xor y (bit_xor z l))) (xor_zero_r w)
+    ∙ sym (xor_assoc (bit_xor x y) z w ∙ xor_assoc x y (bit_xor z w)) in
+    let apart : on (bit_xor (bit_xor (bit_xor x y) z) w) ≡ bit_xor (bit_xor (bit_xor (on x) (on y)) (on z)) (on w) =
+    shifted_by-xor (8 * n) (bit_xor (bit_xor x y) z) w
+    ∙ ap (λ (l : ℕ). bit_xor l (on w)) (shifted_by-xor (8 * n) (bit_xor x y) z ∙ ap (λ (l : ℕ). bit_xor l (on z)) (shifted_by-xor (8 * n) x y)) in
+    sym (ap on turned ∙ apart ∙ ap₂ bit_xor (ap₂ bit_xor (ap₂ bit_xor a_on b_on) c_on) d_on)
+
+-- sixteen bytes, four by four, as the code takes them
+pub fold_sixteen : (first second third fourth : List ℕ) (r : ℕ) → length second ≡ 4 → length third ≡ 4 → length fourth ≡ 4
+    → fold after_byte r (first ++ (second ++ (third ++ fourth)))
+    ≡ bit_xor (shifted_by 96 (fold after_byte r first))
+    (bit_xor (bit_xor (shifted_by 64 (fold after_byte 0 second)) (shifted_by 32 (fold after_byte 0 third))) (fold after_byte 0 fourth))
+fold_sixteen first second third fourth r two three four =
+    let counted : 8 * length (second ++ (third ++ fourth)) ≡ 96 = rw (length-append second (third ++ fourth), length-append third fourth, two, three, four) refl in
+    let counted_third : 8 * length (third ++ fourth) ≡ 64 = rw (length-append third fourth, three, four) refl in
+    let behind : fold after_byte 0 (second ++ (third ++ fourth))
+    ≡ bit_xor (bit_xor (shifted_by 64 (fold after_byte 0 second)) (shifted_by 32 (fold after_byte 0 third))) (fold after_byte 0 fourth) =
+    fold_behind second (third ++ fourth) 0
+    ∙ ap₂ bit_xor (ap (λ (k : ℕ). shifted_by k (fold after_byte 0 second)) counted_third)
+    (fold_behind third fourth 0 ∙ ap (λ (k : ℕ). bit_xor (shifted_by (8 * k) (fold after_byte 0 third)) (fold after_byte 0 fourth)) four)
+    ∙ sym (xor_assoc (shifted_by 64 (fold after_byte 0 second)) (shifted_by 32 (fold after_byte 0 third)) (fold after_byte 0 fourth)) in
+    fold_behind first (second ++ (third ++ fourth)) r
+    ∙ ap₂ bit_xor (ap (λ (k : ℕ). shifted_by k (fold after_byte r first)) counted) behind

@@ -9,12 +9,12 @@ use Rattle.stun_keys.specs.declared.digest.crc_tables.TheConstants.{TABLES}
 abbrev table : ℕ → List ℕ
 table k = map (shifted_by (8 * (k + 1))) (range_with_len 0 256)
 
-tables_are : TABLES ≡ map table (range_with_len 0 8)
+tables_are : TABLES ≡ map table (range_with_len 0 16)
 unfolding shifted_by
 tables_are = refl
 
-pub table_at : (none : List ℕ) (k i : ℕ) → k < 8 → i < 256 → get_or (get_or TABLES k none) i 0 ≡ shifted_by (8 * (k + 1)) i
+pub table_at : (none : List ℕ) (k i : ℕ) → k < 16 → i < 256 → get_or (get_or TABLES k none) i 0 ≡ shifted_by (8 * (k + 1)) i
 table_at none k i few within =
     ap (λ (ts : List (List ℕ)). get_or (get_or ts k none) i 0) tables_are
-    ∙ ap (λ (t : List ℕ). get_or t i 0) (get_or-map-range_with_len (table) 0 8 k k none few (omega arith))
+    ∙ ap (λ (t : List ℕ). get_or t i 0) (get_or-map-range_with_len (table) 0 16 k k none few (omega arith))
     ∙ get_or-map-range_with_len (shifted_by (8 * (k + 1))) 0 256 i i 0 within (omega arith)

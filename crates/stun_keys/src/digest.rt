@@ -1,7 +1,7 @@
 //! CRC-32, as ISO-HDLC defines it, and HMAC, as RFC 2104 defines it. Both take their bytes in
 //! pieces.
 
-ghost use Rattle.std.specs.Prelude.{◌≡◌, ◌+◌, ◌*◌, ◌<◌, length, fold, map};
+ghost use Rattle.std.specs.Prelude.{◌≡◌, ◌+◌, ◌*◌, ◌<◌, ◌≤◌, length, fold, map};
 ghost use Rattle.std.specs.List.{concat};
 ghost use Rattle.stun_grammar.specs.Checksums.{shifted_by, after_byte, crc};
 
@@ -11,15 +11,37 @@ mod hmac;
 mod kept;
 
 use crc_tables::TABLES;
+pub(crate) use hmac::digest;
 pub use hmac::{hmac_sha1, hmac_sha256};
 pub(crate) use kept::KeptHmacs;
 
 /// What a byte becomes once it and that many bytes of zeros behind it are shifted out.
 fn shifted_out(byte: u8, zeros: usize) -> u32
-    requires { zeros < 8 }
+    requires { zeros < 16 }
     ensures { result ≡ shifted_by (8 * (zeros + 1)) byte }
 {
     TABLES[zeros][usize::from(byte)]
+}
+
+/// What four bytes become once they and that many bytes of zeros behind them are shifted out.
+fn four_shifted_out(four: &[u8], zeros: usize) -> u32
+    requires four { length four.now ≡ 4 }
+    requires few { zeros ≤ 12 }
+    ensures { result ≡ shifted_by (8 * zeros) (fold after_byte 0 four.now) }
+{
+    shifted_out(four[0], zeros + 3)
+        ^ shifted_out(four[1], zeros + 2)
+        ^ shifted_out(four[2], zeros + 1)
+        ^ shifted_out(four[3], zeros)
+}
+
+/// Four bytes, XORed with those of the register, its lowest first.
+fn with_register(register: u32, four: &[u8]) -> [u8; 4]
+    requires { length four.now ≡ 4 }
+    ensures { fold after_byte 0 result ≡ fold after_byte register four.now }
+{
+    let [a, b, c, d] = register.to_le_bytes();
+    [a ^ four[0], b ^ four[1], c ^ four[2], d ^ four[3]]
 }
 
 /// The register after one more byte.
@@ -30,37 +52,48 @@ fn after(register: u32, byte: u8) -> u32
     shifted_out(lowest ^ byte, 0) ^ (register >> 8)
 }
 
-/// The register after eight more bytes, each of which is shifted out alone.
-fn after_eight(register: u32, bytes: &[u8]) -> u32
-    requires { length bytes.now ≡ 8 }
+/// The register after sixteen more bytes, each of which is shifted out alone.
+fn after_sixteen(register: u32, bytes: &[u8]) -> u32
+    requires { length bytes.now ≡ 16 }
     ensures { result ≡ fold after_byte register bytes.now }
 {
-    // The second half is looked up first, since it doesn't wait for the register.
-    let second = shifted_out(bytes[4], 3)
-        ^ shifted_out(bytes[5], 2)
-        ^ shifted_out(bytes[6], 1)
-        ^ shifted_out(bytes[7], 0);
-    let [a, b, c, d] = register.to_le_bytes();
-    shifted_out(a ^ bytes[0], 7)
-        ^ shifted_out(b ^ bytes[1], 6)
-        ^ shifted_out(c ^ bytes[2], 5)
-        ^ shifted_out(d ^ bytes[3], 4)
-        ^ second
+    let (first, rest) = bytes.split_at(4);
+    let (second, rest) = rest.split_at(4);
+    let (third, fourth) = rest.split_at(4);
+    // These are looked up first, since they don't wait for the register.
+    let behind = four_shifted_out(second, 8)
+        ^ four_shifted_out(third, 4)
+        ^ four_shifted_out(fourth, 0);
+    four_shifted_out(&with_register(register, first), 12) ^ behind
 }
 
-/// The register after more bytes, of which eight at a time are shifted out.
+/// The register after a few more bytes, of which four at a time are shifted out.
+fn after_few(register: u32, bytes: &[u8]) -> u32
+    ensures { result ≡ fold after_byte register bytes.now }
+{
+    let mut register = register;
+    let mut rest = bytes;
+    while rest.len() >= 4 {
+        let (four, behind) = rest.split_at(4);
+        register = four_shifted_out(&with_register(register, four), 0);
+        rest = behind;
+    }
+    rest.iter()
+        .fold(register, |register, byte| after(register, *byte))
+}
+
+/// The register after more bytes, of which sixteen at a time are shifted out.
 fn after_all(register: u32, bytes: &[u8]) -> u32
     ensures { result ≡ fold after_byte register bytes.now }
 {
     let mut register = register;
     let mut rest = bytes;
-    while rest.len() >= 8 {
-        let (eight, behind) = rest.split_at(8);
-        register = after_eight(register, eight);
+    while rest.len() >= 16 {
+        let (sixteen, behind) = rest.split_at(16);
+        register = after_sixteen(register, sixteen);
         rest = behind;
     }
-    rest.iter()
-        .fold(register, |register, byte| after(register, *byte))
+    after_few(register, rest)
 }
 
 /// The CRC-32 of the pieces, joined: that of `123456789` is 0xCBF43926.

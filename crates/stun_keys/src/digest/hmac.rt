@@ -1,14 +1,13 @@
 //! HMAC over SHA-1 and SHA-256 (RFC 2104).
 
-ghost use Rattle.std.specs.Prelude.{◌≡◌, ℕ, ◌≤◌, ◌-◌, true, false, List, ◌++◌, length, map, replicate};
+ghost use Rattle.std.specs.Prelude.{◌≡◌, ℕ, ◌≤◌, ◌-◌, true, false, List, ◌++◌, length, drop, map, replicate};
 ghost use Rattle.std.specs.List.{concat};
 ghost use Rattle.stun_grammar.specs.Hmac.{hmac, digest_of, block_of_key, padded_with};
-ghost use Rattle.stun_keys.specs.Blocks.{AreBlocksOf};
+ghost use Rattle.stun_keys.specs.Blocks.{filled_up};
 
 use super::hash_function::HashFunction;
 use sha1::Sha1;
 use sha2::Sha256;
-use std::alloc::AllocError;
 use stun_grammar::IntegrityAlgorithm;
 
 /// How many bytes a block of either digest has.
@@ -23,7 +22,7 @@ const OUTER_PAD: u8 = 0x5C;
 /// A key of at most one block, filled up with zeros.
 fn in_block(key: &[u8]) -> [u8; 64]
     requires { length key.now ≤ 64 }
-    ensures { result ≡ key.now ++ replicate (64 - length key.now) 0 }
+    ensures { result ≡ filled_up key.now }
 {
     let mut block = [0u8; 64];
     block[..key.len()].copy_from_slice(key);
@@ -42,7 +41,7 @@ fn padded(block: &[u8; 64], pad: u8) -> [u8; 64]
 }
 
 /// The digest of a text.
-fn digest<const N: usize, H: HashFunction<N>>(text: &[u8]) -> [u8; N]
+pub(crate) fn digest<const N: usize, H: HashFunction<N>>(text: &[u8]) -> [u8; N]
     ensures { result ≡ digest_of H.algorithm text.now }
 {
     let mut hasher = H::start();
@@ -50,61 +49,25 @@ fn digest<const N: usize, H: HashFunction<N>>(text: &[u8]) -> [u8; N]
     hasher.finish()
 }
 
-/// The block of a key: a key longer than a block is digested first.
-fn key_block<const N: usize, H: HashFunction<N>>(key: &[u8]) -> [u8; 64]
+/// The hashers of a key of any length: a key longer than a block is digested first.
+fn keyed_hashers<const N: usize, H: HashFunction<N>>(key: &[u8]) -> KeyedHashers<N, H>
     requires { N ≤ 64 }
-    ensures { result ≡ block_of_key (digest_of H.algorithm) key.now }
+    ensures block { result.block ≡ block_of_key (digest_of H.algorithm) key.now }
+    ensures keyed { result.are_keyed ≡ true }
 {
     if key.len() > BLOCK {
-        in_block(&digest::<N, H>(key))
+        KeyedHashers::new(&digest::<N, H>(key))
     } else {
-        in_block(key)
+        KeyedHashers::new(key)
     }
 }
 
-/// What the inner and the outer digest of an HMAC begin with: the block of the key, with each byte
-/// XORed with a pad.
-#[derive(Clone, Copy, PartialEq)]
-pub(crate) struct HmacBlocks {
-    pub(crate) inner: [u8; 64],
-    pub(crate) outer: [u8; 64],
-}
-
-impl HmacBlocks {
-    /// Zeros, in the place of a key's blocks.
-    pub(super) fn zeros() -> Self {
-        HmacBlocks {
-            inner: [0; 64],
-            outer: [0; 64],
-        }
-    }
-}
-
-/// Those of the key that has this block.
-fn blocks_of(block: &[u8; 64]) -> HmacBlocks
-    ensures inner { result.inner ≡ padded_with 0x36 block.now }
-    ensures outer { result.outer ≡ padded_with 0x5C block.now }
-{
-    HmacBlocks {
-        inner: padded(block, INNER_PAD),
-        outer: padded(block, OUTER_PAD),
-    }
-}
-
-/// The blocks of a key of any length.
-pub(super) fn key_blocks<const N: usize, H: HashFunction<N>>(key: &[u8]) -> HmacBlocks
-    requires { N ≤ 64 }
-    ensures { AreBlocksOf (digest_of H.algorithm) key.now result }
-{
-    blocks_of(&key_block::<N, H>(key))
-}
-
-/// A hasher that has taken in a block.
-fn keyed<const N: usize, H: HashFunction<N>>(block: &[u8; 64]) -> H
-    ensures { H.holds result block.now }
+/// A hasher that has taken in a block, with each byte XORed with a pad.
+fn keyed<const N: usize, H: HashFunction<N>>(block: &[u8; 64], pad: u8) -> H
+    ensures { H.holds result (padded_with pad block.now) }
 {
     let mut hasher = H::start();
-    hasher.take(block);
+    hasher.take(&padded(block, pad));
     hasher
 }
 
@@ -120,30 +83,36 @@ fn digest_after<const N: usize, H: HashFunction<N>>(keyed: &H, pieces: &[&[u8]])
     hasher.finish()
 }
 
-/// The two hashers of an HMAC, and the block that each of them has taken in, until they are
-/// overwritten.
+/// The two hashers of an HMAC, each of which has taken in the key's block with a pad, until they are
+/// overwritten; that block, and how many of its bytes are the key's.
 #[derive(Drop)]
 pub(super) struct KeyedHashers<const N: usize, H: HashFunction<N>> {
-    pub(super) blocks: HmacBlocks,
-    pub(super) are_keyed: bool,
+    block: [u8; 64],
+    length: usize,
+    are_keyed: bool,
     inner: H,
     outer: H,
-    ghost inner_holds: { ∥ (are_keyed ≡ true → H.holds inner blocks.inner) ∥₁ },
-    ghost outer_holds: { ∥ (are_keyed ≡ true → H.holds outer blocks.outer) ∥₁ },
+    ghost within: { length ≤ 64 },
+    ghost filled_up: { drop length block ≡ replicate (64 - length) 0 },
+    ghost inner_holds: { ∥ (are_keyed ≡ true → H.holds inner (padded_with 0x36 block)) ∥₁ },
+    ghost outer_holds: { ∥ (are_keyed ≡ true → H.holds outer (padded_with 0x5C block)) ∥₁ },
 }
 
 #[tactic(auto, unfolding(stun_grammar::specs::Hmac::hmac, stun_grammar::specs::Hmac::hmac_over))]
 impl<const N: usize, H: HashFunction<N>> KeyedHashers<N, H> {
-    /// For the keys that have these blocks.
-    pub(super) fn new(blocks: &HmacBlocks) -> Self
-        ensures blocks { result.blocks ≡ blocks.now }
+    /// For the block of a key of at most 64 bytes.
+    pub(super) fn new(key: &[u8]) -> Self
+        requires { length key.now ≤ 64 }
+        ensures block { result.block ≡ filled_up key.now }
         ensures keyed { result.are_keyed ≡ true }
     {
+        let block = in_block(key);
         KeyedHashers {
-            blocks: *blocks,
+            inner: keyed(&block, INNER_PAD),
+            outer: keyed(&block, OUTER_PAD),
+            length: key.len(),
             are_keyed: true,
-            inner: keyed(&blocks.inner),
-            outer: keyed(&blocks.outer),
+            block,
         }
     }
 
@@ -152,32 +121,30 @@ impl<const N: usize, H: HashFunction<N>> KeyedHashers<N, H> {
         ensures { self.new.are_keyed ≡ false }
     {
         *self = KeyedHashers {
-            blocks: HmacBlocks::zeros(),
+            block: [0; 64],
+            length: 0,
             are_keyed: false,
             inner: H::start(),
             outer: H::start(),
         };
     }
 
+    /// Whether the hashers have taken in the block of this key.
+    pub(super) fn are_of(&self, key: &[u8]) -> bool
+        ensures { result ≡ true
+            → (self.now.are_keyed ≡ true) × (self.now.block ≡ filled_up key.now) }
+    {
+        self.are_keyed && &self.block[..self.length] == key
+    }
+
     /// The HMAC of the pieces, joined.
     pub(super) fn hmac(&self, pieces: &[&[u8]]) -> [u8; N]
         requires { self.now.are_keyed ≡ true }
-        ensures { (key : List ℕ) → AreBlocksOf (digest_of H.algorithm) key self.now.blocks
+        ensures { (key : List ℕ) → self.now.block ≡ block_of_key (digest_of H.algorithm) key
             → result ≡ hmac H.algorithm key (concat (map (λ piece. piece.now) pieces.now)) }
     {
         let inner = digest_after(&self.inner, pieces);
         digest_after(&self.outer, &[&inner])
-    }
-}
-
-impl<const N: usize, H: HashFunction<N>> Clone for KeyedHashers<N, H> {
-    fn clone(&self) -> Result<Self, AllocError> {
-        Ok(KeyedHashers {
-            blocks: self.blocks,
-            are_keyed: self.are_keyed,
-            inner: self.inner.copy(),
-            outer: self.outer.copy(),
-        })
     }
 }
 
@@ -189,7 +156,7 @@ pub fn hmac_sha1(key: &[u8], pieces: &[&[u8]]) -> [u8; 20]
     ensures { result
         ≡ hmac IntegrityAlgorithm.Sha1 key.now (concat (map (λ piece. piece.now) pieces.now)) }
 {
-    KeyedHashers::<20, Sha1>::new(&key_blocks::<20, Sha1>(key)).hmac(pieces)
+    keyed_hashers::<20, Sha1>(key).hmac(pieces)
 }
 
 /// HMAC-SHA256 of the pieces, joined, under a key of any length: 32 bytes.
@@ -200,5 +167,5 @@ pub fn hmac_sha256(key: &[u8], pieces: &[&[u8]]) -> [u8; 32]
     ensures { result
         ≡ hmac IntegrityAlgorithm.Sha256 key.now (concat (map (λ piece. piece.now) pieces.now)) }
 {
-    KeyedHashers::<32, Sha256>::new(&key_blocks::<32, Sha256>(key)).hmac(pieces)
+    keyed_hashers::<32, Sha256>(key).hmac(pieces)
 }

@@ -1,45 +1,35 @@
 //! HMACs under a key that is kept.
 
-ghost use Rattle.std.specs.Prelude.{◌≡◌, ◌≤◌, ℕ, List, IfOk, IfErr, map};
+ghost use Rattle.std.specs.Prelude.{◌≡◌, ◌≤◌, ℕ, List, IfErr, length, map};
 ghost use Rattle.std.specs.List.{concat};
 ghost use Rattle.sha1.specs.Sha1.{sha1};
 ghost use Rattle.sha2.specs.Sha256.{sha256};
-ghost use Rattle.stun_grammar.specs.Hmac.{hmac, digest_of};
-ghost use Rattle.stun_keys.specs.Blocks.{AreBlocksOf};
+ghost use Rattle.stun_grammar.specs.declared.integrity_algorithm.IntegrityAlgorithm.TheVariants as algorithms;
+ghost use Rattle.stun_grammar.specs.Hmac.{hmac, digest_of, block_of_key};
+ghost use Rattle.stun_keys.specs.Blocks.{filled_up};
 
 use super::hash_function::HashFunction;
-use super::hmac::{HmacBlocks, KeyedHashers, key_blocks};
+use super::hmac::KeyedHashers;
 use sha1::Sha1;
 use sha2::Sha256;
 use std::alloc::Global;
-use std::cell::OnceCell;
+use std::cell::{OnceCell, RefCell};
 use stun_grammar::StunWriteError;
 
-/// HMAC under a key that is kept: the blocks that its two digests begin with, and from the first
-/// HMAC on the hashers that have taken them in, so that a later HMAC compresses two blocks fewer.
+/// HMAC by one algorithm under a key that is kept: from the first HMAC on the hashers that have
+/// taken in the key's block, so that a later HMAC compresses two blocks fewer.
 ///
-/// No contract tells what a cell holds. So the hashers are used only where the blocks that they
-/// have taken in are these.
-#[derive(Clone, Drop)]
-pub(crate) struct KeyedHmac<const N: usize, H: HashFunction<N>> {
-    pub(crate) blocks: HmacBlocks,
+/// No contract tells what a cell holds. So each call is handed the key, and the hashers are used
+/// only where they are of that one.
+#[derive(Drop)]
+struct KeyedHmac<const N: usize, H: HashFunction<N>> {
     keyed: OnceCell<KeyedHashers<N, H>>,
 }
 
-/// HMAC-SHA1 under a key that is kept.
-pub(crate) type HmacSha1 = KeyedHmac<20, Sha1>;
-
-/// HMAC-SHA256 under a key that is kept.
-pub(crate) type HmacSha256 = KeyedHmac<32, Sha256>;
-
 impl<const N: usize, H: HashFunction<N>> KeyedHmac<N, H> {
-    /// Under a key of any length. Nothing is digested, but for a key longer than a block.
-    pub(crate) fn new(key: &[u8]) -> Self
-        requires { N ≤ 64 }
-        ensures { AreBlocksOf (digest_of H.algorithm) key.now result.blocks }
-    {
+    /// With no hashers yet.
+    fn new() -> Self {
         KeyedHmac {
-            blocks: key_blocks::<N, H>(key),
             keyed: OnceCell::new(),
         }
     }
@@ -47,30 +37,31 @@ impl<const N: usize, H: HashFunction<N>> KeyedHmac<N, H> {
     /// The first HMAC, whose hashers are kept. It stands apart, so that the later ones don't clear
     /// its room on the stack.
     #[inline(never)]
-    fn first_hmac(&self, pieces: &[&[u8]]) -> [u8; N]
-        ensures { (key : List ℕ) → AreBlocksOf (digest_of H.algorithm) key self.now.blocks
-            → result ≡ hmac H.algorithm key (concat (map (λ piece. piece.now) pieces.now)) }
+    fn first_hmac(&self, key: &[u8], pieces: &[&[u8]]) -> [u8; N]
+        requires { length key.now ≤ 64 }
+        ensures { (whole : List ℕ) → filled_up key.now ≡ block_of_key (digest_of H.algorithm) whole
+            → result ≡ hmac H.algorithm whole (concat (map (λ piece. piece.now) pieces.now)) }
     {
-        let keyed = KeyedHashers::<N, H>::new(&self.blocks);
+        let keyed = KeyedHashers::<N, H>::new(key);
         let digest = keyed.hmac(pieces);
         let _ = self.keyed.set(keyed);
         digest
     }
 
-    /// The HMAC of the pieces, joined.
-    pub(crate) fn hmac(&self, pieces: &[&[u8]]) -> [u8; N]
-        ensures { (key : List ℕ) → AreBlocksOf (digest_of H.algorithm) key self.now.blocks
-            → result ≡ hmac H.algorithm key (concat (map (λ piece. piece.now) pieces.now)) }
+    /// The HMAC of the pieces, joined, under a key of at most 64 bytes.
+    fn hmac(&self, key: &[u8], pieces: &[&[u8]]) -> [u8; N]
+        requires { length key.now ≤ 64 }
+        ensures { (whole : List ℕ) → filled_up key.now ≡ block_of_key (digest_of H.algorithm) whole
+            → result ≡ hmac H.algorithm whole (concat (map (λ piece. piece.now) pieces.now)) }
     {
         match self.keyed.get() {
-            Some(keyed) if keyed.are_keyed && keyed.blocks == self.blocks => keyed.hmac(pieces),
-            _ => self.first_hmac(pieces),
+            Some(keyed) if keyed.are_of(key) => keyed.hmac(pieces),
+            _ => self.first_hmac(key, pieces),
         }
     }
 
-    /// Puts zeros in the place of the blocks, and overwrites the hashers too.
+    /// Overwrites the hashers.
     fn overwrite(&mut self) {
-        self.blocks = HmacBlocks::zeros();
         if let Some(keyed) = self.keyed.get_mut() {
             keyed.overwrite();
         }
@@ -79,69 +70,105 @@ impl<const N: usize, H: HashFunction<N>> KeyedHmac<N, H> {
 
 /// HMACs under a key that is kept, by either algorithm.
 #[derive(Drop)]
-pub(crate) struct BothHmacs {
-    pub(crate) sha1: HmacSha1,
-    pub(crate) sha256: HmacSha256,
+struct BothHmacs {
+    sha1: KeyedHmac<20, Sha1>,
+    sha256: KeyedHmac<32, Sha256>,
 }
 
-/// What a key keeps for its HMACs, in memory that is overwritten before it is freed.
-///
-/// It is a block of its own, and not a part of the key: what drops a value is handed it by a move,
-/// and doesn't reach the memory that it was moved from.
+/// What a key keeps for its HMACs: memory, into which the first HMAC writes, and which is
+/// overwritten before it is freed.
 pub(crate) struct KeptHmacs {
-    pub(crate) both: Box<BothHmacs>,
+    both: RefCell<Vec<BothHmacs>>,
 }
 
 impl KeptHmacs {
-    /// Those of a key of any length, in memory that `alloc` gives. Nothing is digested, but for a
-    /// key longer than a block.
-    pub(crate) fn new(alloc: Global, key: &[u8]) -> Result<Self, StunWriteError>
-        ensures sha1 { IfOk result
-            (λ kept. AreBlocksOf sha1 key.now kept.both.value.sha1.blocks) }
-        ensures sha256 { IfOk result
-            (λ kept. AreBlocksOf sha256 key.now kept.both.value.sha256.blocks) }
-        ensures err { IfErr result (λ e. e ≡ StunWriteError.OutOfMemory) }
+    /// The memory, which `alloc` gives. Nothing is written into it, and nothing is digested.
+    pub(crate) fn new(alloc: Global) -> Result<Self, StunWriteError>
+        ensures { IfErr result (λ e. e ≡ StunWriteError.OutOfMemory) }
     {
-        let sha1 = HmacSha1::new(key);
-        let sha256 = HmacSha256::new(key);
-        KeptHmacs::boxed(alloc, BothHmacs { sha1, sha256 })
+        let both = Vec::with_capacity(alloc, 1).map_err(|_| StunWriteError::OutOfMemory)?;
+        Ok(KeptHmacs {
+            both: RefCell::new(both),
+        })
     }
 
-    /// A copy, in memory that `alloc` gives. Nothing is digested.
-    pub(crate) fn copied(&self, alloc: Global) -> Result<Self, StunWriteError>
-        ensures sha1 { IfOk result
-            (λ copy. copy.both.value.sha1.blocks ≡ self.now.both.value.sha1.blocks) }
-        ensures sha256 { IfOk result
-            (λ copy. copy.both.value.sha256.blocks ≡ self.now.both.value.sha256.blocks) }
-        ensures err { IfErr result (λ e. e ≡ StunWriteError.OutOfMemory) }
-    {
-        let sha1 = self
-            .both
-            .sha1
-            .clone()
-            .map_err(|_| StunWriteError::OutOfMemory)?;
-        let sha256 = self
-            .both
-            .sha256
-            .clone()
-            .map_err(|_| StunWriteError::OutOfMemory)?;
-        KeptHmacs::boxed(alloc, BothHmacs { sha1, sha256 })
+    /// Writes into the memory, where that wasn't done. It takes no more memory than is there.
+    fn make_ready(&self) {
+        if let Ok(mut both) = self.both.try_borrow_mut() {
+            if both.is_empty() && both.capacity() > 0 {
+                let _ = both.push(BothHmacs {
+                    sha1: KeyedHmac::new(),
+                    sha256: KeyedHmac::new(),
+                });
+            }
+        }
     }
 
-    /// These, in memory that `alloc` gives.
-    fn boxed(alloc: Global, both: BothHmacs) -> Result<Self, StunWriteError>
-        ensures ok { IfOk result (λ kept. kept.both.value ≡ both) }
-        ensures err { IfErr result (λ e. e ≡ StunWriteError.OutOfMemory) }
+    /// The first HMAC-SHA1.
+    #[inline(never)]
+    fn first_hmac_sha1(&self, key: &[u8], pieces: &[&[u8]]) -> [u8; 20]
+        requires { length key.now ≤ 64 }
+        ensures { (whole : List ℕ) → filled_up key.now ≡ block_of_key sha1 whole → result
+            ≡ hmac algorithms.Sha1 whole (concat (map (λ piece. piece.now) pieces.now)) }
     {
-        let both = Box::new(alloc, both).map_err(|_| StunWriteError::OutOfMemory)?;
-        Ok(KeptHmacs { both })
+        self.make_ready();
+        match self.both.try_borrow() {
+            Ok(both) if !both.is_empty() => both[0].sha1.hmac(key, pieces),
+            _ => KeyedHashers::<20, Sha1>::new(key).hmac(pieces),
+        }
+    }
+
+    /// The HMAC-SHA1 of the pieces, joined, under a key of at most 64 bytes.
+    pub(crate) fn hmac_sha1(&self, key: &[u8], pieces: &[&[u8]]) -> [u8; 20]
+        requires { length key.now ≤ 64 }
+        ensures { (whole : List ℕ) → filled_up key.now ≡ block_of_key sha1 whole → result
+            ≡ hmac algorithms.Sha1 whole (concat (map (λ piece. piece.now) pieces.now)) }
+    {
+        // The borrow ends before the first HMAC, which writes.
+        if let Ok(both) = self.both.try_borrow() {
+            if let Some(both) = both.first() {
+                return both.sha1.hmac(key, pieces);
+            }
+        }
+        self.first_hmac_sha1(key, pieces)
+    }
+
+    /// The first HMAC-SHA256.
+    #[inline(never)]
+    fn first_hmac_sha256(&self, key: &[u8], pieces: &[&[u8]]) -> [u8; 32]
+        requires { length key.now ≤ 64 }
+        ensures { (whole : List ℕ) → filled_up key.now ≡ block_of_key sha256 whole → result
+            ≡ hmac algorithms.Sha256 whole (concat (map (λ piece. piece.now) pieces.now)) }
+    {
+        self.make_ready();
+        match self.both.try_borrow() {
+            Ok(both) if !both.is_empty() => both[0].sha256.hmac(key, pieces),
+            _ => KeyedHashers::<32, Sha256>::new(key).hmac(pieces),
+        }
+    }
+
+    /// The HMAC-SHA256 of the pieces, joined, under a key of at most 64 bytes.
+    pub(crate) fn hmac_sha256(&self, key: &[u8], pieces: &[&[u8]]) -> [u8; 32]
+        requires { length key.now ≤ 64 }
+        ensures { (whole : List ℕ) → filled_up key.now ≡ block_of_key sha256 whole → result
+            ≡ hmac algorithms.Sha256 whole (concat (map (λ piece. piece.now) pieces.now)) }
+    {
+        // The borrow ends before the first HMAC, which writes.
+        if let Ok(both) = self.both.try_borrow() {
+            if let Some(both) = both.first() {
+                return both.sha256.hmac(key, pieces);
+            }
+        }
+        self.first_hmac_sha256(key, pieces)
     }
 }
 
 impl Drop for KeptHmacs {
     fn drop(self) {
         let KeptHmacs { mut both } = self;
-        both.sha1.overwrite();
-        both.sha256.overwrite();
+        for both in both.get_mut().iter_mut() {
+            both.sha1.overwrite();
+            both.sha256.overwrite();
+        }
     }
 }

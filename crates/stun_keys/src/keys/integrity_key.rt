@@ -1,10 +1,12 @@
-ghost use Rattle.std.specs.Prelude.{◌≡◌};
+ghost use Rattle.std.specs.Prelude.{◌≡◌, ◌≤◌, length, None, IfSome};
 ghost use Rattle.std.specs.Box.{boxed_slice_items};
+ghost use Rattle.std.proofs.Props.{props};
 ghost use Rattle.sha1.specs.Sha1.{sha1};
 ghost use Rattle.sha2.specs.Sha256.{sha256};
-ghost use Rattle.stun_grammar.specs.Hmac.{block_of_key, padded_with};
+ghost use Rattle.stun_keys.specs.Digests.{AreDigestsOf};
 
 use crate::digest::KeptHmacs;
+use crate::keys::key_digests::KeyDigests;
 use crate::keys::secret::SecretBytes;
 use std::alloc::Global;
 use stun_grammar::{IntegrityAlgorithm, StunWriteError};
@@ -12,12 +14,13 @@ use stun_grammar::{IntegrityAlgorithm, StunWriteError};
 /// The key of an HMAC: any number of bytes, and the algorithm that it was made for, if it was made
 /// for one. A key with no algorithm works with both.
 ///
-/// Beside its bytes it keeps, for each of the two digests, the block of 64 bytes with which an HMAC
-/// under it begins, and from the first HMAC on the hashers that have taken that block in. Since an
-/// HMAC may write them, two threads can't share a key (it isn't `Sync`): each takes its own clone.
+/// Beside its bytes it keeps memory for two hashers of each digest, which it makes at the first
+/// HMAC by that digest and uses again for each later one. Since an HMAC may write them, two threads
+/// can't share a key (it isn't `Sync`): each takes its own clone.
 ///
-/// It owns two blocks of memory, one for its bytes and one for the rest. Both are overwritten before
-/// they are freed, and `{:?}` prints neither. What a call copies to the stack isn't overwritten.
+/// It owns two blocks of memory, one for its bytes and one for the hashers, and where it is longer
+/// than 64 bytes two more for its digests. All are overwritten before they are freed, and `{:?}`
+/// prints none. What a call copies to the stack isn't overwritten.
 ///
 /// Two keys are equal where their bytes are equal, whatever they were made for.
 #[derive(Drop)]
@@ -26,21 +29,18 @@ pub struct IntegrityKey {
     algorithm: Option<IntegrityAlgorithm>,
     bytes: SecretBytes,
     #[derive_where(skip)]
+    digests: Option<KeyDigests>,
+    #[derive_where(skip)]
     kept: KeptHmacs,
-    ghost sha1_inner: { kept.both.value.sha1.blocks.inner
-        ≡ padded_with 0x36 (block_of_key sha1 (boxed_slice_items bytes.bytes)) },
-    ghost sha1_outer: { kept.both.value.sha1.blocks.outer
-        ≡ padded_with 0x5C (block_of_key sha1 (boxed_slice_items bytes.bytes)) },
-    ghost sha256_inner: { kept.both.value.sha256.blocks.inner
-        ≡ padded_with 0x36 (block_of_key sha256 (boxed_slice_items bytes.bytes)) },
-    ghost sha256_outer: { kept.both.value.sha256.blocks.outer
-        ≡ padded_with 0x5C (block_of_key sha256 (boxed_slice_items bytes.bytes)) },
+    ghost short: { digests ≡ None → length (boxed_slice_items bytes.bytes) ≤ 64 },
+    ghost long: { IfSome digests (AreDigestsOf (boxed_slice_items bytes.bytes)) } by { Prim.hlevel props },
 }
 
 impl IntegrityKey {
-    ghost use Rattle.std.specs.Prelude.{◌≡◌, None, IfOk, IfErr, map};
+    ghost use Rattle.std.specs.Prelude.{◌≡◌, ◌≤◌, None, IfOk, IfErr, length, map};
     ghost use Rattle.std.specs.List.{concat};
-    ghost use Rattle.stun_grammar.specs.Hmac.{hmac};
+    ghost use Rattle.stun_grammar.specs.Hmac.{hmac, block_of_key};
+    ghost use Rattle.stun_keys.specs.Blocks.{filled_up};
     ghost use Rattle.stun_keys.specs.Keys.{key_bytes, key_algorithm, serves, IsKey};
 
     /// The key with these bytes, made for an algorithm or with none. The bytes are copied into
@@ -61,17 +61,16 @@ impl IntegrityKey {
         ensures ok { IfOk result (IsKey algorithm bytes.now) }
         ensures err { IfErr result (λ e. e ≡ StunWriteError.OutOfMemory) }
     {
-        let copy = SecretBytes::copied(alloc, bytes)?;
-        let kept = KeptHmacs::new(alloc, bytes)?;
         Ok(IntegrityKey {
             algorithm,
-            bytes: copy,
-            kept,
+            bytes: SecretBytes::copied(alloc, bytes)?,
+            digests: KeyDigests::of_long(alloc, bytes)?,
+            kept: KeptHmacs::new(alloc)?,
         })
     }
 
-    /// The same key, with its bytes copied into memory that `alloc` gives. The blocks are copied,
-    /// and so are the hashers that the key keeps by then. Nothing is digested.
+    /// The same key, in memory that `alloc` gives. Its bytes are copied, and the hashers that it
+    /// may keep by then aren't.
     ///
     /// # Errors
     ///
@@ -80,13 +79,7 @@ impl IntegrityKey {
         ensures same { IfOk result (IsKey (key_algorithm self.now) (key_bytes self.now)) }
         ensures err { IfErr result (λ e. e ≡ StunWriteError.OutOfMemory) }
     {
-        let bytes = SecretBytes::copied(alloc, self.as_bytes())?;
-        let kept = self.kept.copied(alloc)?;
-        Ok(IntegrityKey {
-            algorithm: self.algorithm,
-            bytes,
-            kept,
-        })
+        IntegrityKey::new(alloc, self.as_bytes(), self.algorithm)
     }
 
     /// The bytes.
@@ -120,6 +113,7 @@ impl IntegrityKey {
         IntegrityKey {
             algorithm,
             bytes: self.bytes,
+            digests: self.digests,
             kept: self.kept,
         }
     }
@@ -136,13 +130,36 @@ impl IntegrityKey {
         }
     }
 
+    /// What an HMAC-SHA1 under the key takes in its place: its digest, where it is longer than a
+    /// block, or the key itself.
+    fn for_sha1(&self) -> &[u8]
+        ensures block { filled_up result.now ≡ block_of_key sha1 (key_bytes self.now) }
+        ensures length { length result.now ≤ 64 }
+    {
+        match &self.digests {
+            Some(digests) => digests.sha1(),
+            None => self.as_bytes(),
+        }
+    }
+
+    /// What an HMAC-SHA256 under the key takes in its place.
+    fn for_sha256(&self) -> &[u8]
+        ensures block { filled_up result.now ≡ block_of_key sha256 (key_bytes self.now) }
+        ensures length { length result.now ≤ 64 }
+    {
+        match &self.digests {
+            Some(digests) => digests.sha256(),
+            None => self.as_bytes(),
+        }
+    }
+
     /// HMAC-SHA1 of the pieces, joined, under the key: 20 bytes (RFC 2104). The algorithm that the
     /// key was made for does not matter. It takes no memory.
     pub fn hmac_sha1(&self, pieces: &[&[u8]]) -> [u8; 20]
         ensures { result ≡ hmac IntegrityAlgorithm.Sha1 (key_bytes self.now)
             (concat (map (λ piece. piece.now) pieces.now)) }
     {
-        self.kept.both.sha1.hmac(pieces)
+        self.kept.hmac_sha1(self.for_sha1(), pieces)
     }
 
     /// HMAC-SHA256 of the pieces, joined, under the key: 32 bytes (RFC 2104). The algorithm that
@@ -151,7 +168,7 @@ impl IntegrityKey {
         ensures { result ≡ hmac IntegrityAlgorithm.Sha256 (key_bytes self.now)
             (concat (map (λ piece. piece.now) pieces.now)) }
     {
-        self.kept.both.sha256.hmac(pieces)
+        self.kept.hmac_sha256(self.for_sha256(), pieces)
     }
 }
 

@@ -6,5 +6,5 @@ use Rattle.stun_keys.proofs.digest.after_all.Goals as goal
 pub loop-rest-preserved : goal.loop-rest-preserved
 loop-rest-preserved c =
     let register = c.loop-rest.register in
-    rw c.after_eight-register.ensures
+    rw c.after_sixteen-register.ensures
     (sym (fold-append after_byte register c.split_at.result.0.now c.split_at.result.1.now) ∙ ap (fold after_byte register) (sym c.split_at.ensures.by_index.0) ∙ c.loop-rest.invariant)
