@@ -55,6 +55,20 @@ impl<'a> Message<'a> {
 
     /// The first attribute of the type `atype` that the message shows:
     /// [`Message::nth_raw_attribute`] with 0.
+    ///
+    /// Each look-up goes over the attributes anew, so one for each type of a message with n
+    /// attributes takes some n² steps. Where several types are wanted, one walk finds them all:
+    ///
+    /// ```
+    /// let (mut priority, mut username) = (None, None);
+    /// for (_offset, attribute) in message.iter_attributes() {
+    ///     match attribute.get_type().value() {
+    ///         0x0024 if priority.is_none() => priority = Some(attribute),
+    ///         0x0006 if username.is_none() => username = Some(attribute),
+    ///         _ => {}
+    ///     }
+    /// }
+    /// ```
     pub fn raw_attribute(&self, atype: AttributeType) -> Option<RawAttribute<'a>>
         ensures { IsRawFound (nth (message_bytes self.now) atype.0 0) result }
     {
