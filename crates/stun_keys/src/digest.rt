@@ -11,7 +11,7 @@ mod hmac;
 mod kept;
 
 use crc_tables::TABLES;
-pub(crate) use hmac::digest;
+pub(crate) use hmac::{BLOCK, digest};
 pub use hmac::{hmac_sha1, hmac_sha256};
 pub(crate) use kept::KeptHmacs;
 

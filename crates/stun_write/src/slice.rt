@@ -126,6 +126,7 @@ impl<'a> MessageWrite for MessageWriteMutSlice<'a> {
         self.attributes.first_of(asked)
     }
 
+    #[inline(always)]
     fn push_data(&mut self, more: &[u8]) -> Result<(), StunWriteError> {
         let len = self.len();
         if len == 0 {

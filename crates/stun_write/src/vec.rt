@@ -114,6 +114,7 @@ impl MessageWrite for MessageWriteVec {
         self.attributes.first_of(asked)
     }
 
+    #[inline(always)]
     fn push_data(&mut self, more: &[u8]) -> Result<(), StunWriteError> {
         self.output
             .extend_from_slice(more)

@@ -11,7 +11,7 @@ use sha2::Sha256;
 use stun_grammar::IntegrityAlgorithm;
 
 /// How many bytes a block of either digest has.
-const BLOCK: usize = 64;
+pub(crate) const BLOCK: usize = 64;
 
 /// What each byte of the key's block is XORed with for the inner digest.
 const INNER_PAD: u8 = 0x36;

@@ -1,11 +1,10 @@
-ghost use Rattle.std.specs.Prelude.{◌≡◌, ◌≤◌, length, None, IfSome};
+ghost use Rattle.std.specs.Prelude.{◌≡◌};
 ghost use Rattle.std.specs.Box.{boxed_slice_items};
-ghost use Rattle.std.proofs.Props.{props};
 ghost use Rattle.sha1.specs.Sha1.{sha1};
 ghost use Rattle.sha2.specs.Sha256.{sha256};
-ghost use Rattle.stun_keys.specs.Digests.{AreDigestsOf};
+ghost use Rattle.stun_keys.specs.Blocks.{digest_of_long};
 
-use crate::digest::KeptHmacs;
+use crate::digest::{BLOCK, KeptHmacs};
 use crate::keys::key_digests::KeyDigests;
 use crate::keys::secret::SecretBytes;
 use std::alloc::Global;
@@ -29,11 +28,13 @@ pub struct IntegrityKey {
     algorithm: Option<IntegrityAlgorithm>,
     bytes: SecretBytes,
     #[derive_where(skip)]
-    digests: Option<KeyDigests>,
+    digests: KeyDigests,
     #[derive_where(skip)]
     kept: KeptHmacs,
-    ghost short: { digests ≡ None → length (boxed_slice_items bytes.bytes) ≤ 64 },
-    ghost long: { IfSome digests (AreDigestsOf (boxed_slice_items bytes.bytes)) } by { Prim.hlevel props },
+    ghost sha1_digested: { boxed_slice_items digests.sha1.bytes
+        ≡ digest_of_long sha1 (boxed_slice_items bytes.bytes) },
+    ghost sha256_digested: { boxed_slice_items digests.sha256.bytes
+        ≡ digest_of_long sha256 (boxed_slice_items bytes.bytes) },
 }
 
 impl IntegrityKey {
@@ -64,7 +65,7 @@ impl IntegrityKey {
         Ok(IntegrityKey {
             algorithm,
             bytes: SecretBytes::copied(alloc, bytes)?,
-            digests: KeyDigests::of_long(alloc, bytes)?,
+            digests: KeyDigests::of(alloc, bytes)?,
             kept: KeptHmacs::new(alloc)?,
         })
     }
@@ -136,9 +137,10 @@ impl IntegrityKey {
         ensures block { filled_up result.now ≡ block_of_key sha1 (key_bytes self.now) }
         ensures length { length result.now ≤ 64 }
     {
-        match &self.digests {
-            Some(digests) => digests.sha1(),
-            None => self.as_bytes(),
+        if self.as_bytes().len() > BLOCK {
+            self.digests.sha1()
+        } else {
+            self.as_bytes()
         }
     }
 
@@ -147,9 +149,10 @@ impl IntegrityKey {
         ensures block { filled_up result.now ≡ block_of_key sha256 (key_bytes self.now) }
         ensures length { length result.now ≤ 64 }
     {
-        match &self.digests {
-            Some(digests) => digests.sha256(),
-            None => self.as_bytes(),
+        if self.as_bytes().len() > BLOCK {
+            self.digests.sha256()
+        } else {
+            self.as_bytes()
         }
     }
 
