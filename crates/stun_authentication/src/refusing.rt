@@ -7,17 +7,18 @@ ghost use Rattle.stun_base.specs.declared.message_type.MessageClass.TheVariants.
 ghost use Rattle.stun_attributes.specs.ErrorCodes.{error_code, error_reason};
 ghost use Rattle.stun_attributes.specs.Passwords.{held_algorithms};
 ghost use Rattle.stun_attributes.specs.Texts.{text_bytes};
-ghost use Rattle.stun_grammar.specs.Adding.{Fits};
+ghost use Rattle.stun_grammar.specs.Adding.{Fits, add_refusal, IsAddAnswer};
 ghost use Rattle.stun_grammar.specs.Attributes.{canonical};
 ghost use Rattle.stun_grammar.specs.AttributeTypes.{IsOrdinary, ERROR_CODE, REALM, NONCE, PASSWORD_ALGORITHMS};
 ghost use Rattle.stun_grammar.specs.Headers.{type_field, id_field};
+ghost use Rattle.stun_grammar.specs.Steps.{add};
 ghost use Rattle.stun_grammar.specs.Writing.{message_encoding};
 ghost use Rattle.stun_types.specs.Message.{message_bytes};
 ghost use Rattle.stun_types.specs.Replies.{response_type};
 ghost use Rattle.stun_values.specs.Algorithms.{algorithms_encoding};
 ghost use Rattle.stun_values.specs.ErrorValues.{error_value};
-ghost use Rattle.stun_write.specs.Writers.{Gains};
-ghost use Rattle.stun_authentication.specs.Refusing.{Lengthens, demanded, carried, refusal_attributes};
+ghost use Rattle.stun_write.specs.Writers.{Allocates, Gains};
+ghost use Rattle.stun_authentication.specs.Refusing.{Lengthens, FailsFor, overflow, demanded, carried, refusal_attributes};
 
 use crate::Refusal;
 use std::alloc::Global;
@@ -62,8 +63,13 @@ fn add_error<B: MessageWrite>(attribute: &ErrorCode, write: &mut B) -> Result<()
 
 /// Adds a REALM.
 fn add_realm<B: MessageWrite>(attribute: &Realm, write: &mut B) -> Result<(), StunWriteError>
+    ensures answer { IsAddAnswer
+        (add_refusal (add REALM (text_bytes attribute.now)) (B.state write.old).types
+        (length (B.state write.old).bytes) (B.state write.old).greatest)
+        (Allocates (B.state write.old) (length (text_bytes attribute.now))) result }
     ensures gains { OnOk result (Gains (B.state write.old) (B.state write.new) REALM
         (text_bytes attribute.now)) }
+    ensures greatest { (B.state write.new).greatest ≡ (B.state write.old).greatest }
     ensures fits { length (text_bytes attribute.now) < 2 ^ 16 }
 {
     write.add_attribute(attribute)
@@ -71,8 +77,13 @@ fn add_realm<B: MessageWrite>(attribute: &Realm, write: &mut B) -> Result<(), St
 
 /// Adds a NONCE.
 fn add_nonce<B: MessageWrite>(attribute: &Nonce, write: &mut B) -> Result<(), StunWriteError>
+    ensures answer { IsAddAnswer
+        (add_refusal (add NONCE (text_bytes attribute.now)) (B.state write.old).types
+        (length (B.state write.old).bytes) (B.state write.old).greatest)
+        (Allocates (B.state write.old) (length (text_bytes attribute.now))) result }
     ensures gains { OnOk result (Gains (B.state write.old) (B.state write.new) NONCE
         (text_bytes attribute.now)) }
+    ensures greatest { (B.state write.new).greatest ≡ (B.state write.old).greatest }
     ensures fits { length (text_bytes attribute.now) < 2 ^ 16 }
 {
     write.add_attribute(attribute)
@@ -131,8 +142,11 @@ fn add_carried<B: MessageWrite>(
 ///
 /// # Errors
 ///
-/// `OutOfMemory` if an allocation failed, and those of the adds: `TooSmall` where a slice has too
-/// little room.
+/// `OutOfMemory` if an allocation failed. Else the first attribute that doesn't fit tells:
+///
+/// - `TooSmall { expected, actual }` where the message would be longer with it than the writer
+///   takes: that length, and [`MessageWrite::max_size`];
+/// - `TooLarge { expected: 65555, actual }` where it would be longer than a message may be.
 pub fn refuse<B: MessageWrite + Drop>(
     alloc: Global,
     request: &Message<'_>,
@@ -143,9 +157,11 @@ pub fn refuse<B: MessageWrite + Drop>(
     requires request { class_of (type_field (message_bytes request.now)) ≡ Request }
     requires empty { (B.state write).bytes ≡ [] }
     requires room { Fits (B.state write).greatest 20 }
-    ensures { let r = message_bytes request.now in
+    ensures text { let r = message_bytes request.now in
         IfOk result (λ w. (B.state w).bytes ≡ message_encoding (response_type ErrorClass r)
         (id_field r) (refusal_attributes refusal (option_copied demand.entry))) }
+    ensures answer { FailsFor (overflow (B.state write).greatest 20
+        (refusal_attributes refusal (option_copied demand.entry))) result }
 {
     let error = ErrorCode::builder(refusal.code()).build(alloc)?;
     let mut write = Message::builder_error(request, write)?;

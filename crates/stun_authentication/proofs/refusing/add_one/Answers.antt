@@ -1,0 +1,7 @@
+use Rattle.stun_authentication.proofs.RefusingLemmas.{added}
+use Rattle.stun_authentication.proofs.refusing.add_one.Goals as goal
+
+pub returns : goal.returns
+returns g c =
+    let told = c.add_attribute.ensures in
+    added c.add_attribute.result _ _ _ _ told.adds.ok told.adds.spends.greatest told.answer c.requires told.type_fits told.value_fits
