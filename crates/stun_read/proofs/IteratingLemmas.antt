@@ -8,12 +8,13 @@ use Rattle.stun_grammar.specs.Chains.{Shown, first_attribute, chain, placed}
 use Rattle.stun_grammar.specs.ShownOrder.{in_order}
 use Rattle.stun_grammar.specs.Prefixes.{longest_prefix}
 use Rattle.stun_grammar.specs.Showing.{frame_fault, shown}
+use Rattle.stun_grammar.proofs.AttributesLemmas.{length-encoding}
 use Rattle.stun_grammar.proofs.ChainsLemmas.{chain-none, chain-some, first_attribute-nil, length-chain}
 use Rattle.stun_grammar.proofs.PrefixesLemmas.{longest-nil, longest-cons, longest_same, length-longest_prefix}
 use Rattle.stun_grammar.proofs.ShownOrderLemmas.{in_order_more, in_order_first, in_order-ordinary}
 use Rattle.stun_attrs.specs.declared.raw.RawAttribute.{RawAttribute}
 use Rattle.stun_attrs.specs.Raw.{Finds, raw_type}
-use Rattle.stun_read.specs.Iterating.{shown_behind, item_view, borrowed}
+use Rattle.stun_read.specs.Iterating.{shown_behind, borrowed, ShowsFirst}
 
 prefix_behind : (last : ℕ) (a : Attribute) (attributes : List Attribute)
     → longest_prefix (λ q. in_order (last ∷ types q)) (a ∷ attributes) ≡ cond (in_order (last ∷ (a.type ∷ []))) (a ∷ longest_prefix (λ q. in_order (last ∷ (a.type ∷ types q))) attributes) []
@@ -46,10 +47,15 @@ pub read_stop : (last : ℕ) (x : RawAttribute) (behind offset : ℕ) (d : List 
 read_stop last x behind offset d found stops =
     behind_stop last offset d found.attribute found.first_is (ap (λ (k : ℕ). in_order (last ∷ (k ∷ []))) (sym found.raw_is.raw_is.type_is) ∙ stops)
 
-pub read_more : (last : ℕ) (x : RawAttribute) (behind offset : ℕ) (d : List ℕ) → Finds x behind offset d → in_order (last ∷ (raw_type x ∷ [])) ≡ true
-    → borrowed (shown_behind last offset d) ≡ item_view (offset, x) ∷ borrowed (shown_behind (raw_type x) behind d)
-read_more last x behind offset d found goes =
-    rw (found.raw_is.raw_is.type_is, found.raw_is.raw_is.value_is, found.raw_is.borrowed) (ap borrowed (behind_more last offset d found.attribute behind found.first_is (ap (λ (k : ℕ). in_order (last ∷ (k ∷ []))) (sym found.raw_is.raw_is.type_is) ∙ goes) found.behind_is))
+pub read_first : (last : ℕ) (x : RawAttribute) (behind offset : ℕ) (d : List ℕ) → behind ≤ length d → Finds x behind offset d → in_order (last ∷ (raw_type x ∷ [])) ≡ true → ShowsFirst x behind last offset d
+read_first last x behind offset d within found goes = record {
+  fits = omega (arith, found.behind_is, length-encoding found.attribute, ap length found.raw_is.raw_is.value_is);
+  within = within;
+  borrowed = found.raw_is.borrowed;
+  shows =
+      rw (found.raw_is.raw_is.type_is, found.raw_is.raw_is.value_is)
+      (behind_more last offset d found.attribute behind found.first_is (ap (λ (k : ℕ). in_order (last ∷ (k ∷ []))) (sym found.raw_is.raw_is.type_is) ∙ goes) found.behind_is);
+}
 
 -- ---- From the start
 
@@ -58,6 +64,10 @@ unfolding shown_behind shown
 from_start d e =
     let plain : (q : List Attribute) → in_order (0 ∷ types q) ≡ in_order (types q) = λ q. in_order-ordinary 0 (types q) refl in
     ap (placed 20) (longest_same (λ q. in_order (0 ∷ types q)) (λ q. in_order (types q)) (chain (drop 20 d)) plain) ∙ rw e refl
+
+pub unframed : (d : List ℕ) (told : StunParseError) → frame_fault d ≡ Some told → shown d ≡ []
+unfolding shown
+unframed d told e = rw e refl
 
 pub nothing_shown : (last : ℕ) (d : List ℕ) (told : StunParseError) → frame_fault d ≡ Some told → shown_behind last (length d) d ≡ shown d
 unfolding shown

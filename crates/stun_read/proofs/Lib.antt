@@ -3,7 +3,7 @@ mod EndingsLemmas
 mod IntegrityScanLemmas
 mod ScanningLemmas
 mod OrdinaryLemmas
-mod IteratingLemmas
+pub mod IteratingLemmas
 pub mod ItemsLemmas
 mod IntegrityAtLemmas
 mod ValidatingLemmas

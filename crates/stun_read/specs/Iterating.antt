@@ -1,5 +1,5 @@
 -- The attributes that an iterator has yet to yield.
-use Rattle.std.specs.Prelude.{ℕ, Bool, true, List, ◌∷◌, drop, map}
+use Rattle.std.specs.Prelude.{◌≡◌, ℕ, ◌+◌, ◌≤◌, Bool, true, List, ◌∷◌, length, drop, map}
 use Rattle.stun_grammar.specs.Chains.{Shown, chain, placed}
 use Rattle.stun_grammar.specs.Attributes.{types}
 use Rattle.stun_grammar.specs.ShownOrder.{in_order}
@@ -30,3 +30,13 @@ shown_behind last offset d =
 -- what an iterator has yet to yield
 abbrev pub items_left : MessageAttributesIter → List (Shown × Bool)
 items_left iterator = borrowed (shown_behind iterator.last iterator.offset iterator.bytes.now)
+
+-- a raw attribute is the first of those that d shows from an offset on, after an attribute of type
+-- `last`; its value is borrowed, and what d shows goes on at `behind`
+pub record ShowsFirst (raw : RawAttribute) (behind last offset : ℕ) (d : List ℕ) : Type 0 where
+  pub fits : offset + 4 + length (raw_value raw) ≤ behind
+  pub within : behind ≤ length d
+  pub borrowed : is_borrowed (raw_data raw) ≡ true
+  pub shows : shown_behind last offset d
+      ≡ record { offset = offset; type = raw_type raw; value = raw_value raw }
+      ∷ shown_behind (raw_type raw) behind d

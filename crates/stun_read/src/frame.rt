@@ -19,9 +19,13 @@ fn stated_length(bytes: &[u8]) -> usize
 }
 
 /// Checks that `bytes` begin with a header, and that as many bytes follow it as its length field
-/// states. Nothing else of the header is read.
+/// states. Nothing else of the header is read, and none of the bytes behind it.
+///
+/// # Errors
+///
+/// As for [`check_message`](crate::check_message), of the header and the length.
 #[tactic(auto, using(stun_grammar::proofs::HeadersLemmas::frame_is))]
-pub(crate) fn check_frame(bytes: &[u8]) -> Result<(), StunParseError>
+pub fn check_frame(bytes: &[u8]) -> Result<(), StunParseError>
     ensures { MatchResult result
         (λ _. frame_fault bytes.now ≡ None)
         (λ e. frame_fault bytes.now ≡ Some e) }

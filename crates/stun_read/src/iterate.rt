@@ -3,9 +3,10 @@
 ghost use Rattle.std.specs.Prelude.{◌≡◌, ◌≤◌, length};
 ghost use Rattle.stun_grammar.specs.Showing.{shown};
 
-use crate::endings::{follows, type_number};
+use crate::endings::type_number;
 use crate::frame::{check_frame, iter_framed};
-use stun_attrs::{RawAttribute, attribute_at};
+use crate::step::shown_at;
+use stun_attrs::RawAttribute;
 use stun_grammar::attribute_types::FINGERPRINT;
 
 /// An iterator over the attributes that a message shows, in order, each with the offset of its
@@ -57,18 +58,9 @@ impl<'a> Iterator for MessageAttributesIter<'a> {
 
     fn next(&mut self) -> Option<(usize, RawAttribute<'a>)> {
         let offset = self.offset;
-        match attribute_at(self.bytes, offset) {
-            Err(_) => None,
-            Ok(None) => None,
-            Ok(Some((attribute, behind))) => {
-                let atype = type_number(&attribute);
-                if !follows(self.last, atype) {
-                    return None;
-                }
-                self.offset = behind;
-                self.last = atype;
-                Some((offset, attribute))
-            }
-        }
+        let (attribute, behind) = shown_at(self.bytes, offset, self.last)?;
+        self.offset = behind;
+        self.last = type_number(&attribute);
+        Some((offset, attribute))
     }
 }

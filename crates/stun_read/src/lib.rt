@@ -13,13 +13,15 @@ mod look_up;
 mod offsets;
 mod parse;
 mod printed;
+mod step;
 mod validate;
 
-pub use frame::{iter_framed, message_length};
+pub use frame::{check_frame, iter_framed, message_length};
 pub use iterate::MessageAttributesIter;
 pub use laws::{found_has_its_type, shown_is_found, walks_from_there};
 pub use look_up::nth_raw;
 pub use offsets::IntegrityOffsets;
 pub use parse::check_message;
 pub use printed::print_message;
+pub use step::shown_at;
 pub use validate::{validate_bytes, validate_bytes_with_key};
