@@ -1,3 +1,6 @@
 mod WrittenTypesLemmas
 mod KeptHeadersLemmas
 mod RunsLemmas
+mod ListedLemmas
+mod ResumingLemmas
+mod ResumedLemmas

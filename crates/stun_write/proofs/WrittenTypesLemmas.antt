@@ -48,8 +48,8 @@ other_has k (a ∷ asked) e all =
     or_from (eqb a.0 k) (has k (numbers asked)) differs (other_has k asked e parts.1)
 
 -- where no ending type is written, none of the ending types asked for is
-pub none_ends : (asked types : List AttributeType) → list_any is_ending (numbers types) ≡ false → list_all (λ a. is_ending a.0) asked ≡ true → first_of (numbers asked) (numbers types) ≡ None
+pub none_ends : (asked : List AttributeType) (types : List ℕ) → list_any is_ending types ≡ false → list_all (λ a. is_ending a.0) asked ≡ true → first_of (numbers asked) types ≡ None
 none_ends asked [] e all = refl
 none_ends asked (x ∷ types) e all =
-    let parts = or_parts (is_ending x.0) (list_any is_ending (numbers types)) e in
-    rw (other_has x.0 asked parts.0 all) (none_ends asked types parts.1 all)
+    let parts = or_parts (is_ending x) (list_any is_ending types) e in
+    rw (other_has x asked parts.0 all) (none_ends asked types parts.1 all)

@@ -1,6 +1,6 @@
 //! Adding attributes to a message that is being written, and reading its header.
 
-ghost use Rattle.std.specs.Prelude.{◌≡◌, OnOk, ◌↔◌, true, IsTrue, None, ◌+◌, ◌^◌, ◌<◌, length};
+ghost use Rattle.std.specs.Prelude.{◌≡◌, OnOk, ◌↔◌, true, IsTrue, None, ◌+◌, ◌^◌, ◌<◌, ◌≤◌, length};
 ghost use Rattle.stun_grammar.specs.Headers.{is_header, type_field, id_field};
 ghost use Rattle.stun_grammar.specs.AttributeTypes.{FINGERPRINT, IsOrdinary};
 ghost use Rattle.stun_grammar.specs.Hmac.{digest_length};
@@ -19,7 +19,8 @@ use crate::refusals::{Addition, check_add};
 use std::alloc::Global;
 use stun_attrs::AttributeWrite;
 use stun_base::{
-    MessageClass, MessageType, Method, StunWriteError, TransactionId, pad_attribute_len,
+    AttributeType, MessageClass, MessageType, Method, StunWriteError, TransactionId,
+    pad_attribute_len,
 };
 use stun_grammar::IntegrityAlgorithm;
 use stun_keys::keys::{IntegrityKey, MessageIntegrityCredentials};
@@ -385,4 +386,35 @@ impl<W: MessageWrite> MessageWriteExt for W {
     fn add_fingerprint_unchecked(&mut self) -> Result<(), StunWriteError> {
         push_fingerprint(self)
     }
+}
+
+/// As [`MessageWriteExt::add_any_attribute`], with a type and the bytes of a value in the place of an
+/// object: for a caller that holds no attribute but these.
+///
+/// # Requires
+///
+/// `value.len()` is at most 65535.
+///
+/// # Errors
+///
+/// As for [`MessageWriteExt::add_any_attribute`].
+#[tactic(auto, using(stun_grammar::proofs::AddingLemmas::appended_length, crate::proofs::KeptHeadersLemmas::pushed, stun_grammar::proofs::AddingRefusedLemmas::ordinary_barred))]
+pub fn add_value<W: MessageWrite>(
+    write: &mut W,
+    atype: AttributeType,
+    value: &[u8],
+) -> Result<(), StunWriteError>
+    requires { length value.now ≤ 65535 }
+    ensures answer { IsAddAnswer
+        (any_refusal atype.0 value.now (W.state write.old).types
+        (length (W.state write.old).bytes) (W.state write.old).greatest)
+        (Allocates (W.state write.old) (length value.now)) result }
+    ensures adds { Adds result (W.state write.old) (W.state write.new) atype.0 value.now }
+{
+    if atype.is_ending() {
+        return Err(StunWriteError::EndingType(atype));
+    }
+    let added = 4 + pad_attribute_len(value.len());
+    check_add(write, Addition::Ordinary, added)?;
+    write.push_value_unchecked(atype, value)
 }

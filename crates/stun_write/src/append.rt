@@ -1,12 +1,20 @@
 //! Writing the bytes of one more attribute into those of a message.
 
-ghost use Rattle.std.specs.Prelude.{◌≡◌, ◌≤◌, ◌++◌, length, take, drop};
+ghost use Rattle.std.specs.Prelude.{◌≡◌, ◌+◌, ◌≤◌, ◌++◌, length, take, drop};
 ghost use Rattle.stun_grammar.specs.Writing.{greatest_length};
 ghost use Rattle.stun_grammar.specs.Adding.{appended, grown_length};
 
 use byteorder::{BigEndian, ByteOrder};
 use stun_attrs::{AttributeWrite, write_attribute};
 use stun_base::{AttributeType, pad_attribute_len};
+
+/// Copies `more` to the place after the first `len` bytes of `slice`.
+pub(crate) fn write_at(slice: &mut [u8], len: usize, more: &[u8])
+    requires { len + length more.now ≤ length slice.old }
+    ensures { slice.new ≡ take len slice.old ++ more.now ++ drop (len + length more.now) slice.old }
+{
+    slice[len..len + more.len()].copy_from_slice(more);
+}
 
 /// As [`append_attribute`], for a caller that knows how many bytes the message then has.
 #[inline]

@@ -1,39 +1,35 @@
 //! A writer into a borrowed slice.
 
-ghost use Rattle.std.specs.Prelude.{◌≡◌, ◌+◌, ◌≤◌, ◌++◌, [], length, take, drop};
-
-use crate::append::append_sized;
-use crate::{MessageWrite, WrittenTypes, append_value};
+use crate::append::{append_sized, write_at};
+use crate::listed::Listed;
+use crate::{MessageWrite, ResumePoint, WrittenTypes, append_value};
 use std::alloc::Global;
 use stun_attrs::AttributeWrite;
-use stun_base::{AttributeType, StunWriteError, pad_attribute_len};
+use stun_base::{AttributeType, StunParseError, StunWriteError, pad_attribute_len};
 
-/// Writes a message (RFC 8489, section 5) into a borrowed slice, from its first byte on. What
-/// follows the bytes written stays as it was.
+/// Writes a message (RFC 8489, section 5) into a borrowed slice, from its first byte on, or goes on
+/// with one that lies there ([`MessageWriteMutSlice::resume`]). What follows the bytes written
+/// stays as it was.
 ///
 /// Each call writes straight into the slice. A writer that is dropped without
 /// [`MessageWrite::finish`] leaves there what was written so far, followed by what was there
 /// before.
 ///
-/// The bytes never need memory. The types of sixteen attributes don't either; those of more are
-/// kept in memory that the `alloc` of [`MessageWriteMutSlice::new`] gives.
+/// The bytes never need memory. The types of sixteen attributes that it adds don't either; those of
+/// more are kept in memory that the `alloc` of [`MessageWriteMutSlice::new`] or
+/// [`MessageWriteMutSlice::resume`] gives.
 #[derive(Debug, Drop)]
 pub struct MessageWriteMutSlice<'a, T = WrittenTypes> {
     slice: &'a mut [u8],
     written: usize,
+    listed: Listed,
     attributes: T,
 }
 
-/// Copies `more` to the place after the first `len` bytes of `slice`.
-fn write_at(slice: &mut [u8], len: usize, more: &[u8])
-    requires { len + length more.now ≤ length slice.old }
-    ensures { slice.new ≡ take len slice.old ++ more.now ++ drop (len + length more.now) slice.old }
-{
-    slice[len..len + more.len()].copy_from_slice(more);
-}
-
 impl<'a> MessageWriteMutSlice<'a> {
-    ghost use Rattle.std.specs.Prelude.{◌≡◌, ◌++◌, [], Some, length};
+    ghost use Rattle.std.specs.Prelude.{◌≡◌, ◌++◌, [], Some, None, MatchResult, length};
+    ghost use Rattle.stun_write.specs.Resuming.{resume_fault, IsResumed};
+    ghost use Rattle.stun_write.specs.ResumePoints.{resumed_length, IsPointOf};
 
     /// A writer into `slice`, with nothing written. All bytes of `slice` and sixteen attributes are
     /// ready. It takes no memory.
@@ -53,6 +49,75 @@ impl<'a> MessageWriteMutSlice<'a> {
         MessageWriteMutSlice {
             slice,
             written: 0,
+            listed: Listed::none(),
+            attributes: WrittenTypes::new(alloc),
+        }
+    }
+
+    /// A writer that goes on with the message in the first `written` bytes of `slice`: one that was
+    /// begun or written before, or received. It takes no memory: the attributes that are there
+    /// count as written, and their types are read where they are. The other bytes of `slice` and
+    /// sixteen attributes are ready. It goes over the attributes once.
+    ///
+    /// ```
+    /// // adds one attribute to the message in `buf`, and returns how long it is then
+    /// let mut message = MessageWriteMutSlice::resume(alloc, buf, written)?;
+    /// message.add_attribute(&software)?;
+    /// let written = message.finish();
+    /// ```
+    ///
+    /// Neither the order of the attributes nor the value of a FINGERPRINT is looked at: each
+    /// attribute that is there bars an add as one does that was just written, so nothing is added
+    /// behind a FINGERPRINT. What is written over the attributes that were there
+    /// ([`MessageWrite::mut_data`]) is read in their place.
+    ///
+    /// A message that was begun can be gone on with, and so can one that can be, with one more
+    /// attribute (the laws `begun_resumes` and `appended_resumes`): so a message may be written step
+    /// by step, each step by a writer of its own.
+    ///
+    /// # Errors
+    ///
+    /// The first of these that applies; `slice` stays as it was:
+    ///
+    /// - `Truncated { expected: written, actual }` where `slice` has fewer than `written` bytes.
+    ///   All that follows is of those `written` bytes;
+    /// - `NotStun` where no header can begin with them, or else `Truncated { expected: 20, actual }`
+    ///   where there are fewer than twenty;
+    /// - `Truncated { expected, actual }` or `TooLarge { expected, actual }` where fewer or more
+    ///   bytes follow the header than its length field states: the length of the message that it
+    ///   states, and `written`;
+    /// - `Truncated { expected, actual }` where the last attribute is cut off: the offset at which
+    ///   its header, value or padding would end, and `written`. Where its header is cut off, both
+    ///   are 4 more than that.
+    pub fn resume(
+        alloc: Global,
+        slice: &'a mut [u8],
+        written: usize,
+    ) -> Result<Self, StunParseError>
+        ensures answer { MatchResult result
+            (λ write. (resume_fault slice.old written ≡ None)
+            × IsResumed (⟦<MessageWriteMutSlice<'a> as MessageWrite>⟧.state write) slice.old written
+            slice.entry.ghost_name)
+            (λ e. resume_fault slice.old written ≡ Some e) }
+    {
+        let point = ResumePoint::check(slice, written)?;
+        Ok(Self::resume_at(alloc, slice, point))
+    }
+
+    /// As [`MessageWriteMutSlice::resume`], for a message that was checked. It takes constant time.
+    ///
+    /// # Requires
+    ///
+    /// `point` is what [`ResumePoint::check`] returned of `slice`, and `slice` is as it was then.
+    pub fn resume_at(alloc: Global, slice: &'a mut [u8], point: ResumePoint) -> Self
+        requires { IsPointOf point slice.old }
+        ensures { IsResumed (⟦<MessageWriteMutSlice<'a> as MessageWrite>⟧.state result) slice.old
+            (resumed_length point) slice.entry.ghost_name }
+    {
+        MessageWriteMutSlice {
+            slice,
+            written: point.written,
+            listed: point.listed,
             attributes: WrittenTypes::new(alloc),
         }
     }
@@ -81,13 +146,15 @@ impl<'a> MessageWrite for MessageWriteMutSlice<'a> {
     ghost use Rattle.std.specs.Prelude.{◌≡◌, ◌++◌, ◌-◌, ◌==◌, if◌then◌else◌, [], Some, length, take, drop};
     ghost use Rattle.smallvec.specs.SmallVec.{small_vec_len};
     ghost use Rattle.stun_grammar.specs.Adding.{numbers};
+    ghost use Rattle.stun_write.specs.Listing.{listed_types};
 
     type Output = usize;
 
     ghost state = { λ write. record {
       bytes = take write.written write.slice.now;
-      types = if length (take write.written write.slice.now) == 0 then []
-          else numbers write.attributes.items;
+      types = listed_types write.listed (take write.written write.slice.now)
+          ++ (if length (take write.written write.slice.now) == 0 then []
+          else numbers write.attributes.items);
       greatest = Some (length write.slice.now);
       rest = drop write.written write.slice.now;
       ready_bytes = length write.slice.now - write.written;
@@ -116,10 +183,13 @@ impl<'a> MessageWrite for MessageWriteMutSlice<'a> {
     }
 
     fn has_attribute(&self, atype: AttributeType) -> bool {
-        self.len() != 0 && self.attributes.has(atype)
+        self.listed.has(self.data(), atype) || self.len() != 0 && self.attributes.has(atype)
     }
 
     fn has_any_attribute(&self, asked: &[AttributeType]) -> Option<AttributeType> {
+        if let Some(found) = self.listed.first_of(self.data(), asked) {
+            return Some(found);
+        }
         if self.len() == 0 {
             return None;
         }
@@ -132,6 +202,7 @@ impl<'a> MessageWrite for MessageWriteMutSlice<'a> {
         if len == 0 {
             self.attributes.clear();
         }
+        self.listed.keep(len);
         write_at(self.slice, len, more);
         self.written = len + more.len();
         Ok(())
@@ -146,6 +217,7 @@ impl<'a> MessageWrite for MessageWriteMutSlice<'a> {
         let len = self.len();
         let grown_length = len + attribute.padded_len();
         self.attributes.reserve_one()?;
+        self.listed.keep(len);
         append_sized(attribute, len, grown_length, self.slice);
         self.written = grown_length;
         self.attributes.push_reserved(attribute.get_type());
@@ -161,6 +233,7 @@ impl<'a> MessageWrite for MessageWriteMutSlice<'a> {
         let len = self.len();
         let grown_length = len + 4 + pad_attribute_len(more.len());
         self.attributes.reserve_one()?;
+        self.listed.keep(len);
         append_value(atype, more, len, self.slice);
         self.written = grown_length;
         self.attributes.push_reserved(atype);
@@ -179,6 +252,7 @@ impl<'a> MessageWrite for MessageWriteMutSlice<'a> {
         let MessageWriteMutSlice {
             slice: _,
             written: _,
+            listed: _,
             attributes: _,
         } = self;
         len

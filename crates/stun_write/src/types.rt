@@ -44,7 +44,7 @@ impl Model for WrittenTypes {
 }
 
 /// Whether all of the types are ending ones.
-fn all_end(types: &[AttributeType]) -> bool
+pub(crate) fn all_end(types: &[AttributeType]) -> bool
     ensures { result ≡ list_all (λ atype. is_ending atype.0) types.now }
 {
     types.iter().all(|atype| is_ending(atype.0))

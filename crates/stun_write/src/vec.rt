@@ -1,10 +1,10 @@
 //! A writer into a vector.
 
-ghost use Rattle.std.specs.Prelude.{◌≡◌, []};
+ghost use Rattle.std.specs.Prelude.{◌≡◌, ◌-◌, ◌≤◌, ◌++◌, [], IsOk, OnOk, OnErr, replicate, vec_len, vec_capacity};
 
-use crate::append::append_sized;
+use crate::append::{append_sized, write_at};
 use crate::{MessageWrite, WrittenTypes, append_value};
-use std::alloc::Global;
+use std::alloc::{AllocError, Global};
 use stun_attrs::AttributeWrite;
 use stun_base::{AttributeType, StunWriteError, pad_attribute_len};
 
@@ -16,6 +16,29 @@ pub struct MessageWriteVec {
     output: Vec<u8>,
     attributes: WrittenTypes,
     ghost no_types: { output.items ≡ [] → attributes.items ≡ [] },
+}
+
+/// How many zeros are appended at once, where there is room for them.
+const ZEROS: usize = 32;
+
+/// Appends zeros, so that there are `longer` bytes. Few ones are appended as [`ZEROS`], a count
+/// that the compiler knows, of which the rest is cut off: that saves a call, which costs more.
+#[inline(always)]
+fn lengthen(bytes: &mut Vec<u8>, longer: usize) -> Result<(), AllocError>
+    requires { vec_len bytes.old ≤ longer }
+    ensures items { OnOk result
+        (bytes.new.items ≡ bytes.old.items ++ replicate (longer - vec_len bytes.old) 0) }
+    ensures same { OnErr result (bytes.new.items ≡ bytes.old.items) }
+    ensures capacity { vec_capacity bytes.old ≤ vec_capacity bytes.new }
+    ensures succeeds { longer ≤ vec_capacity bytes.old → IsOk result }
+{
+    let len = bytes.len();
+    if bytes.capacity() - len < ZEROS || longer - len > ZEROS {
+        return bytes.resize(longer, 0);
+    }
+    bytes.resize(len + ZEROS, 0)?;
+    bytes.truncate(longer);
+    Ok(())
 }
 
 impl MessageWriteVec {
@@ -116,9 +139,16 @@ impl MessageWrite for MessageWriteVec {
 
     #[inline(always)]
     fn push_data(&mut self, more: &[u8]) -> Result<(), StunWriteError> {
-        self.output
-            .extend_from_slice(more)
-            .map_err(|_| StunWriteError::OutOfMemory)
+        if more.len() > ZEROS {
+            return self
+                .output
+                .extend_from_slice(more)
+                .map_err(|_| StunWriteError::OutOfMemory);
+        }
+        let len = self.output.len();
+        lengthen(&mut self.output, len + more.len()).map_err(|_| StunWriteError::OutOfMemory)?;
+        write_at(&mut self.output, len, more);
+        Ok(())
     }
 
     #[tactic(auto, using(stun_grammar::proofs::AddingLemmas::appended_length))]
@@ -130,9 +160,7 @@ impl MessageWrite for MessageWriteVec {
         let len = self.output.len();
         let grown_length = len + attribute.padded_len();
         self.attributes.reserve_one()?;
-        self.output
-            .resize(grown_length, 0)
-            .map_err(|_| StunWriteError::OutOfMemory)?;
+        lengthen(&mut self.output, grown_length).map_err(|_| StunWriteError::OutOfMemory)?;
         append_sized(attribute, len, grown_length, &mut self.output);
         self.attributes.push_reserved(attribute.get_type());
         Ok(())
@@ -147,9 +175,7 @@ impl MessageWrite for MessageWriteVec {
         let len = self.output.len();
         let grown_length = len + 4 + pad_attribute_len(more.len());
         self.attributes.reserve_one()?;
-        self.output
-            .resize(grown_length, 0)
-            .map_err(|_| StunWriteError::OutOfMemory)?;
+        lengthen(&mut self.output, grown_length).map_err(|_| StunWriteError::OutOfMemory)?;
         append_value(atype, more, len, &mut self.output);
         self.attributes.push_reserved(atype);
         Ok(())

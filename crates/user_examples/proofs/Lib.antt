@@ -3,3 +3,4 @@ mod InSlicesLemmas
 mod RequestsLemmas
 mod MyValueLemmas
 mod WhoseLemmas
+mod BehindLemmas

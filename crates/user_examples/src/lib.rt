@@ -2,6 +2,7 @@
 //! messages that they write and read. Their tests are in `writing_tests`.
 #![tactic(auto)]
 
+mod behind;
 mod blob;
 mod header;
 mod in_array;
@@ -13,6 +14,7 @@ mod room;
 mod whose;
 mod write_fixed;
 
+pub use behind::software_behind;
 pub use blob::Blob;
 pub use header::header_behind_adds;
 pub use in_array::steps_in_array;

@@ -9,6 +9,8 @@ mod lending;
 #[cfg(test)]
 mod replies;
 #[cfg(test)]
+mod resume;
+#[cfg(test)]
 mod signing;
 #[cfg(test)]
 mod slice;

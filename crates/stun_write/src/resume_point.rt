@@ -1,0 +1,54 @@
+//! Whether a writer can go on with a message that lies in a slice.
+
+ghost use Rattle.std.specs.Prelude.{◌≡◌, length, take, MatchResult, Some};
+ghost use Rattle.stun_write.specs.Resuming.{resume_fault};
+
+use crate::listed::Listed;
+use stun_base::StunParseError;
+
+/// That a writer can go on with the message in the first bytes of a slice, as
+/// [`ResumePoint::check`] found; [`MessageWriteMutSlice::resume_at`] makes that writer.
+///
+/// [`MessageWriteMutSlice::resume_at`]: crate::MessageWriteMutSlice::resume_at
+#[derive(Debug, Clone, Copy, Drop)]
+pub struct ResumePoint {
+    pub(crate) written: usize,
+    pub(crate) listed: Listed,
+}
+
+impl ResumePoint {
+    ghost use Rattle.stun_write.specs.ResumePoints.{resumed_length, IsPointOf};
+
+    /// Checks that a writer can go on with the message in the first `written` bytes of `slice`. It
+    /// goes over the attributes once, and takes no memory.
+    ///
+    /// [`MessageWriteMutSlice::resume`] calls it. A caller whose contract is to tell that its slice
+    /// stays as it was after an error calls it first, and then
+    /// [`MessageWriteMutSlice::resume_at`]:
+    ///
+    /// ```
+    /// let point = ResumePoint::check(buf, written)?;
+    /// let mut message = MessageWriteMutSlice::resume_at(alloc, buf, point);
+    /// ```
+    ///
+    /// # Errors
+    ///
+    /// As for [`MessageWriteMutSlice::resume`].
+    ///
+    /// [`MessageWriteMutSlice::resume`]: crate::MessageWriteMutSlice::resume
+    /// [`MessageWriteMutSlice::resume_at`]: crate::MessageWriteMutSlice::resume_at
+    pub fn check(slice: &[u8], written: usize) -> Result<ResumePoint, StunParseError>
+        ensures { MatchResult result
+            (λ point. (resumed_length point ≡ written) × IsPointOf point slice.now)
+            (λ e. resume_fault slice.now written ≡ Some e) }
+    {
+        if slice.len() < written {
+            return Err(StunParseError::Truncated {
+                expected: written,
+                actual: slice.len(),
+            });
+        }
+        let listed = Listed::check(&slice[..written])?;
+        Ok(ResumePoint { written, listed })
+    }
+}
