@@ -4,3 +4,4 @@ mod StreamsLemmas
 mod CutsLemmas
 mod RunsLemmas
 pub mod ComingLemmas
+mod ResumingLemmas

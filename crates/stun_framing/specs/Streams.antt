@@ -1,5 +1,5 @@
 -- A stream of which so much has come, and what a further piece leads to.
-use Rattle.std.specs.Prelude.{ℕ, ◌+◌, ◌-◌, ◌^◌, min, Bool, ◌&&◌, List, [], ◌++◌, length, take, nat_le, if◌then◌else◌, Option, None, Some, option_map, Result, Ok, Err}
+use Rattle.std.specs.Prelude.{ℕ, ◌+◌, ◌-◌, ◌^◌, min, Bool, not, ◌&&◌, List, [], ◌++◌, length, take, nat_le, if◌then◌else◌, Option, None, Some, is_some, option_map, Result, Ok, Err}
 use Rattle.std.specs.Option.{option_or}
 use Rattle.stun_framing.specs.declared.error.StreamError.{StreamError}
 use Rattle.stun_framing.specs.Framing.{stated_length, stream_fault}
@@ -17,6 +17,11 @@ pub record Stream : Type 0 where
 abbrev pub begun : (room : ℕ) → Stream
 begun room = record { room = room; offset = 0; pending = []; message = None; error = None }
 
+-- a stream that goes on with these bytes of a message pending, at an offset
+abbrev pub resumed : (room offset : ℕ) → (pending : List ℕ) → Stream
+resumed room offset pending =
+    record { room = room; offset = offset; pending = pending; message = None; error = None }
+
 -- ---- One piece
 
 -- the bytes of a message so far, once a piece has come
@@ -26,6 +31,14 @@ joined stream piece = stream.pending ++ piece
 -- b begins with a whole message, if with any
 abbrev pub is_whole : List ℕ → Bool
 is_whole b = nat_le 20 (length b) && nat_le (stated_length b) (length b)
+
+-- the first bytes of a buffer, so many, can be pending: the buffer takes a header, and they are the
+-- beginning of a message that it takes too, and not all of it
+abbrev pub can_resume : (buffer : List ℕ) → (held : ℕ) → Bool
+can_resume buffer held =
+    nat_le 20 (length buffer) && nat_le held (length buffer)
+    && not (is_some (stream_fault (length buffer) (take held buffer)))
+    && not (is_whole (take held buffer))
 
 -- the bytes of b that belong to the message with which it begins
 abbrev pub of_first : List ℕ → List ℕ

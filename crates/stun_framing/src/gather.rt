@@ -1,7 +1,8 @@
 //! The bytes of one message, gathered in a buffer.
 
-ghost use Rattle.std.specs.Prelude.{◌≡◌, ◌+◌, ◌<◌, ◌≤◌, ◌++◌, length, take, drop, min, MatchResult};
-ghost use Rattle.stun_framing.specs.Gathering.{IsKept, HoldsHeader, HoldsFirst, Refuses};
+ghost use Rattle.std.specs.Prelude.{◌≡◌, ◌+◌, ◌<◌, ◌≤◌, ◌++◌, length, take, drop, min, true, false, MatchOption, MatchResult};
+ghost use Rattle.stun_framing.specs.Gathering.{wanted_for, IsKept, HoldsHeader, HoldsFirst, Refuses};
+ghost use Rattle.stun_framing.specs.Streams.{can_resume};
 
 use crate::error::StreamFault;
 use crate::fault::wanted_length;
@@ -20,6 +21,25 @@ pub(crate) const NOTHING: Kept = Kept {
     held: 0,
     wanted: MessageHeader::LENGTH,
 };
+
+/// What a buffer holds of a message whose first `held` bytes it begins with, unless no message
+/// begins so for which there is room, or they are all of it.
+pub(crate) fn held_part(buffer: &[u8], held: usize) -> Option<Kept>
+    ensures { MatchOption result (can_resume buffer.now held ≡ false)
+        (λ kept. (can_resume buffer.now held ≡ true)
+        × (kept ≡ record { held = held; wanted = wanted_for (take held buffer.now) })) }
+{
+    if buffer.len() < MessageHeader::LENGTH || buffer.len() < held {
+        return None;
+    }
+    let Ok(wanted) = wanted_length(buffer.len(), &buffer[..held]) else {
+        return None;
+    };
+    if wanted <= held {
+        return None;
+    }
+    Some(Kept { held, wanted })
+}
 
 /// Copies `bytes` to the place behind the first `held` bytes of `buffer`.
 fn copy_behind(buffer: &mut [u8], held: usize, bytes: &[u8])

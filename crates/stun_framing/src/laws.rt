@@ -1,12 +1,12 @@
 //! Laws of streams. Each function does nothing: its contract is the law.
 
-ghost use Rattle.std.specs.Prelude.{◌≡◌, ℕ, ◌%◌, ◌≤◌, List, [], ◌++◌, length, take, None, Some, Ok, Err};
+ghost use Rattle.std.specs.Prelude.{◌≡◌, ℕ, ◌%◌, ◌≤◌, List, [], ◌++◌, length, take, true, None, Some, Ok, Err};
 ghost use Rattle.stun_grammar.specs.Numbers.{IsBytes};
 ghost use Rattle.stun_grammar.specs.Showing.{frame_fault};
 ghost use Rattle.stun_framing.specs.declared.error.StreamError.{StreamError};
 ghost use Rattle.stun_framing.specs.declared.error.StreamFault.{StreamFault};
 ghost use Rattle.stun_framing.specs.Framing.{IsMessage, IsCut, MayBegin, stream_fault};
-ghost use Rattle.stun_framing.specs.Streams.{Stream, begun, answer, left};
+ghost use Rattle.stun_framing.specs.Streams.{Stream, begun, resumed, can_resume, answer, left};
 ghost use Rattle.stun_framing.specs.Runs.{message_in, IsHandedOver, left_by, yielded, IsDone, Says, HasCome};
 
 use crate::message_stream::GREATEST_MESSAGE;
@@ -61,4 +61,21 @@ pub fn calls_go_on()
     ensures stops { (room : ℕ) (bytes : List ℕ) (messages : List (List ℕ)) (stream : Stream)
         (piece : List ℕ) (error : StreamError) → HasCome room bytes messages stream
         → answer stream piece ≡ Err error → Says room (bytes ++ piece) messages (Some error) }
+{}
+
+/// Where a stream hasn't ended, whoever keeps the bytes that are pending, at the start of a buffer
+/// as long as before, and the offset may go on from there: the stream is resumed, as much of it has
+/// come, and each further call is answered and leaves what it would have. Only a whole message that
+/// the last call yielded is gone.
+pub fn resuming_changes_nothing()
+    ensures resumes { (room : ℕ) (bytes : List ℕ) (messages : List (List ℕ)) (stream : Stream)
+        (buffer : List ℕ) → HasCome room bytes messages stream → 20 ≤ room → length buffer ≡ room
+        → take (length stream.pending) buffer ≡ stream.pending
+        → can_resume buffer (length stream.pending) ≡ true }
+    ensures comes { (room : ℕ) (bytes : List ℕ) (messages : List (List ℕ)) (stream : Stream)
+        → HasCome room bytes messages stream
+        → HasCome room bytes messages (resumed room stream.offset stream.pending) }
+    ensures goes_on { (stream : Stream) (piece : List ℕ) → stream.error ≡ None
+        → (answer (resumed stream.room stream.offset stream.pending) piece ≡ answer stream piece)
+        × (left (resumed stream.room stream.offset stream.pending) piece ≡ left stream piece) }
 {}

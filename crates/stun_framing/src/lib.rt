@@ -14,5 +14,8 @@ mod message_stream;
 mod tests;
 
 pub use error::{StreamError, StreamFault};
-pub use laws::{calls_go_on, cuts_change_nothing, faults_are_right, messages_are_framed, one_cut};
+pub use laws::{
+    calls_go_on, cuts_change_nothing, faults_are_right, messages_are_framed, one_cut,
+    resuming_changes_nothing,
+};
 pub use message_stream::{GREATEST_MESSAGE, MessageStream};

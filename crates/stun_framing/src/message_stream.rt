@@ -4,7 +4,7 @@ ghost use Rattle.std.specs.Prelude.{◌≡◌};
 ghost use Rattle.stun_framing.specs.Fields.{pending_of, offset_behind};
 
 use crate::error::StreamError;
-use crate::gather::{Kept, NOTHING, gather};
+use crate::gather::{Kept, NOTHING, gather, held_part};
 use std::marker::Model;
 
 /// The greatest length of a message in a stream, in bytes: a buffer of this length takes any.
@@ -74,9 +74,9 @@ impl<'b> Model for MessageStream<'b> {
 }
 
 impl<'b> MessageStream<'b> {
-    ghost use Rattle.std.specs.Prelude.{◌≡◌, ◌≤◌, ◌<◌, length, Some, None, IfOk, IfSome, MatchOption};
+    ghost use Rattle.std.specs.Prelude.{◌≡◌, ◌≤◌, ◌<◌, length, take, true, false, Some, None, IfOk, IfSome, MatchOption};
     ghost use Rattle.stun_framing.specs.Framing.{IsMessage};
-    ghost use Rattle.stun_framing.specs.Streams.{begun, answer, left};
+    ghost use Rattle.stun_framing.specs.Streams.{begun, resumed, can_resume, answer, left};
 
     /// A stream of which nothing has come. What `buffer` holds doesn't matter; messages that are
     /// longer than it end the stream.
@@ -93,6 +93,36 @@ impl<'b> MessageStream<'b> {
             kept: NOTHING,
             offset: 0,
             error: None,
+        }
+    }
+
+    /// A stream that goes on where an earlier one was left, as by a caller that keeps the buffer and
+    /// two numbers between its calls: the first `held` bytes of `buffer` are those that
+    /// [`MessageStream::pending`] told then, and `offset` is what [`MessageStream::offset`] told. A
+    /// message that was whole is gone.
+    ///
+    /// What is handed in is tested. `None` where it isn't what a stream leaves: `buffer` has fewer
+    /// than twenty bytes, or fewer than `held`; no message begins with those, or none for which
+    /// there is room, as [`MessageStream::push`] would answer; or they are a whole message.
+    ///
+    /// ```
+    /// let mut stream = MessageStream::resume(&mut buffer, held, offset)?;
+    /// let taken = stream.push(piece)?;
+    /// (held, offset) = (stream.pending().len(), stream.offset());
+    /// ```
+    pub fn resume(buffer: &'b mut [u8], held: usize, offset: u64) -> Option<MessageStream<'b>>
+        ensures { MatchOption result (can_resume buffer.old held ≡ false)
+            (λ stream. (can_resume buffer.old held ≡ true)
+            × (stream ≡ resumed (length buffer.old) offset (take held buffer.old))) }
+    {
+        match held_part(buffer, held) {
+            Some(kept) => Some(MessageStream {
+                buffer,
+                kept,
+                offset,
+                error: None,
+            }),
+            None => None,
         }
     }
 

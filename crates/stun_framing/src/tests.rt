@@ -53,6 +53,36 @@ fn yields(
     same && count == messages.len() && stream.error() == end && is_over
 }
 
+/// The same, where between two calls only the buffer is kept and two numbers.
+fn yields_resumed(bytes: &[u8], size: usize, messages: &[&[u8]], end: Option<StreamError>) -> bool
+    requires { 0 < size }
+{
+    let mut buffer = [0xEE; 32];
+    let mut held: usize = 0;
+    let mut offset: u64 = 0;
+    let mut count: usize = 0;
+    let mut same = true;
+    for piece in bytes.chunks(size) {
+        let mut rest = piece;
+        while !rest.is_empty() {
+            let Some(mut stream) = MessageStream::resume(&mut buffer, held, offset) else {
+                return false;
+            };
+            let Ok(taken) = stream.push(rest) else {
+                return same && count == messages.len() && stream.error() == end;
+            };
+            rest = &rest[taken..];
+            if let Some(message) = stream.message() {
+                same &= is_at(count, messages, message);
+                count = count.saturating_add(1);
+            }
+            held = stream.pending().len();
+            offset = stream.offset();
+        }
+    }
+    same && count == messages.len() && end.is_none()
+}
+
 #[test]
 fn cut_anywhere(rt: HostRuntime) -> Result<(), Fail> {
     let none: &[&[u8]] = &[];
@@ -113,6 +143,8 @@ fn cut_anywhere(rt: HostRuntime) -> Result<(), Fail> {
         for size in 1..=bytes.len().max(1) {
             let right = yields(&bytes, size, messages, rest.len(), end);
             assert!(rt; right, "{name}, in pieces of {size}");
+            let right = yields_resumed(&bytes, size, messages, end);
+            assert!(rt; right, "{name}, in pieces of {size}, resumed");
         }
     }
     Ok(())
@@ -142,6 +174,34 @@ fn calls(rt: HostRuntime) -> Result<(), Fail> {
         assert!(rt; stream.push(piece) == answer && stream.error() == answer.err());
         assert!(rt; stream.message() == message);
         assert!(rt; stream.pending() == pending && stream.offset() == offset);
+    }
+    Ok(())
+}
+
+#[test]
+fn resumes(rt: HostRuntime) -> Result<(), Fail> {
+    let rows: [(&str, &[u8], usize, usize, bool); 10] = [
+        ("nothing", b"", 0, 20, true),
+        ("nineteen bytes", b"", 0, 19, false),
+        ("more than there are", b"", 33, 32, false),
+        ("a part of a header", &LONGER[..19], 19, 32, true),
+        ("a part of a message", &LONGER[..27], 27, 28, true),
+        ("no room for the message", &LONGER[..27], 27, 27, false),
+        ("a message", LONGER, 28, 32, false),
+        ("more than a message", SHORT, 21, 32, false),
+        ("another protocol", b"GET ", 4, 32, false),
+        ("a length field of 6", b"\x00\x01\x00\x06", 4, 32, false),
+    ];
+    for (name, bytes, held, size, is_some) in rows {
+        let mut buffer = [0; 32];
+        let count = bytes.len().min(32);
+        buffer[..count].copy_from_slice(&bytes[..count]);
+        let room = size.min(32);
+        let right = match MessageStream::resume(&mut buffer[..room], held, 40) {
+            Some(stream) => is_some && stream.pending() == bytes && stream.offset() == 40,
+            None => !is_some,
+        };
+        assert!(rt; right, "{name}");
     }
     Ok(())
 }

@@ -1,3 +1,4 @@
 mod ReplyLemmas
 pub mod RefusalsLemmas
 pub mod SizesLemmas
+mod InSliceLemmas

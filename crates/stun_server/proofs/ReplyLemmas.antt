@@ -73,10 +73,10 @@ none_to_method source d b parses same request other =
     let method : (method_of (type_field d) == BINDING) ≡ false = ap (λ (x : List ℕ). method_of (type_field x) == BINDING) (sym same) ∙ other in
     rw (parses, class, method) refl
 
-pub one_to_binding : (source : SocketAddr) (d b text : List ℕ) → parse_fault d ≡ None → b ≡ d → class_of (type_field b) ≡ Request → (method_of (type_field b) == BINDING) ≡ true
-    → text ≡ binding_reply source b → reply source d ≡ Some text
+pub one_to_binding : (source : SocketAddr) (d b : List ℕ) → parse_fault d ≡ None → b ≡ d → class_of (type_field b) ≡ Request → (method_of (type_field b) == BINDING) ≡ true
+    → reply source d ≡ Some (binding_reply source b)
 unfolding reply
-one_to_binding source d b text parses same request binding is =
+one_to_binding source d b parses same request binding =
     let class : class_of (type_field d) ≡ Request = ap (λ (x : List ℕ). class_of (type_field x)) (sym same) ∙ request in
     let method : (method_of (type_field d) == BINDING) ≡ true = ap (λ (x : List ℕ). method_of (type_field x) == BINDING) (sym same) ∙ binding in
-    rw (parses, class, method) (ap Some (sym (is ∙ ap (binding_reply source) same)))
+    rw (parses, class, method) (ap (λ (x : List ℕ). Some (binding_reply source x)) (sym same))

@@ -1,3 +1,4 @@
 pub mod Reply
 pub mod Sizes
 pub mod Making
+pub mod InSlice

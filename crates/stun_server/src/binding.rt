@@ -1,7 +1,8 @@
 //! The reply to a datagram.
 
-ghost use Rattle.std.specs.Prelude.{◌≡◌, ◌≤◌, ◌<◌, ◌^◌, [], ◌∷◌, None, Ok, IfOk, IfSome, IsSomeAnd, OnOk, length};
+ghost use Rattle.std.specs.Prelude.{◌≡◌, ◌≤◌, ◌<◌, ◌^◌, [], ◌∷◌, None, Some, Ok, IfOk, IfSome, IsSomeAnd, MatchOption, OnOk, length};
 ghost use Rattle.std.specs.Option.{option_map};
+ghost use Rattle.std.specs.declared.net.socket_addr.SocketAddr.{SocketAddr};
 ghost use Rattle.stun_grammar.specs.Headers.{type_field};
 ghost use Rattle.stun_grammar.specs.Numbers.{IsBytes};
 ghost use Rattle.stun_grammar.specs.Steps.{add};
@@ -26,7 +27,7 @@ use stun_types::message::{BINDING, Message, MessageClass, MessageWriteVec, StunW
 use stun_types::prelude::*;
 
 /// Each number in a slice is below 256. The function does nothing: its contract is the law.
-fn are_bytes(bytes: &[u8])
+pub(crate) fn are_bytes(bytes: &[u8])
     ensures { IsBytes bytes.now }
 {}
 
@@ -183,6 +184,27 @@ fn binding_response(
     Ok(write.finish())
 }
 
+/// The binding request that a datagram is, if it is one: nothing else is replied to, and whatever
+/// else there is is silently discarded (RFC 8489, section 6.3).
+pub(crate) fn request_in(datagram: &[u8]) -> Option<Message<'_>>
+    ensures { MatchOption result ((source : SocketAddr) → reply source datagram.now ≡ None)
+        (λ request. (class_of (type_field (message_bytes request)) ≡ Request)
+        × ((source : SocketAddr) → reply source datagram.now
+        ≡ Some (binding_reply source (message_bytes request)))) }
+{
+    let request = match Message::from_bytes(datagram) {
+        Ok(request) => request,
+        Err(_) => return None,
+    };
+    if !request.has_class(MessageClass::Request) {
+        return None;
+    }
+    if !request.has_method(BINDING) {
+        return None;
+    }
+    Some(request)
+}
+
 /// The reply to a datagram that came from `source`, if it deserves one: a binding request does, and
 /// whatever else is silently discarded (RFC 8489, section 6.3). The error says that an allocation
 /// failed: no reply is refused for its length, since 65555 bytes show at most 16383 types.
@@ -194,16 +216,9 @@ pub fn reply(
     ensures { IfOk result
         (λ made. reply source datagram.now ≡ option_map (λ text. text.items) made) }
 {
-    let request = match Message::from_bytes(datagram) {
-        Ok(request) => request,
-        Err(_) => return Ok(None),
+    let Some(request) = request_in(datagram) else {
+        return Ok(None);
     };
-    if !request.has_class(MessageClass::Request) {
-        return Ok(None);
-    }
-    if !request.has_method(BINDING) {
-        return Ok(None);
-    }
     match binding_response(alloc, &request, source) {
         Ok(text) => Ok(Some(text)),
         Err(_) => Err(AllocError),

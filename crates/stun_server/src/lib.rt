@@ -2,7 +2,12 @@
 #![tactic(auto)]
 
 mod binding;
+mod in_slice;
 mod laws;
+#[cfg(test)]
+mod tests;
+mod unknown;
 
 pub use binding::reply;
+pub use in_slice::reply_into;
 pub use laws::replies_are_small;

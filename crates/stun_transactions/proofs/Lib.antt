@@ -1,5 +1,6 @@
 mod BeyondLemmas
 mod FirstPollLemmas
+mod PartsLemmas
 mod RowsLemmas
 mod RunsLemmas
 mod SlotsLemmas

@@ -11,3 +11,4 @@ pub mod Transactions
 pub mod Slots
 pub mod Runs
 pub mod Taking
+pub mod Parts

@@ -4,6 +4,8 @@ ghost use Rattle.std.specs.Prelude.{◌≡◌};
 ghost use Rattle.stun_types.specs.Message.{message_bytes};
 ghost use Rattle.stun_transactions.specs.Guards.{signed_by, is_signed, accepts, short_term_fault, long_term_fault};
 
+use crate::parting::check_key;
+use crate::parts::{Mechanism, PartsError};
 use crate::received::Discard;
 use stun_authentication::{is_bid_down, is_challenge, response_code};
 use stun_types::attribute::{
@@ -94,9 +96,10 @@ fn long_term_fault(key: &IntegrityKey, message: &Message<'_>) -> Option<Discard>
 }
 
 impl Protection {
-    ghost use Rattle.std.specs.Prelude.{◌≡◌};
+    ghost use Rattle.std.specs.Prelude.{◌≡◌, None, Some, MatchResult};
     ghost use Rattle.stun_types.specs.Message.{message_bytes};
     ghost use Rattle.stun_transactions.specs.Guards.{guard_fault, protects, IsKeptAs};
+    ghost use Rattle.stun_transactions.specs.Parts.{mechanism_of, key_in, key_fault};
 
     /// What a transaction keeps of it, to validate responses: a long-term key works with both
     /// algorithms (RFC 8489, section 9.2.5).
@@ -106,6 +109,36 @@ impl Protection {
         match self {
             Protection::LongTerm(key) => Protection::LongTerm(key.for_both()),
             other => other,
+        }
+    }
+
+    /// By which mechanism the request is protected, if by one, and with which key.
+    pub(crate) fn into_parts(self) -> (Option<Mechanism>, Option<IntegrityKey>)
+        ensures mechanism { result.0 ≡ mechanism_of self }
+        ensures key { result.1 ≡ key_in self }
+    {
+        match self {
+            Protection::Unprotected => (None, None),
+            Protection::ShortTerm(key) => (Some(Mechanism::ShortTerm), Some(key)),
+            Protection::LongTerm(key) => (Some(Mechanism::LongTerm), Some(key)),
+        }
+    }
+
+    /// The protection by a mechanism, or by none, with a key.
+    pub(crate) fn from_parts(
+        mechanism: Option<Mechanism>,
+        key: Option<IntegrityKey>,
+    ) -> Result<Protection, PartsError>
+        ensures { MatchResult result
+            (λ protection. (key_fault mechanism key ≡ None)
+            × (mechanism_of protection ≡ mechanism) × (key_in protection ≡ key))
+            (λ e. key_fault mechanism key ≡ Some e) }
+    {
+        check_key(mechanism, &key)?;
+        match (mechanism, key) {
+            (Some(Mechanism::ShortTerm), Some(key)) => Ok(Protection::ShortTerm(key)),
+            (Some(Mechanism::LongTerm), Some(key)) => Ok(Protection::LongTerm(key)),
+            _ => Ok(Protection::Unprotected),
         }
     }
 

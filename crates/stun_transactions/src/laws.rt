@@ -1,6 +1,6 @@
 //! Laws of sequences of calls. Each function does nothing: its contract is the law.
 
-ghost use Rattle.std.specs.Prelude.{◌≡◌, ℕ, ◌+◌, ◌-◌, ◌<◌, List, [], Some, true};
+ghost use Rattle.std.specs.Prelude.{◌≡◌, ℕ, ◌+◌, ◌-◌, ◌<◌, List, [], None, Some, true};
 ghost use Rattle.std.specs.Duration.{as_nanos};
 ghost use Rattle.stun_grammar.specs.declared.attribute_type.AttributeType.{AttributeType};
 ghost use Rattle.stun_transactions.specs.declared.plan.Plan.{Plan};
@@ -16,6 +16,14 @@ ghost use Rattle.stun_transactions.specs.Outcomes.{after};
 ghost use Rattle.stun_transactions.specs.Receiving.{heard};
 ghost use Rattle.stun_grammar.specs.Numbers.{IsBytes};
 ghost use Rattle.stun_transactions.specs.Taking.{is_taken, IsRightResponse};
+ghost use Rattle.stun_base.specs.declared.transport.TransportType.{TransportType};
+ghost use Rattle.stun_transactions.specs.declared.schedule.Schedule.{Schedule};
+ghost use Rattle.stun_transactions.specs.declared.guard.Protection.{Protection};
+ghost use Rattle.stun_transactions.specs.declared.parts.TransactionParts.{TransactionParts};
+ghost use Rattle.stun_transactions.specs.declared.transaction.Transaction.{Transaction};
+ghost use Rattle.stun_transactions.specs.Terms.{begin_fault};
+ghost use Rattle.stun_transactions.specs.Transactions.{terms_of, course_of, Begins};
+ghost use Rattle.stun_transactions.specs.Parts.{plan_in, course_in, at_course, parts_of, key_of, parts_fault, whole_fault};
 ghost use Rattle.stun_transactions.specs.Runs.{Call, IsRun, Stays, sends, IsSpaced, left_by};
 
 /// The row is kept by polls that are in time: request number `k + 1` follows request number `k`
@@ -68,4 +76,28 @@ pub fn other_calls_stay()
 pub fn taken_is_right()
     ensures { (terms : Terms) (course : Course) (understood : List AttributeType) (d : List ℕ)
         → IsBytes d → is_taken (heard terms course understood d) ≡ true → IsRightResponse terms d }
+{}
+
+/// Its parts and its key are all of a transaction: one that is taken apart and put together again
+/// has the terms and the course that it had.
+#[tactic(auto, using(crate::proofs::PartsLemmas::all_of_it))]
+pub fn parts_are_the_whole()
+    ensures { (one other : Transaction) → parts_of one ≡ parts_of other → key_of one ≡ key_of other
+        → (terms_of one ≡ terms_of other) × (course_of one ≡ course_of other) }
+{}
+
+/// No parts of a transaction are refused: not where it begins, nor after any call.
+pub fn no_parts_are_refused()
+    ensures begins { (r : List ℕ) (schedule : Schedule) (transport : TransportType)
+        (protection : Protection) (now : Duration) (transaction : Transaction)
+        → begin_fault protection r ≡ None
+        → Begins r schedule transport protection now transaction
+        → whole_fault (parts_of transaction) (key_of transaction) ≡ None }
+    ensures polls { (parts : TransactionParts) (now : Duration) (action : Action) (course : Course)
+        → parts_fault parts ≡ None → Polls (plan_in parts) (course_in parts) now action course
+        → parts_fault (at_course parts course) ≡ None }
+    ensures receives { (parts : TransactionParts) (outcome : Outcome) → parts_fault parts ≡ None
+        → parts_fault (at_course parts (after outcome (course_in parts))) ≡ None }
+    ensures ends { (parts : TransactionParts) (end : End) → parts_fault parts ≡ None
+        → parts_fault (at_course parts (ended_by end (course_in parts))) ≡ None }
 {}

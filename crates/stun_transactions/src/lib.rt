@@ -11,6 +11,8 @@ mod guard;
 mod judge;
 mod laws;
 mod mapped;
+mod parting;
+mod parts;
 mod plan;
 mod received;
 mod schedule;
@@ -24,10 +26,11 @@ mod transactions;
 pub use course::{Action, End};
 pub use guard::Protection;
 pub use laws::{
-    ends_are_final, first_poll_sends, other_calls_stay, requests_are_spaced, taken_is_right,
-    waits_make_the_row,
+    ends_are_final, first_poll_sends, no_parts_are_refused, other_calls_stay, parts_are_the_whole,
+    requests_are_spaced, taken_is_right, waits_make_the_row,
 };
 pub use mapped::{mapped_address, response_address};
+pub use parts::{Mechanism, PartsError, TransactionParts};
 pub use received::{Discard, Failure, Received};
 pub use schedule::{Schedule, ScheduleError};
 pub use slots::{AddError, Task};

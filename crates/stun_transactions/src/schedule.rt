@@ -119,6 +119,34 @@ impl Schedule {
         }
     }
 
+    /// RTO, in milliseconds.
+    pub fn rto(&self) -> u64
+        ensures { result ≡ self.now.rto }
+    {
+        self.rto
+    }
+
+    /// The greatest number of requests over an unreliable transport (Rc).
+    pub fn requests(&self) -> u32
+        ensures { result ≡ self.now.requests }
+    {
+        self.requests
+    }
+
+    /// How many times RTO to wait after the last one (Rm).
+    pub fn last_wait(&self) -> u32
+        ensures { result ≡ self.now.last_wait }
+    {
+        self.last_wait
+    }
+
+    /// The wait over a reliable transport (Ti), in milliseconds.
+    pub fn reliable_wait(&self) -> u64
+        ensures { result ≡ self.now.reliable_wait }
+    {
+        self.reliable_wait
+    }
+
     /// When request number `n`, counted from 0, is sent over an unreliable transport if every poll
     /// is in time: in milliseconds from the first request. `None` where there is no such request.
     #[tactic(auto, using(crate::proofs::RowsLemmas::moment_fits, crate::proofs::RowsLemmas::pow_fits, crate::proofs::RowsLemmas::moment_at))]

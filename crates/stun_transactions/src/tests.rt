@@ -4,4 +4,5 @@ mod example;
 mod many;
 mod messages;
 mod moments;
+mod parts;
 mod responses;

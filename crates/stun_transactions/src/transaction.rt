@@ -1,8 +1,9 @@
 //! A client's transaction.
 
 use crate::course::{Action, Course, End};
-use crate::guard::Protection;
+use crate::guard::{Protection, Signed};
 use crate::judge::outcome;
+use crate::parts::{PartsError, TransactionParts};
 use crate::plan::Plan;
 use crate::received::{Received, with_message};
 use crate::schedule::Schedule;
@@ -10,7 +11,7 @@ use crate::terms::{BeginError, Terms};
 use std::time::Duration;
 use stun_types::TransportType;
 use stun_types::attribute::AttributeType;
-use stun_types::message::{Message, TransactionId};
+use stun_types::message::{IntegrityKey, Message, TransactionId};
 
 /// A client's transaction: a request that is sent until it is answered, or given up (RFC 8489,
 /// section 6.2).
@@ -33,6 +34,7 @@ impl Transaction {
     ghost use Rattle.stun_transactions.specs.Terms.{begin_fault};
     ghost use Rattle.stun_transactions.specs.Receiving.{heard};
     ghost use Rattle.stun_transactions.specs.Transactions.{terms_of, course_of, Begins, Wakes};
+    ghost use Rattle.stun_transactions.specs.Parts.{parts_of, key_of, whole_fault};
 
     /// A transaction of a request, which is to be sent over a transport, by a schedule. Its first
     /// poll hands the request out.
@@ -59,6 +61,79 @@ impl Transaction {
         };
         let terms = Terms::new(request, plan, protection)?;
         let course = Course::new(now);
+        Ok(Transaction { terms, course })
+    }
+
+    /// Takes the transaction apart: its numbers, and the key with which its request is protected, if
+    /// it is. The key of a long-term credential is the one that works with both algorithms.
+    ///
+    /// ```
+    /// let (mut parts, key) = transaction.into_parts();
+    /// let action = parts.poll(now);
+    /// let transaction = Transaction::from_parts(parts, key)?;
+    /// ```
+    pub fn into_parts(self) -> (TransactionParts, Option<IntegrityKey>)
+        ensures parts { result.0 ≡ parts_of self }
+        ensures key { result.1 ≡ key_of self }
+    {
+        let Transaction { terms, course } = self;
+        let Terms {
+            plan,
+            method,
+            id,
+            signed,
+            protection,
+        } = terms;
+        let (mechanism, key) = protection.into_parts();
+        let parts = TransactionParts {
+            schedule: plan.schedule,
+            transport: plan.transport,
+            method,
+            id,
+            sha1: signed.sha1,
+            sha256: signed.sha256,
+            mechanism,
+            sent: course.sent,
+            last: course.last,
+            clock: course.clock,
+            violated: course.violated,
+            end: course.end,
+        };
+        (parts, key)
+    }
+
+    /// The transaction of these parts and this key, which goes on where they were taken from it.
+    ///
+    /// What is handed in is tested: parts that no transaction has are refused, as is a key that
+    /// isn't wanted. The key of a long-term credential is one for both algorithms, as
+    /// `IntegrityKey::for_both` makes it.
+    ///
+    /// # Errors
+    ///
+    /// The first of these that applies: those of [`TransactionParts::check`], and then `NoKey`,
+    /// `NoUseForKey` and `KeyForOneAlgorithm`. The key is dropped then.
+    pub fn from_parts(
+        parts: TransactionParts,
+        key: Option<IntegrityKey>,
+    ) -> Result<Transaction, PartsError>
+        ensures { MatchResult result
+            (λ transaction. (whole_fault parts key ≡ None)
+            × (parts_of transaction ≡ parts) × (key_of transaction ≡ key))
+            (λ e. whole_fault parts key ≡ Some e) }
+    {
+        parts.check()?;
+        let protection = Protection::from_parts(parts.mechanism, key)?;
+        let terms = Terms {
+            plan: parts.plan(),
+            method: parts.method,
+            id: parts.id,
+            signed: Signed {
+                sha1: parts.sha1,
+                sha256: parts.sha256,
+            },
+            protection,
+        };
+        let course = parts.course();
         Ok(Transaction { terms, course })
     }
 

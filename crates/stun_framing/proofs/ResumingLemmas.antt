@@ -1,0 +1,113 @@
+-- A stream that goes on with bytes that are pending.
+use Rattle.std.proofs.Common.{◌≡◌, ℕ, ◌+◌, ◌<◌, ◌≤◌, true, false, List, [], length, take, Option, None, Some, refl, sym, ap, ◌∙◌, inl, inr, arith}
+use Rattle.std.specs.Prelude.{◌-◌, not, is_some, ◌&&◌, nat_le, option_map}
+use Rattle.std.specs.Option.{option_or}
+use Rattle.std.proofs.lemmas.Bool.{cases_lt, cases_Bool, le-leb, leb-true, not-true, and_parts}
+use Rattle.std.proofs.lemmas.List.{length-take}
+use Rattle.stun_framing.specs.declared.error.StreamFault.{StreamFault}
+use Rattle.stun_framing.specs.declared.error.StreamError.{StreamError}
+use Rattle.stun_framing.specs.Framing.{stated_length, stream_fault}
+use Rattle.stun_framing.specs.Gathering.{wanted_for}
+use Rattle.stun_framing.specs.Streams.{Stream, is_whole, of_first, offset_of, joined, can_resume, resumed, answer_of, answer, left, with_bytes, left_of}
+use Rattle.stun_framing.specs.Fields.{IsStream}
+use Rattle.stun_framing.specs.Runs.{HasCome}
+use Rattle.stun_framing.proofs.FramingLemmas.{wanted_long, wanted_short, whole_if, kept_of}
+
+whole_by : (b : List ℕ) → wanted_for b ≤ length b → is_whole b ≡ true
+whole_by b all = elim (cases_lt (length b) 20) [
+  | inl short ↦ absurd (omega (arith, all, wanted_short b short))
+  | inr long ↦ whole_if b long (omega (arith, all, wanted_long b long))
+]
+
+none_by : (o : Option StreamFault) → is_some o ≡ false → o ≡ None
+none_by None e = refl
+none_by (Some fault) e = absurd cc
+
+-- ---- Whether bytes can be pending
+
+-- what it means that they can
+pub record Resumes (buffer : List ℕ) (held : ℕ) : Type 0 where
+  pub room : 20 ≤ length buffer
+  pub within : held ≤ length buffer
+  pub sound : stream_fault (length buffer) (take held buffer) ≡ None
+  pub part : held < wanted_for (take held buffer)
+
+pub resumes_if : (buffer : List ℕ) (held : ℕ) → can_resume buffer held ≡ true → Resumes buffer held
+resumes_if buffer held can =
+    let b = take held buffer in
+    let fault = stream_fault (length buffer) b in
+    let room_test = nat_le 20 (length buffer) in
+    let within_test = nat_le held (length buffer) in
+    let last = and_parts (room_test && within_test && not (is_some fault)) (not (is_whole b)) can in
+    let third = and_parts (room_test && within_test) (not (is_some fault)) last.0 in
+    let second = and_parts room_test within_test third.0 in
+    let within : held ≤ length buffer = leb-true held (length buffer) second.1 in
+    record {
+      room = leb-true 20 (length buffer) second.0;
+      within = within;
+      sound = none_by fault (not-true (is_some fault) third.1);
+      part = elim (cases_lt held (wanted_for b)) [
+        | inl part ↦ part
+        | inr all ↦ absurd (cc (whole_by b (omega (arith, all, length-take held buffer, within)), not-true (is_whole b) last.1))
+      ];
+    }
+
+-- ---- The stream that goes on
+
+pub resumed_is : (buffer : List ℕ) (held : ℕ) → Resumes buffer held → IsStream buffer (record { held = held; wanted = wanted_for (take held buffer) }) None
+resumed_is buffer held resumes =
+    let b = take held buffer in
+    let long : length b ≡ held = omega (arith, length-take held buffer, resumes.within) in
+    let kept = kept_of (length buffer) b resumes.room resumes.sound in
+    record {
+      room = resumes.room;
+      bound = resumes.within;
+      sound = record {
+        sound = resumes.sound;
+        wanted_is = refl;
+        within = omega (arith, long, resumes.part);
+        fits = kept.fits;
+      };
+      ended = λ there. resumes.part;
+    }
+
+-- ---- The laws
+
+pub resumes : (room : ℕ) (bytes : List ℕ) (messages : List (List ℕ)) (stream : Stream) (buffer : List ℕ) → HasCome room bytes messages stream → 20 ≤ room → length buffer ≡ room
+    → take (length stream.pending) buffer ≡ stream.pending → can_resume buffer (length stream.pending) ≡ true
+resumes room bytes messages stream buffer come least long is =
+    let held = length stream.pending in
+    let sound : stream_fault (length buffer) (take held buffer) ≡ None = ap (λ (n : ℕ). stream_fault n (take held buffer)) long ∙ ap (stream_fault room) is ∙ come.sound in
+    let part : is_whole (take held buffer) ≡ false = ap is_whole is ∙ come.part in
+    let within : held ≤ length buffer = omega (arith, ap length is, length-take held buffer) in
+    rw (le-leb 20 (length buffer) (omega (arith, long, least)), le-leb held (length buffer) within, sound, part) refl
+
+pub comes : (room : ℕ) (bytes : List ℕ) (messages : List (List ℕ)) (stream : Stream) → HasCome room bytes messages stream → HasCome room bytes messages (resumed room stream.offset stream.pending)
+comes room bytes messages stream come = record {
+  cut = come.cut;
+  room_is = refl;
+  offset_is = come.offset_is;
+  running = refl;
+  sound = come.sound;
+  part = come.part;
+}
+
+with_bytes_same : (stream : Stream) (b : List ℕ) → stream.error ≡ None → with_bytes (resumed stream.room stream.offset stream.pending) b ≡ with_bytes stream b
+with_bytes_same stream b running = elim (cases_Bool (is_whole b)) [
+  | inl whole ↦ rw whole (λ i. record stream { offset = offset_of (stream.offset + stated_length b); pending = []; message = Some (take (stated_length b) b); error = sym running i })
+  | inr part ↦ rw part (λ i. record stream { pending = b; message = None; error = sym running i })
+]
+
+left_same : (told : Option StreamError) (stream : Stream) (b : List ℕ) → stream.error ≡ None → left_of told (resumed stream.room stream.offset stream.pending) b ≡ left_of told stream b
+left_same None stream b running = with_bytes_same stream b running
+left_same (Some error) stream b running = refl
+
+pub goes_on : (stream : Stream) (piece : List ℕ) → stream.error ≡ None
+    → (answer (resumed stream.room stream.offset stream.pending) piece ≡ answer stream piece) × (left (resumed stream.room stream.offset stream.pending) piece ≡ left stream piece)
+goes_on stream piece running =
+    let b = joined stream piece in
+    let fault = stream_fault stream.room b in
+    let told = λ (before : Option StreamError). option_or before (option_map {T = StreamFault} {U = StreamError} (λ f. record { offset = stream.offset; fault = f }) fault) in (
+      ap (λ (before : Option StreamError). answer_of (told before) (length (of_first b) - length stream.pending)) (sym running),
+      left_same (told None) stream b running ∙ ap (λ (before : Option StreamError). left_of (told before) stream b) (sym running),
+    )

@@ -1,0 +1,214 @@
+-- A reply that is written into a slice, piece by piece.
+use Rattle.std.proofs.Common.{◌≡◌, ℕ, ◌+◌, ◌*◌, ◌^◌, ◌<◌, ◌≤◌, Bool, true, false, cond, List, [], ◌∷◌, ◌++◌, length, take, drop, map, None, Some, Ok, Err, refl, sym, ap, ◌∙◌, append_assoc, lit<, arith}
+use Rattle.std.specs.Prelude.{codes, nat_lt, is_some, if◌then◌else◌}
+use Rattle.std.specs.List.{filter}
+use Rattle.std.specs.Option.{option_map_or}
+use Rattle.std.specs.declared.net.socket_addr.SocketAddr.{SocketAddr}
+use Rattle.std.proofs.Math.Seq.{drop-append-add}
+use Rattle.std.proofs.lemmas.Bool.{lt-ltb, le-ltb, ne_eqb}
+use Rattle.std.proofs.lemmas.List.{length-append, take_at, drop_at, drop-drop}
+use Rattle.std.proofs.lemmas.List.Elements.{filter-append}
+use Rattle.stun_grammar.specs.declared.attribute_type.AttributeType.{AttributeType}
+use Rattle.stun_grammar.specs.declared.error.StunWriteError.TheVariants.{TooSmall}
+use Rattle.stun_grammar.specs.Numbers.{be16, padded_length}
+use Rattle.stun_grammar.specs.Headers.{id_field}
+use Rattle.stun_grammar.specs.Attributes.{Attribute, canonical, encoding, attribute_length}
+use Rattle.stun_grammar.specs.AttributeTypes.{XOR_MAPPED_ADDRESS, SOFTWARE, ERROR_CODE, UNKNOWN_ATTRIBUTES, FINGERPRINT}
+use Rattle.stun_grammar.specs.Fingerprints.{fingerprint_value}
+use Rattle.stun_grammar.specs.Writing.{message_encoding}
+use Rattle.stun_grammar.specs.Adding.{appended, grown_length}
+use Rattle.stun_grammar.proofs.WritingLemmas.{length-canonical, length-message}
+use Rattle.stun_grammar.proofs.AddingLemmas.{appended_length, message_more, fingerprint_length}
+use Rattle.stun_base.specs.declared.message_type.MessageClass.TheVariants.{Success, Error as ErrorClass}
+use Rattle.stun_attrs.specs.declared.raw.RawAttribute.{RawAttribute}
+use Rattle.stun_values.specs.Addresses.{address_value, IsXored}
+use Rattle.stun_values.specs.ErrorValues.{error_value}
+use Rattle.stun_values.specs.TypeLists.{type_encoding, types_encoding}
+use Rattle.stun_values.proofs.ListsLemmas.{flat_map-one, length_of_twos}
+use Rattle.stun_types.specs.Replies.{shown_types, response_type, own_software, unknown_reply, bad_reply, lacks}
+use Rattle.stun_types.proofs.ShownTypesLemmas.{item_type, SoFar, passes_more, fails_more}
+use Rattle.stun_read.specs.LookingUp.{nth}
+use Rattle.stun_server.specs.Reply.{xored_value, success_reply, response, unfinished_reply, binding_reply}
+use Rattle.stun_server.specs.InSlice.{overlaid, answer_in, slice_after}
+use Rattle.stun_server.proofs.ReplyLemmas.{xored_spelled}
+use Rattle.stun_server.proofs.RefusalsLemmas.{software_length, error_length}
+use Rattle.stun_server.proofs.SizesLemmas.{short_value, unknown_short, reply_for}
+
+-- ---- The types that pass a test, counted
+
+-- where the next type passes too, those so far are fewer than all
+pub counted : (test : AttributeType → Bool) (d : List ℕ) (items : List (ℕ × RawAttribute)) (type : AttributeType) → SoFar d items type → test type ≡ true
+    → length (filter test (map item_type items)) + 1 ≤ length (filter test (shown_types d))
+counted test d items type so passes =
+    let front = filter test (map item_type items) in
+    let others = filter test so.others in
+    let whole : filter test (shown_types d) ≡ front ++ type ∷ others =
+    ap (filter test) so.whole ∙ filter-append test (map item_type items) (type ∷ so.others) ∙ ap (λ (b : Bool). front ++ cond b (type ∷ others) others) passes in
+    omega (arith, ap length whole, length-append front (type ∷ others))
+
+-- one more type is written
+pub listed_more : (found : List AttributeType) (x : AttributeType) (dest start : List ℕ) → dest ≡ types_encoding found ++ drop (2 * length found) start
+    → take (2 * length found) dest ++ (be16 x.0 ++ drop 2 (drop (2 * length found) dest)) ≡ types_encoding (found ++ x ∷ []) ++ drop (2 * length (found ++ x ∷ [])) start
+listed_more found x dest start is =
+    let here = 2 * length found in
+    let front = types_encoding found in
+    let before : take here dest ≡ front = ap (take here) is ∙ take_at front (drop here start) here (length_of_twos found) in
+    let behind : drop here dest ≡ drop here start = ap (drop here) is ∙ drop_at front (drop here start) here (length_of_twos found) in
+    let next : here + 2 ≡ 2 * length (found ++ x ∷ []) = omega (arith, length-append found (x ∷ [])) in
+    let rest : drop 2 (drop here dest) ≡ drop (2 * length (found ++ x ∷ [])) start = ap (drop 2) behind ∙ drop-drop 2 here start ∙ ap (λ (k : ℕ). drop k start) next in
+    (λ j. before j ++ (be16 x.0 ++ rest j)) ∙ sym (append_assoc front (be16 x.0) (drop (2 * length (found ++ x ∷ [])) start)) ∙ (λ j. sym (flat_map-one type_encoding found x) j ++ drop (2 * length (found ++ x ∷ [])) start)
+
+-- the types that pass are written, up to a place
+abbrev pub Written : (test : AttributeType → Bool) (types : List AttributeType) (end : ℕ) (dest start : List ℕ) → Type 0
+Written test types end dest start =
+    let found = filter test types in (end ≡ 2 * length found) × (dest ≡ types_encoding found ++ drop (2 * length found) start)
+
+pub written_passes : (test : AttributeType → Bool) (items : List (ℕ × RawAttribute)) (item : ℕ × RawAttribute) (end next : ℕ) (dest new start : List ℕ) → test (item_type item) ≡ true → Written test (map item_type items) end dest start
+    → next ≡ end + 2 → new ≡ take end dest ++ (be16 (item_type item).0 ++ drop 2 (drop end dest)) → Written test (map item_type (items ++ item ∷ [])) next new start
+written_passes test items item end next dest new start passes so_far next-is new-is =
+    let found = filter test (map item_type items) in
+    let more : filter test (map item_type (items ++ item ∷ [])) ≡ found ++ item_type item ∷ [] = passes_more test items item passes in
+    let here : new ≡ take (2 * length found) dest ++ (be16 (item_type item).0 ++ drop 2 (drop (2 * length found) dest)) =
+    new-is ∙ ap (λ (n : ℕ). take n dest ++ (be16 (item_type item).0 ++ drop 2 (drop n dest))) so_far.0 in
+    let written = here ∙ listed_more found (item_type item) dest start so_far.1 in (
+      omega (arith, ap length more, length-append found (item_type item ∷ []), so_far.0, next-is),
+      written ∙ ap (λ (ts : List AttributeType). types_encoding ts ++ drop (2 * length ts) start) (sym more),
+    )
+
+pub written_fails : (test : AttributeType → Bool) (items : List (ℕ × RawAttribute)) (item : ℕ × RawAttribute) (end next : ℕ) (dest new start : List ℕ) → test (item_type item) ≡ false → Written test (map item_type items) end dest start
+    → next ≡ end → new ≡ dest → Written test (map item_type (items ++ item ∷ [])) next new start
+written_fails test items item end next dest new start fails so_far next-is new-is =
+    let same : filter test (map item_type (items ++ item ∷ [])) ≡ filter test (map item_type items) = fails_more test items item fails in (
+      next-is ∙ so_far.0 ∙ ap (λ (ts : List AttributeType). 2 * length ts) (sym same),
+      new-is ∙ so_far.1 ∙ ap (λ (ts : List AttributeType). types_encoding ts ++ drop (2 * length ts) start) (sym same),
+    )
+
+-- ---- One more attribute
+
+-- a message at the start of a slice, with one more attribute
+pub grown : (type id : ℕ) (before : List Attribute) (slice old new value : List ℕ) (atype len : ℕ) → len ≡ length (message_encoding type id before) → old ≡ overlaid (message_encoding type id before) slice → atype < 2 ^ 16 → length value < 2 ^ 16
+    → new ≡ appended (take len old) atype value ++ drop (grown_length len (length value)) old
+    → new ≡ overlaid (message_encoding type id (before ++ canonical atype value ∷ [])) slice
+grown type id before slice old new value atype len len-is old-is t v new-is =
+    let text : List ℕ = message_encoding type id before in
+    let rest : List ℕ = drop (length text) slice in
+    let n : ℕ = 4 + padded_length (length value) in
+    let front : take len old ≡ text = ap (take len) old-is ∙ take_at text rest len (sym len-is) in
+    let behind : drop (grown_length len (length value)) old ≡ drop (length text + n) slice =
+    ap (drop (len + n)) old-is ∙ ap (λ (k : ℕ). drop (k + n) (text ++ rest)) len-is ∙ drop-append-add text rest n ∙ drop-drop n (length text) slice in
+    let long : 4 ≤ length text = omega (arith, length-message type id before) in
+    let size : length text + n ≡ length (appended text atype value) = sym (appended_length text atype value long t v) in
+    new-is ∙ (λ j. appended (front j) atype value ++ behind j) ∙ ap (λ (k : ℕ). appended text atype value ++ drop k slice) size ∙ ap (λ (b : List ℕ). overlaid b slice) (message_more type id before atype value t v)
+
+-- the same of a FINGERPRINT
+pub fingered : (text slice old new : List ℕ) (len : ℕ) → len ≡ length text → 20 ≤ len → old ≡ overlaid text slice
+    → new ≡ appended (take len old) FINGERPRINT (fingerprint_value (take len old) (length (take len old))) ++ drop (len + 8) old
+    → new ≡ overlaid (appended text FINGERPRINT (fingerprint_value text (length text))) slice
+fingered text slice old new len len-is long old-is new-is =
+    let rest : List ℕ = drop (length text) slice in
+    let front : take len old ≡ text = ap (take len) old-is ∙ take_at text rest len (sym len-is) in
+    let behind : drop (len + 8) old ≡ drop (length text + 8) slice =
+    ap (drop (len + 8)) old-is ∙ ap (λ (k : ℕ). drop (k + 8) (text ++ rest)) len-is ∙ drop-append-add text rest 8 ∙ drop-drop 8 (length text) slice in
+    let size : length text + 8 ≡ length (appended text FINGERPRINT (fingerprint_value text (length text))) = sym (fingered_size text (omega (arith, len-is, long))) in
+    new-is ∙ (λ j. appended (front j) FINGERPRINT (fingerprint_value (front j) (length (front j))) ++ behind j) ∙ ap (λ (k : ℕ). appended text FINGERPRINT (fingerprint_value text (length text)) ++ drop k slice) size
+  where
+    fingered_size : (b : List ℕ) → 20 ≤ length b → length (appended b FINGERPRINT (fingerprint_value b (length b))) ≡ length b + 8
+    fingered_size b h =
+        let four = fingerprint_length b (length b) in
+        omega (arith, appended_length b FINGERPRINT (fingerprint_value b (length b)) (omega (arith, h)) (lit< tt) (omega (arith, four)), four)
+
+-- ---- The success response
+
+pub success_size : (source x : SocketAddr) (r : List ℕ) (id : ℕ) → id ≡ id_field r → IsXored id source x → length (response Success r (success_reply source r)) ≡ 36 + attribute_length (length (address_value x))
+success_size source x r id id-is xored =
+    let value = xored_value (id_field r) source in
+    let short = short_value (id_field r) source in
+    let mapped = canonical XOR_MAPPED_ADDRESS value in
+    let same : length (address_value x) ≡ length value = ap length (xored_spelled id source x xored) ∙ ap (λ (n : ℕ). length (xored_value n source)) id-is in
+    omega (arith, same, short, length-message (response_type Success r) (id_field r) (success_reply source r), length-canonical XOR_MAPPED_ADDRESS value (lit< tt) (omega (arith, short)), length-canonical SOFTWARE (codes "stun-types") (lit< tt) (lit< tt), length-append (encoding mapped) (encoding own_software ++ []), length-append (encoding own_software) [])
+
+pub success_long : (source : SocketAddr) (r : List ℕ) → 20 ≤ length (response Success r (success_reply source r))
+success_long source r = omega (arith, length-message (response_type Success r) (id_field r) (success_reply source r))
+
+pub success_in : (source x : SocketAddr) (r slice one two three : List ℕ) (id behind : ℕ) → id ≡ id_field r → IsXored id source x → behind ≡ 20 + attribute_length (length (address_value x))
+    → one ≡ overlaid (response Success r []) slice
+    → two ≡ appended (take 20 one) XOR_MAPPED_ADDRESS (address_value x) ++ drop (grown_length 20 (length (address_value x))) one
+    → three ≡ appended (take behind two) SOFTWARE (codes "stun-types") ++ drop (grown_length behind 10) two
+    → three ≡ overlaid (response Success r (success_reply source r)) slice
+success_in source x r slice one two three id behind id-is xored behind-is one-is two-is three-is =
+    let kind = response_type Success r in
+    let value = xored_value (id_field r) source in
+    let short = short_value (id_field r) source in
+    let mapped = canonical XOR_MAPPED_ADDRESS value in
+    let same : address_value x ≡ value = xored_spelled id source x xored ∙ ap (λ (n : ℕ). xored_value n source) id-is in
+    let first : length (message_encoding kind (id_field r) []) ≡ 20 = length-message kind (id_field r) [] in
+    let second : length (message_encoding kind (id_field r) (mapped ∷ [])) ≡ behind =
+    omega (arith, ap length same, behind-is, short, length-message kind (id_field r) (mapped ∷ []), length-canonical XOR_MAPPED_ADDRESS value (lit< tt) (omega (arith, short)), length-append (encoding mapped) []) in
+    let written : two ≡ overlaid (message_encoding kind (id_field r) (mapped ∷ [])) slice =
+    grown kind (id_field r) [] slice one two value XOR_MAPPED_ADDRESS 20 (sym first) one-is (lit< tt) (omega (arith, short)) (two-is ∙ ap (λ (v : List ℕ). appended (take 20 one) XOR_MAPPED_ADDRESS v ++ drop (grown_length 20 (length v)) one) same) in
+    grown kind (id_field r) (mapped ∷ []) slice two three (codes "stun-types") SOFTWARE behind (sym second) written (lit< tt) (lit< tt) three-is
+
+-- ---- The error response
+
+pub refusal_in : (r slice one two three four : List ℕ) (types : List AttributeType) → 0 < length types → length types ≤ 16384
+    → one ≡ overlaid (response ErrorClass r []) slice
+    → two ≡ appended (take 20 one) SOFTWARE (codes "stun-types") ++ drop 36 one
+    → three ≡ appended (take 36 two) ERROR_CODE (error_value 420 (codes "Unknown Attributes")) ++ drop 64 two
+    → four ≡ appended (take 64 three) UNKNOWN_ATTRIBUTES (types_encoding types) ++ drop (grown_length 64 (length (types_encoding types))) three
+    → four ≡ overlaid (response ErrorClass r (unknown_reply types)) slice
+refusal_in r slice one two three four [] some few one-is two-is three-is four-is = absurd (omega (arith, some))
+refusal_in r slice one two three four (x ∷ xs) some few one-is two-is three-is four-is =
+    let kind = response_type ErrorClass r in
+    let id = id_field r in
+    let types = x ∷ xs in
+    let twos = length_of_twos types in
+    let reason = error_value 420 (codes "Unknown Attributes") in
+    let error = canonical ERROR_CODE reason in
+    let first : length (message_encoding kind id []) ≡ 20 = length-message kind id [] in
+    let second : length (message_encoding kind id (own_software ∷ [])) ≡ 36 = omega (arith, length-message kind id (own_software ∷ []), software_length) in
+    let third : length (message_encoding kind id (own_software ∷ error ∷ [])) ≡ 64 = omega (arith, length-message kind id (own_software ∷ error ∷ []), error_length) in
+    let written : two ≡ overlaid (message_encoding kind id (own_software ∷ [])) slice = grown kind id [] slice one two (codes "stun-types") SOFTWARE 20 (sym first) one-is (lit< tt) (lit< tt) two-is in
+    let told : three ≡ overlaid (message_encoding kind id (own_software ∷ error ∷ [])) slice = grown kind id (own_software ∷ []) slice two three reason ERROR_CODE 36 (sym second) written (lit< tt) (lit< tt) three-is in
+    grown kind id (own_software ∷ error ∷ []) slice three four (types_encoding types) UNKNOWN_ATTRIBUTES 64 (sym third) told (lit< tt) (omega (arith, twos, few)) four-is
+
+-- how long it is
+pub refusal_size : (r : List ℕ) (types : List AttributeType) → 0 < length types → length types ≤ 16384 → length (response ErrorClass r (unknown_reply types)) ≡ grown_length 64 (length (types_encoding types))
+refusal_size r [] some few = absurd (omega (arith, some))
+refusal_size r (x ∷ xs) some few = omega (arith, unknown_short r x xs few, length_of_twos (x ∷ xs))
+
+-- ---- Which of the two it is, and the answer
+
+pub unfinished_none : (source : SocketAddr) (r : List ℕ) (types : List AttributeType) → length types ≡ 0 → reply_for source r types ≡ response Success r (success_reply source r)
+unfinished_none source r [] none = refl
+unfinished_none source r (x ∷ xs) none = absurd (omega (arith, none))
+
+pub unfinished_some : (source : SocketAddr) (r : List ℕ) (types : List AttributeType) → 0 < length types → reply_for source r types ≡ response ErrorClass r (unknown_reply types)
+unfinished_some source r [] some = absurd (omega (arith, some))
+unfinished_some source r (x ∷ xs) some =
+    ap (λ (b : Bool). option_map_or (response ErrorClass r) (cond b (if lacks [] r then Some bad_reply else None) (Some (unknown_reply (x ∷ xs)))) (response Success r (success_reply source r)))
+    (ne_eqb (length (x ∷ xs)) 0 (λ e. omega (arith, e)))
+
+pub finished_size : (finishes : Bool) (text : List ℕ) → 20 ≤ length text → length (if finishes then appended text FINGERPRINT (fingerprint_value text (length text)) else text) ≡ length text + (if finishes then 8 else 0)
+finished_size false text long = omega arith
+finished_size true text long =
+    let four = fingerprint_length text (length text) in
+    omega (arith, appended_length text FINGERPRINT (fingerprint_value text (length text)) (omega (arith, long)) (lit< tt) (omega (arith, four)), four)
+
+pub too_small : (text slice : List ℕ) (whole : ℕ) → whole ≡ length text → length slice < whole
+    → (answer_in (Some text) (length slice) ≡ Err (TooSmall whole (length slice))) × (slice_after (Some text) slice ≡ slice)
+too_small text slice whole is small =
+    let test : nat_lt (length slice) (length text) ≡ true = lt-ltb (length slice) (length text) (omega (arith, is, small)) in
+    (rw (test, is) refl, rw test refl)
+
+pub has_room : (text slice new : List ℕ) (whole : ℕ) → whole ≡ length text → whole ≤ length slice → new ≡ overlaid text slice
+    → (answer_in (Some text) (length slice) ≡ Ok (Some whole)) × (slice_after (Some text) slice ≡ new)
+has_room text slice new whole is large new-is =
+    let test : nat_lt (length slice) (length text) ≡ false = le-ltb (length slice) (length text) (omega (arith, is, large)) in
+    (rw (test, is) refl, rw test (sym new-is))
+
+-- how long the whole reply is
+pub whole_is : (source : SocketAddr) (r : List ℕ) (len whole : ℕ) (finishes : Bool) → finishes ≡ is_some (nth r FINGERPRINT 0) → len ≡ length (unfinished_reply source r) → 20 ≤ len → whole ≡ len + (if finishes then 8 else 0)
+    → whole ≡ length (binding_reply source r)
+whole_is source r len whole finishes is len-is long whole-is =
+    let text = unfinished_reply source r in
+    whole-is ∙ ap (λ (b : Bool). len + (if b then 8 else 0)) is ∙ ap (λ (n : ℕ). n + (if is_some (nth r FINGERPRINT 0) then 8 else 0)) len-is ∙ sym (finished_size (is_some (nth r FINGERPRINT 0)) text (omega (arith, len-is, long)))

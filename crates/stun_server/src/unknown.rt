@@ -1,0 +1,164 @@
+//! The types that a request shows and that the server doesn't comprehend, with no list of them.
+
+ghost use Rattle.std.specs.Prelude.{◌≡◌, ◌+◌, ◌*◌, ◌≤◌, ◌++◌, length, take, drop};
+ghost use Rattle.stun_grammar.specs.Numbers.{be16};
+ghost use Rattle.stun_grammar.specs.AttributeTypes.{UNKNOWN_ATTRIBUTES};
+ghost use Rattle.stun_grammar.specs.Writing.{greatest_length};
+ghost use Rattle.stun_grammar.specs.Adding.{appended, grown_length};
+ghost use Rattle.stun_values.specs.TypeLists.{types_encoding};
+ghost use Rattle.stun_types.specs.Replies.{is_unknown, unknown_types};
+ghost use Rattle.stun_server.specs.Reply.{comprehended};
+
+use crate::binding::are_bytes;
+use byteorder::{BigEndian, ByteOrder};
+use stun_attrs::{Attribute, EncodeValue, write_encoded};
+use stun_base::{AttributeType, MessageHeader, pad_attribute_len};
+use stun_grammar::attribute_types;
+use stun_read::MessageAttributesIter;
+use stun_types::message::Message;
+
+/// Whether attributes of this type require comprehension, which the server has of none.
+fn is_unknown(atype: AttributeType) -> bool
+    ensures { result ≡ is_unknown comprehended atype }
+{
+    atype.comprehension_required()
+}
+
+/// How many such types a request shows.
+fn unknown_count(request: &[u8]) -> u16
+    requires { length (unknown_types comprehended request.now) ≤ 16384 }
+    ensures { result ≡ length (unknown_types comprehended request.now) }
+{
+    let mut count = 0;
+    for (_offset, attribute) in MessageAttributesIter::new(request) {
+        if is_unknown(attribute.get_type()) {
+            count += 1;
+        }
+    }
+    count
+}
+
+/// Writes two bytes for a type at a place.
+fn write_type(atype: AttributeType, place: usize, dest: &mut [u8])
+    requires { place + 2 ≤ length dest.old }
+    ensures { dest.new
+        ≡ take place dest.old ++ (be16 atype.0 ++ drop 2 (drop place dest.old)) }
+{
+    BigEndian::write_u16(&mut dest[place..], atype.value());
+}
+
+/// Writes two bytes for each of them at the start of `dest`, which has room for them, in order.
+fn write_unknown(request: &[u8], dest: &mut [u8])
+    requires { 2 * length (unknown_types comprehended request.now) ≤ length dest.old }
+    ensures { dest.new ≡ types_encoding (unknown_types comprehended request.now)
+        ++ drop (2 * length (unknown_types comprehended request.now)) dest.old }
+{
+    let mut end = 0;
+    for (_offset, attribute) in MessageAttributesIter::new(request) {
+        let atype = attribute.get_type();
+        if is_unknown(atype) {
+            write_type(atype, end, dest);
+            end += 2;
+        }
+    }
+}
+
+/// The value of an UNKNOWN-ATTRIBUTES with these types, in order and as often as the request shows
+/// them (RFC 8489, section 14.13). It takes no memory: it is written straight from the request.
+#[derive(Drop)]
+pub(crate) struct UnknownTypes<'m> {
+    request: &'m [u8],
+    count: u16,
+    ghost count_is: { count ≡ length (unknown_types comprehended request.now) },
+    ghost few: { count ≤ 16384 },
+}
+
+impl<'m> UnknownTypes<'m> {
+    ghost use Rattle.stun_types.specs.Message.{message_bytes};
+
+    /// Those of a request.
+    pub(crate) fn of(request: &Message<'m>) -> UnknownTypes<'m>
+        ensures { result.request.now ≡ message_bytes request.now }
+    {
+        let request = request.as_bytes();
+        are_bytes(request);
+        UnknownTypes {
+            request,
+            count: unknown_count(request),
+        }
+    }
+
+    /// How many types there are.
+    pub(crate) fn count(&self) -> usize
+        ensures count { result ≡ length (unknown_types comprehended self.now.request.now) }
+        ensures few { result ≤ 16384 }
+    {
+        self.count as usize
+    }
+}
+
+impl EncodeValue for UnknownTypes<'_> {
+    ghost bytes = { λ listed. types_encoding (unknown_types comprehended listed.request.now) };
+
+    #[tactic(auto, using(stun_values::proofs::ListsLemmas::length_of_twos))]
+    fn value_length(&self) -> u16 {
+        2 * self.count
+    }
+
+    #[tactic(auto, using(stun_values::proofs::ListsLemmas::length_of_twos))]
+    fn write_value(&self, dest: &mut [u8]) {
+        write_unknown(self.request, dest);
+    }
+
+    fn held_bytes(&self) -> Option<&[u8]> {
+        None
+    }
+}
+
+/// How many bytes a message of `len` bytes has with an UNKNOWN-ATTRIBUTES of these types.
+pub(crate) fn with_unknown(len: usize, unknown: &UnknownTypes<'_>) -> usize
+    requires { len ≤ 100 }
+    ensures length { result ≡ grown_length len
+        (length (types_encoding (unknown_types comprehended unknown.now.request.now))) }
+    ensures bound { result ≤ len + 32772 }
+{
+    len + 4 + pad_attribute_len(2 * unknown.count())
+}
+
+/// Writes an attribute after the first `len` bytes of `message`, which hold the message so far, and
+/// sets the length field to count it in, as `append_attribute` of `stun_write` does.
+#[tactic(auto, unfolding(stun_grammar::specs::Adding::appended))]
+pub(crate) fn append_encoded<V: EncodeValue>(
+    atype: AttributeType,
+    value: &V,
+    len: usize,
+    message: &mut [u8],
+)
+    requires header { 20 ≤ len }
+    requires room { grown_length len (length (V.bytes value.now)) ≤ length message.old }
+    requires fits { grown_length len (length (V.bytes value.now)) ≤ greatest_length }
+    ensures { message.new ≡ appended (take len message.old) atype.0 (V.bytes value.now)
+        ++ drop (grown_length len (length (V.bytes value.now))) message.old }
+{
+    let field = len + 4 + pad_attribute_len(value.value_length() as usize) - MessageHeader::LENGTH;
+    write_encoded(atype, value, &mut message[len..]);
+    BigEndian::write_u16(&mut message[2..4], field as u16);
+}
+
+/// Writes an UNKNOWN-ATTRIBUTES of these types in that way.
+#[tactic(auto, using(stun_values::proofs::ListsLemmas::length_of_twos))]
+pub(crate) fn append_unknown(unknown: &UnknownTypes<'_>, len: usize, message: &mut [u8])
+    requires header { 20 ≤ len }
+    requires early { len ≤ 100 }
+    requires room { grown_length len
+        (length (types_encoding (unknown_types comprehended unknown.now.request.now)))
+        ≤ length message.old }
+    ensures { let value = types_encoding (unknown_types comprehended unknown.now.request.now) in
+        message.new ≡ appended (take len message.old) UNKNOWN_ATTRIBUTES value
+        ++ drop (grown_length len (length value)) message.old }
+{
+    // for the prover: there are at most 16384 types
+    let _count = unknown.count();
+    let atype = AttributeType(attribute_types::UNKNOWN_ATTRIBUTES);
+    append_encoded(atype, unknown, len, message);
+}

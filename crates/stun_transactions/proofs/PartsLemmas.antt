@@ -1,0 +1,162 @@
+-- The parts of a transaction: they and its key are all of it, and none of a transaction's are refused.
+use Rattle.std.proofs.Common.{◌≡◌, ℕ, ◌+◌, ◌≤◌, Bool, true, false, List, None, Some, refl, sym, ap, subst, ◌∙◌, inl, inr, arith}
+use Rattle.std.specs.Prelude.{not, is_some, nat_lt, if◌then◌else◌}
+use Rattle.std.specs.Duration.{as_nanos}
+use Rattle.std.specs.declared.time.Duration.{Duration}
+use Rattle.std.proofs.lemmas.Bool.{cases_Bool, le-ltb, ltb-false, ltb-true}
+use Rattle.stun_grammar.specs.Headers.{type_field}
+use Rattle.stun_base.specs.declared.transport.TransportType.{TransportType}
+use Rattle.stun_base.specs.MessageTypes.{class_of}
+use Rattle.stun_transactions.specs.declared.schedule.Schedule.{Schedule}
+use Rattle.stun_transactions.specs.declared.course.Course.{Course}
+use Rattle.stun_transactions.specs.declared.course.Action.{Action}
+use Rattle.stun_transactions.specs.declared.course.Action.TheVariants.{Send, WaitUntil, Ended}
+use Rattle.stun_transactions.specs.declared.course.End.{End}
+use Rattle.stun_transactions.specs.declared.guard.Protection.{Protection}
+use Rattle.stun_transactions.specs.declared.guard.Protection.TheVariants.{Unprotected, ShortTerm, LongTerm}
+use Rattle.stun_transactions.specs.declared.received.Discard.TheVariants.{NotAuthentic, BidDown, UnsignedBadRequest}
+use Rattle.stun_transactions.specs.declared.received.Outcome.{Outcome}
+use Rattle.stun_transactions.specs.declared.received.Outcome.TheVariants.{NotForThis, Discarded, Failed, Success, Error}
+use Rattle.stun_transactions.specs.declared.parts.PartsError.{PartsError}
+use Rattle.stun_transactions.specs.declared.parts.PartsError.TheVariants.{SignedOtherwise, SentTooOften, SentTooLate}
+use Rattle.stun_transactions.specs.declared.parts.TransactionParts.{TransactionParts}
+use Rattle.stun_transactions.specs.declared.terms.BeginError.{BeginError}
+use Rattle.stun_transactions.specs.declared.transaction.Transaction.{Transaction}
+use Rattle.stun_transactions.specs.Schedules.{requests_in}
+use Rattle.stun_transactions.specs.Courses.{later, ended_by, Polls}
+use Rattle.stun_transactions.specs.Guards.{signed_by, is_signed, protects, IsKeptAs}
+use Rattle.stun_transactions.specs.Outcomes.{after}
+use Rattle.stun_transactions.specs.Terms.{is_request, mismatch, begin_fault}
+use Rattle.stun_transactions.specs.Transactions.{terms_of, course_of, Begins}
+use Rattle.stun_transactions.specs.Parts.{plan_in, course_in, at_course, mechanism_of, key_in, parts_of, key_of, is_signed_otherwise, parts_fault, key_fault, whole_fault}
+
+-- ---- The parts and the key are all of a transaction
+
+same_protection : (p q : Protection) → mechanism_of p ≡ mechanism_of q → key_in p ≡ key_in q → p ≡ q
+same_protection Unprotected Unprotected mechanism key = refl
+same_protection Unprotected (ShortTerm k) mechanism key = absurd cc
+same_protection Unprotected (LongTerm k) mechanism key = absurd cc
+same_protection (ShortTerm k) Unprotected mechanism key = absurd cc
+same_protection (ShortTerm k) (ShortTerm l) mechanism key = cc
+same_protection (ShortTerm k) (LongTerm l) mechanism key = absurd cc
+same_protection (LongTerm k) Unprotected mechanism key = absurd cc
+same_protection (LongTerm k) (ShortTerm l) mechanism key = absurd cc
+same_protection (LongTerm k) (LongTerm l) mechanism key = cc
+
+pub all_of_it : (one other : Transaction) → parts_of one ≡ parts_of other → key_of one ≡ key_of other → (terms_of one ≡ terms_of other) × (course_of one ≡ course_of other)
+all_of_it one other parts key =
+    let protection = same_protection (terms_of one).protection (terms_of other).protection (ap (λ (p : TransactionParts). p.mechanism) parts) key in (
+      λ i. record {
+        plan = record { schedule = (parts i).schedule; transport = (parts i).transport };
+        method = (parts i).method;
+        id = (parts i).id;
+        signed = record { sha1 = (parts i).sha1; sha256 = (parts i).sha256 };
+        protection = protection i;
+      },
+      λ i. record { sent = (parts i).sent; last = (parts i).last; clock = (parts i).clock; violated = (parts i).violated; end = (parts i).end },
+    )
+
+-- ---- What it means that parts aren't refused
+
+record Sound (parts : TransactionParts) : Type 0 where
+  signed : is_signed_otherwise parts ≡ false
+  often : parts.sent ≤ requests_in (plan_in parts)
+  late : as_nanos parts.last ≤ as_nanos parts.clock
+
+all_no : (a b c : Bool) (x y z : PartsError) → (if a then Some x else (if b then Some y else (if c then Some z else None))) ≡ None → (a ≡ false) × (b ≡ false) × (c ≡ false)
+all_no true b c x y z e = absurd cc
+all_no false true c x y z e = absurd cc
+all_no false false true x y z e = absurd cc
+all_no false false false x y z e = (refl, refl, refl)
+
+sound_if : (parts : TransactionParts) → parts_fault parts ≡ None → Sound parts
+sound_if parts none =
+    let no = all_no (is_signed_otherwise parts) (nat_lt (requests_in (plan_in parts)) parts.sent) (nat_lt (as_nanos parts.clock) (as_nanos parts.last)) SignedOtherwise SentTooOften SentTooLate none in
+    record {
+      signed = no.0;
+      often = ltb-false (requests_in (plan_in parts)) parts.sent no.1;
+      late = ltb-false (as_nanos parts.clock) (as_nanos parts.last) no.2;
+    }
+
+sound_none : (parts : TransactionParts) → Sound parts → parts_fault parts ≡ None
+sound_none parts sound =
+    rw (sound.signed, le-ltb (requests_in (plan_in parts)) parts.sent sound.often, le-ltb (as_nanos parts.clock) (as_nanos parts.last) sound.late) refl
+
+-- ---- None of a transaction's are refused
+
+grows : (clock now : Duration) → as_nanos clock ≤ as_nanos (later clock now)
+grows clock now = elim (cases_Bool (nat_lt (as_nanos clock) (as_nanos now))) [
+  | inl less ↦ rw less (omega (arith, ltb-true (as_nanos clock) (as_nanos now) less))
+  | inr not_less ↦ rw not_less (omega arith)
+]
+
+at : (parts : TransactionParts) (one other : Course) → one ≡ other → Sound (at_course parts other) → parts_fault (at_course parts one) ≡ None
+at parts one other e sound = ap (λ (c : Course). parts_fault (at_course parts c)) e ∙ sound_none (at_course parts other) sound
+
+pub polled : (parts : TransactionParts) (now : Duration) (action : Action) (course : Course) → parts_fault parts ≡ None → Polls (plan_in parts) (course_in parts) now action course → parts_fault (at_course parts course) ≡ None
+polled parts now Send course none polls =
+    let sound = sound_if parts none in
+    at parts course (record (course_in parts) { sent = parts.sent + 1; last = later parts.clock now; clock = later parts.clock now }) polls.new_is
+    (record { signed = sound.signed; often = omega (arith, polls.more); late = omega arith })
+polled parts now (WaitUntil until) course none polls =
+    let sound = sound_if parts none in
+    at parts course (record (course_in parts) { clock = later parts.clock now }) polls.new_is
+    (record { signed = sound.signed; often = sound.often; late = omega (arith, sound.late, grows parts.clock now) })
+polled parts now (Ended end) course none (inl over) = ap (λ (c : Course). parts_fault (at_course parts c)) over.same ∙ none
+polled parts now (Ended end) course none (inr out) =
+    let sound = sound_if parts none in
+    at parts course (record (course_in parts) { clock = later parts.clock now; end = Some end }) out.new_is
+    (record { signed = sound.signed; often = sound.often; late = omega (arith, sound.late, grows parts.clock now) })
+
+pub heard : (parts : TransactionParts) (outcome : Outcome) → parts_fault parts ≡ None → parts_fault (at_course parts (after outcome (course_in parts))) ≡ None
+heard parts NotForThis none = none
+heard parts (Discarded NotAuthentic) none = none
+heard parts (Discarded BidDown) none = none
+heard parts (Discarded UnsignedBadRequest) none = none
+heard parts (Failed failure) none = none
+heard parts Success none = none
+heard parts (Error code) none = none
+
+pub ended : (parts : TransactionParts) (end : End) → parts_fault parts ≡ None → parts_fault (at_course parts (ended_by end (course_in parts))) ≡ None
+ended parts end none = elim (cases_Bool (is_some parts.end)) [ inl there ↦ rw there none | inr away ↦ rw away none ]
+
+-- what is kept of a protection
+record Kept (protection kept : Protection) : Type 0 where
+  mechanism : is_some (mechanism_of kept) ≡ protects protection
+  key : key_fault (mechanism_of kept) (key_in kept) ≡ None
+
+kept_is : (protection kept : Protection) → IsKeptAs protection kept → Kept protection kept
+kept_is Unprotected kept is = subst (Kept Unprotected) (sym is) (record { mechanism = refl; key = refl })
+kept_is (ShortTerm key) kept is = subst (Kept (ShortTerm key)) (sym is) (record { mechanism = refl; key = refl })
+kept_is (LongTerm key) (LongTerm kept) is = record { mechanism = refl; key = rw is.algorithm_is refl }
+kept_is (LongTerm key) Unprotected is = absurd is
+kept_is (LongTerm key) (ShortTerm kept) is = absurd is
+
+matching : (protected signed : Bool) → mismatch protected signed ≡ None → protected ≡ signed
+matching true true e = refl
+matching true false e = absurd cc
+matching false true e = absurd cc
+matching false false e = refl
+
+unrefused : (request : Bool) (protected signed : Bool) (told : BeginError) → (if request then mismatch protected signed else Some told) ≡ None → mismatch protected signed ≡ None
+unrefused true protected signed told e = e
+unrefused false protected signed told e = absurd cc
+
+agree : (s : Bool) → (if s then not s else s) ≡ false
+agree true = refl
+agree false = refl
+
+pub begins : (r : List ℕ) (schedule : Schedule) (transport : TransportType) (protection : Protection) (now : Duration) (transaction : Transaction) → begin_fault protection r ≡ None → Begins r schedule transport protection now transaction
+    → whole_fault (parts_of transaction) (key_of transaction) ≡ None
+begins r schedule transport protection now transaction free so =
+    let terms = terms_of transaction in
+    let parts = parts_of transaction in
+    let kept = kept_is protection terms.protection so.terms.protection_is in
+    let same : protects protection ≡ is_signed (signed_by r) = matching (protects protection) (is_signed (signed_by r)) (unrefused (is_request (class_of (type_field r))) (protects protection) (is_signed (signed_by r)) _ free) in
+    let shown : is_signed terms.signed ≡ is_signed (signed_by r) = ap is_signed so.terms.signed_is in
+    let mechanism : is_some parts.mechanism ≡ is_signed terms.signed = kept.mechanism ∙ same ∙ sym shown in
+    let signed : is_signed_otherwise parts ≡ false = ap (λ (b : Bool). if b then not (is_signed terms.signed) else is_signed terms.signed) mechanism ∙ agree (is_signed terms.signed) in
+    let sent : parts.sent ≡ 0 = ap (λ (c : Course). c.sent) so.course in
+    let moment : as_nanos parts.last ≡ as_nanos parts.clock = ap (λ (c : Course). as_nanos c.last) so.course ∙ sym (ap (λ (c : Course). as_nanos c.clock) so.course) in
+    let sound : parts_fault parts ≡ None = sound_none parts (record { signed = signed; often = omega (arith, sent); late = omega (arith, moment) }) in
+    rw sound kept.key

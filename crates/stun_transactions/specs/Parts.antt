@@ -1,0 +1,103 @@
+-- A transaction taken apart, and what can be put together to one.
+use Rattle.std.specs.Prelude.{Bool, ◌||◌, not, Option, None, Some, is_some, nat_lt, if◌then◌else◌}
+use Rattle.std.specs.Duration.{as_nanos}
+use Rattle.std.specs.Option.{option_or}
+use Rattle.stun_keys.specs.declared.keys.integrity_key.IntegrityKey.{IntegrityKey}
+use Rattle.stun_keys.specs.Keys.{key_algorithm}
+use Rattle.stun_transactions.specs.declared.plan.Plan.{Plan}
+use Rattle.stun_transactions.specs.declared.course.Course.{Course}
+use Rattle.stun_transactions.specs.declared.guard.Protection.{Protection}
+use Rattle.stun_transactions.specs.declared.guard.Protection.TheVariants.{Unprotected, ShortTerm as ByShortTerm, LongTerm as ByLongTerm}
+use Rattle.stun_transactions.specs.declared.parts.Mechanism.{Mechanism}
+use Rattle.stun_transactions.specs.declared.parts.Mechanism.TheVariants.{ShortTerm, LongTerm}
+use Rattle.stun_transactions.specs.declared.parts.PartsError.{PartsError}
+use Rattle.stun_transactions.specs.declared.parts.PartsError.TheVariants.{SignedOtherwise, SentTooOften, SentTooLate, NoKey, NoUseForKey, KeyForOneAlgorithm}
+use Rattle.stun_transactions.specs.declared.parts.TransactionParts.{TransactionParts}
+use Rattle.stun_transactions.specs.declared.transaction.Transaction.{Transaction}
+use Rattle.stun_transactions.specs.Schedules.{requests_in}
+use Rattle.stun_transactions.specs.Transactions.{terms_of, course_of}
+
+-- ---- The parts
+
+-- how long a transaction of these parts waits, and how far it has come
+abbrev pub plan_in : TransactionParts → Plan
+plan_in parts = record { schedule = parts.schedule; transport = parts.transport }
+
+abbrev pub course_in : TransactionParts → Course
+course_in parts = record {
+  sent = parts.sent;
+  last = parts.last;
+  clock = parts.clock;
+  violated = parts.violated;
+  end = parts.end;
+}
+
+-- the same parts, but that it has come so far
+abbrev pub at_course : TransactionParts → Course → TransactionParts
+at_course parts course = record parts {
+  sent = course.sent;
+  last = course.last;
+  clock = course.clock;
+  violated = course.violated;
+  end = course.end;
+}
+
+-- by which mechanism a request is protected, and with which key
+abbrev pub mechanism_of : Protection → Option Mechanism
+mechanism_of Unprotected = None
+mechanism_of (ByShortTerm key) = Some ShortTerm
+mechanism_of (ByLongTerm key) = Some LongTerm
+
+abbrev pub key_in : Protection → Option IntegrityKey
+key_in Unprotected = None
+key_in (ByShortTerm key) = Some key
+key_in (ByLongTerm key) = Some key
+
+-- the parts of a transaction, and its key
+abbrev pub parts_of : Transaction → TransactionParts
+parts_of transaction = record {
+  schedule = (terms_of transaction).plan.schedule;
+  transport = (terms_of transaction).plan.transport;
+  method = (terms_of transaction).method;
+  id = (terms_of transaction).id;
+  sha1 = (terms_of transaction).signed.sha1;
+  sha256 = (terms_of transaction).signed.sha256;
+  mechanism = mechanism_of (terms_of transaction).protection;
+  sent = (course_of transaction).sent;
+  last = (course_of transaction).last;
+  clock = (course_of transaction).clock;
+  violated = (course_of transaction).violated;
+  end = (course_of transaction).end;
+}
+
+abbrev pub key_of : Transaction → Option IntegrityKey
+key_of transaction = key_in (terms_of transaction).protection
+
+-- ---- Why they aren't those of a transaction
+
+-- a request is signed exactly where a credential protects it
+abbrev pub is_signed_otherwise : TransactionParts → Bool
+is_signed_otherwise parts =
+    if is_some parts.mechanism then not (parts.sha1 || parts.sha256) else parts.sha1 || parts.sha256
+
+-- why these parts are no transaction's: the request is signed otherwise than it is protected, or was
+-- sent more often than the schedule says, or later than the latest moment that was told
+abbrev pub parts_fault : TransactionParts → Option PartsError
+parts_fault parts =
+    if is_signed_otherwise parts then Some SignedOtherwise
+    else (if nat_lt (requests_in (plan_in parts)) parts.sent then Some SentTooOften
+    else (if nat_lt (as_nanos parts.clock) (as_nanos parts.last) then Some SentTooLate else None))
+
+-- why the key isn't that of a transaction whose request a mechanism protects, or none: a long-term
+-- key works with both algorithms (RFC 8489, section 9.2.5)
+abbrev pub key_fault : Option Mechanism → Option IntegrityKey → Option PartsError
+key_fault None None = None
+key_fault None (Some key) = Some NoUseForKey
+key_fault (Some mechanism) None = Some NoKey
+key_fault (Some ShortTerm) (Some key) = None
+key_fault (Some LongTerm) (Some key) =
+    if is_some (key_algorithm key) then Some KeyForOneAlgorithm else None
+
+-- why no transaction has these parts and this key
+abbrev pub whole_fault : TransactionParts → Option IntegrityKey → Option PartsError
+whole_fault parts key = option_or (parts_fault parts) (key_fault parts.mechanism key)

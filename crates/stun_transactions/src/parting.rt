@@ -1,0 +1,165 @@
+//! What can be done with the parts of a transaction, and whether they are those of one.
+
+ghost use Rattle.std.specs.Prelude.{◌≡◌, None, Some, MatchResult};
+ghost use Rattle.stun_transactions.specs.Parts.{key_fault};
+
+use crate::course::{Action, Course, End};
+use crate::parts::{Mechanism, PartsError, TransactionParts};
+use crate::plan::Plan;
+use std::time::Duration;
+use stun_types::message::IntegrityKey;
+
+impl TransactionParts {
+    ghost use Rattle.std.specs.Prelude.{◌≡◌, None, Some, MatchResult, MatchOption, true, is_some, min};
+    ghost use Rattle.std.specs.Duration.{as_nanos, max_nanos};
+    ghost use Rattle.stun_transactions.specs.Courses.{due, ended_by, Polls};
+    ghost use Rattle.stun_transactions.specs.Parts.{plan_in, course_in, at_course, is_signed_otherwise, parts_fault};
+
+    /// How long the transaction waits.
+    pub(crate) fn plan(&self) -> Plan
+        ensures { result ≡ plan_in self.now }
+    {
+        Plan {
+            schedule: self.schedule,
+            transport: self.transport,
+        }
+    }
+
+    /// How far it has come.
+    pub(crate) fn course(&self) -> Course
+        ensures { result ≡ course_in self.now }
+    {
+        Course {
+            sent: self.sent,
+            last: self.last,
+            clock: self.clock,
+            violated: self.violated,
+            end: self.end,
+        }
+    }
+
+    /// Goes on to where it has come.
+    fn go_on(&mut self, course: Course)
+        ensures { self.new ≡ at_course self.old course }
+    {
+        let Course {
+            sent,
+            last,
+            clock,
+            violated,
+            end,
+        } = course;
+        self.sent = sent;
+        self.last = last;
+        self.clock = clock;
+        self.violated = violated;
+        self.end = end;
+    }
+
+    /// Whether the request is signed otherwise than it is protected.
+    fn is_signed_otherwise(&self) -> bool
+        ensures { result ≡ is_signed_otherwise self.now }
+    {
+        let signed = self.sha1 || self.sha256;
+        match self.mechanism {
+            Some(_) => !signed,
+            None => signed,
+        }
+    }
+
+    /// Tests that these can be the parts of a transaction, as [`Transaction::from_parts`] does
+    /// before it looks at the key.
+    ///
+    /// [`Transaction::from_parts`]: crate::Transaction::from_parts
+    ///
+    /// # Errors
+    ///
+    /// The first of these that applies: `SignedOtherwise`, `SentTooOften`, `SentTooLate`.
+    pub fn check(&self) -> Result<(), PartsError>
+        ensures { MatchResult result (λ _. parts_fault self.now ≡ None)
+            (λ e. parts_fault self.now ≡ Some e) }
+    {
+        if self.is_signed_otherwise() {
+            return Err(PartsError::SignedOtherwise);
+        }
+        if self.plan().requests() < self.sent {
+            return Err(PartsError::SentTooOften);
+        }
+        if self.clock.as_nanos() < self.last.as_nanos() {
+            return Err(PartsError::SentTooLate);
+        }
+        Ok(())
+    }
+
+    /// When a poll has something to do, as [`Transaction::next_wake`](crate::Transaction::next_wake)
+    /// tells of the transaction.
+    pub fn next_wake(&self) -> Option<Duration>
+        ensures { MatchOption result (is_some self.now.end ≡ true)
+            (λ at. (self.now.end ≡ None)
+            × (as_nanos at ≡ min (due (plan_in self.now) (course_in self.now)) max_nanos)) }
+    {
+        match self.end {
+            Some(_) => None,
+            None => Some(self.course().due(&self.plan())),
+        }
+    }
+
+    /// What is to be done now, as [`Transaction::poll`](crate::Transaction::poll) answers of the
+    /// transaction: this takes no key.
+    pub fn poll(&mut self, now: Duration) -> Action
+        ensures polls { Polls (plan_in self.old) (course_in self.old) now result
+            (course_in self.new) }
+        ensures others { self.new ≡ at_course self.old (course_in self.new) }
+    {
+        let mut course = self.course();
+        let action = course.poll(&self.plan(), now);
+        self.go_on(course);
+        action
+    }
+
+    /// Ends the transaction, unless it has ended.
+    fn end_by(&mut self, end: End)
+        ensures { self.new ≡ at_course self.old (ended_by end (course_in self.old)) }
+    {
+        let mut course = self.course();
+        course.end_by(end);
+        self.go_on(course);
+    }
+
+    /// Ends the transaction, unless it has ended, as
+    /// [`Transaction::cancel`](crate::Transaction::cancel) does.
+    pub fn cancel(&mut self)
+        ensures { self.new ≡ at_course self.old (ended_by End.Cancelled (course_in self.old)) }
+    {
+        self.end_by(End::Cancelled);
+    }
+
+    /// Ends the transaction, unless it has ended, as
+    /// [`Transaction::fail`](crate::Transaction::fail) does.
+    pub fn fail(&mut self)
+        ensures { self.new
+            ≡ at_course self.old (ended_by End.TransportFailed (course_in self.old)) }
+    {
+        self.end_by(End::TransportFailed);
+    }
+}
+
+/// Tests that a key is that of a transaction whose request a mechanism protects, or none.
+pub(crate) fn check_key(
+    mechanism: Option<Mechanism>,
+    key: &Option<IntegrityKey>,
+) -> Result<(), PartsError>
+    ensures { MatchResult result (λ _. key_fault mechanism key.now ≡ None)
+        (λ e. key_fault mechanism key.now ≡ Some e) }
+{
+    match (mechanism, key) {
+        (None, None) => Ok(()),
+        (None, Some(_)) => Err(PartsError::NoUseForKey),
+        (Some(_), None) => Err(PartsError::NoKey),
+        (Some(Mechanism::ShortTerm), Some(_)) => Ok(()),
+        (Some(Mechanism::LongTerm), Some(key)) => match key.algorithm() {
+            None => Ok(()),
+            Some(_) => Err(PartsError::KeyForOneAlgorithm),
+        },
+    }
+}

@@ -1,0 +1,72 @@
+//! The parts of a transaction.
+
+use crate::course::End;
+use crate::schedule::Schedule;
+use std::time::Duration;
+use stun_types::TransportType;
+use stun_types::message::{Method, TransactionId};
+use thiserror::Error;
+
+/// A mechanism by which a credential protects a request (RFC 8489, section 9).
+#[derive(Clone, Copy, Debug, PartialEq, Eq)]
+pub enum Mechanism {
+    /// By a short-term credential (section 9.1).
+    ShortTerm,
+    /// By a long-term credential (section 9.2).
+    LongTerm,
+}
+
+/// Why no transaction has certain parts.
+#[derive(Clone, Copy, Debug, PartialEq, Eq, Error)]
+pub enum PartsError {
+    /// A mechanism protects the request and it shows no integrity attribute, or none does and it
+    /// shows one.
+    #[error("the request is signed otherwise than it is protected")]
+    SignedOtherwise,
+    /// The request was sent more often than the schedule says.
+    #[error("the request was sent too often")]
+    SentTooOften,
+    /// The request was sent after the latest moment that was told.
+    #[error("the request was sent after the latest moment")]
+    SentTooLate,
+    /// A mechanism protects the request, and there is no key.
+    #[error("there is no key")]
+    NoKey,
+    /// Nothing protects the request, and there is a key.
+    #[error("there is no use for a key")]
+    NoUseForKey,
+    /// The key of a long-term credential was made for one algorithm; `IntegrityKey::for_both` makes
+    /// it one for both (RFC 8489, section 9.2.5).
+    #[error("the long-term key is for one algorithm")]
+    KeyForOneAlgorithm,
+}
+
+/// A transaction without its key: what it was begun with, and how far it has come, for a caller that
+/// keeps it in a form of its own.
+#[derive(Clone, Copy, Debug, PartialEq, Eq)]
+pub struct TransactionParts {
+    /// When the request is sent.
+    pub schedule: Schedule,
+    /// Over which transport.
+    pub transport: TransportType,
+    /// The method of the request.
+    pub method: Method,
+    /// The transaction ID of the request.
+    pub id: TransactionId,
+    /// Whether the request shows a MESSAGE-INTEGRITY.
+    pub sha1: bool,
+    /// Whether the request shows a MESSAGE-INTEGRITY-SHA256.
+    pub sha256: bool,
+    /// The mechanism that protects the request, if one does.
+    pub mechanism: Option<Mechanism>,
+    /// How many times the request was handed out.
+    pub sent: u32,
+    /// When it last was, and before the first time when the transaction began.
+    pub last: Duration,
+    /// The latest moment of which the caller has told.
+    pub clock: Duration,
+    /// Whether a response was discarded that wasn't authentic.
+    pub violated: bool,
+    /// How the transaction ended, if it has.
+    pub end: Option<End>,
+}

@@ -1,0 +1,103 @@
+//! Transactions that are taken apart and put together again.
+
+use crate::parts::PartsError::{
+    KeyForOneAlgorithm, NoKey, NoUseForKey, SentTooLate, SentTooOften, SignedOtherwise,
+};
+use crate::tests::messages;
+use crate::{
+    Action, End, Mechanism, PartsError, Protection, Received, Schedule, Transaction,
+    TransactionParts,
+};
+use std::alloc::Global;
+use std::test::Fail;
+use std::time::Duration;
+use stun_types::TransportType::Udp;
+use stun_types::message::{IntegrityAlgorithm, IntegrityKey, Message, StunWriteError};
+
+/// A key that was made for an algorithm, or with none.
+fn key(
+    alloc: Global,
+    algorithm: Option<IntegrityAlgorithm>,
+) -> Result<Option<IntegrityKey>, StunWriteError> {
+    let key = IntegrityKey::new(alloc, b"secret", algorithm)?;
+    Ok(Some(key))
+}
+
+/// A transaction of the signed request that was sent at 3 s and at 4 s, taken apart.
+fn parted(alloc: Global) -> Result<(TransactionParts, Option<IntegrityKey>), Fail> {
+    let request = Message::from_bytes(&messages::REQUEST_SHA1)?;
+    let secret = IntegrityKey::new(alloc, b"secret", Some(IntegrityAlgorithm::Sha1))?;
+    let protection = Protection::LongTerm(secret);
+    let begun = Duration::from_secs(3);
+    let schedule = Schedule::new(1000, 7, 16)?;
+    let mut transaction = Transaction::new(&request, schedule, Udp, protection, begun)?;
+    let first = transaction.poll(begun);
+    let second = transaction.poll(Duration::from_secs(4));
+    if first != Action::Send || second != Action::Send {
+        return Err(Fail::from("not sent"));
+    }
+    Ok(transaction.into_parts())
+}
+
+#[test]
+fn goes_on(rt: HostRuntime) -> Result<(), Fail> {
+    let (mut parts, key) = parted(rt.alloc())?;
+    assert!(rt; parts.schedule.rto() == 1000 && parts.schedule.requests() == 7);
+    assert!(rt; parts.schedule.last_wait() == 16 && parts.schedule.reliable_wait() == 39500);
+    assert!(rt; parts.mechanism == Some(Mechanism::LongTerm) && parts.sha1 && !parts.sha256);
+    assert!(rt; parts.sent == 2 && parts.last == Duration::from_secs(4) && parts.end == None);
+    assert!(rt; parts.next_wake() == Some(Duration::from_secs(6)));
+    assert!(rt; parts.poll(Duration::from_secs(6)) == Action::Send);
+    let mut transaction = Transaction::from_parts(parts, key)?;
+    assert!(rt; transaction.next_wake() == Some(Duration::from_secs(10)));
+    let taken = transaction.receive(&messages::SUCCESS_SHA1, &[]);
+    assert!(rt; matches!(taken, Received::Success(_)));
+    let (mut parts, _key) = transaction.into_parts();
+    assert!(rt; parts.end == Some(End::Answered));
+    parts.cancel();
+    parts.fail();
+    assert!(rt; parts.poll(Duration::from_secs(7)) == Action::Ended(End::Answered));
+    Ok(())
+}
+
+/// The parts with one of them changed.
+fn changed(parts: &TransactionParts, change: usize) -> TransactionParts {
+    let mut parts = *parts;
+    match change {
+        1 => parts.sha1 = false,
+        2 => parts.mechanism = None,
+        3 => parts.sent = 8,
+        4 => parts.clock = Duration::from_millis(3999),
+        5 => {
+            parts.mechanism = None;
+            parts.sha1 = false;
+        }
+        _ => {}
+    }
+    parts
+}
+
+#[test]
+fn refused(rt: HostRuntime) -> Result<(), Fail> {
+    let (parts, _key) = parted(rt.alloc())?;
+    let rows: [(&str, usize, Option<PartsError>); 5] = [
+        ("nothing", 0, None),
+        ("not signed", 1, Some(SignedOtherwise)),
+        ("not protected", 2, Some(SignedOtherwise)),
+        ("sent eight times", 3, Some(SentTooOften)),
+        ("sent before", 4, Some(SentTooLate)),
+    ];
+    for (name, change, error) in rows {
+        let parts = changed(&parts, change);
+        assert!(rt; parts.check().err() == error, "{name}");
+        let whole = Transaction::from_parts(parts, key(rt.alloc(), None)?);
+        assert!(rt; whole.err() == error, "{name}");
+    }
+    let sha256 = Some(IntegrityAlgorithm::Sha256);
+    let for_one = Transaction::from_parts(parts, key(rt.alloc(), sha256)?);
+    assert!(rt; for_one.err() == Some(KeyForOneAlgorithm));
+    assert!(rt; Transaction::from_parts(parts, None).err() == Some(NoKey));
+    let unneeded = Transaction::from_parts(changed(&parts, 5), key(rt.alloc(), None)?);
+    assert!(rt; unneeded.err() == Some(NoUseForKey));
+    Ok(())
+}
