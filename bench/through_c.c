@@ -1,0 +1,189 @@
+/* The functions of stun_bench.h by way of c/stun_types.h: what a C program pays for the same work. Those for which
+   that header has no call answer that the workload isn't there. */
+#include "stun_bench.h"
+#include "../c/stun_types.h"
+#include <string.h>
+
+static const stun_types_id ID = {{1, 2, 3, 4, 5, 6, 7, 8, 9, 10, 11, 12}};
+
+static uint64_t number(const uint8_t *bytes) {
+    return (uint64_t)bytes[0] << 24 | (uint64_t)bytes[1] << 16 | (uint64_t)bytes[2] << 8 | bytes[3];
+}
+
+static uint64_t verdict(stun_types_answer answer, const uint32_t *algorithm) {
+    if (answer.code == STUN_TYPES_OK) return *algorithm;
+    return answer.code == STUN_TYPES_INTEGRITY_FAILED ? 3 : 4;
+}
+
+uint64_t stun_bench_parse(const uint8_t *message, size_t length) {
+    if (stun_types_parse(message, length).code != STUN_TYPES_OK) return 0;
+    return (uint64_t)1 << 40 | number(message);
+}
+
+uint64_t stun_bench_iterate(const uint8_t *message, size_t length) {
+    stun_types_cursor cursor = {20, 0};
+    stun_types_attribute attribute;
+    uint64_t sum = 0;
+    while (stun_types_next(message, length, &cursor, &attribute)) {
+        uint64_t first = attribute.length == 0 ? 0 : message[attribute.value_at];
+        sum = sum * 31 + (attribute.value_at - 4) + ((uint64_t)attribute.type << 20)
+              + ((uint64_t)attribute.length << 40) + first;
+    }
+    return sum;
+}
+
+static uint64_t offset_of(const uint8_t *message, size_t length, uint16_t type) {
+    stun_types_attribute attribute;
+    return stun_types_find(message, length, type, &attribute) ? attribute.value_at - 4 : 0;
+}
+
+uint64_t stun_bench_find(const uint8_t *message, size_t length, uint32_t type, uint64_t rounds) {
+    uint64_t sum = 0;
+    if (stun_types_parse(message, length).code != STUN_TYPES_OK) return 0;
+    while (rounds--) sum += offset_of(message, length, (uint16_t)type);
+    return sum;
+}
+
+uint64_t stun_bench_print(const uint8_t *message, size_t length) {
+    static char text[1 << 20];
+    size_t written = 0;
+    if (stun_types_print(message, length, text, sizeof text, &written).code != STUN_TYPES_OK) return 0;
+    return written;
+}
+
+uint64_t stun_bench_validate(const uint8_t *message, size_t length, const uint8_t *password, size_t password_length,
+                             uint64_t rounds) {
+    stun_types_key key = STUN_TYPES_NO_KEY_YET;
+    uint64_t sum = 0;
+    stun_types_key_short_term(&key, password, password_length);
+    while (rounds--) {
+        uint32_t algorithm = 0;
+        sum += verdict(stun_types_validate(message, length, &key, &algorithm), &algorithm);
+    }
+    stun_types_key_free(&key);
+    return sum;
+}
+
+uint64_t stun_bench_validate_credentials(const uint8_t *message, size_t length, const uint8_t *password,
+                                         size_t password_length, uint64_t rounds) {
+    uint64_t sum = 0;
+    while (rounds--) {
+        uint32_t algorithm = 0;
+        stun_types_answer answer
+            = stun_types_validate_short_term(message, length, password, password_length, &algorithm);
+        sum += verdict(answer, &algorithm);
+    }
+    return sum;
+}
+
+uint64_t stun_bench_receive(const uint8_t *message, size_t length, const uint8_t *password, size_t password_length,
+                            uint64_t rounds) {
+    stun_types_key key = STUN_TYPES_NO_KEY_YET;
+    uint64_t sum = 0;
+    stun_types_key_short_term(&key, password, password_length);
+    while (rounds--) {
+        uint32_t algorithm = 0;
+        if (stun_types_parse(message, length).code != STUN_TYPES_OK) continue;
+        sum += offset_of(message, length, STUN_TYPES_USERNAME) << 8;
+        sum += offset_of(message, length, STUN_TYPES_PRIORITY) << 24;
+        sum += verdict(stun_types_validate(message, length, &key, &algorithm), &algorithm);
+    }
+    stun_types_key_free(&key);
+    return sum;
+}
+
+/* Writes the check, signed where there is a key, and answers how many bytes it has, or 0. */
+static size_t write_check(const uint8_t *user, size_t user_length, stun_types_key *key, uint32_t algorithm,
+                          uint8_t *room, size_t size) {
+    static const uint8_t priority[4] = {0x6E, 0x00, 0x01, 0xFF};
+    static const uint8_t controlled[8] = {0x93, 0x2F, 0xF9, 0xB1, 0x51, 0x26, 0x3B, 0x36};
+    size_t written = 0;
+    uint16_t request = stun_types_message_type(STUN_TYPES_REQUEST, STUN_TYPES_BINDING);
+    if (stun_types_begin(room, size, request, &ID, &written).code
+        || stun_types_add(room, size, &written, STUN_TYPES_USERNAME, user, user_length).code
+        || stun_types_add(room, size, &written, STUN_TYPES_PRIORITY, priority, sizeof priority).code
+        || stun_types_add(room, size, &written, STUN_TYPES_ICE_CONTROLLED, controlled, sizeof controlled).code)
+        return 0;
+    if (key && (stun_types_add_integrity(room, size, &written, key, algorithm).code
+                || stun_types_add_fingerprint(room, size, &written).code))
+        return 0;
+    return written;
+}
+
+static uint64_t written_answer(const uint8_t *room, size_t length) {
+    return length == 0 ? 0 : (uint64_t)length << 32 | number(room + length - 4);
+}
+
+uint64_t stun_bench_write_slice(const uint8_t *user, size_t user_length, const uint8_t *password, size_t password_length,
+                                uint32_t algorithm, uint8_t *destination, size_t destination_length, uint64_t rounds) {
+    stun_types_key key = STUN_TYPES_NO_KEY_YET;
+    uint64_t sum = 0;
+    stun_types_key_short_term(&key, password, password_length);
+    while (rounds--) {
+        size_t length = write_check(user, user_length, &key, algorithm, destination, destination_length);
+        sum += written_answer(destination, length);
+    }
+    stun_types_key_free(&key);
+    return sum;
+}
+
+uint64_t stun_bench_write_plain_slice(const uint8_t *user, size_t user_length, uint8_t *destination,
+                                      size_t destination_length, uint64_t rounds) {
+    uint64_t sum = 0;
+    while (rounds--) {
+        size_t length = write_check(user, user_length, NULL, 0, destination, destination_length);
+        sum += written_answer(destination, length);
+    }
+    return sum;
+}
+
+/* ---- what isn't there */
+
+uint64_t stun_bench_short_key(const uint8_t *password, size_t password_length) {
+    (void)password, (void)password_length;
+    return UINT64_MAX;
+}
+
+uint64_t stun_bench_long_key(const uint8_t *user, size_t user_length, const uint8_t *realm, size_t realm_length,
+                             const uint8_t *password, size_t password_length, uint32_t algorithm) {
+    (void)user, (void)user_length, (void)realm, (void)realm_length;
+    (void)password, (void)password_length, (void)algorithm;
+    return UINT64_MAX;
+}
+
+uint64_t stun_bench_hmac(const uint8_t *message, size_t length, const uint8_t *password, size_t password_length,
+                         uint32_t algorithm, uint64_t rounds) {
+    (void)message, (void)length, (void)password, (void)password_length, (void)algorithm, (void)rounds;
+    return UINT64_MAX;
+}
+
+uint64_t stun_bench_username(const uint8_t *user, size_t user_length) {
+    (void)user, (void)user_length;
+    return UINT64_MAX;
+}
+
+uint64_t stun_bench_write_vec(const uint8_t *user, size_t user_length, const uint8_t *password, size_t password_length,
+                              uint32_t algorithm, uint64_t rounds) {
+    (void)user, (void)user_length, (void)password, (void)password_length, (void)algorithm, (void)rounds;
+    return UINT64_MAX;
+}
+
+uint64_t stun_bench_write_plain_vec(const uint8_t *user, size_t user_length, uint64_t rounds) {
+    (void)user, (void)user_length, (void)rounds;
+    return UINT64_MAX;
+}
+
+uint64_t stun_bench_write_empties(uint32_t count, uint8_t *destination, size_t destination_length) {
+    (void)count, (void)destination, (void)destination_length;
+    return UINT64_MAX;
+}
+
+uint64_t stun_bench_crc(const uint8_t *bytes, size_t length) {
+    (void)bytes, (void)length;
+    return UINT64_MAX;
+}
+
+uint64_t stun_bench_typed(uint32_t type, const uint8_t *value, size_t length) {
+    (void)type, (void)value, (void)length;
+    return UINT64_MAX;
+}

@@ -1,0 +1,663 @@
+/* STUN messages (RFC 8489) for C: read, validated, written and answered by a library that is proved.
+ *
+ * - A slice is a pointer and a length in bytes. The pointer is never NULL; a slice of length 0 is
+ *   nothing, whatever its pointer. Slices that a call writes into overlap no other argument of it.
+ * - No call keeps a pointer, prints, blocks or aborts. Only the calls whose comments say so allocate
+ *   (by malloc). All may run in several threads at once, on one key in one call at a time.
+ * - Numbers in messages are big-endian; numbers in these structs are the machine's.
+ * - Most calls return a stun_types_answer. Where its code isn't STUN_TYPES_OK, nothing else that the
+ *   call was to write is written, unless its comment says otherwise.
+ * - What C hands in is tested. Only a key has to be what the library made (see Keys).
+ */
+#ifndef STUN_TYPES_H
+#define STUN_TYPES_H
+
+#include <stdbool.h>
+#include <stddef.h>
+#include <stdint.h>
+
+#ifdef __cplusplus
+extern "C" {
+#endif
+
+/* ---- Answers ---------------------------------------------------------------------------------- */
+
+/* What a code says, and which fields of the answer it uses; the others are 0. */
+enum {
+    STUN_TYPES_OK = 0,
+    STUN_TYPES_NOT_STUN = 1,             /* no STUN message begins so */
+    STUN_TYPES_TRUNCATED = 2,            /* expected, actual: too few bytes */
+    STUN_TYPES_TOO_LARGE = 3,            /* expected, actual: too many bytes */
+    STUN_TYPES_FINGERPRINT_MISMATCH = 4, /* the FINGERPRINT is wrong */
+    STUN_TYPES_MISSING_ATTRIBUTE = 5,    /* type: the attribute isn't shown */
+    STUN_TYPES_INVALID_DATA = 6,         /* a value isn't what its type asks for */
+    STUN_TYPES_INTEGRITY_FAILED = 7,     /* the HMAC is wrong */
+    STUN_TYPES_OUT_OF_MEMORY = 8,        /* an allocation failed */
+    STUN_TYPES_TOO_SMALL = 9,            /* expected, actual: the room of the caller's slice */
+    STUN_TYPES_EXISTS = 10,              /* type: what is written bars the addition; see Writing */
+    STUN_TYPES_ENDING_TYPE = 11,         /* type: one that has an add of its own */
+    STUN_TYPES_OUT_OF_RANGE = 12,        /* expected, actual: the greatest allowed, the number */
+    STUN_TYPES_BAD_ARGUMENT = 13,        /* what was handed in is not what the call takes */
+    STUN_TYPES_NO_KEY = 14,              /* the key holds none */
+    STUN_TYPES_NOT_PADDED = 15,          /* actual: a length field that is no multiple of 4 */
+    STUN_TYPES_NOT_A_REQUEST = 16,       /* the message is no request */
+    STUN_TYPES_NOT_SIGNED = 17,          /* the request shows no integrity attribute, and needs one */
+    STUN_TYPES_SIGNED = 18,              /* the request shows an integrity attribute, and needs none */
+    STUN_TYPES_NOT_A_CHALLENGE = 19,     /* the response is no 401 and no 438 */
+    STUN_TYPES_BID_DOWN = 20,            /* somebody may have taken out PASSWORD-ALGORITHMS */
+    STUN_TYPES_INCOMPLETE = 21,          /* REALM or NONCE is missing */
+    STUN_TYPES_NO_ALGORITHM = 22,        /* no password algorithm is supported by both */
+    STUN_TYPES_SAME_CREDENTIALS = 23     /* the credentials were refused already */
+};
+
+typedef struct {
+    uint32_t code;     /* one of the above */
+    uint32_t type;     /* of an attribute */
+    uint64_t expected; /* in bytes */
+    uint64_t actual;   /* in bytes */
+} stun_types_answer;
+
+/* A short English text for a code. */
+static inline const char *stun_types_message_of(uint32_t code) {
+    switch (code) {
+    case STUN_TYPES_OK: return "no error";
+    case STUN_TYPES_NOT_STUN: return "not a STUN message";
+    case STUN_TYPES_TRUNCATED: return "bytes are missing";
+    case STUN_TYPES_TOO_LARGE: return "too many bytes";
+    case STUN_TYPES_FINGERPRINT_MISMATCH: return "the FINGERPRINT is wrong";
+    case STUN_TYPES_MISSING_ATTRIBUTE: return "an attribute is missing";
+    case STUN_TYPES_INVALID_DATA: return "the value of an attribute is invalid";
+    case STUN_TYPES_INTEGRITY_FAILED: return "the HMAC is wrong";
+    case STUN_TYPES_OUT_OF_MEMORY: return "out of memory";
+    case STUN_TYPES_TOO_SMALL: return "the slice is too small";
+    case STUN_TYPES_EXISTS: return "an attribute that is written bars the addition";
+    case STUN_TYPES_ENDING_TYPE: return "attributes of this type have an add of their own";
+    case STUN_TYPES_OUT_OF_RANGE: return "a number is out of range";
+    case STUN_TYPES_BAD_ARGUMENT: return "an argument is invalid";
+    case STUN_TYPES_NO_KEY: return "there is no key";
+    case STUN_TYPES_NOT_PADDED: return "the length field is no multiple of 4";
+    case STUN_TYPES_NOT_A_REQUEST: return "the message is no request";
+    case STUN_TYPES_NOT_SIGNED: return "the request isn't signed";
+    case STUN_TYPES_SIGNED: return "the request is signed";
+    case STUN_TYPES_NOT_A_CHALLENGE: return "the response asks for no credentials";
+    case STUN_TYPES_BID_DOWN: return "the response may have been tampered with";
+    case STUN_TYPES_INCOMPLETE: return "REALM or NONCE is missing";
+    case STUN_TYPES_NO_ALGORITHM: return "no password algorithm is supported";
+    case STUN_TYPES_SAME_CREDENTIALS: return "the credentials were refused already";
+    default: return "unknown code";
+    }
+}
+
+/* ---- Numbers ---------------------------------------------------------------------------------- */
+
+/* The class of a message (RFC 8489, section 5). */
+enum {
+    STUN_TYPES_REQUEST = 0,
+    STUN_TYPES_INDICATION = 1,
+    STUN_TYPES_SUCCESS = 2,
+    STUN_TYPES_ERROR = 3
+};
+
+/* Methods: of RFC 8489, section 18.2; of TURN (RFC 8656, section 17, and RFC 6062, section 6.1). */
+enum {
+    STUN_TYPES_BINDING = 0x001,
+    STUN_TYPES_ALLOCATE = 0x003,
+    STUN_TYPES_REFRESH = 0x004,
+    STUN_TYPES_SEND = 0x006,
+    STUN_TYPES_DATA_INDICATION = 0x007,
+    STUN_TYPES_CREATE_PERMISSION = 0x008,
+    STUN_TYPES_CHANNEL_BIND = 0x009,
+    STUN_TYPES_CONNECT = 0x00A,
+    STUN_TYPES_CONNECTION_BIND = 0x00B,
+    STUN_TYPES_CONNECTION_ATTEMPT = 0x00C
+};
+
+/* Attribute types. */
+enum {
+    /* STUN (RFC 8489, section 18.3) */
+    STUN_TYPES_MAPPED_ADDRESS = 0x0001,
+    STUN_TYPES_USERNAME = 0x0006,
+    STUN_TYPES_MESSAGE_INTEGRITY = 0x0008,
+    STUN_TYPES_ERROR_CODE = 0x0009,
+    STUN_TYPES_UNKNOWN_ATTRIBUTES = 0x000A,
+    STUN_TYPES_REALM = 0x0014,
+    STUN_TYPES_NONCE = 0x0015,
+    STUN_TYPES_MESSAGE_INTEGRITY_SHA256 = 0x001C,
+    STUN_TYPES_PASSWORD_ALGORITHM = 0x001D,
+    STUN_TYPES_USERHASH = 0x001E,
+    STUN_TYPES_XOR_MAPPED_ADDRESS = 0x0020,
+    STUN_TYPES_PASSWORD_ALGORITHMS = 0x8002,
+    STUN_TYPES_ALTERNATE_DOMAIN = 0x8003,
+    STUN_TYPES_SOFTWARE = 0x8022,
+    STUN_TYPES_ALTERNATE_SERVER = 0x8023,
+    STUN_TYPES_FINGERPRINT = 0x8028,
+    /* ICE (RFC 8445, section 16.1) */
+    STUN_TYPES_PRIORITY = 0x0024,
+    STUN_TYPES_USE_CANDIDATE = 0x0025,
+    STUN_TYPES_ICE_CONTROLLED = 0x8029,
+    STUN_TYPES_ICE_CONTROLLING = 0x802A,
+    /* TURN (RFC 8656, section 18; RFC 6062, 7635 and 8016) */
+    STUN_TYPES_CHANNEL_NUMBER = 0x000C,
+    STUN_TYPES_LIFETIME = 0x000D,
+    STUN_TYPES_XOR_PEER_ADDRESS = 0x0012,
+    STUN_TYPES_DATA = 0x0013,
+    STUN_TYPES_XOR_RELAYED_ADDRESS = 0x0016,
+    STUN_TYPES_REQUESTED_ADDRESS_FAMILY = 0x0017,
+    STUN_TYPES_EVEN_PORT = 0x0018,
+    STUN_TYPES_REQUESTED_TRANSPORT = 0x0019,
+    STUN_TYPES_DONT_FRAGMENT = 0x001A,
+    STUN_TYPES_ACCESS_TOKEN = 0x001B,
+    STUN_TYPES_RESERVATION_TOKEN = 0x0022,
+    STUN_TYPES_CONNECTION_ID = 0x002A,
+    STUN_TYPES_ADDITIONAL_ADDRESS_FAMILY = 0x8000,
+    STUN_TYPES_ADDRESS_ERROR_CODE = 0x8001,
+    STUN_TYPES_ICMP = 0x8004,
+    STUN_TYPES_THIRD_PARTY_AUTHORIZATION = 0x802E,
+    STUN_TYPES_MOBILITY_TICKET = 0x8030,
+    /* Discovery (RFC 5780, section 9, and RFC 7982) */
+    STUN_TYPES_CHANGE_REQUEST = 0x0003,
+    STUN_TYPES_PADDING = 0x0026,
+    STUN_TYPES_RESPONSE_PORT = 0x0027,
+    STUN_TYPES_TRANSACTION_TRANSMIT_COUNTER = 0x8025,
+    STUN_TYPES_RESPONSE_ORIGIN = 0x802B,
+    STUN_TYPES_OTHER_ADDRESS = 0x802C
+};
+
+/* Codes of error responses (RFC 8489, section 14.8; RFC 8656, section 19; RFC 6062; RFC 8445). */
+enum {
+    STUN_TYPES_TRY_ALTERNATE = 300,
+    STUN_TYPES_BAD_REQUEST = 400,
+    STUN_TYPES_UNAUTHORIZED = 401,
+    STUN_TYPES_FORBIDDEN = 403,
+    STUN_TYPES_MOBILITY_FORBIDDEN = 405,
+    STUN_TYPES_UNKNOWN_ATTRIBUTE = 420,
+    STUN_TYPES_ALLOCATION_MISMATCH = 437,
+    STUN_TYPES_STALE_NONCE = 438,
+    STUN_TYPES_ADDRESS_FAMILY_NOT_SUPPORTED = 440,
+    STUN_TYPES_WRONG_CREDENTIALS = 441,
+    STUN_TYPES_UNSUPPORTED_TRANSPORT_PROTOCOL = 442,
+    STUN_TYPES_PEER_ADDRESS_FAMILY_MISMATCH = 443,
+    STUN_TYPES_CONNECTION_ALREADY_EXISTS = 446,
+    STUN_TYPES_CONNECTION_TIMEOUT_OR_FAILURE = 447,
+    STUN_TYPES_ALLOCATION_QUOTA_REACHED = 486,
+    STUN_TYPES_ROLE_CONFLICT = 487,
+    STUN_TYPES_SERVER_ERROR = 500,
+    STUN_TYPES_INSUFFICIENT_CAPACITY = 508
+};
+
+/* Integrity algorithms. */
+enum {
+    STUN_TYPES_ANY = 0,    /* of a key: it serves both */
+    STUN_TYPES_SHA1 = 1,   /* MESSAGE-INTEGRITY */
+    STUN_TYPES_SHA256 = 2  /* MESSAGE-INTEGRITY-SHA256 */
+};
+
+/* The type, the first two bytes, of a message of a class and a method (RFC 8489, section 5). Of the
+   method the low 12 bits count, of the class the low two. */
+uint16_t stun_types_message_type(uint32_t message_class, uint32_t method);
+
+/* Which protocol a packet is of by its first byte, where several share a socket (RFC 7983, section
+   7). */
+enum {
+    STUN_TYPES_PROTOCOL_UNKNOWN = 0,
+    STUN_TYPES_PROTOCOL_STUN = 1,         /* 0 to 3 */
+    STUN_TYPES_PROTOCOL_ZRTP = 2,         /* 16 to 19 */
+    STUN_TYPES_PROTOCOL_DTLS = 3,         /* 20 to 63 */
+    STUN_TYPES_PROTOCOL_CHANNEL_DATA = 4, /* 64 to 79 */
+    STUN_TYPES_PROTOCOL_RTP = 5,          /* RTP or RTCP: 128 to 191 */
+    STUN_TYPES_PROTOCOL_QUIC = 6          /* 80 to 127 and 192 to 255 (RFC 9443, section 3) */
+};
+uint32_t stun_types_protocol_of(uint8_t first);
+
+/* ---- Reading ---------------------------------------------------------------------------------- */
+
+/* A transaction ID: 12 bytes, as in the message. */
+typedef struct {
+    uint8_t bytes[12];
+} stun_types_id;
+
+typedef struct {
+    uint16_t type;          /* the first two bytes */
+    uint16_t method;        /* of 12 bits */
+    uint16_t message_class; /* STUN_TYPES_REQUEST .. STUN_TYPES_ERROR */
+    uint16_t length;        /* the length field: how many bytes follow the header */
+    stun_types_id id;
+} stun_types_header;
+
+/* An attribute that a message shows. */
+typedef struct {
+    size_t value_at; /* offset of its value in the message; its header is the four bytes before */
+    uint16_t type;
+    uint16_t length; /* of the value, without padding */
+} stun_types_attribute;
+
+/* Tells how many bytes the message has that begins here, in a stream's buffer or in a longer one:
+   20 and its length field. *message_length is 0 where more bytes are needed to tell.
+   NOT_STUN: no message begins so. */
+stun_types_answer stun_types_framed_length(const uint8_t *bytes, size_t length, size_t *message_length);
+
+/* Whether the bytes are a message, no fewer and no more: its header, its attributes, and its
+   FINGERPRINT where there is one (RFC 8489, sections 5, 6.3 and 14.7). It goes over the attributes
+   once, and over the bytes before a FINGERPRINT once more.
+   NOT_STUN, TRUNCATED, TOO_LARGE, FINGERPRINT_MISMATCH. */
+stun_types_answer stun_types_parse(const uint8_t *bytes, size_t length);
+
+/* Reads the header, the first 20 bytes. NOT_STUN, TRUNCATED. */
+stun_types_answer stun_types_read_header(const uint8_t *bytes, size_t length, stun_types_header *header);
+
+/* Where a walk over the attributes stands: all zeros at first. */
+typedef struct {
+    size_t offset; /* of the next attribute's header */
+    uint16_t last; /* the type of the attribute before it */
+} stun_types_cursor;
+
+/* The next attribute that the message shows: ordinary ones, and then at most one of
+   MESSAGE-INTEGRITY, MESSAGE-INTEGRITY-SHA256 and FINGERPRINT each, in this order (RFC 8489,
+   sections 14.5 to 14.7). False where there are no more, and from then on. The bytes need not
+   parse: they show nothing where they have no header or another length than it states. */
+bool stun_types_next(const uint8_t *bytes, size_t length, stun_types_cursor *cursor,
+                     stun_types_attribute *attribute);
+
+/* The first attribute of a type that the message shows; false where there is none. */
+bool stun_types_find(const uint8_t *bytes, size_t length, uint16_t type, stun_types_attribute *attribute);
+
+/* A transport address. */
+typedef struct {
+    uint8_t octets[16]; /* the first 4 for IPv4, all for IPv6, in network order */
+    uint16_t port;      /* the machine's number */
+    uint16_t family;    /* 4 or 6 */
+} stun_types_address;
+
+/* The calls below read the value of an attribute that was found in the same bytes.
+   BAD_ARGUMENT: the attribute isn't within the bytes. */
+
+/* The address in an XOR-MAPPED-ADDRESS, XOR-PEER-ADDRESS or XOR-RELAYED-ADDRESS (RFC 8489, section
+   14.2). TRUNCATED, TOO_LARGE, INVALID_DATA: the value is no address. NOT_STUN: there is no header,
+   whose transaction ID is needed. */
+stun_types_answer stun_types_read_xor_address(const uint8_t *bytes, size_t length,
+                                              const stun_types_attribute *attribute,
+                                              stun_types_address *address);
+
+/* The address in a MAPPED-ADDRESS, ALTERNATE-SERVER, RESPONSE-ORIGIN or OTHER-ADDRESS (RFC 8489,
+   section 14.1), by the same errors. */
+stun_types_answer stun_types_read_address(const uint8_t *bytes, size_t length,
+                                          const stun_types_attribute *attribute,
+                                          stun_types_address *address);
+
+/* The code, 300 to 699, in an ERROR-CODE (RFC 8489, section 14.8), and where its reason stands in
+   the message: UTF-8, at most 763 bytes. TRUNCATED, TOO_LARGE, INVALID_DATA. */
+stun_types_answer stun_types_read_error(const uint8_t *bytes, size_t length,
+                                        const stun_types_attribute *attribute, uint16_t *code,
+                                        size_t *reason_at, size_t *reason_length);
+
+/* The types in an UNKNOWN-ATTRIBUTES (RFC 8489, section 14.9). *count is how many there are, also
+   where it is more than room; the first room of them are written. INVALID_DATA: an odd length. */
+stun_types_answer stun_types_read_types(const uint8_t *bytes, size_t length,
+                                        const stun_types_attribute *attribute, uint16_t *types,
+                                        size_t room, size_t *count);
+
+/* The types of attributes that the message shows, that must be understood (below 0x8000) and are
+   none of those supported, in order and as often as they are shown (RFC 8489, section 6.3.1).
+   Returns how many there are, also where it is more than room; the first room are written. */
+size_t stun_types_unknown_types(const uint8_t *bytes, size_t length, const uint16_t *supported,
+                                size_t supported_count, uint16_t *types, size_t room);
+
+/* The message as a text, by its names and values, without a final 0: ASCII but for the texts in it,
+   which are UTF-8. NOT_STUN, TRUNCATED, TOO_LARGE,
+   FINGERPRINT_MISMATCH: it is no message. TOO_SMALL: expected is how many bytes the text has, and
+   the first room of them are written. *written is how many bytes are written. */
+stun_types_answer stun_types_print(const uint8_t *bytes, size_t length, char *text, size_t room,
+                                   size_t *written);
+
+/* ---- Keys ------------------------------------------------------------------------------------- */
+
+/* A key of an HMAC, on the heap. It begins as STUN_TYPES_NO_KEY_YET, is made by one of the calls
+   below, which free what it held before, and ended by stun_types_key_free. C neither reads nor
+   writes nor copies its fields, hands it to one call at a time, and leaves it on the thread that
+   made it unless a lock or a join orders the two. */
+typedef struct {
+    void *at;
+    uint64_t held;
+} stun_types_key;
+
+#define STUN_TYPES_NO_KEY_YET { NULL, 0 }
+
+/* The key of a short-term credential, the password (RFC 8489, section 9.1.1). It serves both
+   algorithms. Allocates: OUT_OF_MEMORY, and the key stays as it was. */
+stun_types_answer stun_types_key_short_term(stun_types_key *key, const uint8_t *password,
+                                            size_t password_length);
+
+/* The key of a long-term credential (RFC 8489, sections 9.2.2 and 18.5.1): the MD5 of
+   user:realm:password for STUN_TYPES_SHA1, its SHA-256 for STUN_TYPES_SHA256. The texts are taken
+   as they are, with no SASLprep and no OpaqueString. Allocates: OUT_OF_MEMORY, and the key stays.
+   INVALID_DATA: a text isn't UTF-8. BAD_ARGUMENT: another algorithm. */
+stun_types_answer stun_types_key_long_term(stun_types_key *key, const uint8_t *user,
+                                           size_t user_length, const uint8_t *realm,
+                                           size_t realm_length, const uint8_t *password,
+                                           size_t password_length, uint32_t algorithm);
+
+/* The key with these bytes, made for an algorithm or, by STUN_TYPES_ANY, for both: as a server
+   stores them. Allocates: OUT_OF_MEMORY, and the key stays. BAD_ARGUMENT: no such algorithm. */
+stun_types_answer stun_types_key_from_bytes(stun_types_key *key, const uint8_t *bytes, size_t length,
+                                            uint32_t algorithm);
+
+/* A user's hash: what a USERHASH holds. */
+typedef struct {
+    uint8_t bytes[32];
+} stun_types_hash;
+
+/* The SHA-256 of user:realm, by which a request names its user where the server asks for that (RFC
+   8489, section 14.4). INVALID_DATA: a text isn't UTF-8. */
+stun_types_answer stun_types_userhash(const uint8_t *user, size_t user_length, const uint8_t *realm,
+                                      size_t realm_length, stun_types_hash *hash);
+
+/* Overwrites the key's bytes, frees it, and leaves STUN_TYPES_NO_KEY_YET. Of that it does nothing. */
+void stun_types_key_free(stun_types_key *key);
+
+/* Whether a message is authentic under a key (RFC 8489, sections 9.1.3, 9.2.4, 14.5 and 14.6). It
+   parses the bytes, as stun_types_parse does, and checks MESSAGE-INTEGRITY-SHA256 if it is shown,
+   and else MESSAGE-INTEGRITY; with a key for one algorithm that one's alone. *algorithm says which
+   was checked: act on it, since who takes MESSAGE-INTEGRITY-SHA256 out of a message that has both
+   leaves one that validates by SHA-1. It allocates nothing.
+   What stands behind the attribute that was checked, and the length field, are not authentic.
+   The errors of stun_types_parse; MISSING_ATTRIBUTE; INTEGRITY_FAILED; TRUNCATED, TOO_LARGE,
+   INVALID_DATA: the attribute has no lawful length; NO_KEY. */
+stun_types_answer stun_types_validate(const uint8_t *bytes, size_t length, stun_types_key *key,
+                                      uint32_t *algorithm);
+
+/* The same by a short-term or a long-term credential, of which the key is made and freed. Allocates:
+   OUT_OF_MEMORY. INVALID_DATA: also where a text of the long-term one isn't UTF-8. */
+stun_types_answer stun_types_validate_short_term(const uint8_t *bytes, size_t length,
+                                                 const uint8_t *password, size_t password_length,
+                                                 uint32_t *algorithm);
+stun_types_answer stun_types_validate_long_term(const uint8_t *bytes, size_t length,
+                                                const uint8_t *user, size_t user_length,
+                                                const uint8_t *realm, size_t realm_length,
+                                                const uint8_t *password, size_t password_length,
+                                                uint32_t *algorithm);
+
+/* ---- Writing ---------------------------------------------------------------------------------- */
+
+/* A message is written step by step into a slice of the caller's, room of size bytes. *written is
+   how many bytes it has so far: stun_types_begin sets it, each add counts it up, and a refused add
+   leaves it and the slice as they were. What the slice holds behind it stays. Nothing allocates.
+
+   Each add first tests what is there. BAD_ARGUMENT: *written is more than size, or what was written
+   is no header with whole attributes behind it, as its length field counts them.
+   TOO_SMALL: the slice hasn't room for expected bytes. TOO_LARGE: the message would be longer than
+   65,555 bytes, or the value is longer than 65,535.
+   EXISTS: an attribute that bars the addition is written: nothing follows a FINGERPRINT; a
+   MESSAGE-INTEGRITY-SHA256 only a FINGERPRINT; a MESSAGE-INTEGRITY only these two. The type is that
+   of the attribute, but MESSAGE-INTEGRITY's where either bars one that is none of these three. */
+
+/* Begins a message: its header, with length 0. BAD_ARGUMENT: the two top bits of the type are not 0.
+   TOO_SMALL: fewer than 20 bytes. */
+stun_types_answer stun_types_begin(uint8_t *room, size_t size, uint16_t type, const stun_types_id *id,
+                                   size_t *written);
+
+/* Adds an attribute by its type and value: header, value, zeros up to a multiple of 4.
+   ENDING_TYPE: MESSAGE-INTEGRITY, MESSAGE-INTEGRITY-SHA256 or FINGERPRINT. */
+stun_types_answer stun_types_add(uint8_t *room, size_t size, size_t *written, uint16_t type,
+                                 const uint8_t *value, size_t value_length);
+
+/* Adds an address, XORed with the message's transaction ID or as it is. BAD_ARGUMENT also where the
+   family is neither 4 nor 6. */
+stun_types_answer stun_types_add_xor_address(uint8_t *room, size_t size, size_t *written,
+                                             uint16_t type, const stun_types_address *address);
+stun_types_answer stun_types_add_address(uint8_t *room, size_t size, size_t *written, uint16_t type,
+                                         const stun_types_address *address);
+
+/* Adds an ERROR-CODE with a reason, UTF-8. OUT_OF_RANGE: the code is none of 300 to 699.
+   TOO_LARGE: the reason has more than 763 bytes. INVALID_DATA: it isn't UTF-8. */
+stun_types_answer stun_types_add_error(uint8_t *room, size_t size, size_t *written, uint16_t code,
+                                       const uint8_t *reason, size_t reason_length);
+
+/* Adds an UNKNOWN-ATTRIBUTES of types. TOO_LARGE: more than 32,767 of them. */
+stun_types_answer stun_types_add_unknown_types(uint8_t *room, size_t size, size_t *written,
+                                               const uint16_t *types, size_t count);
+
+/* Signs what is written: adds MESSAGE-INTEGRITY (STUN_TYPES_SHA1, 20 bytes of HMAC-SHA1) or
+   MESSAGE-INTEGRITY-SHA256 (STUN_TYPES_SHA256, 32 bytes), whichever algorithm the key was made for.
+   BAD_ARGUMENT: another algorithm. NO_KEY. */
+stun_types_answer stun_types_add_integrity(uint8_t *room, size_t size, size_t *written,
+                                           stun_types_key *key, uint32_t algorithm);
+
+/* Ends the message with a FINGERPRINT, the CRC-32 of what is written, XORed with 0x5354554E. */
+stun_types_answer stun_types_add_fingerprint(uint8_t *room, size_t size, size_t *written);
+
+/* ---- A server without credentials -------------------------------------------------------------- */
+
+/* Writes the reply to a datagram that came from source: to a binding request the address that it
+   came from, or 420 where it shows types that must be understood; with a FINGERPRINT where the
+   request has one. *reply_length is 0 where none is owed. A reply is at most 48 bytes longer than
+   its request and at most three times as long.
+   TOO_SMALL: expected is what the reply takes, and nothing is written. BAD_ARGUMENT: the family. */
+stun_types_answer stun_types_binding_reply(const uint8_t *bytes, size_t length,
+                                           const stun_types_address *source, uint8_t *room,
+                                           size_t size, size_t *reply_length);
+
+/* ---- A server with credentials ----------------------------------------------------------------- */
+
+/* Which integrity attributes count: those of one algorithm, or by STUN_TYPES_ANY of both; and how
+   many bytes a MESSAGE-INTEGRITY-SHA256 has at least: 32 unless a usage says 16, 20, 24 or 28
+   (RFC 8489, section 14.6). */
+typedef struct {
+    uint32_t algorithm;
+    uint32_t shortest;
+} stun_types_policy;
+
+enum { /* stun_types_authentication.kind */
+    STUN_TYPES_ACCEPTED = 0, /* it is this user's; sign the reply by reply_algorithm with their key */
+    STUN_TYPES_REFUSED = 1,  /* answer by an error response with error_code: 400, 401 or 438 */
+    STUN_TYPES_DISCARDED = 2 /* answer nothing */
+};
+
+typedef struct {
+    uint32_t kind;
+    uint32_t error_code;
+    uint32_t algorithm;       /* whose HMAC in the message was right */
+    uint32_t reply_algorithm; /* by which the reply is signed */
+} stun_types_authentication;
+
+/* Authenticates a message by short-term credentials (RFC 8489, section 9.1.3). key is that of the
+   user whom its USERNAME names, and holds none where there is no such user: find the USERNAME first.
+   The errors of stun_types_parse. BAD_ARGUMENT: the policy's algorithm. Allocates: OUT_OF_MEMORY. */
+stun_types_answer stun_types_authenticate_short_term(const uint8_t *bytes, size_t length,
+                                                     const stun_types_policy *policy,
+                                                     stun_types_key *key,
+                                                     stun_types_authentication *authentication);
+
+enum { /* what a server knows of a nonce */
+    STUN_TYPES_NONCE_VALID = 0,
+    STUN_TYPES_NONCE_STALE = 1,
+    STUN_TYPES_NONCE_UNKNOWN = 2
+};
+
+enum { /* password algorithms (RFC 8489, section 18.5) */
+    STUN_TYPES_PASSWORD_MD5 = 1,
+    STUN_TYPES_PASSWORD_SHA256 = 2
+};
+
+/* Authenticates a request by long-term credentials (RFC 8489, section 9.2.4). nonce_state is what the
+   server knows of its NONCE, and algorithms are the password algorithms that it sent with a valid
+   one. md5_key and sha256_key are the keys, in the server's realm, of the user whom its USERNAME or
+   USERHASH names, by either password algorithm; one that holds none says that there is no such user.
+   The errors of stun_types_parse. BAD_ARGUMENT: the policy's algorithm, the state, a password
+   algorithm, or more than 16 of them. Allocates: OUT_OF_MEMORY. */
+stun_types_answer stun_types_authenticate_long_term(const uint8_t *bytes, size_t length,
+                                                    const stun_types_policy *policy,
+                                                    uint32_t nonce_state, const uint16_t *algorithms,
+                                                    size_t algorithms_count, stun_types_key *md5_key,
+                                                    stun_types_key *sha256_key,
+                                                    stun_types_authentication *authentication);
+
+/* ---- A client -------------------------------------------------------------------------------- */
+
+enum { STUN_TYPES_UDP = 0, STUN_TYPES_TCP = 1 };
+
+/* When a request is sent again and given up, in milliseconds (RFC 8489, section 6.2). */
+typedef struct {
+    uint64_t rto;           /* the first interval, which doubles */
+    uint64_t reliable_wait; /* over TCP, the whole time (Ti) */
+    uint32_t requests;      /* how many are sent at most (Rc) */
+    uint32_t last_wait;     /* how many times rto is waited after the last (Rm) */
+} stun_types_schedule;
+
+/* What RFC 8489 recommends. */
+#define STUN_TYPES_SCHEDULE { 500, 39500, 7, 16 }
+
+enum { /* how a request is protected */
+    STUN_TYPES_UNPROTECTED = 0,
+    STUN_TYPES_SHORT_TERM = 1,
+    STUN_TYPES_LONG_TERM = 2
+};
+
+/* A transaction of a request. The fields are the library's own. Times are milliseconds since a
+   beginning of the caller's choice; one that steps back is taken to stand still. */
+typedef struct {
+    stun_types_schedule schedule;
+    uint64_t last, clock;
+    stun_types_id id;
+    uint32_t sent;
+    uint16_t method;
+    uint8_t transport, protection, signed_by, violated, end, reserved;
+} stun_types_transaction;
+
+/* Begins the transaction of a request, signed where it is protected. key is that of the credential
+   that protects it, and isn't looked at otherwise. Nothing allocates.
+   The errors of stun_types_parse; NOT_A_REQUEST; NOT_SIGNED, SIGNED: against protection; NO_KEY.
+   OUT_OF_RANGE, of no number: one of the schedule is 0, or they are too large. BAD_ARGUMENT:
+   transport or protection. */
+stun_types_answer stun_types_transaction_begin(stun_types_transaction *transaction,
+                                               const uint8_t *request, size_t length,
+                                               const stun_types_schedule *schedule,
+                                               uint32_t transport, uint32_t protection,
+                                               stun_types_key *key, uint64_t now);
+
+enum { /* stun_types_action.kind */
+    STUN_TYPES_SEND_NOW = 0, /* send the request, now */
+    STUN_TYPES_WAIT = 1,     /* nothing before the moment until, unless a message is received */
+    STUN_TYPES_ENDED = 2     /* the transaction has ended, or ends now */
+};
+
+enum { /* how a transaction ended */
+    STUN_TYPES_ANSWERED = 1,
+    STUN_TYPES_TIMED_OUT = 2,
+    STUN_TYPES_INTEGRITY_VIOLATED = 3, /* responses came, and none was authentic */
+    STUN_TYPES_RESPONSE_REFUSED = 4,   /* a response came that a client can't take */
+    STUN_TYPES_CANCELLED = 5,
+    STUN_TYPES_TRANSPORT_FAILED = 6
+};
+
+typedef struct {
+    uint32_t kind;
+    uint32_t end;
+    uint64_t until;
+} stun_types_action;
+
+/* What is to be done now. BAD_ARGUMENT: the transaction isn't one. */
+stun_types_answer stun_types_transaction_poll(stun_types_transaction *transaction, uint64_t now,
+                                              stun_types_action *action);
+
+enum { /* stun_types_received.kind */
+    STUN_TYPES_NOT_FOR_THIS = 0,             /* no response to this request */
+    STUN_TYPES_DISCARDED_NOT_AUTHENTIC = 1,  /* the transaction goes on, as for 2 and 3 */
+    STUN_TYPES_DISCARDED_BID_DOWN = 2,
+    STUN_TYPES_DISCARDED_UNSIGNED = 3,
+    STUN_TYPES_FAILED_INTEGRITY = 4,         /* the transaction has ended, as for all below */
+    STUN_TYPES_FAILED_UNKNOWN_ATTRIBUTE = 5, /* number: its type */
+    STUN_TYPES_FAILED_NO_ERROR_CODE = 6,
+    STUN_TYPES_TAKEN_SUCCESS = 7,            /* the success response */
+    STUN_TYPES_TAKEN_ERROR = 8               /* the error response; number: its code */
+};
+
+typedef struct {
+    uint32_t kind;
+    uint32_t number;
+} stun_types_received;
+
+/* What received bytes are for the transaction (RFC 8489, sections 6.3.3, 6.3.4, 9.1.4 and 9.2.5).
+   understood are the types below 0x8000 that the caller understands, but for those of RFC 8489, at
+   most 64 of them. key is that which the transaction began with.
+   BAD_ARGUMENT: the transaction isn't one, or more types. NO_KEY. Allocates where the request is
+   protected, for a copy of the key: OUT_OF_MEMORY, and the transaction stays as it was. */
+stun_types_answer stun_types_transaction_receive(stun_types_transaction *transaction,
+                                                 stun_types_key *key, const uint8_t *bytes,
+                                                 size_t length, const uint16_t *understood,
+                                                 size_t understood_count,
+                                                 stun_types_received *received);
+
+/* Ends the transaction, unless it has ended: the caller wants no response, or the transport failed. */
+stun_types_answer stun_types_transaction_cancel(stun_types_transaction *transaction);
+stun_types_answer stun_types_transaction_fail(stun_types_transaction *transaction);
+
+/* What a 401 or a 438 asks the next request to carry: where texts stand in its bytes, the value of
+   PASSWORD-ALGORITHMS (to be copied; algorithms_at is 0 where there is none), the password algorithm
+   of the key, whether the request names its user by USERHASH, and by which it is signed. */
+typedef struct {
+    size_t realm_at, realm_length;
+    size_t nonce_at, nonce_length;
+    size_t algorithms_at, algorithms_length;
+    uint16_t password_algorithm;
+    uint16_t anonymous;
+    uint32_t integrity_algorithm;
+} stun_types_challenge;
+
+/* Reads it (RFC 8489, section 9.2.5). supported are the password algorithms that the client knows;
+   before is the response whose challenge the refused request answered, or nothing.
+   The errors of stun_types_parse; NOT_A_CHALLENGE, BID_DOWN, INCOMPLETE, NO_ALGORITHM,
+   SAME_CREDENTIALS. BAD_ARGUMENT: a password algorithm, or more than 16 of them. */
+stun_types_answer stun_types_challenge_of(const uint8_t *bytes, size_t length,
+                                          const uint16_t *supported, size_t supported_count,
+                                          const uint8_t *before, size_t before_length,
+                                          stun_types_challenge *challenge);
+
+/* ---- Streams --------------------------------------------------------------------------------- */
+
+/* Greatest length of a message in a stream: a buffer of that size takes any. */
+#define STUN_TYPES_GREATEST_MESSAGE 65552
+
+/* The messages of a stream that comes in pieces, as over TCP (RFC 8489, section 6.2.2), gathered in
+   a buffer of the caller's: all zeros at first. */
+typedef struct {
+    uint64_t offset; /* in the stream, of the bytes that are pending */
+    size_t pending;  /* how many bytes at the start of the buffer belong to a message that isn't whole */
+    size_t message;  /* how many bytes the message there has that the last call made whole, or 0 */
+} stun_types_stream;
+
+/* Takes the bytes at the start of a piece that belong to the message that is coming; *taken is how
+   many. Where they make it whole, it stands at the start of the buffer until the next call.
+   NOT_STUN, NOT_PADDED, TOO_LARGE (expected is the buffer's size): no message begins where one had
+   to, at stream->offset; close the connection. BAD_ARGUMENT: fewer than 20 bytes of buffer, or what
+   is pending isn't the beginning of a message. */
+stun_types_answer stun_types_stream_push(stun_types_stream *stream, uint8_t *buffer, size_t size,
+                                         const uint8_t *piece, size_t piece_length, size_t *taken);
+
+/* ---- ChannelData (RFC 8656, section 12.4) ------------------------------------------------------ */
+
+typedef struct {
+    size_t data_at;   /* offset of the data */
+    uint16_t channel; /* 0x4000 to 0x4FFF */
+    uint16_t length;  /* of the data */
+} stun_types_channel_data;
+
+/* How many bytes the ChannelData message has that begins here on a stream: 4, its data, and zeros up
+   to a multiple of 4; *message_length is 0 where more bytes are needed to tell. NOT_STUN: the first
+   byte is none of 0x40 to 0x4F. */
+stun_types_answer stun_types_channel_data_length(const uint8_t *bytes, size_t length,
+                                                 size_t *message_length);
+
+/* Reads a ChannelData message. NOT_STUN, TRUNCATED, TOO_LARGE. */
+stun_types_answer stun_types_read_channel_data(const uint8_t *bytes, size_t length,
+                                               stun_types_channel_data *channel_data);
+
+/* Writes one, padded with zeros to a multiple of 4 where padded. OUT_OF_RANGE: the channel.
+   TOO_LARGE: more than 65,535 bytes of data. TOO_SMALL. */
+stun_types_answer stun_types_write_channel_data(uint16_t channel, const uint8_t *data,
+                                                size_t data_length, bool padded, uint8_t *room,
+                                                size_t size, size_t *written);
+
+#ifdef __cplusplus
+}
+#endif
+#endif

@@ -1,0 +1,17 @@
+/* Keys of a test. Making one may allocate; what is handed in is guarded. */
+#ifndef KEYCHAIN_H
+#define KEYCHAIN_H
+
+#include "check.h"
+
+/* A key that holds none. */
+stun_types_key *no_key(void);
+
+/* The key of a password, and that with these bytes; free it before the row ends. */
+stun_types_key *password_key(slice password);
+stun_types_key *bytes_key(slice bytes, uint32_t algorithm);
+
+/* The key of `user`, `realm` and `pass` for an algorithm. */
+stun_types_key *login_key(uint32_t algorithm);
+
+#endif

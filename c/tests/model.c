@@ -1,0 +1,235 @@
+#include "model.h"
+
+#include <stdlib.h>
+#include <string.h>
+
+#include "reference.h"
+
+static const uint8_t COOKIE[4] = {0x21, 0x12, 0xA4, 0x42};
+
+enum { OK = STUN_TYPES_OK, NOT_STUN = STUN_TYPES_NOT_STUN, TRUNCATED = STUN_TYPES_TRUNCATED };
+
+stun_types_answer model_answer(uint32_t code, uint32_t type, uint64_t expected, uint64_t actual) {
+    stun_types_answer answer;
+    answer.code = code;
+    answer.type = type;
+    answer.expected = expected;
+    answer.actual = actual;
+    return answer;
+}
+
+size_t model_padded(size_t length) { return (length + 3) / 4 * 4; }
+
+unsigned model_number(const uint8_t *bytes) { return (unsigned)bytes[0] << 8 | bytes[1]; }
+
+bool model_is_ending(unsigned type) { return type == 0x0008 || type == 0x001C || type == 0x8028; }
+
+/* "The first byte is 64 or more, or what is there of bytes 4 to 7 differs from the cookie." */
+static bool may_begin(const uint8_t *bytes, size_t length) {
+    size_t i;
+    if (length > 0 && bytes[0] >= 64) return false;
+    for (i = 4; i < 8 && i < length; i++)
+        if (bytes[i] != COOKIE[i - 4]) return false;
+    return true;
+}
+
+stun_types_answer model_header(const uint8_t *bytes, size_t length) {
+    if (!may_begin(bytes, length)) return model_answer(NOT_STUN, 0, 0, 0);
+    if (length < 20) return model_answer(TRUNCATED, 0, 20, length);
+    return model_answer(OK, 0, 0, 0);
+}
+
+stun_types_answer model_framed(const uint8_t *bytes, size_t length, size_t *message_length) {
+    stun_types_answer header = model_header(bytes, length);
+    if (header.code == NOT_STUN) return header;
+    *message_length = header.code == OK ? 20 + model_number(bytes + 2) : 0;
+    return model_answer(OK, 0, 0, 0);
+}
+
+static stun_types_answer length_fault(const uint8_t *bytes, size_t length) {
+    size_t stated = 20 + model_number(bytes + 2);
+    if (length < stated) return model_answer(TRUNCATED, 0, stated, length);
+    if (length > stated) return model_answer(STUN_TYPES_TOO_LARGE, 0, stated, length);
+    return model_answer(OK, 0, 0, 0);
+}
+
+/* Why no attribute begins at an offset. */
+static stun_types_answer attribute_fault(const uint8_t *bytes, size_t length, size_t at) {
+    size_t value_length;
+    if (length - at < 4) return model_answer(TRUNCATED, 0, at + 8, length + 4);
+    value_length = model_number(bytes + at + 2);
+    if (length - at < 4 + value_length)
+        return model_answer(TRUNCATED, 0, at + 4 + value_length, length);
+    if (length - at < 4 + model_padded(value_length))
+        return model_answer(TRUNCATED, 0, at + 4 + model_padded(value_length), length);
+    return model_answer(OK, 0, 0, 0);
+}
+
+uint32_t model_fingerprint(const uint8_t *bytes, size_t at) {
+    static uint8_t covered[70000];
+    size_t stated = at + 8 - 20;
+    memcpy(covered, bytes, at);
+    covered[2] = (uint8_t)(stated >> 8);
+    covered[3] = (uint8_t)stated;
+    return checksum_of(covered, at) ^ 0x5354554E;
+}
+
+static stun_types_answer fingerprint_fault(const uint8_t *bytes, size_t at) {
+    size_t length = model_number(bytes + at + 2);
+    uint32_t told;
+    if (length < 4) return model_answer(TRUNCATED, 0, 4, length);
+    if (length > 4) return model_answer(STUN_TYPES_TOO_LARGE, 0, 4, length);
+    told = (uint32_t)model_number(bytes + at + 4) << 16 | model_number(bytes + at + 6);
+    return model_answer(told == model_fingerprint(bytes, at)
+                            ? (uint32_t)OK
+                            : (uint32_t)STUN_TYPES_FINGERPRINT_MISMATCH,
+                        0, 0, 0);
+}
+
+stun_types_answer model_parse(const uint8_t *bytes, size_t length) {
+    bool met[3] = {false, false, false};
+    size_t at = 20;
+    stun_types_answer fault = model_header(bytes, length);
+    if (fault.code == OK) fault = length_fault(bytes, length);
+    while (fault.code == OK && at < length) {
+        unsigned type;
+        fault = attribute_fault(bytes, length, at);
+        if (fault.code != OK) break;
+        type = model_number(bytes + at);
+        if (model_is_ending(type)) {
+            int which = type == 0x0008 ? 0 : type == 0x001C ? 1 : 2;
+            if (met[which]) break;
+            met[which] = true;
+            if (type == 0x8028) fault = fingerprint_fault(bytes, at);
+        } else if (met[0] || met[1] || met[2]) {
+            break;
+        }
+        at += 4 + model_padded(model_number(bytes + at + 2));
+    }
+    return fault;
+}
+
+void model_shown(const uint8_t *bytes, size_t length, model_list *shown) {
+    size_t at = 20;
+    int rank = 0;
+    shown->count = 0;
+    if (model_header(bytes, length).code != OK || length_fault(bytes, length).code != OK) return;
+    while (at < length && attribute_fault(bytes, length, at).code == OK) {
+        unsigned type = model_number(bytes + at);
+        int next = type == 0x0008 ? 1 : type == 0x001C ? 2 : type == 0x8028 ? 3 : 0;
+        if (next < rank || (next == rank && rank != 0)) return;
+        rank = next;
+        shown->all[shown->count].value_at = at + 4;
+        shown->all[shown->count].type = (uint16_t)type;
+        shown->all[shown->count].length = (uint16_t)model_number(bytes + at + 2);
+        shown->count++;
+        at += 4 + model_padded(model_number(bytes + at + 2));
+    }
+}
+
+void model_hmac(const uint8_t *bytes, size_t at, size_t value_length, uint32_t algorithm,
+                const char *password, uint8_t *hmac) {
+    static uint8_t covered[70000];
+    size_t stated = at + 4 + model_padded(value_length) - 20;
+    memcpy(covered, bytes, at);
+    covered[2] = (uint8_t)(stated >> 8);
+    covered[3] = (uint8_t)stated;
+    hmac_of(algorithm == STUN_TYPES_SHA1 ? 1 : 2, password, covered, at, hmac);
+}
+
+static stun_types_answer hmac_fault(unsigned type, size_t length) {
+    size_t least = type == 0x0008 ? 20 : 16, most = type == 0x0008 ? 20 : 32;
+    if (length < least) return model_answer(TRUNCATED, 0, least, length);
+    if (length > most) return model_answer(STUN_TYPES_TOO_LARGE, 0, most, length);
+    return model_answer(length % 4 == 0 ? (uint32_t)OK : (uint32_t)STUN_TYPES_INVALID_DATA, 0, 0,
+                        0);
+}
+
+stun_types_answer model_validate(const uint8_t *bytes, size_t length, const char *password,
+                                 uint32_t *algorithm) {
+    static model_list shown;
+    uint8_t hmac[32];
+    size_t i;
+    const stun_types_attribute *last = NULL;
+    stun_types_answer fault = model_parse(bytes, length);
+    if (fault.code != OK) return fault;
+    model_shown(bytes, length, &shown);
+    for (i = 0; i < shown.count; i++)
+        if (shown.all[i].type == 0x0008 || shown.all[i].type == 0x001C) last = &shown.all[i];
+    if (last == NULL) return model_answer(STUN_TYPES_MISSING_ATTRIBUTE, 0x0008, 0, 0);
+    fault = hmac_fault(last->type, last->length);
+    if (fault.code != OK) return fault;
+    *algorithm = last->type == 0x0008 ? STUN_TYPES_SHA1 : STUN_TYPES_SHA256;
+    model_hmac(bytes, last->value_at - 4, last->length, *algorithm, password, hmac);
+    if (memcmp(hmac, bytes + last->value_at, last->length) != 0)
+        return model_answer(STUN_TYPES_INTEGRITY_FAILED, 0, 0, 0);
+    return model_answer(OK, 0, 0, 0);
+}
+
+stun_types_answer model_address(const uint8_t *value, size_t length, stun_types_address *address) {
+    size_t wanted;
+    if (length < 4) return model_answer(TRUNCATED, 0, 4, length);
+    if (value[1] != 1 && value[1] != 2) return model_answer(STUN_TYPES_INVALID_DATA, 0, 0, 0);
+    wanted = value[1] == 1 ? 8 : 20;
+    if (length < wanted) return model_answer(TRUNCATED, 0, wanted, length);
+    if (length > wanted) return model_answer(STUN_TYPES_TOO_LARGE, 0, wanted, length);
+    memset(address, 0, sizeof *address);
+    address->family = value[1] == 1 ? 4 : 6;
+    address->port = (uint16_t)model_number(value + 2);
+    memcpy(address->octets, value + 4, wanted - 4);
+    return model_answer(OK, 0, 0, 0);
+}
+
+void model_xor(const uint8_t *bytes, stun_types_address *address) {
+    size_t i;
+    address->port ^= 0x2112;
+    for (i = 0; i < (address->family == 4 ? 4u : 16u); i++) address->octets[i] ^= bytes[4 + i];
+}
+
+bool model_is_utf8(const uint8_t *bytes, size_t length) {
+    size_t at = 0;
+    while (at < length) {
+        uint32_t point;
+        size_t more, i;
+        uint8_t first = bytes[at++];
+        if (first < 0x80) continue;
+        if (first >= 0xF8 || first < 0xC0) return false;
+        more = first >= 0xF0 ? 3 : first >= 0xE0 ? 2 : 1;
+        if (length - at < more) return false;
+        point = first & (0x3Fu >> more);
+        for (i = 0; i < more; i++) {
+            if ((bytes[at] & 0xC0) != 0x80) return false;
+            point = point << 6 | (bytes[at++] & 0x3F);
+        }
+        if (point < (more == 1 ? 0x80u : more == 2 ? 0x800u : 0x10000u)) return false;
+        if (point > 0x10FFFF || (point >= 0xD800 && point <= 0xDFFF)) return false;
+    }
+    return true;
+}
+
+stun_types_answer model_error(const uint8_t *value, size_t length, uint16_t *code) {
+    unsigned hundreds, number;
+    if (length < 4) return model_answer(TRUNCATED, 0, 4, length);
+    if (length > 767) return model_answer(STUN_TYPES_TOO_LARGE, 0, 767, length);
+    hundreds = value[2] & 7;
+    number = value[3];
+    if (hundreds < 3 || hundreds > 6 || number > 99 || !model_is_utf8(value + 4, length - 4))
+        return model_answer(STUN_TYPES_INVALID_DATA, 0, 0, 0);
+    *code = (uint16_t)(hundreds * 100 + number);
+    return model_answer(OK, 0, 0, 0);
+}
+
+stun_types_answer model_cut(const uint8_t *bytes, size_t length, size_t buffer,
+                            size_t *message_length) {
+    size_t stated, i;
+    *message_length = 0;
+    if (length >= 1 && bytes[0] >= 64) return model_answer(NOT_STUN, 0, 0, 0);
+    if (length < 4) return model_answer(OK, 0, 0, 0);
+    stated = model_number(bytes + 2);
+    if (stated % 4 != 0) return model_answer(STUN_TYPES_NOT_PADDED, 0, 0, stated);
+    if (20 + stated > buffer) return model_answer(STUN_TYPES_TOO_LARGE, 0, buffer, 20 + stated);
+    for (i = 4; i < 8 && i < length; i++)
+        if (bytes[i] != COOKIE[i - 4]) return model_answer(NOT_STUN, 0, 0, 0);
+    if (length >= 20 + stated) *message_length = 20 + stated;
+    return model_answer(OK, 0, 0, 0);
+}

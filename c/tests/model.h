@@ -1,0 +1,63 @@
+/* The rules of docs/PROTOCOL.md once more, in C, each as it reads there and slowly: what the fuzzer
+ * compares the library with. */
+#ifndef MODEL_H
+#define MODEL_H
+
+#include <stdbool.h>
+#include <stddef.h>
+#include <stdint.h>
+
+#include "../stun_types.h"
+
+/* The most bytes of a message, and the most attributes in them. */
+enum { MODEL_MOST = 65555, MODEL_ATTRIBUTES = 16384 };
+
+/* Attributes, in order. */
+typedef struct {
+    size_t count;
+    stun_types_attribute all[MODEL_ATTRIBUTES];
+} model_list;
+
+/* Why no header begins with the bytes; the length of the message, or 0 where it isn't known yet;
+   why they are no message. */
+stun_types_answer model_header(const uint8_t *bytes, size_t length);
+stun_types_answer model_framed(const uint8_t *bytes, size_t length, size_t *message_length);
+stun_types_answer model_parse(const uint8_t *bytes, size_t length);
+
+/* What is shown. */
+void model_shown(const uint8_t *bytes, size_t length, model_list *shown);
+
+/* The value of a FINGERPRINT at an offset. */
+uint32_t model_fingerprint(const uint8_t *bytes, size_t at);
+
+/* The HMAC under a password that an integrity attribute with a value of so many bytes has at an
+   offset; an algorithm is STUN_TYPES_SHA1 or STUN_TYPES_SHA256. */
+void model_hmac(const uint8_t *bytes, size_t at, size_t value_length, uint32_t algorithm,
+                const char *password, uint8_t *hmac);
+
+/* What a validation with the key of a password answers. */
+stun_types_answer model_validate(const uint8_t *bytes, size_t length, const char *password,
+                                 uint32_t *algorithm);
+
+/* What reading a value answers. The address is as it stands there, without a XOR. */
+stun_types_answer model_address(const uint8_t *value, size_t length, stun_types_address *address);
+stun_types_answer model_error(const uint8_t *value, size_t length, uint16_t *code);
+
+/* The address that is written where this one is to be XORed, and the other way round. */
+void model_xor(const uint8_t *bytes, stun_types_address *address);
+
+/* Where the first message of a stream ends, of which these are the bytes from its beginning on
+   and which is read into a buffer of so many: its length, 0 where more bytes are needed, or why
+   no message begins there. */
+stun_types_answer model_cut(const uint8_t *bytes, size_t length, size_t buffer,
+                            size_t *message_length);
+
+/* Whether bytes are UTF-8 (RFC 3629). */
+bool model_is_utf8(const uint8_t *bytes, size_t length);
+
+size_t model_padded(size_t length);
+unsigned model_number(const uint8_t *bytes);
+bool model_is_ending(unsigned type);
+stun_types_answer model_answer(uint32_t code, uint32_t type, uint64_t expected, uint64_t actual);
+
+#endif

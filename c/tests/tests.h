@@ -1,0 +1,14 @@
+/* The tests, one function for each part of the header. */
+#ifndef TESTS_H
+#define TESTS_H
+
+void test_numbers(void);
+void test_reading(void);
+void test_printing(void);
+void test_keys(void);
+void test_writing(void);
+void test_servers(void);
+void test_clients(void);
+void test_streams(void);
+
+#endif

@@ -1,0 +1,3 @@
+mod TwoWords
+mod WalksLemmas
+mod PushesLemmas

@@ -1,0 +1,13 @@
+use Rattle.std.proofs.Common.{◌≡◌, ◌≤◌, ◌-◌, length}
+use Rattle.stun_read.specs.Iterating.{shown_behind}
+use Rattle.stun_types_c.specs.Attributes.{first_of_type}
+use Rattle.stun_types_c.proofs.attribute.find_from.Given as goal
+
+abbrev pub invariant-loop-raw : goal.invariant-loop-raw
+invariant-loop-raw l =
+    (l.at.offset ≤ length l.bytes)
+    × (first_of_type l.atype (shown_behind l.at.last l.at.offset l.bytes)
+    ≡ first_of_type l.atype (shown_behind l.fn.cursor.last l.fn.cursor.offset l.bytes))
+
+abbrev pub decreases-loop-raw : goal.decreases-loop-raw
+decreases-loop-raw l = length l.bytes - l.at.offset

@@ -1,0 +1,81 @@
+-- Addresses as C sees them, and what reading one answers (RFC 8489, sections 14.1 and 14.2).
+use Rattle.std.specs.Prelude.{◌≡◌, ℕ, List, take, Option, None, Some, MatchOption, IsSomeAnd, ◌==◌, if◌then◌else◌}
+use Rattle.std.specs.Net.Addr.{segments_of}
+use Rattle.std.specs.Net.Socket.{socket_ip, socket_port}
+use Rattle.std.specs.declared.net.ip_addr.IpAddr.{IpAddr}
+use Rattle.std.specs.declared.net.ip_addr.IpAddr.TheVariants.{V4, V6}
+use Rattle.std.specs.declared.net.socket_addr.SocketAddr.{SocketAddr}
+use Rattle.stun_grammar.specs.Headers.{header_fault, id_field}
+use Rattle.stun_values.specs.Addresses.{octets, address_fault, address_in, IsPlain, IsXored}
+use Rattle.stun_types_c.specs.declared.address.Address.{Address}
+use Rattle.stun_types_c.specs.declared.answer.Answer.{Answer}
+use Rattle.stun_types_c.specs.declared.attribute.ShownAttribute.{ShownAttribute}
+use Rattle.stun_types_c.specs.Codes.{OK, BAD_ARGUMENT}
+use Rattle.stun_types_c.specs.Answers.{plain, parse_answer}
+use Rattle.stun_types_c.specs.Values.{value_of}
+
+-- the number of a family
+abbrev pub family_number : IpAddr → ℕ
+family_number (V4 ip) = 4
+family_number (V6 ip) = 6
+
+-- how many octets an address has
+abbrev pub octets_count : IpAddr → ℕ
+octets_count (V4 ip) = 4
+octets_count (V6 ip) = 16
+
+-- C's form holds this address
+pub record Holds (a : SocketAddr) (address : Address) : Type 0 where
+  pub family_is : address.family ≡ family_number (socket_ip a)
+  pub port_is : address.port ≡ socket_port a
+  pub octets_are : take (octets_count (socket_ip a)) address.octets ≡ octets (socket_ip a)
+
+-- the IPv4 address of the first four octets, and the IPv6 address of all sixteen
+abbrev pub ipv4_named : List ℕ → IpAddr
+ipv4_named octets = V4 (record { octets = take 4 octets })
+
+abbrev pub ipv6_named : List ℕ → IpAddr
+ipv6_named octets = V6 (record { segments = segments_of octets })
+
+-- the IP address that C's form names; none where its family is neither 4 nor 6
+abbrev pub ip_named : Address → Option IpAddr
+ip_named address =
+    if address.family == 4 then Some (ipv4_named address.octets) else (
+    if address.family == 6 then Some (ipv6_named address.octets) else None)
+
+-- this address has that IP address and that port
+abbrev pub IsAt : IpAddr → ℕ → SocketAddr → Type 0
+IsAt ip port a = (socket_ip a ≡ ip) × (socket_port a ≡ port) × IsPlain a
+
+-- the address that C's form names, if it names one
+abbrev pub Names : Address → Option SocketAddr → Type 0
+Names address named =
+    MatchOption (ip_named address) (named ≡ None)
+    (λ ip. IsSomeAnd named (IsAt ip address.port))
+
+-- what reading the address in a value answers
+abbrev pub ReadsFrom : (SocketAddr → Address → Type 0) → List ℕ → Answer → Address → Address → Type 0
+ReadsFrom Told value result old new =
+    MatchOption (address_fault value)
+    ((result ≡ plain OK) × Told (address_in value) new)
+    (λ e. (result ≡ parse_answer e) × (new ≡ old))
+
+-- what reading the address in an attribute of the message d answers
+abbrev pub ReadsAddress : ShownAttribute → List ℕ → Answer → Address → Address → Type 0
+ReadsAddress attribute d result old new =
+    MatchOption (value_of attribute d)
+    ((result ≡ plain BAD_ARGUMENT) × (new ≡ old))
+    (λ value. ReadsFrom Holds value result old new)
+
+-- an address XORed under a transaction ID, in C's form
+abbrev pub HoldsXored : ℕ → SocketAddr → Address → Type 0
+HoldsXored id written address = (a : SocketAddr) × (IsXored id written a × Holds a address)
+
+-- the same for an address that is XORed with the transaction ID of d
+abbrev pub ReadsXorAddress : ShownAttribute → List ℕ → Answer → Address → Address → Type 0
+ReadsXorAddress attribute d result old new =
+    MatchOption (value_of attribute d)
+    ((result ≡ plain BAD_ARGUMENT) × (new ≡ old))
+    (λ value. MatchOption (header_fault d)
+    (ReadsFrom (HoldsXored (id_field d)) value result old new)
+    (λ e. (result ≡ parse_answer e) × (new ≡ old)))

@@ -1,0 +1,37 @@
+-- Attributes that a message shows, as C sees them (RFC 8489, section 14).
+use Rattle.std.specs.Prelude.{◌≡◌, ℕ, ◌+◌, Bool, true, false, List, [], ◌∷◌, length, Option, nat_le, ◌==◌, if◌then◌else◌, MatchOption, filter, slice_get}
+use Rattle.stun_grammar.specs.Chains.{Shown}
+use Rattle.stun_grammar.specs.Showing.{shown}
+use Rattle.stun_read.specs.Iterating.{shown_behind}
+use Rattle.stun_types_c.specs.declared.attribute.ShownAttribute.{ShownAttribute}
+use Rattle.stun_types_c.specs.declared.attribute.Cursor.{Cursor}
+
+-- an attribute in C's form: the offset of its value, its type, and its length
+abbrev pub in_c : Shown → ShownAttribute
+in_c a = record { value_at = a.offset + 4; atype = a.type; length = length a.value }
+
+-- the first of some attributes that has a type
+abbrev pub first_of_type : ℕ → List Shown → Option Shown
+first_of_type type attributes = slice_get (filter (λ a. a.type == type) attributes) 0
+
+-- the attributes that a walk has yet to yield: all that d shows where it stands at its beginning,
+-- and else what d shows from there on
+abbrev pub left : Cursor → List ℕ → List Shown
+left cursor d =
+    if cursor.offset == 0 then shown d
+    else (if nat_le cursor.offset (length d) then shown_behind cursor.last cursor.offset d else [])
+
+-- a step of a walk yields the first attribute that is left, and leaves the others; where none is
+-- left, nothing changes
+abbrev pub Steps : Bool → List Shown → List Shown → ShownAttribute → Type 0
+Steps result before after yielded =
+    elim result [
+      | false ↦ before ≡ []
+      | true ↦ (a : Shown) × (before ≡ a ∷ after) × (yielded ≡ in_c a)
+    ]
+
+-- an attribute is found, in C's form, or there is none and C's stays
+abbrev pub Tells : Option Shown → Bool → ShownAttribute → ShownAttribute → Type 0
+Tells found result old new =
+    MatchOption found ((result ≡ false) × (new ≡ old))
+    (λ a. (result ≡ true) × (new ≡ in_c a))

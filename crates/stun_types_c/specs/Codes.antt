@@ -1,0 +1,47 @@
+-- The codes of an answer.
+use Rattle.std.specs.Prelude.{ℕ}
+
+abbrev pub OK : ℕ
+OK = 0
+
+abbrev pub NOT_STUN : ℕ
+NOT_STUN = 1
+
+abbrev pub TRUNCATED : ℕ
+TRUNCATED = 2
+
+abbrev pub TOO_LARGE : ℕ
+TOO_LARGE = 3
+
+abbrev pub FINGERPRINT_MISMATCH : ℕ
+FINGERPRINT_MISMATCH = 4
+
+abbrev pub MISSING_ATTRIBUTE : ℕ
+MISSING_ATTRIBUTE = 5
+
+abbrev pub INVALID_DATA : ℕ
+INVALID_DATA = 6
+
+abbrev pub INTEGRITY_FAILED : ℕ
+INTEGRITY_FAILED = 7
+
+abbrev pub OUT_OF_MEMORY : ℕ
+OUT_OF_MEMORY = 8
+
+abbrev pub TOO_SMALL : ℕ
+TOO_SMALL = 9
+
+abbrev pub EXISTS : ℕ
+EXISTS = 10
+
+abbrev pub ENDING_TYPE : ℕ
+ENDING_TYPE = 11
+
+abbrev pub OUT_OF_RANGE : ℕ
+OUT_OF_RANGE = 12
+
+abbrev pub BAD_ARGUMENT : ℕ
+BAD_ARGUMENT = 13
+
+abbrev pub NO_KEY : ℕ
+NO_KEY = 14

@@ -1,0 +1,14 @@
+pub mod Codes
+pub mod Answers
+pub mod Attributes
+pub mod Reading
+pub mod Values
+pub mod Addresses
+pub mod Printing
+pub mod KeyHandles
+pub mod KeyMemory
+pub mod Keys
+pub mod Writing
+pub mod Server
+pub mod Channels
+pub mod Users

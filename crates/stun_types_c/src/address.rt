@@ -1,0 +1,125 @@
+//! Addresses in attributes.
+
+ghost use Rattle.std.specs.Prelude.{◌≡◌};
+ghost use Rattle.stun_types_c.specs.Addresses.{ipv4_named, ipv6_named, Holds, HoldsXored, Names, ReadsFrom, ReadsAddress, ReadsXorAddress};
+
+use crate::answer::{Answer, parse_answer, plain};
+use crate::attribute::ShownAttribute;
+use crate::codes;
+use crate::values::value_in;
+use std::net::{IpAddr, Ipv4Addr, Ipv6Addr, SocketAddr};
+use stun_base::{MessageHeader, TransactionId};
+use stun_values::{read_address, xor_addr};
+
+/// A transport address.
+#[repr(C)]
+#[derive(Clone, Copy, Drop)]
+pub struct Address {
+    /// The first four for IPv4, all sixteen for IPv6, the most significant first.
+    pub octets: [u8; 16],
+    /// The port.
+    pub port: u16,
+    /// 4 or 6.
+    pub family: u16,
+}
+
+/// An address in C's form. What follows the four bytes of an IPv4 address is zero.
+fn in_c(addr: SocketAddr) -> Address
+    ensures { Holds addr result }
+{
+    let mut octets = [0; 16];
+    let family = match addr.ip() {
+        IpAddr::V4(ip) => {
+            octets[..4].copy_from_slice(&ip.octets());
+            4
+        }
+        IpAddr::V6(ip) => {
+            octets.copy_from_slice(&ip.octets());
+            6
+        }
+    };
+    Address {
+        octets,
+        port: addr.port(),
+        family,
+    }
+}
+
+/// The IPv4 address of the first four octets.
+fn ipv4_of(octets: &[u8; 16]) -> IpAddr
+    ensures { result ≡ ipv4_named octets.now }
+{
+    let mut first = [0; 4];
+    first.copy_from_slice(&octets[..4]);
+    IpAddr::V4(Ipv4Addr::from_octets(first))
+}
+
+/// The IPv6 address of all sixteen octets.
+fn ipv6_of(octets: &[u8; 16]) -> IpAddr
+    ensures { result ≡ ipv6_named octets.now }
+{
+    IpAddr::V6(Ipv6Addr::from_octets(*octets))
+}
+
+/// The address that C's form names; `None` where the family is neither 4 nor 6.
+pub(crate) fn socket_of(address: &Address) -> Option<SocketAddr>
+    ensures { Names address.now result }
+{
+    match address.family {
+        4 => Some(SocketAddr::new(ipv4_of(&address.octets), address.port)),
+        6 => Some(SocketAddr::new(ipv6_of(&address.octets), address.port)),
+        _ => None,
+    }
+}
+
+/// Reads the address in an attribute that isn't XORed.
+#[unsafe(no_mangle)]
+pub extern "C" fn stun_types_read_address(
+    bytes: &[u8],
+    attribute: &ShownAttribute,
+    address: &mut Address,
+) -> Answer
+    ensures { ReadsAddress attribute.now bytes.now result address.old address.new }
+{
+    let Some(value) = value_in(bytes, attribute) else {
+        return plain(codes::BAD_ARGUMENT);
+    };
+    match read_address(value) {
+        Ok(addr) => {
+            *address = in_c(addr);
+            plain(codes::OK)
+        }
+        Err(error) => parse_answer(error),
+    }
+}
+
+/// Reads the address in a value that is XORed with this transaction ID.
+fn read_xored(value: &[u8], transaction: TransactionId, address: &mut Address) -> Answer
+    ensures { ReadsFrom (HoldsXored transaction) value.now result address.old address.new }
+{
+    match read_address(value) {
+        Ok(addr) => {
+            *address = in_c(xor_addr(addr, transaction));
+            plain(codes::OK)
+        }
+        Err(error) => parse_answer(error),
+    }
+}
+
+/// Reads the address in an attribute that is XORed with the transaction ID.
+#[unsafe(no_mangle)]
+pub extern "C" fn stun_types_read_xor_address(
+    bytes: &[u8],
+    attribute: &ShownAttribute,
+    address: &mut Address,
+) -> Answer
+    ensures { ReadsXorAddress attribute.now bytes.now result address.old address.new }
+{
+    let Some(value) = value_in(bytes, attribute) else {
+        return plain(codes::BAD_ARGUMENT);
+    };
+    match MessageHeader::from_bytes(bytes) {
+        Ok(header) => read_xored(value, header.transaction_id(), address),
+        Err(error) => parse_answer(error),
+    }
+}

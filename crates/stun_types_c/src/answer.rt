@@ -1,0 +1,114 @@
+//! What a call answers.
+
+ghost use Rattle.std.specs.Prelude.{◌≡◌};
+ghost use Rattle.stun_types_c.specs.Answers.{plain, about, counted, parse_answer, write_answer, validate_answer};
+
+use crate::codes;
+use stun_grammar::attribute_types::{FINGERPRINT, MESSAGE_INTEGRITY};
+use stun_types::message::{StunParseError, StunWriteError, ValidateError};
+
+/// What a call answers: `codes::OK`, or why it did nothing.
+#[repr(C)]
+#[derive(Clone, Copy, Drop)]
+pub struct Answer {
+    /// One of `codes`.
+    pub code: u32,
+    /// The type of the attribute that the code is about, or 0.
+    pub atype: u32,
+    /// How many bytes are needed or allowed, where the code says so; or 0.
+    pub expected: u64,
+    /// How many there are; or 0.
+    pub actual: u64,
+}
+
+/// A code alone.
+pub(crate) fn plain(code: u32) -> Answer
+    ensures { result ≡ plain code }
+{
+    Answer {
+        code,
+        atype: 0,
+        expected: 0,
+        actual: 0,
+    }
+}
+
+/// A code about an attribute of a type.
+pub(crate) fn about(code: u32, atype: u16) -> Answer
+    ensures { result ≡ about code atype }
+{
+    Answer {
+        code,
+        atype: u32::from(atype),
+        expected: 0,
+        actual: 0,
+    }
+}
+
+/// A code with what is needed or allowed, and what there is.
+pub(crate) fn counted(code: u32, expected: usize, actual: usize) -> Answer
+    ensures { result ≡ counted code expected actual }
+{
+    Answer {
+        code,
+        atype: 0,
+        expected: expected as u64,
+        actual: actual as u64,
+    }
+}
+
+/// Why bytes aren't read.
+pub(crate) fn parse_answer(error: StunParseError) -> Answer
+    ensures { result ≡ parse_answer error }
+{
+    match error {
+        StunParseError::NotStun => plain(codes::NOT_STUN),
+        StunParseError::Truncated { expected, actual } => {
+            counted(codes::TRUNCATED, expected, actual)
+        }
+        StunParseError::TooLarge { expected, actual } => {
+            counted(codes::TOO_LARGE, expected, actual)
+        }
+        StunParseError::MissingAttribute(atype) => about(codes::MISSING_ATTRIBUTE, atype.0),
+        StunParseError::FingerprintMismatch => plain(codes::FINGERPRINT_MISMATCH),
+        StunParseError::OutOfMemory => plain(codes::OUT_OF_MEMORY),
+        StunParseError::AttributeAfterIntegrity(_)
+        | StunParseError::AttributeAfterFingerprint(_)
+        | StunParseError::DataMismatch
+        | StunParseError::InvalidAttributeData
+        | StunParseError::WrongAttributeImplementation => plain(codes::INVALID_DATA),
+    }
+}
+
+/// Why an attribute isn't added.
+pub(crate) fn write_answer(error: StunWriteError) -> Answer
+    ensures { result ≡ write_answer error }
+{
+    match error {
+        StunWriteError::AttributeExists(atype) => about(codes::EXISTS, atype.0),
+        StunWriteError::FingerprintExists => about(codes::EXISTS, FINGERPRINT),
+        StunWriteError::MessageIntegrityExists => about(codes::EXISTS, MESSAGE_INTEGRITY),
+        StunWriteError::TooLarge { expected, actual } => {
+            counted(codes::TOO_LARGE, expected, actual)
+        }
+        StunWriteError::TooSmall { expected, actual } => {
+            counted(codes::TOO_SMALL, expected, actual)
+        }
+        StunWriteError::EndingType(atype) => about(codes::ENDING_TYPE, atype.0),
+        StunWriteError::IntegrityFailed => plain(codes::INVALID_DATA),
+        StunWriteError::OutOfRange { value, min: _, max } => {
+            counted(codes::OUT_OF_RANGE, max, value)
+        }
+        StunWriteError::OutOfMemory => plain(codes::OUT_OF_MEMORY),
+    }
+}
+
+/// Why a message isn't valid.
+pub(crate) fn validate_answer(error: ValidateError) -> Answer
+    ensures { result ≡ validate_answer error }
+{
+    match error {
+        ValidateError::Parse(error) => parse_answer(error),
+        ValidateError::IntegrityFailed => plain(codes::INTEGRITY_FAILED),
+    }
+}

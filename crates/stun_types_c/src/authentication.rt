@@ -1,0 +1,251 @@
+//! A server's checks by credentials (RFC 8489, sections 9.1.3 and 9.2.4).
+
+ghost use Rattle.std.specs.Prelude.{◌≡◌, None, IfOk, box_value};
+ghost use Rattle.std.specs.Option.{option_map};
+ghost use Rattle.stun_keys.specs.Keys.{key_bytes};
+ghost use Rattle.stun_authentication.specs.Lookups.{IsKeyOf};
+ghost use Rattle.stun_types_c.specs.KeyHandles.{held_key};
+
+use crate::answer::{Answer, parse_answer, plain};
+use crate::codes;
+use crate::key_handle::KeyHandle;
+use crate::key_store::{put_back, take};
+use crate::keys::{algorithm_of, number_of};
+use crate::passwords::{Listed, algorithms_of};
+use std::alloc::{AllocError, Global};
+use stun_authentication::{
+    Authentication, Identity, KnownNonce, LongTermKeys, Nonces, Policy, ShortTermKeys,
+    authenticate_long_term, authenticate_short_term,
+};
+use stun_types::attribute::PasswordAlgorithmValue;
+use stun_types::message::Message;
+use stun_types::message::keys::IntegrityKey;
+
+/// Which integrity attributes count.
+#[repr(C)]
+#[derive(Clone, Copy, Drop)]
+pub struct CountedIntegrity {
+    /// The number of an algorithm, or 0 for both.
+    pub algorithm: u32,
+    /// How many bytes a MESSAGE-INTEGRITY-SHA256 has at least.
+    pub shortest: u32,
+}
+
+/// What becomes of a message that a server authenticates.
+#[repr(C)]
+#[derive(Clone, Copy, Drop)]
+pub struct Authenticated {
+    /// 0: accepted; 1: refused; 2: discarded.
+    pub kind: u32,
+    /// The code of the error response, where it is refused.
+    pub error_code: u32,
+    /// The algorithm whose HMAC was right, where it is accepted.
+    pub algorithm: u32,
+    /// The algorithm that the reply is signed by.
+    pub reply_algorithm: u32,
+}
+
+/// The key of the one user that a caller has looked up, by either password algorithm.
+#[derive(Drop)]
+struct OneUser<'a> {
+    md5: Option<&'a IntegrityKey>,
+    sha256: Option<&'a IntegrityKey>,
+}
+
+/// A copy of a key, where there is one.
+fn copy_of(alloc: Global, key: Option<&IntegrityKey>) -> Result<Option<IntegrityKey>, AllocError>
+    ensures { IfOk result (IsKeyOf (option_map (λ key. key_bytes key.now) key.entry)) }
+{
+    match key {
+        Some(key) => match key.clone(alloc) {
+            Ok(copy) => Ok(Some(copy)),
+            Err(_) => Err(AllocError),
+        },
+        None => Ok(None),
+    }
+}
+
+impl ShortTermKeys for OneUser<'_> {
+    ghost use Rattle.std.specs.Option.{option_map};
+    ghost use Rattle.stun_keys.specs.Keys.{key_bytes};
+
+    ghost key_of = { λ user _. option_map (λ key. key_bytes key.now) user.md5 };
+
+    fn key(&self, alloc: Global, _username: &[u8]) -> Result<Option<IntegrityKey>, AllocError> {
+        copy_of(alloc, self.md5)
+    }
+}
+
+impl LongTermKeys for OneUser<'_> {
+    ghost use Rattle.stun_types_c.specs.Users.{long_term_key_of};
+
+    ghost key_of = { λ user _ _ algorithm. long_term_key_of user.md5 user.sha256 algorithm };
+
+    fn key(
+        &self,
+        alloc: Global,
+        _user: Identity<'_>,
+        _realm: &str,
+        algorithm: PasswordAlgorithmValue,
+    ) -> Result<Option<IntegrityKey>, AllocError> {
+        match algorithm {
+            PasswordAlgorithmValue::MD5 => copy_of(alloc, self.md5),
+            PasswordAlgorithmValue::SHA256 => copy_of(alloc, self.sha256),
+        }
+    }
+}
+
+/// What a caller knows of the one nonce that a request shows.
+#[derive(Drop)]
+struct OneNonce {
+    is_valid: bool,
+    sent: Listed,
+}
+
+impl Nonces for OneNonce {
+    ghost use Rattle.stun_types_c.specs.Users.{known_nonce};
+
+    ghost state_of = { λ one _. known_nonce one.is_valid one.sent };
+
+    fn nonce(&self, _nonce: &[u8]) -> KnownNonce<'_> {
+        if self.is_valid {
+            KnownNonce::Valid(self.sent.as_slice())
+        } else {
+            KnownNonce::Stale
+        }
+    }
+}
+
+/// The policy of C's numbers.
+fn policy_of(counted: &CountedIntegrity) -> Option<Policy> {
+    let algorithm = match counted.algorithm {
+        0 => None,
+        number => Some(algorithm_of(number)?),
+    };
+    Some(Policy {
+        algorithm,
+        shortest: counted.shortest as usize,
+    })
+}
+
+/// An answer, as C's numbers.
+fn in_c(answer: &Authentication) -> Authenticated {
+    match answer {
+        Authentication::Accepted(accepted) => Authenticated {
+            kind: 0,
+            error_code: 0,
+            algorithm: number_of(accepted.algorithm),
+            reply_algorithm: number_of(accepted.reply_algorithm),
+        },
+        Authentication::Refused(refusal) => Authenticated {
+            kind: 1,
+            error_code: u32::from(refusal.code()),
+            algorithm: 0,
+            reply_algorithm: 0,
+        },
+        Authentication::Discarded => Authenticated {
+            kind: 2,
+            error_code: 0,
+            algorithm: 0,
+            reply_algorithm: 0,
+        },
+    }
+}
+
+/// Tells C an answer, or that an allocation failed.
+fn tell(answer: Result<Authentication, AllocError>, out: &mut Authenticated) -> Answer {
+    match answer {
+        Ok(answer) => {
+            *out = in_c(&answer);
+            plain(codes::OK)
+        }
+        Err(_) => plain(codes::OUT_OF_MEMORY),
+    }
+}
+
+/// Puts a key back, if one was taken.
+fn give_back(key: &mut KeyHandle, held: Option<Box<IntegrityKey>>)
+    requires { held_key key.old ≡ None }
+    ensures { held_key key.new ≡ option_map box_value held }
+{
+    if let Some(held) = held {
+        put_back(key, held);
+    }
+}
+
+/// The key in a box, if there is one.
+fn key_in(held: &Option<Box<IntegrityKey>>) -> Option<&IntegrityKey> {
+    match held {
+        Some(held) => Some(held),
+        None => None,
+    }
+}
+
+/// Authenticates a message by short-term credentials.
+#[unsafe(no_mangle)]
+pub extern "C" fn stun_types_authenticate_short_term(
+    alloc: Global,
+    bytes: &[u8],
+    policy: &CountedIntegrity,
+    key: &mut KeyHandle,
+    out: &mut Authenticated,
+) -> Answer
+    ensures { held_key key.new ≡ held_key key.old }
+{
+    let message = match Message::from_bytes(bytes) {
+        Ok(message) => message,
+        Err(error) => return parse_answer(error),
+    };
+    let Some(policy) = policy_of(policy) else {
+        return plain(codes::BAD_ARGUMENT);
+    };
+    let held = take(key, alloc);
+    let user = OneUser {
+        md5: key_in(&held),
+        sha256: None,
+    };
+    let answer = authenticate_short_term(alloc, &message, policy, &user);
+    give_back(key, held);
+    tell(answer, out)
+}
+
+/// Authenticates a request by long-term credentials.
+#[unsafe(no_mangle)]
+pub extern "C" fn stun_types_authenticate_long_term(
+    alloc: Global,
+    bytes: &[u8],
+    policy: &CountedIntegrity,
+    nonce_state: u32,
+    algorithms: &[u16],
+    md5_key: &mut KeyHandle,
+    sha256_key: &mut KeyHandle,
+    out: &mut Authenticated,
+) -> Answer
+    ensures md5 { held_key md5_key.new ≡ held_key md5_key.old }
+    ensures sha256 { held_key sha256_key.new ≡ held_key sha256_key.old }
+{
+    let message = match Message::from_bytes(bytes) {
+        Ok(message) => message,
+        Err(error) => return parse_answer(error),
+    };
+    let (Some(policy), Some(sent)) = (policy_of(policy), algorithms_of(algorithms)) else {
+        return plain(codes::BAD_ARGUMENT);
+    };
+    if nonce_state > 2 {
+        return plain(codes::BAD_ARGUMENT);
+    }
+    let nonce = OneNonce {
+        is_valid: nonce_state == 0,
+        sent,
+    };
+    let md5 = take(md5_key, alloc);
+    let sha256 = take(sha256_key, alloc);
+    let user = OneUser {
+        md5: key_in(&md5),
+        sha256: key_in(&sha256),
+    };
+    let answer = authenticate_long_term(alloc, &message, "", policy, &nonce, &user);
+    give_back(md5_key, md5);
+    give_back(sha256_key, sha256);
+    tell(answer, out)
+}

@@ -1,0 +1,110 @@
+//! A client's half of the long-term credential mechanism (RFC 8489, section 9.2.5).
+
+use crate::answer::{Answer, parse_answer, plain};
+use crate::codes;
+use crate::keys::number_of;
+use crate::passwords::{Listed, algorithms_of};
+use stun_authentication::{Challenge, NoRetry, challenge_of};
+use stun_types::attribute::{
+    AttributeStaticType, AttributeType, Nonce, PasswordAlgorithmValue, PasswordAlgorithms, Realm,
+};
+use stun_types::message::Message;
+
+/// What a 401 or a 438 asks the next request to carry.
+#[repr(C)]
+#[derive(Clone, Copy, Drop)]
+pub struct Asked {
+    /// Where the realm stands in the response.
+    pub realm_at: usize,
+    /// How many bytes it has.
+    pub realm_length: usize,
+    /// Where the nonce stands.
+    pub nonce_at: usize,
+    /// How many bytes it has.
+    pub nonce_length: usize,
+    /// Where the value of PASSWORD-ALGORITHMS stands, or 0.
+    pub algorithms_at: usize,
+    /// How many bytes it has.
+    pub algorithms_length: usize,
+    /// The number of the password algorithm of the key.
+    pub password_algorithm: u16,
+    /// 1 where the request names its user by USERHASH.
+    pub anonymous: u16,
+    /// The number of the algorithm by which the request is signed.
+    pub integrity_algorithm: u32,
+}
+
+/// Why a request isn't sent again.
+fn no_retry(reason: NoRetry) -> Answer {
+    match reason {
+        NoRetry::NotAChallenge => plain(codes::NOT_A_CHALLENGE),
+        NoRetry::BidDown => plain(codes::BID_DOWN),
+        NoRetry::Incomplete => plain(codes::INCOMPLETE),
+        NoRetry::NoAlgorithm => plain(codes::NO_ALGORITHM),
+        NoRetry::SameCredentials => plain(codes::SAME_CREDENTIALS),
+    }
+}
+
+/// Where the value of the first attribute of a type stands; 0 where there is none.
+fn value_at(message: &Message<'_>, atype: AttributeType) -> usize {
+    match message.raw_attribute_and_offset(atype) {
+        Some((offset, _attribute)) => offset.saturating_add(4),
+        None => 0,
+    }
+}
+
+/// A challenge, as C sees it.
+fn in_c(response: &Message<'_>, challenge: &Challenge<'_>) -> Asked {
+    let list = challenge.password_algorithms();
+    Asked {
+        realm_at: value_at(response, Realm::TYPE),
+        realm_length: challenge.realm().len(),
+        nonce_at: value_at(response, Nonce::TYPE),
+        nonce_length: challenge.nonce().len(),
+        algorithms_at: match list {
+            Some(_) => value_at(response, PasswordAlgorithms::TYPE),
+            None => 0,
+        },
+        algorithms_length: list.map_or(0, |list| list.len()),
+        password_algorithm: match challenge.password_algorithm() {
+            PasswordAlgorithmValue::MD5 => 1,
+            PasswordAlgorithmValue::SHA256 => 2,
+        },
+        anonymous: u16::from(challenge.is_anonymous()),
+        integrity_algorithm: number_of(challenge.integrity_algorithm()),
+    }
+}
+
+/// What a response asks for, after the one before it, if there was one.
+fn asked_by(response: &[u8], supported: &Listed, before: &[u8], asked: &mut Asked) -> Answer {
+    let message = match Message::from_bytes(response) {
+        Ok(message) => message,
+        Err(error) => return parse_answer(error),
+    };
+    let earlier = Message::from_bytes(before).ok();
+    let before = match &earlier {
+        Some(earlier) => challenge_of(earlier, supported.as_slice(), None).ok(),
+        None => None,
+    };
+    match challenge_of(&message, supported.as_slice(), before) {
+        Ok(challenge) => {
+            *asked = in_c(&message, &challenge);
+            plain(codes::OK)
+        }
+        Err(reason) => no_retry(reason),
+    }
+}
+
+/// What a 401 or a 438 asks the next request to carry.
+#[unsafe(no_mangle)]
+pub extern "C" fn stun_types_challenge_of(
+    response: &[u8],
+    supported: &[u16],
+    before: &[u8],
+    asked: &mut Asked,
+) -> Answer {
+    match algorithms_of(supported) {
+        Some(supported) => asked_by(response, &supported, before, asked),
+        None => plain(codes::BAD_ARGUMENT),
+    }
+}

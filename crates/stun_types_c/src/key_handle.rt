@@ -1,0 +1,74 @@
+//! A key in the hands of C: `stun_types_key` of the header.
+ghost use Rattle.std.specs.Prelude.{◌≡◌, Some, None, option_map, box_value};
+ghost use Rattle.stun_types_c.specs.KeyMemory.{keys_in};
+
+use crate::box_parts::BoxParts;
+use crate::key_place::KeyPlace;
+use std::alloc::Global;
+use stun_types::message::keys::IntegrityKey;
+
+/// A key on the heap, or none: in C `struct { void *at; uint64_t held; }`, 16 bytes, of which
+/// `{ NULL, 0 }` holds no key.
+///
+/// A handle owns its key. A call takes it by `&mut`: in C by a pointer that isn't null, is aligned
+/// and that nothing else uses during the call. No proof sees what C does between two calls, so C
+/// has to keep this right:
+///
+/// - It begins a handle as `{ NULL, 0 }`, and from then on neither reads nor writes its fields.
+/// - It copies no handle: the key of two would be freed twice. (It may move one to another place,
+///   if it uses the old one no more.)
+/// - It leaves a handle on its thread, or orders by a lock or a join what one thread does with it
+///   after another. Two calls never have one handle at a time.
+/// - It ends a handle that holds a key by the call that frees it, or the key leaks and its bytes
+///   stay in memory.
+#[repr(C)]
+pub struct KeyHandle {
+    pub(crate) place: KeyPlace,
+    held: u64,
+    ghost tied: { held ≡ keys_in place.value },
+}
+
+impl KeyHandle {
+    ghost use Rattle.std.specs.Prelude.{◌≡◌, Some, None, option_map, box_value};
+    ghost use Rattle.stun_types_c.specs.KeyHandles.{held_key};
+
+    /// A handle that holds no key. It takes no memory.
+    pub fn none(alloc: Global) -> KeyHandle
+        ensures { held_key result ≡ None }
+    {
+        KeyHandle {
+            place: KeyPlace::none(alloc),
+            held: 0,
+        }
+    }
+
+    /// A handle that holds this key. Nothing is copied.
+    pub fn of(key: Box<IntegrityKey>) -> KeyHandle
+        ensures { held_key result ≡ Some (box_value key) }
+    {
+        KeyHandle {
+            place: KeyPlace::of(BoxParts::of(key)),
+            held: 1,
+        }
+    }
+
+    /// The key that the handle holds, or `None`. Nothing is copied.
+    pub fn into_box(self) -> Option<Box<IntegrityKey>>
+        ensures { option_map box_value result ≡ held_key self }
+    {
+        let KeyHandle { place, held } = self;
+        if held == 0 {
+            place.end();
+            None
+        } else {
+            Some(place.into_parts().into_box())
+        }
+    }
+}
+
+/// Frees the key that the handle holds, whose bytes are overwritten first.
+impl Drop for KeyHandle {
+    fn drop(self) {
+        drop(self.into_box());
+    }
+}

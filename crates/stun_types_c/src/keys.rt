@@ -1,0 +1,233 @@
+//! Making keys, and validating messages with them.
+
+ghost use Rattle.std.specs.Prelude.{◌≡◌, None};
+ghost use Rattle.stun_types_c.specs.KeyHandles.{held_key};
+ghost use Rattle.stun_types_c.specs.Keys.{algorithm_named, number_of, Holds, HoldsMade, TellsVerdict, ValidatesWith};
+
+use crate::answer::{Answer, parse_answer, plain, validate_answer, write_answer};
+use crate::codes;
+use crate::key_handle::KeyHandle;
+use crate::key_store::{hold, put_back, release, take};
+use std::alloc::Global;
+use stun_types::attribute::Userhash;
+use stun_types::message::keys::{
+    IntegrityAlgorithm, IntegrityKey, LongTermKeyCredentials, MessageIntegrityCredentials,
+};
+use stun_types::message::{Message, StunWriteError, ValidateError};
+
+/// The algorithm of a number: 1 is SHA-1, 2 is SHA-256.
+pub(crate) fn algorithm_of(number: u32) -> Option<IntegrityAlgorithm>
+    ensures { result ≡ algorithm_named number }
+{
+    match number {
+        1 => Some(IntegrityAlgorithm::Sha1),
+        2 => Some(IntegrityAlgorithm::Sha256),
+        _ => None,
+    }
+}
+
+/// The number of an algorithm.
+pub(crate) fn number_of(algorithm: IntegrityAlgorithm) -> u32
+    ensures { result ≡ number_of algorithm }
+{
+    match algorithm {
+        IntegrityAlgorithm::Sha1 => 1,
+        IntegrityAlgorithm::Sha256 => 2,
+    }
+}
+
+/// Puts a key that was made into a handle.
+fn hold_made(
+    alloc: Global,
+    key: &mut KeyHandle,
+    made: Result<IntegrityKey, StunWriteError>,
+) -> Answer
+    ensures { HoldsMade made result (held_key key.old) (held_key key.new) }
+{
+    match made {
+        Ok(made) => match hold(key, alloc, made) {
+            Ok(()) => plain(codes::OK),
+            Err(_) => plain(codes::OUT_OF_MEMORY),
+        },
+        Err(error) => write_answer(error),
+    }
+}
+
+/// The key of a short-term credential: the password.
+#[unsafe(no_mangle)]
+pub extern "C" fn stun_types_key_short_term(
+    alloc: Global,
+    key: &mut KeyHandle,
+    password: &[u8],
+) -> Answer
+    ensures { Holds None password.now result (held_key key.old) (held_key key.new) }
+{
+    hold_made(alloc, key, IntegrityKey::new(alloc, password, None))
+}
+
+/// The key with these bytes, made for an algorithm, or by 0 for both.
+#[unsafe(no_mangle)]
+pub extern "C" fn stun_types_key_from_bytes(
+    alloc: Global,
+    key: &mut KeyHandle,
+    bytes: &[u8],
+    algorithm: u32,
+) -> Answer {
+    let algorithm = match algorithm {
+        0 => None,
+        number => match algorithm_of(number) {
+            Some(algorithm) => Some(algorithm),
+            None => return plain(codes::BAD_ARGUMENT),
+        },
+    };
+    hold_made(alloc, key, IntegrityKey::new(alloc, bytes, algorithm))
+}
+
+/// Overwrites the bytes of the key, frees it, and leaves a handle with no key. Of such a one it
+/// does nothing.
+#[unsafe(no_mangle)]
+pub extern "C" fn stun_types_key_free(alloc: Global, key: &mut KeyHandle)
+    ensures { held_key key.new ≡ None }
+{
+    release(key, alloc)
+}
+
+/// Whether a message is authentic under a key.
+#[unsafe(no_mangle)]
+pub extern "C" fn stun_types_validate(
+    alloc: Global,
+    bytes: &[u8],
+    key: &mut KeyHandle,
+    algorithm: &mut u32,
+) -> Answer
+    ensures key { held_key key.new ≡ held_key key.old }
+    ensures answer { ValidatesWith (held_key key.old) bytes.now result algorithm.old algorithm.new }
+{
+    let message = match Message::from_bytes(bytes) {
+        Ok(message) => message,
+        Err(error) => return parse_answer(error),
+    };
+    let Some(taken) = take(key, alloc) else {
+        return plain(codes::NO_KEY);
+    };
+    let verdict = message.validate_integrity_with_key(&taken);
+    put_back(key, taken);
+    told(verdict, algorithm)
+}
+
+/// A text of C's bytes, in memory that `alloc` gives.
+fn text_of(alloc: Global, bytes: &[u8]) -> Result<String, Answer> {
+    let Ok(text) = str::from_utf8(bytes) else {
+        return Err(plain(codes::INVALID_DATA));
+    };
+    match String::from_str(alloc, text) {
+        Ok(text) => Ok(text),
+        Err(_) => Err(plain(codes::OUT_OF_MEMORY)),
+    }
+}
+
+/// The long-term credentials of C's bytes.
+fn long_term_of(
+    alloc: Global,
+    user: &[u8],
+    realm: &[u8],
+    password: &[u8],
+) -> Result<LongTermKeyCredentials, Answer> {
+    let user = text_of(alloc, user)?;
+    let realm = text_of(alloc, realm)?;
+    let password = text_of(alloc, password)?;
+    Ok(LongTermKeyCredentials::new(user, password, realm))
+}
+
+/// The key of a long-term credential.
+#[unsafe(no_mangle)]
+pub extern "C" fn stun_types_key_long_term(
+    alloc: Global,
+    key: &mut KeyHandle,
+    user: &[u8],
+    realm: &[u8],
+    password: &[u8],
+    algorithm: u32,
+) -> Answer {
+    let Some(algorithm) = algorithm_of(algorithm) else {
+        return plain(codes::BAD_ARGUMENT);
+    };
+    match long_term_of(alloc, user, realm, password) {
+        Ok(credentials) => hold_made(alloc, key, credentials.make_key(alloc, algorithm)),
+        Err(answer) => answer,
+    }
+}
+
+/// What a validation answers.
+fn told(verdict: Result<IntegrityAlgorithm, ValidateError>, algorithm: &mut u32) -> Answer
+    ensures { TellsVerdict verdict result algorithm.old algorithm.new }
+{
+    match verdict {
+        Ok(checked) => {
+            *algorithm = number_of(checked);
+            plain(codes::OK)
+        }
+        Err(error) => validate_answer(error),
+    }
+}
+
+/// Whether a message is authentic under a password.
+#[unsafe(no_mangle)]
+pub extern "C" fn stun_types_validate_short_term(
+    alloc: Global,
+    bytes: &[u8],
+    password: &[u8],
+    algorithm: &mut u32,
+) -> Answer {
+    let message = match Message::from_bytes(bytes) {
+        Ok(message) => message,
+        Err(error) => return parse_answer(error),
+    };
+    match IntegrityKey::new(alloc, password, None) {
+        Ok(key) => told(message.validate_integrity_with_key(&key), algorithm),
+        Err(error) => write_answer(error),
+    }
+}
+
+/// Whether a message is authentic under a long-term credential.
+#[unsafe(no_mangle)]
+pub extern "C" fn stun_types_validate_long_term(
+    alloc: Global,
+    bytes: &[u8],
+    user: &[u8],
+    realm: &[u8],
+    password: &[u8],
+    algorithm: &mut u32,
+) -> Answer {
+    let message = match Message::from_bytes(bytes) {
+        Ok(message) => message,
+        Err(error) => return parse_answer(error),
+    };
+    match long_term_of(alloc, user, realm, password) {
+        Ok(long) => {
+            let credentials = MessageIntegrityCredentials::from(long);
+            told(message.validate_integrity(alloc, &credentials), algorithm)
+        }
+        Err(answer) => answer,
+    }
+}
+
+/// A user's hash.
+#[repr(C)]
+#[derive(Clone, Copy, Drop)]
+pub struct Hash {
+    /// The SHA-256 of `user:realm`.
+    pub bytes: [u8; 32],
+}
+
+/// The hash by which a request names its user.
+#[unsafe(no_mangle)]
+pub extern "C" fn stun_types_userhash(user: &[u8], realm: &[u8], hash: &mut Hash) -> Answer {
+    let (Ok(user), Ok(realm)) = (str::from_utf8(user), str::from_utf8(realm)) else {
+        return plain(codes::INVALID_DATA);
+    };
+    *hash = Hash {
+        bytes: Userhash::compute(user, realm),
+    };
+    plain(codes::OK)
+}

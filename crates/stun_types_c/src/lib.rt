@@ -1,0 +1,65 @@
+//! STUN for C: the functions of `c/stun_types.h`, over the public items of `stun_types` and of the
+//! crates beside it. Each is thin: it tests what C hands in, and calls the library. None has a
+//! `requires`, since nothing checks that C meets one.
+#![tactic(auto)]
+
+mod address;
+mod answer;
+mod attribute;
+mod authentication;
+mod box_parts;
+mod challenges;
+mod channels;
+pub mod codes;
+mod key_handle;
+mod key_place;
+mod key_store;
+mod keys;
+mod passwords;
+mod printing;
+mod reading;
+mod server;
+mod streams;
+mod transactions;
+mod type_list;
+mod values;
+mod writing;
+
+pub use address::{Address, stun_types_read_address, stun_types_read_xor_address};
+pub use answer::Answer;
+pub use attribute::{Cursor, ShownAttribute, stun_types_find, stun_types_next};
+pub use authentication::{
+    Authenticated, CountedIntegrity, stun_types_authenticate_long_term,
+    stun_types_authenticate_short_term,
+};
+pub use challenges::{Asked, stun_types_challenge_of};
+pub use channels::{
+    ChannelMessage, stun_types_channel_data_length, stun_types_protocol_of,
+    stun_types_read_channel_data, stun_types_write_channel_data,
+};
+pub use key_handle::KeyHandle;
+pub use key_store::handle_may_go_to_another_thread;
+pub use keys::{
+    Hash, stun_types_key_free, stun_types_key_from_bytes, stun_types_key_long_term,
+    stun_types_key_short_term, stun_types_userhash, stun_types_validate,
+    stun_types_validate_long_term, stun_types_validate_short_term,
+};
+pub use printing::stun_types_print;
+pub use reading::{
+    Header, Id, stun_types_framed_length, stun_types_message_type, stun_types_parse,
+    stun_types_read_header,
+};
+pub use server::stun_types_binding_reply;
+pub use streams::{KeptStream, stun_types_stream_push};
+pub use transactions::{
+    KeptTransaction, Outcome, Waits, Wanted, stun_types_transaction_begin,
+    stun_types_transaction_cancel, stun_types_transaction_fail, stun_types_transaction_poll,
+    stun_types_transaction_receive,
+};
+pub use type_list::{stun_types_read_types, stun_types_unknown_types};
+pub use values::stun_types_read_error;
+pub use writing::{
+    stun_types_add, stun_types_add_address, stun_types_add_error, stun_types_add_fingerprint,
+    stun_types_add_integrity, stun_types_add_unknown_types, stun_types_add_xor_address,
+    stun_types_begin,
+};

@@ -1,0 +1,30 @@
+//! The text of a message.
+
+ghost use Rattle.std.specs.Prelude.{◌≡◌};
+ghost use Rattle.stun_types_c.specs.Printing.{Prints};
+
+use crate::answer::{Answer, counted, parse_answer, plain};
+use crate::codes;
+use stun_types::message::Message;
+
+/// Writes the text of a message at the start of a slice.
+#[unsafe(no_mangle)]
+pub extern "C" fn stun_types_print(bytes: &[u8], text: &mut [u8], written: &mut usize) -> Answer
+    ensures { Prints bytes.now result text.old text.new written.old written.new }
+{
+    let message = match Message::from_bytes(bytes) {
+        Ok(message) => message,
+        Err(error) => return parse_answer(error),
+    };
+    let room = text.len();
+    match message.write_text(text) {
+        Ok(length) => {
+            *written = length;
+            plain(codes::OK)
+        }
+        Err(told) => {
+            *written = room;
+            counted(codes::TOO_SMALL, told.length, room)
+        }
+    }
+}

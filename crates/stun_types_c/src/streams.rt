@@ -1,0 +1,52 @@
+//! The messages of a stream that comes in pieces.
+
+use crate::answer::{Answer, counted, plain};
+use crate::codes;
+use stun_framing::{MessageStream, StreamFault};
+
+/// A stream, as C keeps it.
+#[repr(C)]
+#[derive(Clone, Copy, Drop)]
+pub struct KeptStream {
+    /// The offset in the stream of the bytes that are pending.
+    pub offset: u64,
+    /// How many bytes at the start of the buffer belong to a message that isn't whole.
+    pub pending: usize,
+    /// How many bytes the message there has that the last call made whole, or 0.
+    pub message: usize,
+}
+
+/// Why no message begins where one had to.
+fn fault_answer(fault: StreamFault, size: usize) -> Answer {
+    match fault {
+        StreamFault::NotStun => plain(codes::NOT_STUN),
+        StreamFault::NotPadded(field) => counted(codes::NOT_PADDED, 0, field as usize),
+        StreamFault::TooLong(stated) => counted(codes::TOO_LARGE, size, stated),
+    }
+}
+
+/// Takes the bytes at the start of a piece that belong to the message that is coming.
+#[unsafe(no_mangle)]
+pub extern "C" fn stun_types_stream_push(
+    kept: &mut KeptStream,
+    buffer: &mut [u8],
+    piece: &[u8],
+    taken: &mut usize,
+) -> Answer {
+    let size = buffer.len();
+    let Some(mut stream) = MessageStream::resume(buffer, kept.pending, kept.offset) else {
+        return plain(codes::BAD_ARGUMENT);
+    };
+    match stream.push(piece) {
+        Ok(count) => {
+            *taken = count;
+            *kept = KeptStream {
+                offset: stream.offset(),
+                pending: stream.pending().len(),
+                message: stream.message().map_or(0, |message| message.len()),
+            };
+            plain(codes::OK)
+        }
+        Err(error) => fault_answer(error.fault, size),
+    }
+}

@@ -1,0 +1,383 @@
+//! A client's transaction, which C keeps as plain numbers (RFC 8489, sections 6.2, 6.3.3, 6.3.4,
+//! 9.1.4 and 9.2.5).
+
+ghost use Rattle.std.specs.Prelude.{◌≡◌};
+ghost use Rattle.stun_types_c.specs.KeyHandles.{held_key};
+
+use crate::answer::{Answer, parse_answer, plain};
+use crate::codes;
+use crate::key_handle::KeyHandle;
+use crate::key_store::{put_back, take};
+use crate::reading::{Id, id_of};
+use crate::type_list::types_of;
+use std::alloc::Global;
+use std::time::Duration;
+use stun_transactions::{
+    Action, Discard, End, Failure, Mechanism, PartsError, Received, Schedule, Transaction,
+    TransactionParts,
+};
+use stun_types::TransportType;
+use stun_types::attribute::{
+    AttributeStaticType, AttributeType, MessageIntegrity, MessageIntegritySha256,
+};
+use stun_types::message::keys::IntegrityKey;
+use stun_types::message::{Message, MessageClass, Method};
+
+/// When a request is sent again and given up, in milliseconds.
+#[repr(C)]
+#[derive(Clone, Copy, Drop)]
+pub struct Waits {
+    /// The first interval.
+    pub rto: u64,
+    /// The whole time over a reliable transport.
+    pub reliable_wait: u64,
+    /// How many requests are sent at most.
+    pub requests: u32,
+    /// How many times the first interval is waited after the last one.
+    pub last_wait: u32,
+}
+
+/// A transaction, as C keeps it.
+#[repr(C)]
+#[derive(Clone, Copy, Drop)]
+pub struct KeptTransaction {
+    /// When the request is sent.
+    pub schedule: Waits,
+    /// When it last was, in milliseconds.
+    pub last: u64,
+    /// The latest moment of which the caller has told, in milliseconds.
+    pub clock: u64,
+    /// The transaction ID.
+    pub id: Id,
+    /// How often the request was handed out.
+    pub sent: u32,
+    /// The method of the request.
+    pub method: u16,
+    /// 0 over UDP, 1 over TCP.
+    pub transport: u8,
+    /// 0 for no protection, 1 by a short-term credential, 2 by a long-term one.
+    pub protection: u8,
+    /// 1 for a MESSAGE-INTEGRITY that the request shows, and 2 more for a MESSAGE-INTEGRITY-SHA256.
+    pub signed_by: u8,
+    /// 1 where a response was discarded that wasn't authentic.
+    pub violated: u8,
+    /// How it ended, 1 to 6, or 0.
+    pub end: u8,
+    /// 0.
+    pub reserved: u8,
+}
+
+/// What a transaction wants done.
+#[repr(C)]
+#[derive(Clone, Copy, Drop)]
+pub struct Wanted {
+    /// 0: send; 1: wait; 2: it has ended.
+    pub kind: u32,
+    /// How it ended.
+    pub end: u32,
+    /// Until when to wait, in milliseconds.
+    pub until: u64,
+}
+
+/// What received bytes are for a transaction.
+#[repr(C)]
+#[derive(Clone, Copy, Drop)]
+pub struct Outcome {
+    /// 0 to 8, as `c/stun_types.h` lists them.
+    pub kind: u32,
+    /// The type of an attribute, or the code of an error.
+    pub number: u32,
+}
+
+/// The transport of a number.
+fn transport_of(number: u32) -> Option<TransportType> {
+    match number {
+        0 => Some(TransportType::Udp),
+        1 => Some(TransportType::Tcp),
+        _ => None,
+    }
+}
+
+/// The mechanism of a number, if it is the number of one or of none.
+fn mechanism_of(number: u32) -> Option<Option<Mechanism>> {
+    match number {
+        0 => Some(None),
+        1 => Some(Some(Mechanism::ShortTerm)),
+        2 => Some(Some(Mechanism::LongTerm)),
+        _ => None,
+    }
+}
+
+/// The end of a number, if it is the number of one or of none.
+fn end_of(number: u8) -> Option<Option<End>> {
+    match number {
+        0 => Some(None),
+        1 => Some(Some(End::Answered)),
+        2 => Some(Some(End::TimedOut)),
+        3 => Some(Some(End::IntegrityViolated)),
+        4 => Some(Some(End::Refused)),
+        5 => Some(Some(End::Cancelled)),
+        6 => Some(Some(End::TransportFailed)),
+        _ => None,
+    }
+}
+
+/// The number of an end.
+fn end_number(end: End) -> u8 {
+    match end {
+        End::Answered => 1,
+        End::TimedOut => 2,
+        End::IntegrityViolated => 3,
+        End::Refused => 4,
+        End::Cancelled => 5,
+        End::TransportFailed => 6,
+    }
+}
+
+/// The schedule of C's numbers, if they are those of one.
+fn schedule_of(waits: &Waits) -> Option<Schedule> {
+    let schedule = Schedule::new(waits.rto, waits.requests, waits.last_wait).ok()?;
+    Some(schedule.with_reliable_wait(waits.reliable_wait))
+}
+
+/// Milliseconds of a moment; `u64::MAX` where they are more.
+fn millis(moment: Duration) -> u64 {
+    u64::try_from(moment.as_millis()).unwrap_or(u64::MAX)
+}
+
+/// The transaction that C keeps; `None` where its numbers are those of none.
+fn parts_of(kept: &KeptTransaction) -> Option<TransactionParts> {
+    if kept.signed_by > 3 || kept.violated > 1 || !Method::is_valid(kept.method) {
+        return None;
+    }
+    let parts = TransactionParts {
+        schedule: schedule_of(&kept.schedule)?,
+        transport: transport_of(u32::from(kept.transport))?,
+        method: Method::new(kept.method),
+        id: id_of(&kept.id),
+        sha1: kept.signed_by % 2 == 1,
+        sha256: kept.signed_by > 1,
+        mechanism: mechanism_of(u32::from(kept.protection))?,
+        sent: kept.sent,
+        last: Duration::from_millis(kept.last),
+        clock: Duration::from_millis(kept.clock),
+        violated: kept.violated == 1,
+        end: end_of(kept.end)?,
+    };
+    parts.check().ok()?;
+    Some(parts)
+}
+
+/// Stores how far a transaction has come.
+fn store(kept: &mut KeptTransaction, parts: &TransactionParts) {
+    kept.sent = parts.sent;
+    kept.last = millis(parts.last);
+    kept.clock = millis(parts.clock);
+    kept.violated = u8::from(parts.violated);
+    kept.end = parts.end.map_or(0, end_number);
+}
+
+/// Whether a handle holds a key.
+fn has_key(alloc: Global, key: &mut KeyHandle) -> bool
+    ensures { held_key key.new ≡ held_key key.old }
+{
+    match take(key, alloc) {
+        Some(held) => {
+            put_back(key, held);
+            true
+        }
+        None => false,
+    }
+}
+
+/// Begins the transaction of a request.
+#[unsafe(no_mangle)]
+pub extern "C" fn stun_types_transaction_begin(
+    alloc: Global,
+    kept: &mut KeptTransaction,
+    request: &[u8],
+    schedule: &Waits,
+    transport: u32,
+    protection: u32,
+    key: &mut KeyHandle,
+    now: u64,
+) -> Answer
+    ensures { held_key key.new ≡ held_key key.old }
+{
+    let message = match Message::from_bytes(request) {
+        Ok(message) => message,
+        Err(error) => return parse_answer(error),
+    };
+    let (Some(_), Some(mechanism)) = (transport_of(transport), mechanism_of(protection)) else {
+        return plain(codes::BAD_ARGUMENT);
+    };
+    if schedule_of(schedule).is_none() {
+        return plain(codes::OUT_OF_RANGE);
+    }
+    if !message.has_class(MessageClass::Request) {
+        return plain(codes::NOT_A_REQUEST);
+    }
+    let sha1 = message.has_attribute(MessageIntegrity::TYPE);
+    let sha256 = message.has_attribute(MessageIntegritySha256::TYPE);
+    match (mechanism.is_some(), sha1 || sha256) {
+        (true, false) => return plain(codes::NOT_SIGNED),
+        (false, true) => return plain(codes::SIGNED),
+        _ => {}
+    }
+    if mechanism.is_some() && !has_key(alloc, key) {
+        return plain(codes::NO_KEY);
+    }
+    let mut id = [0; 12];
+    id.copy_from_slice(&message.transaction_id().value().to_be_bytes()[4..]);
+    *kept = KeptTransaction {
+        schedule: *schedule,
+        last: now,
+        clock: now,
+        id: Id { bytes: id },
+        sent: 0,
+        method: message.method().value(),
+        transport: u8::from(transport == 1),
+        protection: match mechanism {
+            None => 0,
+            Some(Mechanism::ShortTerm) => 1,
+            Some(Mechanism::LongTerm) => 2,
+        },
+        signed_by: u8::from(sha1) + 2 * u8::from(sha256),
+        violated: 0,
+        end: 0,
+        reserved: 0,
+    };
+    plain(codes::OK)
+}
+
+/// What is to be done now.
+#[unsafe(no_mangle)]
+pub extern "C" fn stun_types_transaction_poll(
+    kept: &mut KeptTransaction,
+    now: u64,
+    wanted: &mut Wanted,
+) -> Answer {
+    let Some(mut parts) = parts_of(kept) else {
+        return plain(codes::BAD_ARGUMENT);
+    };
+    let action = parts.poll(Duration::from_millis(now));
+    store(kept, &parts);
+    *wanted = match action {
+        Action::Send => Wanted {
+            kind: 0,
+            end: 0,
+            until: 0,
+        },
+        Action::WaitUntil(until) => Wanted {
+            kind: 1,
+            end: 0,
+            until: millis(until),
+        },
+        Action::Ended(end) => Wanted {
+            kind: 2,
+            end: u32::from(end_number(end)),
+            until: 0,
+        },
+    };
+    plain(codes::OK)
+}
+
+/// What received bytes are, as C's numbers.
+fn outcome_of(received: &Received<'_>) -> Outcome {
+    let (kind, number) = match received {
+        Received::NotForThis => (0, 0),
+        Received::Discarded(Discard::NotAuthentic) => (1, 0),
+        Received::Discarded(Discard::BidDown) => (2, 0),
+        Received::Discarded(Discard::UnsignedBadRequest) => (3, 0),
+        Received::Failed(Failure::IntegrityViolated) => (4, 0),
+        Received::Failed(Failure::UnknownAttribute(atype)) => (5, u32::from(atype.0)),
+        Received::Failed(Failure::NoErrorCode) => (6, 0),
+        Received::Success(_) => (7, 0),
+        Received::Error(_, code) => (8, u32::from(*code)),
+    };
+    Outcome { kind, number }
+}
+
+/// A copy of the key that a transaction of this mechanism validates with: a long-term key works with
+/// both algorithms (RFC 8489, section 9.2.5).
+fn copy_for(alloc: Global, mechanism: Mechanism, key: &IntegrityKey) -> Option<IntegrityKey> {
+    let copy = key.clone(alloc).ok()?;
+    match mechanism {
+        Mechanism::ShortTerm => Some(copy),
+        Mechanism::LongTerm => Some(copy.for_both()),
+    }
+}
+
+/// Hands received bytes to a transaction.
+fn hear(
+    parts: TransactionParts,
+    key: Option<IntegrityKey>,
+    bytes: &[u8],
+    understood: &[AttributeType],
+) -> Result<(TransactionParts, Outcome), PartsError> {
+    let mut transaction = Transaction::from_parts(parts, key)?;
+    let outcome = outcome_of(&transaction.receive(bytes, understood));
+    let (parts, _key) = transaction.into_parts();
+    Ok((parts, outcome))
+}
+
+/// What received bytes are for a transaction.
+#[unsafe(no_mangle)]
+pub extern "C" fn stun_types_transaction_receive(
+    alloc: Global,
+    kept: &mut KeptTransaction,
+    key: &mut KeyHandle,
+    bytes: &[u8],
+    understood: &[u16],
+    received: &mut Outcome,
+) -> Answer
+    ensures { held_key key.new ≡ held_key key.old }
+{
+    let (Some(parts), Some(understood)) = (parts_of(kept), types_of(understood)) else {
+        return plain(codes::BAD_ARGUMENT);
+    };
+    let copy = match parts.mechanism {
+        None => None,
+        Some(mechanism) => {
+            let Some(held) = take(key, alloc) else {
+                return plain(codes::NO_KEY);
+            };
+            let copy = copy_for(alloc, mechanism, &held);
+            put_back(key, held);
+            match copy {
+                Some(copy) => Some(copy),
+                None => return plain(codes::OUT_OF_MEMORY),
+            }
+        }
+    };
+    match hear(parts, copy, bytes, understood.as_slice()) {
+        Ok((parts, outcome)) => {
+            store(kept, &parts);
+            *received = outcome;
+            plain(codes::OK)
+        }
+        Err(_) => plain(codes::BAD_ARGUMENT),
+    }
+}
+
+/// Ends a transaction, unless it has ended: the caller wants no response.
+#[unsafe(no_mangle)]
+pub extern "C" fn stun_types_transaction_cancel(kept: &mut KeptTransaction) -> Answer {
+    let Some(mut parts) = parts_of(kept) else {
+        return plain(codes::BAD_ARGUMENT);
+    };
+    parts.cancel();
+    store(kept, &parts);
+    plain(codes::OK)
+}
+
+/// Ends a transaction, unless it has ended: the transport failed.
+#[unsafe(no_mangle)]
+pub extern "C" fn stun_types_transaction_fail(kept: &mut KeptTransaction) -> Answer {
+    let Some(mut parts) = parts_of(kept) else {
+        return plain(codes::BAD_ARGUMENT);
+    };
+    parts.fail();
+    store(kept, &parts);
+    plain(codes::OK)
+}

@@ -1,0 +1,48 @@
+//! Values of attributes: errors, and lists of types.
+
+ghost use Rattle.std.specs.Prelude.{◌≡◌};
+ghost use Rattle.std.specs.Option.{option_map};
+ghost use Rattle.stun_types_c.specs.Values.{value_of, ErrorOut, ReadsError};
+
+use crate::answer::{Answer, parse_answer, plain};
+use crate::attribute::ShownAttribute;
+use crate::codes;
+use stun_values::read_error;
+
+/// The value of an attribute; `None` where it isn't within the bytes.
+pub(crate) fn value_in<'a>(bytes: &'a [u8], attribute: &ShownAttribute) -> Option<&'a [u8]>
+    ensures { value_of attribute.now bytes.now ≡ option_map (λ value. value.now) result }
+{
+    let length = attribute.length as usize;
+    if attribute.value_at > bytes.len() || length > bytes.len() - attribute.value_at {
+        return None;
+    }
+    Some(&bytes[attribute.value_at..attribute.value_at + length])
+}
+
+/// Reads the code in an ERROR-CODE, and where its reason stands in the message.
+#[unsafe(no_mangle)]
+pub extern "C" fn stun_types_read_error(
+    bytes: &[u8],
+    attribute: &ShownAttribute,
+    code: &mut u16,
+    reason_at: &mut usize,
+    reason_length: &mut usize,
+) -> Answer
+    ensures { ReadsError attribute.now bytes.now result
+        (record { code = code.old; reason_at = reason_at.old; reason_length = reason_length.old })
+        (record { code = code.new; reason_at = reason_at.new; reason_length = reason_length.new }) }
+{
+    let Some(value) = value_in(bytes, attribute) else {
+        return plain(codes::BAD_ARGUMENT);
+    };
+    match read_error(value) {
+        Ok((told, reason)) => {
+            *code = told;
+            *reason_at = attribute.value_at + 4;
+            *reason_length = reason.len();
+            plain(codes::OK)
+        }
+        Err(error) => parse_answer(error),
+    }
+}
