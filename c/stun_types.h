@@ -382,13 +382,17 @@ stun_types_answer stun_types_validate_long_term(const uint8_t *bytes, size_t len
    how many bytes it has so far: stun_types_begin sets it, each add counts it up, and a refused add
    leaves it and the slice as they were. What the slice holds behind it stays. Nothing allocates.
 
-   Each add first tests what is there. BAD_ARGUMENT: *written is more than size, or what was written
-   is no header with whole attributes behind it, as its length field counts them.
-   TOO_SMALL: the slice hasn't room for expected bytes. TOO_LARGE: the message would be longer than
-   65,555 bytes, or the value is longer than 65,535.
-   EXISTS: an attribute that bars the addition is written: nothing follows a FINGERPRINT; a
-   MESSAGE-INTEGRITY-SHA256 only a FINGERPRINT; a MESSAGE-INTEGRITY only these two. The type is that
-   of the attribute, but MESSAGE-INTEGRITY's where either bars one that is none of these three. */
+   Each add tests in this order, and tells the first that applies:
+   - what is there. BAD_ARGUMENT: *written is more than size, or what was written is no header with
+     whole attributes behind it, as its length field counts them;
+   - what is handed in: the errors that its comment lists;
+   - the order. ENDING_TYPE: stun_types_add or an add of an address is given the type
+     MESSAGE-INTEGRITY, MESSAGE-INTEGRITY-SHA256 or FINGERPRINT, which have adds of their own. EXISTS:
+     an attribute that bars the addition is written: nothing follows a FINGERPRINT; a
+     MESSAGE-INTEGRITY-SHA256 only a FINGERPRINT; a MESSAGE-INTEGRITY only these two. The type is that
+     of the attribute, but MESSAGE-INTEGRITY's where either bars one that is none of these three;
+   - the room. TOO_SMALL: the slice hasn't room for expected bytes, the whole message with its
+     addition. TOO_LARGE: the message would be longer than 65,555 bytes. */
 
 /* Begins a message: its header, with length 0. BAD_ARGUMENT: the two top bits of the type are not 0.
    TOO_SMALL: fewer than 20 bytes. */
@@ -396,12 +400,12 @@ stun_types_answer stun_types_begin(uint8_t *room, size_t size, uint16_t type, co
                                    size_t *written);
 
 /* Adds an attribute by its type and value: header, value, zeros up to a multiple of 4.
-   ENDING_TYPE: MESSAGE-INTEGRITY, MESSAGE-INTEGRITY-SHA256 or FINGERPRINT. */
+   TOO_LARGE: the value has more than 65,535 bytes. */
 stun_types_answer stun_types_add(uint8_t *room, size_t size, size_t *written, uint16_t type,
                                  const uint8_t *value, size_t value_length);
 
-/* Adds an address, XORed with the message's transaction ID or as it is. BAD_ARGUMENT also where the
-   family is neither 4 nor 6. */
+/* Adds an address, XORed with the message's transaction ID or as it is. BAD_ARGUMENT: the family is
+   neither 4 nor 6. */
 stun_types_answer stun_types_add_xor_address(uint8_t *room, size_t size, size_t *written,
                                              uint16_t type, const stun_types_address *address);
 stun_types_answer stun_types_add_address(uint8_t *room, size_t size, size_t *written, uint16_t type,

@@ -15,18 +15,15 @@ ghost use Rattle.stun_server.specs.Reply.{comprehended, success_reply, response,
 ghost use Rattle.stun_server.specs.InSlice.{overlaid, answer_in, slice_after};
 
 use crate::binding::request_in;
-use crate::unknown::{UnknownTypes, append_encoded, append_unknown, with_unknown};
-use std::alloc::Global;
+use crate::unknown::{UnknownTypes, append_unknown, with_unknown};
 use std::net::SocketAddr;
 use stun_base::{AttributeType, MessageHeader};
 use stun_grammar::attribute_types;
 use stun_integrity::fingerprint_at;
 use stun_types::attribute::XorMappedAddress;
-use stun_types::message::{
-    Message, MessageClass, MessageType, MessageWriteMutSlice, StunWriteError,
-};
+use stun_types::message::{Message, MessageClass, MessageType, StunWriteError};
 use stun_types::prelude::*;
-use stun_write::append_value;
+use stun_write::{append_encoded, append_value, write_message_header};
 
 /// The value of the SOFTWARE of each reply.
 const SOFTWARE: &[u8] = b"stun-types";
@@ -43,15 +40,12 @@ const BEFORE_LIST: usize = 64;
 const FINGERPRINT_LENGTH: usize = 8;
 
 /// Writes the header of a response to a request at the start of a slice.
-fn write_header(alloc: Global, request: &Message<'_>, class: MessageClass, slice: &mut [u8])
+fn write_header(request: &Message<'_>, class: MessageClass, slice: &mut [u8])
     requires { 20 ≤ length slice.old }
     ensures { slice.new ≡ overlaid (response class (message_bytes request.now) []) slice.old }
 {
     let mtype = MessageType::from_class_method(class, request.method());
-    let mut write = MessageWriteMutSlice::new(alloc, slice);
-    // twenty bytes are ready, so that it is begun without memory
-    let _begun = Message::builder_into(mtype, request.transaction_id(), &mut write);
-    write.finish();
+    write_message_header(mtype, request.transaction_id(), slice);
 }
 
 /// How many bytes the success response has.
@@ -77,7 +71,7 @@ fn append_mapped(mapped: &XorMappedAddress, slice: &mut [u8])
 }
 
 /// Writes the success response to a binding request: the address that it came from, and SOFTWARE.
-fn write_success(alloc: Global, request: &Message<'_>, source: SocketAddr, slice: &mut [u8])
+fn write_success(request: &Message<'_>, source: SocketAddr, slice: &mut [u8])
     requires room { let r = message_bytes request.now in
         length (response Success r (success_reply source r)) ≤ length slice.old }
     ensures { let r = message_bytes request.now in
@@ -85,7 +79,7 @@ fn write_success(alloc: Global, request: &Message<'_>, source: SocketAddr, slice
 {
     let mapped = XorMappedAddress::new(source, request.transaction_id());
     let behind = MessageHeader::LENGTH + mapped.padded_len();
-    write_header(alloc, request, MessageClass::Success, slice);
+    write_header(request, MessageClass::Success, slice);
     append_mapped(&mapped, slice);
     append_value(
         AttributeType(attribute_types::SOFTWARE),
@@ -96,7 +90,7 @@ fn write_success(alloc: Global, request: &Message<'_>, source: SocketAddr, slice
 }
 
 /// Writes the error response 420 to a binding request that shows unknown types.
-fn write_refusal(alloc: Global, request: &Message<'_>, unknown: &UnknownTypes<'_>, slice: &mut [u8])
+fn write_refusal(request: &Message<'_>, unknown: &UnknownTypes<'_>, slice: &mut [u8])
     requires its { unknown.now.request.now ≡ message_bytes request.now }
     requires some { 0 < length (unknown_types comprehended (message_bytes request.now)) }
     requires few { length (unknown_types comprehended (message_bytes request.now)) ≤ 16384 }
@@ -107,7 +101,7 @@ fn write_refusal(alloc: Global, request: &Message<'_>, unknown: &UnknownTypes<'_
         slice.new
         ≡ overlaid (response ErrorClass r (unknown_reply (unknown_types comprehended r))) slice.old }
 {
-    write_header(alloc, request, MessageClass::Error, slice);
+    write_header(request, MessageClass::Error, slice);
     append_value(
         AttributeType(attribute_types::SOFTWARE),
         SOFTWARE,
@@ -137,7 +131,6 @@ fn unfinished_length(request: &Message<'_>, source: SocketAddr, unknown: &Unknow
 
 /// Writes that reply.
 fn write_unfinished(
-    alloc: Global,
     request: &Message<'_>,
     source: SocketAddr,
     unknown: &UnknownTypes<'_>,
@@ -150,9 +143,9 @@ fn write_unfinished(
         ≡ overlaid (unfinished_reply source (message_bytes request.now)) slice.old }
 {
     if unknown.count() == 0 {
-        write_success(alloc, request, source, slice);
+        write_success(request, source, slice);
     } else {
-        write_refusal(alloc, request, unknown, slice);
+        write_refusal(request, unknown, slice);
     }
 }
 
@@ -187,7 +180,6 @@ fn finished_length(len: usize, is_finished: bool) -> usize
 
 /// Writes the reply to a binding request, where the slice has room for it.
 fn write_reply(
-    alloc: Global,
     request: &Message<'_>,
     source: SocketAddr,
     slice: &mut [u8],
@@ -207,7 +199,7 @@ fn write_reply(
             actual: slice.len(),
         });
     }
-    write_unfinished(alloc, request, source, &unknown, slice);
+    write_unfinished(request, source, &unknown, slice);
     if is_finished {
         write_fingerprint(len, slice);
     }
@@ -216,14 +208,13 @@ fn write_reply(
 
 /// The reply to a datagram as [`reply`](crate::reply) makes it, written at the start of a slice.
 /// Returns how many bytes it has, at most 32840, or `None` where none is owed: the slice is as it
-/// was then. The bytes behind the reply stay. It takes no memory, not even from `alloc`.
+/// was then. The bytes behind the reply stay. It takes no memory.
 ///
 /// # Errors
 ///
 /// `TooSmall { expected, actual }` where the slice has no room for the reply: the length of the
 /// whole reply, and that of the slice, which is as it was.
 pub fn reply_into(
-    alloc: Global,
     source: SocketAddr,
     datagram: &[u8],
     slice: &mut [u8],
@@ -232,7 +223,7 @@ pub fn reply_into(
     ensures slice { slice.new ≡ slice_after (reply source datagram.now) slice.old }
 {
     match request_in(datagram) {
-        Some(request) => write_reply(alloc, &request, source, slice),
+        Some(request) => write_reply(&request, source, slice),
         None => Ok(None),
     }
 }

@@ -3,7 +3,6 @@
 ghost use Rattle.std.specs.Prelude.{◌≤◌};
 
 use crate::{reply, reply_into};
-use std::alloc::Global;
 use std::net::{IpAddr, Ipv4Addr, SocketAddr};
 use std::test::Fail;
 use stun_types::message::StunWriteError;
@@ -40,11 +39,11 @@ fn is_filled(bytes: &[u8], filler: u8) -> bool {
 }
 
 /// Whether this reply is written into a slice of `size` bytes, or nothing where it is longer.
-fn is_written(alloc: Global, datagram: &[u8], text: &[u8], size: usize) -> bool
+fn is_written(datagram: &[u8], text: &[u8], size: usize) -> bool
     requires { size ≤ 128 }
 {
     let mut room = [0xEE; 128];
-    let answer = reply_into(alloc, source(), datagram, &mut room[..size]);
+    let answer = reply_into(source(), datagram, &mut room[..size]);
     if size < text.len() {
         let refused = StunWriteError::TooSmall {
             expected: text.len(),
@@ -68,13 +67,13 @@ fn into_slices_of_any_length(rt: HostRuntime) -> Result<(), Fail> {
     ];
     for (name, datagram, text) in rows {
         for size in 0..=128 {
-            let right = is_written(rt.alloc(), datagram, text, size);
+            let right = is_written(datagram, text, size);
             assert!(rt; right, "{name}, into {size} bytes");
         }
     }
     for datagram in [INDICATION, OTHER_METHOD, &REQUEST[..19], b""] {
         let mut room = [0xEE; 64];
-        assert!(rt; reply_into(rt.alloc(), source(), datagram, &mut room) == Ok(None));
+        assert!(rt; reply_into(source(), datagram, &mut room) == Ok(None));
         assert!(rt; is_filled(&room, 0xEE));
     }
     Ok(())

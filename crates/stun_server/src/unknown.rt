@@ -3,7 +3,6 @@
 ghost use Rattle.std.specs.Prelude.{◌≡◌, ◌+◌, ◌*◌, ◌≤◌, ◌++◌, length, take, drop};
 ghost use Rattle.stun_grammar.specs.Numbers.{be16};
 ghost use Rattle.stun_grammar.specs.AttributeTypes.{UNKNOWN_ATTRIBUTES};
-ghost use Rattle.stun_grammar.specs.Writing.{greatest_length};
 ghost use Rattle.stun_grammar.specs.Adding.{appended, grown_length};
 ghost use Rattle.stun_values.specs.TypeLists.{types_encoding};
 ghost use Rattle.stun_types.specs.Replies.{is_unknown, unknown_types};
@@ -11,11 +10,12 @@ ghost use Rattle.stun_server.specs.Reply.{comprehended};
 
 use crate::binding::are_bytes;
 use byteorder::{BigEndian, ByteOrder};
-use stun_attrs::{Attribute, EncodeValue, write_encoded};
-use stun_base::{AttributeType, MessageHeader, pad_attribute_len};
+use stun_attrs::{Attribute, EncodeValue};
+use stun_base::{AttributeType, pad_attribute_len};
 use stun_grammar::attribute_types;
 use stun_read::MessageAttributesIter;
 use stun_types::message::Message;
+use stun_write::append_encoded;
 
 /// Whether attributes of this type require comprehension, which the server has of none.
 fn is_unknown(atype: AttributeType) -> bool
@@ -125,27 +125,8 @@ pub(crate) fn with_unknown(len: usize, unknown: &UnknownTypes<'_>) -> usize
     len + 4 + pad_attribute_len(2 * unknown.count())
 }
 
-/// Writes an attribute after the first `len` bytes of `message`, which hold the message so far, and
-/// sets the length field to count it in, as `append_attribute` of `stun_write` does.
-#[tactic(auto, unfolding(stun_grammar::specs::Adding::appended))]
-pub(crate) fn append_encoded<V: EncodeValue>(
-    atype: AttributeType,
-    value: &V,
-    len: usize,
-    message: &mut [u8],
-)
-    requires header { 20 ≤ len }
-    requires room { grown_length len (length (V.bytes value.now)) ≤ length message.old }
-    requires fits { grown_length len (length (V.bytes value.now)) ≤ greatest_length }
-    ensures { message.new ≡ appended (take len message.old) atype.0 (V.bytes value.now)
-        ++ drop (grown_length len (length (V.bytes value.now))) message.old }
-{
-    let field = len + 4 + pad_attribute_len(value.value_length() as usize) - MessageHeader::LENGTH;
-    write_encoded(atype, value, &mut message[len..]);
-    BigEndian::write_u16(&mut message[2..4], field as u16);
-}
-
-/// Writes an UNKNOWN-ATTRIBUTES of these types in that way.
+/// Writes an UNKNOWN-ATTRIBUTES of these types after the first `len` bytes of `message`, which hold
+/// the message so far, and sets the length field to count it in.
 #[tactic(auto, using(stun_values::proofs::ListsLemmas::length_of_twos))]
 pub(crate) fn append_unknown(unknown: &UnknownTypes<'_>, len: usize, message: &mut [u8])
     requires header { 20 ≤ len }

@@ -1,17 +1,31 @@
 -- Writing into a slice of C's: what a call answers, and what the slice holds then (RFC 8489, sections
 -- 5 and 14).
-use Rattle.std.specs.Prelude.{◌≡◌, ℕ, ◌^◌, ◌++◌, List, [], length, take, drop, Option, None, Some, Result, Ok, Err, MatchOption, nat_lt, if◌then◌else◌}
-use Rattle.std.specs.Option.{option_map_or}
+use Rattle.std.specs.Prelude.{◌≡◌, ℕ, ◌^◌, ◌||◌, ◌++◌, List, [], length, take, drop, Option, None, Some, MatchOption, nat_lt, if◌then◌else◌}
+use Rattle.std.specs.List.{flat_map}
+use Rattle.std.specs.Option.{option_or}
+use Rattle.std.specs.Str.{is_utf8}
+use Rattle.std.specs.declared.net.socket_addr.SocketAddr.{SocketAddr}
 use Rattle.stun_grammar.specs.declared.error.StunWriteError.{StunWriteError}
-use Rattle.stun_grammar.specs.Numbers.{number}
-use Rattle.stun_grammar.specs.Steps.{Step}
+use Rattle.stun_grammar.specs.Numbers.{be16, number}
+use Rattle.stun_grammar.specs.AttributeTypes.{ERROR_CODE, UNKNOWN_ATTRIBUTES}
+use Rattle.stun_grammar.specs.Headers.{header_fault, id_field}
+use Rattle.stun_grammar.specs.Steps.{sign, integrity_value}
+use Rattle.stun_grammar.specs.Verdicts.{type_of_algorithm}
 use Rattle.stun_grammar.specs.Writing.{message_encoding}
-use Rattle.stun_grammar.specs.Adding.{appended, grown_length, add_refusal, any_refusal}
-use Rattle.stun_write.specs.Resuming.{message_types, resume_fault}
+use Rattle.stun_grammar.specs.Adding.{appended, grown_length}
+use Rattle.stun_keys.specs.declared.keys.integrity_key.IntegrityKey.{IntegrityKey}
+use Rattle.stun_keys.specs.Keys.{key_bytes}
+use Rattle.stun_values.specs.Addresses.{address_value, IsXored}
+use Rattle.stun_values.specs.ErrorValues.{error_value}
+use Rattle.stun_write.specs.Resuming.{resume_fault}
+use Rattle.stun_write.specs.ResumePoints.{any_in, step_in}
 use Rattle.stun_types_c.specs.declared.answer.Answer.{Answer}
+use Rattle.stun_types_c.specs.declared.address.Address.{Address}
 use Rattle.stun_types_c.specs.declared.reading.Id.{Id}
-use Rattle.stun_types_c.specs.Codes.{OK, TOO_LARGE, TOO_SMALL, BAD_ARGUMENT}
+use Rattle.stun_types_c.specs.Addresses.{ip_named, IsAt}
+use Rattle.stun_types_c.specs.Codes.{OK, TOO_LARGE, TOO_SMALL, OUT_OF_RANGE, INVALID_DATA, BAD_ARGUMENT, NO_KEY}
 use Rattle.stun_types_c.specs.Answers.{plain, counted, write_answer}
+use Rattle.stun_types_c.specs.Keys.{algorithm_named}
 
 -- a slice, and how many bytes of it are a message
 pub record Written : Type 0 where
@@ -39,16 +53,6 @@ Begins type id result old new =
     }))
     (λ answer. Refuses answer result old new)
 
--- the same for a call in Rattle, which answers how long the message is then
-abbrev pub PushesIn : Option StunWriteError → ℕ → List ℕ → Result ℕ StunWriteError → ℕ
-    → List ℕ → List ℕ → Type 0
-PushesIn refusal type value result count old new =
-    MatchOption refusal
-    ((result ≡ Ok (grown_length count (length value)))
-    × (new ≡ appended (take count old) type value
-    ++ drop (grown_length count (length value)) old))
-    (λ e. (result ≡ Err e) × (new ≡ old))
-
 -- an attribute of a type and a value is appended to the message, or it is refused; what stands
 -- behind the message stays
 abbrev pub Appends : Option StunWriteError → ℕ → List ℕ → Answer → Written → Written → Type 0
@@ -61,26 +65,78 @@ Appends refusal type value result old new =
     }))
     (λ e. Refuses (write_answer e) result old new)
 
--- the answer to a value that is too long for any attribute
-abbrev pub large_answer : List ℕ → ℕ → ℕ → ℕ → Answer
-large_answer slice count most n =
-    option_map_or (λ _. plain BAD_ARGUMENT) (resume_fault slice count) (counted TOO_LARGE most n)
-
--- the same where the message is tested first
-abbrev pub AppendsTo : (List ℕ → Option StunWriteError) → ℕ → (List ℕ → List ℕ) → Answer
-    → Written → Written → Type 0
-AppendsTo refusal type value result old new =
+-- the same where what is written is tested first, and then the value, whatever the message
+abbrev pub AppendsUnless : Option Answer → (List ℕ → Option StunWriteError) → ℕ
+    → (List ℕ → List ℕ) → Answer → Written → Written → Type 0
+AppendsUnless fault refusal type value result old new =
     let message = take old.count old.slice in
     MatchOption (resume_fault old.slice old.count)
+    (MatchOption fault
     (Appends (refusal message) type (value message) result old new)
+    (λ answer. Refuses answer result old new))
     (λ _. Refuses (plain BAD_ARGUMENT) result old new)
 
--- why an attribute of any type is refused by a message in a slice of so many bytes
-abbrev pub any_in : ℕ → ℕ → List ℕ → List ℕ → Option StunWriteError
-any_in size type value message =
-    any_refusal type value (message_types message) (length message) (Some size)
+abbrev pub AppendsTo : (List ℕ → Option StunWriteError) → ℕ → (List ℕ → List ℕ) → Answer
+    → Written → Written → Type 0
+AppendsTo = AppendsUnless None
 
--- why a step is
-abbrev pub step_in : ℕ → Step → List ℕ → Option StunWriteError
-step_in size step message =
-    add_refusal step (message_types message) (length message) (Some size)
+-- why there can be no value of n bytes or numbers
+abbrev pub long_answer : ℕ → ℕ → Option Answer
+long_answer most n = if nat_lt most n then Some (counted TOO_LARGE most n) else None
+
+-- an attribute of a type and a value is added
+abbrev pub AddsValue : ℕ → List ℕ → Answer → Written → Written → Type 0
+AddsValue type value result old new =
+    AppendsUnless (long_answer 65535 (length value)) (any_in (length old.slice) type value) type
+    (λ _. value) result old new
+
+-- an address of C's form is added as it is
+abbrev pub AddsAddress : Address → ℕ → Answer → Written → Written → Type 0
+AddsAddress address type result old new =
+    MatchOption (ip_named address) (Refuses (plain BAD_ARGUMENT) result old new)
+    (λ ip. (a : SocketAddr) × IsAt ip address.port a
+    × AppendsTo (any_in (length old.slice) type (address_value a)) type (λ _. address_value a)
+    result old new)
+
+-- an address of C's form is added XORed with the transaction ID in the slice
+abbrev pub AddsXorAddress : Address → ℕ → Answer → Written → Written → Type 0
+AddsXorAddress address type result old new =
+    MatchOption (ip_named address) (Refuses (plain BAD_ARGUMENT) result old new)
+    (λ ip. MatchOption (header_fault old.slice)
+    ((a xored : SocketAddr) × IsAt ip address.port a × IsXored (id_field old.slice) a xored
+    × AppendsTo (any_in (length old.slice) type (address_value xored)) type
+    (λ _. address_value xored) result old new)
+    (λ _. Refuses (plain BAD_ARGUMENT) result old new))
+
+-- why there is no such error: its code is none of 300 to 699, or its reason is too long or no text
+abbrev pub error_answer : ℕ → List ℕ → Option Answer
+error_answer code reason =
+    if nat_lt code 300 || nat_lt 699 code then Some (counted OUT_OF_RANGE 699 code) else
+    option_or (long_answer 763 (length reason))
+    (if is_utf8 reason then None else Some (plain INVALID_DATA))
+
+-- an ERROR-CODE is added (RFC 8489, section 14.8)
+abbrev pub AddsError : ℕ → List ℕ → Answer → Written → Written → Type 0
+AddsError code reason result old new =
+    let value = error_value code reason in
+    AppendsUnless (error_answer code reason) (any_in (length old.slice) ERROR_CODE value) ERROR_CODE
+    (λ _. value) result old new
+
+-- an UNKNOWN-ATTRIBUTES is added (RFC 8489, section 14.13)
+abbrev pub AddsTypes : List ℕ → Answer → Written → Written → Type 0
+AddsTypes types result old new =
+    let value = flat_map be16 types in
+    AppendsUnless (long_answer 32767 (length types))
+    (any_in (length old.slice) UNKNOWN_ATTRIBUTES value) UNKNOWN_ATTRIBUTES (λ _. value)
+    result old new
+
+-- the integrity attribute of an algorithm is added (RFC 8489, sections 14.5 and 14.6)
+abbrev pub Signs : Option IntegrityKey → ℕ → Answer → Written → Written → Type 0
+Signs held number result old new =
+    MatchOption (resume_fault old.slice old.count)
+    (MatchOption (algorithm_named number) (Refuses (plain BAD_ARGUMENT) result old new)
+    (λ algorithm. MatchOption held (Refuses (plain NO_KEY) result old new)
+    (λ key. AppendsTo (step_in (length old.slice) (sign algorithm (key_bytes key)))
+    (type_of_algorithm algorithm)
+    (λ message. integrity_value message (key_bytes key) algorithm) result old new)))
+    (λ _. Refuses (plain BAD_ARGUMENT) result old new)

@@ -15,6 +15,7 @@ mod key_handle;
 mod key_place;
 mod key_store;
 mod keys;
+mod new_values;
 mod passwords;
 mod printing;
 mod reading;

@@ -6,21 +6,14 @@ ghost use Rattle.stun_types_c.specs.Server.{RepliesTo};
 use crate::address::{Address, socket_of};
 use crate::answer::{Answer, plain, write_answer};
 use crate::codes;
-use std::alloc::Global;
 use std::net::SocketAddr;
 use stun_server::reply_into;
 
 /// Writes the reply to a datagram that came from an address.
-fn reply_to(
-    alloc: Global,
-    bytes: &[u8],
-    source: SocketAddr,
-    room: &mut [u8],
-    reply_length: &mut usize,
-) -> Answer
+fn reply_to(bytes: &[u8], source: SocketAddr, room: &mut [u8], reply_length: &mut usize) -> Answer
     ensures { RepliesTo source bytes.now result room.old room.new reply_length.old reply_length.new }
 {
-    match reply_into(alloc, source, bytes, room) {
+    match reply_into(source, bytes, room) {
         Ok(Some(length)) => {
             *reply_length = length;
             plain(codes::OK)
@@ -36,14 +29,13 @@ fn reply_to(
 /// Writes the reply to a datagram, if one is owed.
 #[unsafe(no_mangle)]
 pub extern "C" fn stun_types_binding_reply(
-    alloc: Global,
     bytes: &[u8],
     source: &Address,
     room: &mut [u8],
     reply_length: &mut usize,
 ) -> Answer {
     match socket_of(source) {
-        Some(source) => reply_to(alloc, bytes, source, room, reply_length),
+        Some(source) => reply_to(bytes, source, room, reply_length),
         None => plain(codes::BAD_ARGUMENT),
     }
 }

@@ -4,3 +4,4 @@ mod RunsLemmas
 mod ListedLemmas
 mod ResumingLemmas
 mod ResumedLemmas
+mod ResumedAddsLemmas

@@ -5,7 +5,7 @@ ghost use Rattle.stun_grammar.specs.Writing.{greatest_length};
 ghost use Rattle.stun_grammar.specs.Adding.{appended, grown_length};
 
 use byteorder::{BigEndian, ByteOrder};
-use stun_attrs::{AttributeWrite, write_attribute};
+use stun_attrs::{AttributeWrite, EncodeValue, write_attribute, write_encoded};
 use stun_base::{AttributeType, pad_attribute_len};
 
 /// Copies `more` to the place after the first `len` bytes of `slice`.
@@ -74,5 +74,29 @@ pub fn append_value(atype: AttributeType, value: &[u8], len: usize, message: &mu
 {
     let field = len + 4 + pad_attribute_len(value.len()) - 20;
     write_attribute(atype, value, &mut message[len..]);
+    BigEndian::write_u16(&mut message[2..4], field as u16);
+}
+
+/// As [`append_attribute`], with a type and a value that is encoded straight into the message.
+///
+/// # Requires
+///
+/// `len` is at least 20, and `len + 4 + pad_attribute_len(value.value_length())` at most 65555 and
+/// at most `message.len()`.
+#[tactic(auto, unfolding(stun_grammar::specs::Adding::appended))]
+pub fn append_encoded<V: EncodeValue>(
+    atype: AttributeType,
+    value: &V,
+    len: usize,
+    message: &mut [u8],
+)
+    requires header { 20 ≤ len }
+    requires room { grown_length len (length (V.bytes value.now)) ≤ length message.old }
+    requires fits { grown_length len (length (V.bytes value.now)) ≤ greatest_length }
+    ensures { message.new ≡ appended (take len message.old) atype.0 (V.bytes value.now)
+        ++ drop (grown_length len (length (V.bytes value.now))) message.old }
+{
+    let field = len + 4 + pad_attribute_len(value.value_length() as usize) - 20;
+    write_encoded(atype, value, &mut message[len..]);
     BigEndian::write_u16(&mut message[2..4], field as u16);
 }

@@ -1,11 +1,12 @@
 //! Beginning a message.
 
-ghost use Rattle.std.specs.Prelude.{◌≡◌, ◌^◌, ◌<◌, []};
+ghost use Rattle.std.specs.Prelude.{◌≡◌, ◌^◌, ◌<◌, ◌≤◌, ◌++◌, [], length, drop};
 ghost use Rattle.stun_grammar.specs.Writing.{message_encoding};
 ghost use Rattle.stun_grammar.specs.Adding.{Fits};
 ghost use Rattle.stun_write.specs.Writers.{BeginsMessage, IsBegun, Pushes};
 
 use crate::MessageWrite;
+use crate::append::write_at;
 use byteorder::{BigEndian, ByteOrder};
 use stun_base::{MAGIC_COOKIE, MessageType, StunWriteError, TransactionId};
 
@@ -24,6 +25,19 @@ fn header_bytes(mtype: MessageType, transaction_id: TransactionId) -> [u8; 20]
     BigEndian::write_u32(&mut header[8..], (id >> 64) as u32);
     BigEndian::write_u64(&mut header[12..], (id % (1 << 64)) as u64);
     header
+}
+
+/// Writes the header of a message without attributes at the start of `slice`: the twenty bytes with
+/// which [`begin_message`] begins (RFC 8489, section 5). What follows stays.
+///
+/// # Requires
+///
+/// `slice.len()` is at least 20.
+pub fn write_message_header(mtype: MessageType, transaction_id: TransactionId, slice: &mut [u8])
+    requires { 20 ≤ length slice.old }
+    ensures { slice.new ≡ message_encoding mtype transaction_id [] ++ drop 20 slice.old }
+{
+    write_at(slice, 0, &header_bytes(mtype, transaction_id));
 }
 
 /// Begins a message: writes the twenty bytes of its header, with the length 0, into `write`, and

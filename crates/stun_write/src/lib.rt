@@ -13,6 +13,7 @@ mod protect;
 mod readers;
 mod refusals;
 mod resume_point;
+mod resumed;
 mod slice;
 mod steps;
 mod types;
@@ -21,8 +22,8 @@ mod writer;
 
 pub use adds::{MessageWriteExt, add_value};
 pub use among::{first_among, is_among};
-pub use append::{append_attribute, append_value};
-pub use begin::{begin_message, begin_message_into};
+pub use append::{append_attribute, append_encoded, append_value};
+pub use begin::{begin_message, begin_message_into, write_message_header};
 pub use laws::{appended_resumes, begun_resumes};
 pub use resume_point::ResumePoint;
 pub use slice::MessageWriteMutSlice;

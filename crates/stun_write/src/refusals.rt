@@ -1,10 +1,10 @@
 //! Why an attribute can't be added.
 
-ghost use Rattle.std.specs.Prelude.{◌≡◌, ◌+◌, ◌≤◌, length, OnOk, MatchResult, None, Some};
+ghost use Rattle.std.specs.Prelude.{◌≡◌, ◌+◌, ◌^◌, ◌<◌, ◌≤◌, ℕ, List, length, OnOk, MatchResult, None, Some};
 ghost use Rattle.std.specs.Option.{option_map, option_or};
 ghost use Rattle.stun_grammar.specs.Steps.{barring_types};
 ghost use Rattle.stun_grammar.specs.Writing.{greatest_length};
-ghost use Rattle.stun_grammar.specs.Adding.{first_of, Fits, exists_refusal, order_refusal, room_refusal};
+ghost use Rattle.stun_grammar.specs.Adding.{first_of, numbers, Fits, exists_refusal, order_refusal, room_refusal};
 ghost use Rattle.stun_write.specs.Additions.{step_of};
 
 use crate::MessageWrite;
@@ -24,22 +24,22 @@ pub(crate) enum Addition {
     Fingerprint,
 }
 
-/// The first written type that bars an addition.
-fn found_before<W: MessageWrite>(write: &W, addition: Addition) -> Option<AttributeType>
-    ensures { option_map (λ found. found.0) result
-        ≡ first_of (barring_types (step_of addition)) (W.state write.now).types }
+/// The types that end a message, in the order in which their attributes stand.
+static ENDING: [AttributeType; 3] = [
+    AttributeType(MESSAGE_INTEGRITY),
+    AttributeType(MESSAGE_INTEGRITY_SHA256),
+    AttributeType(FINGERPRINT),
+];
+
+/// The types that bar an addition.
+#[inline(always)]
+pub(crate) fn barring(addition: Addition) -> &'static [AttributeType]
+    ensures { numbers result.now ≡ barring_types (step_of addition) }
 {
-    let integrity = AttributeType(MESSAGE_INTEGRITY);
-    let sha256 = AttributeType(MESSAGE_INTEGRITY_SHA256);
-    let fingerprint = AttributeType(FINGERPRINT);
     match addition {
-        Addition::Ordinary | Addition::Integrity(IntegrityAlgorithm::Sha1) => {
-            write.has_any_attribute(&[integrity, sha256, fingerprint])
-        }
-        Addition::Integrity(IntegrityAlgorithm::Sha256) => {
-            write.has_any_attribute(&[sha256, fingerprint])
-        }
-        Addition::Fingerprint => write.has_any_attribute(&[fingerprint]),
+        Addition::Ordinary | Addition::Integrity(IntegrityAlgorithm::Sha1) => &ENDING,
+        Addition::Integrity(IntegrityAlgorithm::Sha256) => &ENDING[1..],
+        Addition::Fingerprint => &ENDING[2..],
     }
 }
 
@@ -55,35 +55,42 @@ fn exists(addition: Addition, found: AttributeType) -> StunWriteError
     }
 }
 
-/// Checks that no written type bars an addition.
+/// Checks that no type was found that bars an addition.
 #[tactic(auto, unfolding(stun_grammar::specs::Adding::order_refusal))]
-fn check_order<W: MessageWrite>(write: &W, addition: Addition) -> Result<(), StunWriteError>
-    ensures { MatchResult result
-        (λ _. order_refusal (step_of addition) (W.state write.now).types ≡ None)
-        (λ e. order_refusal (step_of addition) (W.state write.now).types ≡ Some e) }
+#[inline(always)]
+pub(crate) fn check_order(
+    found: Option<AttributeType>,
+    addition: Addition,
+) -> Result<(), StunWriteError>
+    ensures { (types : List ℕ)
+        → option_map (λ type. type.0) found ≡ first_of (barring_types (step_of addition)) types
+        → MatchResult result (λ _. order_refusal (step_of addition) types ≡ None)
+        (λ e. order_refusal (step_of addition) types ≡ Some e) }
 {
-    match found_before(write, addition) {
+    match found {
         None => Ok(()),
         Some(found) => Err(exists(addition, found)),
     }
 }
 
-/// Checks that twenty bytes are written, and that with `added` bytes more the message is no longer
-/// than the writer takes, nor than a message may be.
+/// Checks that of `len` bytes twenty are written, and that with `added` bytes more the message is no
+/// longer than the writer takes, nor than a message may be.
 #[tactic(auto, unfolding(stun_grammar::specs::Adding::room_refusal))]
-fn check_room<W: MessageWrite>(write: &W, added: usize) -> Result<(), StunWriteError>
-    requires { added ≤ 65540 }
+#[inline(always)]
+pub(crate) fn check_room(
+    len: usize,
+    greatest: Option<usize>,
+    added: usize,
+) -> Result<(), StunWriteError>
+    requires bound { len < 2 ^ 63 }
+    requires added { added ≤ 65540 }
     ensures answer { MatchResult result
-        (λ _. room_refusal (length (W.state write.now).bytes) (W.state write.now).greatest
-        (length (W.state write.now).bytes + added) ≡ None)
-        (λ e. room_refusal (length (W.state write.now).bytes) (W.state write.now).greatest
-        (length (W.state write.now).bytes + added) ≡ Some e) }
-    ensures header { OnOk result (20 ≤ length (W.state write.now).bytes) }
-    ensures room { OnOk result
-        (Fits (W.state write.now).greatest (length (W.state write.now).bytes + added)) }
-    ensures fits { OnOk result (length (W.state write.now).bytes + added ≤ greatest_length) }
+        (λ _. room_refusal len greatest (len + added) ≡ None)
+        (λ e. room_refusal len greatest (len + added) ≡ Some e) }
+    ensures header { OnOk result (20 ≤ len) }
+    ensures room { OnOk result (Fits greatest (len + added)) }
+    ensures fits { OnOk result (len + added ≤ greatest_length) }
 {
-    let len = write.len();
     if len < 20 {
         return Err(StunWriteError::TooSmall {
             expected: 20,
@@ -91,7 +98,7 @@ fn check_room<W: MessageWrite>(write: &W, added: usize) -> Result<(), StunWriteE
         });
     }
     let grown_length = len + added;
-    if let Some(most) = write.max_size()
+    if let Some(most) = greatest
         && most < grown_length
     {
         return Err(StunWriteError::TooSmall {
@@ -128,6 +135,6 @@ pub(crate) fn check_add<W: MessageWrite>(
         (Fits (W.state write.now).greatest (length (W.state write.now).bytes + added)) }
     ensures fits { OnOk result (length (W.state write.now).bytes + added ≤ greatest_length) }
 {
-    check_order(write, addition)?;
-    check_room(write, added)
+    check_order(write.has_any_attribute(barring(addition)), addition)?;
+    check_room(write.len(), write.max_size(), added)
 }
