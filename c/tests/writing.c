@@ -308,6 +308,18 @@ static const struct {
       {ERROR, 400, "61FF", OTHER(STUN_TYPES_INVALID_DATA)},
       {ERROR, 400, "C3", OTHER(STUN_TYPES_INVALID_DATA)}},
      HEADER("0000")},
+    {"errors of which several apply, behind a FINGERPRINT",
+     31,
+     HEADER("0008") "80280004 3756C07F",
+     {{ERROR, 299, "FF*764", STUN_TYPES_OUT_OF_RANGE, 0, 699, 299},
+      {ERROR, 400, "FF*764", LARGE(763, 764)},
+      {ERROR, 400, "FF", OTHER(STUN_TYPES_INVALID_DATA)},
+      {ERROR, 400, "61", EXISTING(0x8028)},
+      {ADD, 0x8028, "A5*65536", LARGE(65535, 65536)},
+      {ADD, 0x8028, "A5", STUN_TYPES_ENDING_TYPE, 0x8028, 0, 0},
+      {ADD, 0x8022, "A5", EXISTING(0x8028)},
+      {UNKNOWN, 0, "01*65536", LARGE(32767, 32768)}},
+     HEADER("0008") "80280004 3756C07F"},
     {"the longest reason",
      792,
      NULL,
@@ -483,6 +495,13 @@ static void test_broken(void) {
         {SIGN, STUN_TYPES_SHA1, "pass", OTHER(STUN_TYPES_BAD_ARGUMENT)},
         {SIGN, STUN_TYPES_SHA256, "pass", OTHER(STUN_TYPES_BAD_ARGUMENT)},
         {FINGER, 0, NULL, OTHER(STUN_TYPES_BAD_ARGUMENT)},
+        /* what is written is tested before what is handed in */
+        {ADD, 0x8028, "61", OTHER(STUN_TYPES_BAD_ARGUMENT)},
+        {ADD, 0x8022, "A5*65536", OTHER(STUN_TYPES_BAD_ARGUMENT)},
+        {ERROR, 299, "6E6F", OTHER(STUN_TYPES_BAD_ARGUMENT)},
+        {ERROR, 400, "61*764", OTHER(STUN_TYPES_BAD_ARGUMENT)},
+        {ERROR, 400, "FF", OTHER(STUN_TYPES_BAD_ARGUMENT)},
+        {UNKNOWN, 0, "01*65536", OTHER(STUN_TYPES_BAD_ARGUMENT)},
     };
     size_t i, j;
     for (i = 0; i < COUNT(broken); i++) {
