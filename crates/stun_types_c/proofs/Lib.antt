@@ -1,3 +1,5 @@
 mod TwoWords
 mod WalksLemmas
 mod PushesLemmas
+mod TypeListsLemmas
+mod KeptLemmas
