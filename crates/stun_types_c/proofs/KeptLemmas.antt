@@ -1,22 +1,23 @@
 -- A transaction that C keeps as numbers.
-use Rattle.std.proofs.Common.{◌≡◌, ℕ, zero, suc, ◌+◌, ◌-◌, ◌*◌, ◌/◌, ◌%◌, ◌^◌, ◌<◌, ◌≤◌, Bool, true, false, List, Option, None, Some, Result, Ok, Err, refl, sym, ap, subst, ◌∙◌, inl, inr, arith}
-use Rattle.std.specs.Prelude.{is_some, nat_lt, min, ◌==◌, if◌then◌else◌}
+use Rattle.std.proofs.Common.{◌≡◌, ℕ, zero, suc, ◌+◌, ◌-◌, ◌/◌, ◌%◌, ◌^◌, ◌<◌, ◌≤◌, Bool, true, false, List, Option, None, Some, refl, sym, ap, subst, ◌∙◌, inl, inr, arith}
+use Rattle.std.specs.Prelude.{is_some, nat_lt, min, not, ◌==◌, if◌then◌else◌}
 use Rattle.std.specs.Int.{from_bool}
 use Rattle.std.specs.Duration.{as_nanos}
 use Rattle.std.specs.declared.time.Duration.{Duration}
 use Rattle.std.proofs.Math.Nat.{mul-div_cancel, min-eq_left}
-use Rattle.std.proofs.lemmas.Bool.{cases_Bool, eqb-true, ltb-true, ltb-false, le-ltb}
-use Rattle.stun_grammar.specs.Parsing.{parse_fault}
+use Rattle.std.proofs.lemmas.Bool.{cases_Bool, ltb-true, ltb-false, le-ltb}
+use Rattle.stun_grammar.specs.Headers.{type_field}
 use Rattle.stun_base.specs.declared.transport.TransportType.{TransportType}
-use Rattle.stun_base.specs.declared.transport.TransportType.TheVariants.{Udp, Tcp}
-use Rattle.stun_keys.specs.declared.keys.integrity_key.IntegrityKey.{IntegrityKey}
+use Rattle.stun_base.specs.MessageTypes.{class_of}
 use Rattle.stun_transactions.specs.declared.course.Action.{Action}
 use Rattle.stun_transactions.specs.declared.course.Action.TheVariants.{Send, WaitUntil, Ended}
 use Rattle.stun_transactions.specs.declared.course.Course.{Course}
 use Rattle.stun_transactions.specs.declared.course.End.{End}
 use Rattle.stun_transactions.specs.declared.course.End.TheVariants.{Answered, TimedOut, IntegrityViolated, Refused, Cancelled, TransportFailed}
-use Rattle.stun_transactions.specs.declared.parts.Mechanism.{Mechanism}
-use Rattle.stun_transactions.specs.declared.parts.Mechanism.TheVariants.{ShortTerm, LongTerm}
+use Rattle.stun_transactions.specs.declared.guard.Protection.{Protection}
+use Rattle.stun_transactions.specs.declared.guard.Protection.TheVariants.{Unprotected, ShortTerm, LongTerm}
+use Rattle.stun_transactions.specs.declared.guard.Signed.{Signed}
+use Rattle.stun_transactions.specs.declared.terms.BeginError.TheVariants.{NotARequest}
 use Rattle.stun_transactions.specs.declared.parts.PartsError.{PartsError}
 use Rattle.stun_transactions.specs.declared.parts.PartsError.TheVariants.{SignedOtherwise, SentTooOften, SentTooLate}
 use Rattle.stun_transactions.specs.declared.parts.TransactionParts.{TransactionParts}
@@ -28,57 +29,35 @@ use Rattle.stun_transactions.specs.declared.schedule.Schedule.{Schedule}
 use Rattle.stun_transactions.specs.declared.transaction.Transaction.{Transaction}
 use Rattle.stun_transactions.specs.Courses.{later, ended_by, Polls}
 use Rattle.stun_transactions.specs.Outcomes.{after}
-use Rattle.stun_transactions.specs.Parts.{plan_in, course_in, at_course, parts_of, is_signed_otherwise, parts_fault, key_fault}
-use Rattle.stun_transactions.specs.Schedules.{requests_over, requests_in}
-use Rattle.stun_transactions.specs.Transactions.{terms_of, course_of}
+use Rattle.stun_transactions.specs.Parts.{plan_in, course_in, at_course, mechanism_of, parts_of, is_signed_otherwise, parts_fault}
+use Rattle.stun_transactions.specs.Schedules.{requests_in}
+use Rattle.stun_transactions.specs.Guards.{signed_by, is_signed, protects, IsKeptAs}
+use Rattle.stun_transactions.specs.Terms.{is_request, mismatch, begin_fault}
+use Rattle.stun_transactions.specs.Transactions.{terms_of, course_of, Begins}
 use Rattle.stun_types_c.specs.declared.answer.Answer.{Answer}
 use Rattle.stun_types_c.specs.declared.transactions.KeptTransaction.{KeptTransaction}
 use Rattle.stun_types_c.specs.declared.transactions.Waits.{Waits}
 use Rattle.stun_types_c.specs.declared.transactions.Wanted.{Wanted}
 use Rattle.stun_types_c.specs.Answers.{plain}
 use Rattle.stun_types_c.specs.Codes.{OK}
-use Rattle.stun_types_c.specs.Transactions.{transport_numbered, mechanism_numbered, end_number, number_of_end, signed_number, IsAt, millis_of, waits_fault, TellsParts, Keeps, KeepsNone, with_course, GoesOn, Ends, PollsKept, wanted_of, terms_answer, begin_answer, Copies}
+use Rattle.stun_types_c.specs.Transactions.{transport_numbered, mechanism_numbered, number_of_end, signed_number, IsAt, millis_of, Schedules, Keeps, AreSame, with_course, GoesOn, Ends, PollsKept, wanted_of, begun_in_c}
 
 -- ---- Numbers
 
--- no end has another number
-pub no_end : (n : ℕ) → 6 < n → (end : Option End) → ¬ (n ≡ number_of_end end)
-no_end n more None is = absurd (omega (arith, more, is))
-no_end n more (Some Answered) is = absurd (omega (arith, more, is))
-no_end n more (Some TimedOut) is = absurd (omega (arith, more, is))
-no_end n more (Some IntegrityViolated) is = absurd (omega (arith, more, is))
-no_end n more (Some Refused) is = absurd (omega (arith, more, is))
-no_end n more (Some Cancelled) is = absurd (omega (arith, more, is))
-no_end n more (Some TransportFailed) is = absurd (omega (arith, more, is))
-
--- a transport and a mechanism have small numbers
-pub transport_small : (n : ℕ) → is_some (transport_numbered n) ≡ true → n ≤ 1
-transport_small n is = elim (cases_Bool (n == 0)) [
-  | inl none ↦ omega (arith, eqb-true n 0 none)
-  | inr some ↦ elim (cases_Bool (n == 1)) [
-    | inl one ↦ omega (arith, eqb-true n 1 one)
-    | inr more ↦ let wrong = rw (some, more) at is in cc
-  ]
-]
-
-pub mechanism_small : (n : ℕ) (m : Option Mechanism) → mechanism_numbered n ≡ Some m → n ≤ 2
-mechanism_small n m is = elim (cases_Bool (n == 0)) [
-  | inl none ↦ omega (arith, eqb-true n 0 none)
-  | inr some ↦ elim (cases_Bool (n == 1)) [
-    | inl one ↦ omega (arith, eqb-true n 1 one)
-    | inr more ↦ elim (cases_Bool (n == 2)) [
-      | inl two ↦ omega (arith, eqb-true n 2 two)
-      | inr other ↦ let wrong = rw (some, more, other) at is in cc
-    ]
-  ]
-]
+abbrev end_numbered : ℕ → Option End
+end_numbered n = if n == 0 then None else (
+    if n == 1 then Some Answered else (
+    if n == 2 then Some TimedOut else (
+    if n == 3 then Some IntegrityViolated else (
+    if n == 4 then Some Refused else (
+    if n == 5 then Some Cancelled else Some TransportFailed)))))
 
 -- a number tells which integrity attributes there are
-pub signed_is : (n : ℕ) (sha1 sha256 : Bool) → n ≡ signed_number sha1 sha256 → (n ≤ 3) × (sha1 ≡ (n % 2 == 1)) × (sha256 ≡ nat_lt 1 n)
-signed_is n true true is = rw is (omega arith, refl, refl)
-signed_is n true false is = rw is (omega arith, refl, refl)
-signed_is n false true is = rw is (omega arith, refl, refl)
-signed_is n false false is = rw is (omega arith, refl, refl)
+pub signed_is : (n : ℕ) (sha1 sha256 : Bool) → n ≡ signed_number sha1 sha256 → (sha1 ≡ (n % 2 == 1)) × (sha256 ≡ nat_lt 1 n)
+signed_is n true true is = rw is (refl, refl)
+signed_is n true false is = rw is (refl, refl)
+signed_is n false true is = rw is (refl, refl)
+signed_is n false false is = rw is (refl, refl)
 
 pub bit_told : (n : ℕ) → n ≤ 1 → n ≡ from_bool (n == 1)
 bit_told zero few = refl
@@ -100,60 +79,47 @@ whole n moment at =
     let below : n ≤ 2 ^ 64 - 1 = omega (arith, at.fits) in
     ap (λ (k : ℕ). min k (2 ^ 64 - 1)) quotient ∙ min-eq_left below
 
+-- the end of a number
+end_back : (end : Option End) → end_numbered (number_of_end end) ≡ end
+end_back None = refl
+end_back (Some Answered) = refl
+end_back (Some TimedOut) = refl
+end_back (Some IntegrityViolated) = refl
+end_back (Some Refused) = refl
+end_back (Some Cancelled) = refl
+end_back (Some TransportFailed) = refl
+
+bit_back : (b : Bool) → (from_bool b == 1) ≡ b
+bit_back true = refl
+bit_back false = refl
+
 -- ---- Two transactions of the same numbers
 
-same_requests : (s t : Schedule) (x y : TransportType) → x ≡ y → s.requests ≡ t.requests → requests_over s x ≡ requests_over t y
-same_requests s t Udp Udp same requests = requests
-same_requests s t Tcp Tcp same requests = refl
-same_requests s t Udp Tcp same requests = absurd cc
-same_requests s t Tcp Udp same requests = absurd cc
-
-module _ (kept : KeptTransaction) (p q : TransactionParts) (of_p : TellsParts kept p) (of_q : TellsParts kept q) where
-  same_fault : parts_fault p ≡ parts_fault q
-  same_fault =
-      let a = signed_is kept.signed_by p.sha1 p.sha256 of_p.signed in
-      let b = signed_is kept.signed_by q.sha1 q.sha256 of_q.signed in
-      let sha1 : p.sha1 ≡ q.sha1 = a.1 ∙ sym b.1 in
-      let sha256 : p.sha256 ≡ q.sha256 = a.2 ∙ sym b.2 in
-      let mechanism : p.mechanism ≡ q.mechanism = cc (of_p.mechanism, of_q.mechanism) in
-      let transport : p.transport ≡ q.transport = cc (of_p.transport, of_q.transport) in
-      let requests : requests_in (plan_in p) ≡ requests_in (plan_in q) = same_requests p.schedule q.schedule p.transport q.transport transport (of_p.schedule.numbers.requests_is ∙ sym of_q.schedule.numbers.requests_is) in
-      let sent : p.sent ≡ q.sent = of_p.course.sent ∙ sym of_q.course.sent in
-      let last : as_nanos p.last ≡ as_nanos q.last = of_p.course.last.nanos ∙ sym of_q.course.last.nanos in
-      let clock : as_nanos p.clock ≡ as_nanos q.clock = of_p.course.clock.nanos ∙ sym of_q.course.clock.nanos in
-      rw (sha1, sha256, mechanism, requests, sent, last, clock) refl
-
--- ---- Numbers that keep no transaction
-
-bit_small : (b : Bool) → from_bool b ≤ 1
-bit_small true = omega arith
-bit_small false = omega arith
-
-module _ (kept : KeptTransaction) where
-  pub no_signature : 3 < kept.signed_by → KeepsNone kept
-  no_signature more parts keeps =
-      let small = (signed_is kept.signed_by parts.sha1 parts.sha256 keeps.tells.signed).0 in omega (arith, more, small)
-
-  pub no_violation : 1 < kept.violated → KeepsNone kept
-  no_violation more parts keeps = omega (arith, more, keeps.tells.course.violated, bit_small parts.violated)
-
-  pub no_method : 0xf000 ≤ kept.method → KeepsNone kept
-  no_method more parts keeps = omega (arith, more, keeps.tells.method_valid)
-
-  pub no_schedule : is_some (waits_fault kept.schedule) ≡ true → KeepsNone kept
-  no_schedule fault parts keeps = let wrong = rw keeps.tells.schedule.sound at fault in cc
-
-  pub no_transport : transport_numbered kept.transport ≡ None → KeepsNone kept
-  no_transport none parts keeps = cc (none, keeps.tells.transport)
-
-  pub no_mechanism : mechanism_numbered kept.protection ≡ None → KeepsNone kept
-  no_mechanism none parts keeps = cc (none, keeps.tells.mechanism)
-
-  pub no_state : ((end : Option End) → ¬ (kept.end ≡ number_of_end end)) → KeepsNone kept
-  no_state none parts keeps = none parts.end keeps.tells.course.end
-
-  pub faulty : (p : TransactionParts) (e : PartsError) → TellsParts kept p → parts_fault p ≡ Some e → KeepsNone kept
-  faulty p e tells fault parts keeps = let same = same_fault kept p parts tells keeps.tells in cc (same, fault, keeps.sound)
+pub same_parts : (kept : KeptTransaction) (one other : TransactionParts) → Keeps kept one → Keeps kept other → AreSame one other
+same_parts kept one other of_one of_other =
+    let a = of_one.tells in
+    let b = of_other.tells in
+    let shown = signed_is kept.signed_by one.sha1 one.sha256 a.signed in
+    let told = signed_is kept.signed_by other.sha1 other.sha256 b.signed in
+    record {
+      schedule = record {
+        rto_is = a.schedule.numbers.rto_is ∙ sym b.schedule.numbers.rto_is;
+        requests_is = a.schedule.numbers.requests_is ∙ sym b.schedule.numbers.requests_is;
+        last_wait_is = a.schedule.numbers.last_wait_is ∙ sym b.schedule.numbers.last_wait_is;
+        reliable_wait_is = a.schedule.numbers.reliable_wait_is ∙ sym b.schedule.numbers.reliable_wait_is;
+      };
+      transport = cc (a.transport, b.transport);
+      method = a.method ∙ sym b.method;
+      id = a.id ∙ sym b.id;
+      sha1 = shown.0 ∙ sym told.0;
+      sha256 = shown.1 ∙ sym told.1;
+      mechanism = cc (a.mechanism, b.mechanism);
+      sent = a.course.sent ∙ sym b.course.sent;
+      last = a.course.last.nanos ∙ sym b.course.last.nanos;
+      clock = a.course.clock.nanos ∙ sym b.course.clock.nanos;
+      violated = sym (bit_back one.violated) ∙ ap (λ (n : ℕ). n == 1) (sym a.course.violated ∙ b.course.violated) ∙ bit_back other.violated;
+      end = sym (end_back one.end) ∙ ap end_numbered (sym a.course.end ∙ b.course.end) ∙ end_back other.end;
+    }
 
 -- ---- A transaction that goes on
 
@@ -315,27 +281,58 @@ polls now moment old new before wanted parts polled_parts action result at keeps
       ),
     )
 
--- ---- A transaction that begins
-
--- why none does, at each of the tests
-module _ (waits : Waits) (transport protection : ℕ) (held : Option IntegrityKey) (d : List ℕ) where
-  abbrev answer : Option Answer
-  answer = begin_answer waits transport protection held d
-
-  pub none_begins : (m : Option Mechanism) → parse_fault d ≡ None → is_some (transport_numbered transport) ≡ true → mechanism_numbered protection ≡ Some m → answer ≡ terms_answer waits m held d
-  none_begins m message moves by = rw (message, moves, by) refl
-
 -- ---- What is received
 
 -- a transaction whose course changes has the same parts but for that
 pub gone_on : (old new : Transaction) → terms_of new ≡ terms_of old → parts_of new ≡ at_course (parts_of old) (course_of new)
 gone_on old new same = rw same refl
 
--- a copy of a key is one that the transaction takes
-pub copied : (mechanism : Option Mechanism) (held key : Option IntegrityKey) (made : Result (Option IntegrityKey) Answer) → Copies mechanism held made → made ≡ Ok key → key_fault mechanism key ≡ None
-copied None held key made copies is = let none : key ≡ None = cc in rw none refl
-copied (Some m) None key made copies is = absurd cc
-copied (Some ShortTerm) (Some held) None made copies is = absurd (rw is at copies)
-copied (Some LongTerm) (Some held) None made copies is = absurd (rw is at copies)
-copied (Some ShortTerm) (Some held) (Some key) made copies is = refl
-copied (Some LongTerm) (Some held) (Some key) made copies is = let copy = rw is at copies in rw copy.algorithm_is refl
+-- ---- A transaction that begins
+
+same_mechanism : (by kept : Protection) → IsKeptAs by kept → mechanism_of kept ≡ mechanism_of by
+same_mechanism Unprotected kept is = ap mechanism_of is
+same_mechanism (ShortTerm key) kept is = ap mechanism_of is
+same_mechanism (LongTerm key) (LongTerm kept) is = refl
+same_mechanism (LongTerm key) Unprotected is = absurd is
+same_mechanism (LongTerm key) (ShortTerm kept) is = absurd is
+
+-- a request that is no fault is signed exactly where it is protected
+as_signed : (request signed : Bool) (by : Protection) → (if request then mismatch (protects by) signed else Some NotARequest) ≡ None → (if is_some (mechanism_of by) then not signed else signed) ≡ false
+as_signed false signed by free = absurd cc
+as_signed true true Unprotected free = absurd cc
+as_signed true false Unprotected free = refl
+as_signed true true (ShortTerm key) free = refl
+as_signed true false (ShortTerm key) free = absurd cc
+as_signed true true (LongTerm key) free = refl
+as_signed true false (LongTerm key) free = absurd cc
+
+pub begun_keeps : (d : List ℕ) (waits : Waits) (transport protection now : ℕ) (schedule : Schedule) (over : TransportType) (by : Protection) (moment : Duration) (transaction : Transaction)
+    → Schedules waits schedule → transport_numbered transport ≡ Some over → mechanism_numbered protection ≡ Some (mechanism_of by) → IsAt now moment → begin_fault by d ≡ None → Begins d schedule over by moment transaction
+    → Keeps (begun_in_c d waits transport protection now) (parts_of transaction)
+begun_keeps d waits transport protection now schedule over by moment transaction scheduled moves protected at free begins =
+    let parts = parts_of transaction in
+    let course = course_of transaction in
+    let mechanism = same_mechanism by (terms_of transaction).protection begins.terms.protection_is in
+    let signed : is_signed_otherwise parts ≡ false =
+    rw (mechanism, begins.terms.signed_is) (as_signed (is_request (class_of (type_field d))) (is_signed (signed_by d)) by free) in
+    let sent : parts.sent ≡ 0 = ap (λ (c : Course). c.sent) begins.course in
+    let same : as_nanos parts.last ≡ as_nanos parts.clock = ap (λ (c : Course). as_nanos c.last) begins.course ∙ sym (ap (λ (c : Course). as_nanos c.clock) begins.course) in
+    record {
+      tells = record {
+        schedule = subst (Schedules waits) (sym (ap (λ (p : Plan). p.schedule) begins.terms.plan_is)) scheduled;
+        transport = moves ∙ ap Some (sym (ap (λ (p : Plan). p.transport) begins.terms.plan_is));
+        method = begins.terms.method_is;
+        method_valid = omega arith;
+        id = begins.terms.id_is;
+        signed = ap (λ (s : Signed). signed_number s.sha1 s.sha256) (sym begins.terms.signed_is);
+        mechanism = protected ∙ ap Some (sym mechanism);
+        course = record {
+          sent = sent;
+          last = subst (IsAt now) (sym (ap (λ (c : Course). c.last) begins.course)) at;
+          clock = subst (IsAt now) (sym (ap (λ (c : Course). c.clock) begins.course)) at;
+          violated = ap (λ (c : Course). from_bool c.violated) (sym begins.course);
+          end = ap (λ (c : Course). number_of_end c.end) (sym begins.course);
+        };
+      };
+      sound = rw (signed, le-ltb (requests_in (plan_in parts)) parts.sent (omega (arith, sent)), le-ltb (as_nanos parts.clock) (as_nanos parts.last) (omega (arith, same))) refl;
+    }

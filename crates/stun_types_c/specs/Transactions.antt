@@ -132,6 +132,22 @@ abbrev pub MatchKept : KeptTransaction → Type 0 → (TransactionParts → Type
 MatchKept kept P Q =
     (KeepsNone kept × P) ⊎ ((parts : TransactionParts) × Keeps kept parts × Q parts)
 
+-- two transactions are the same: moments are compared by how long they are
+pub record AreSame (one other : TransactionParts) : Type 0 where
+  pub schedule : IsSchedule other.schedule.rto other.schedule.requests other.schedule.last_wait
+      other.schedule.reliable_wait one.schedule
+  pub transport : one.transport ≡ other.transport
+  pub method : one.method ≡ other.method
+  pub id : one.id ≡ other.id
+  pub sha1 : one.sha1 ≡ other.sha1
+  pub sha256 : one.sha256 ≡ other.sha256
+  pub mechanism : one.mechanism ≡ other.mechanism
+  pub sent : one.sent ≡ other.sent
+  pub last : as_nanos one.last ≡ as_nanos other.last
+  pub clock : as_nanos one.clock ≡ as_nanos other.clock
+  pub violated : one.violated ≡ other.violated
+  pub end : one.end ≡ other.end
+
 -- ---- What calls leave
 
 -- the numbers of the same transaction that has come so far

@@ -1,13 +1,16 @@
 //! A client's transaction, which C keeps as plain numbers (RFC 8489, sections 6.2, 6.3.3, 6.3.4,
 //! 9.1.4 and 9.2.5).
 
-ghost use Rattle.std.specs.Prelude.{◌≡◌, Option, true, is_some, IfSome, MatchOption, MatchResult, option_map};
+ghost use Rattle.std.specs.Prelude.{◌≡◌, ℕ, List, Option, true, is_some, IfSome, MatchOption, MatchResult, option_map};
 ghost use Rattle.stun_types.specs.Message.{message_bytes};
 ghost use Rattle.stun_transactions.specs.declared.received.Outcome.{Outcome as ToldOutcome};
 ghost use Rattle.stun_transactions.specs.Outcomes.{outcome_of, after};
-ghost use Rattle.stun_transactions.specs.Parts.{course_in, at_course, whole_fault};
+ghost use Rattle.stun_transactions.specs.declared.guard.Protection.{Protection};
+ghost use Rattle.stun_transactions.specs.Parts.{course_in, at_course, mechanism_of, parts_of, whole_fault};
+ghost use Rattle.stun_transactions.specs.Terms.{begin_fault};
+ghost use Rattle.stun_transactions.specs.Transactions.{Begins};
 ghost use Rattle.stun_types_c.specs.KeyHandles.{held_key};
-ghost use Rattle.stun_types_c.specs.Transactions.{transport_numbered, mechanism_numbered, end_number, number_of_end, IsAt, millis_of, waits_fault, Schedules, Keeps, KeepsNone, with_course, Ends, PollsKept, request_fault, request_answer, signed_in, BeginsKept, outcome_in_c, IsCopyFor, Copies, IsOutcome, HearsKept};
+ghost use Rattle.stun_types_c.specs.Transactions.{transport_numbered, mechanism_numbered, end_number, number_of_end, IsAt, millis_of, waits_fault, Schedules, Keeps, KeepsNone, AreSame, with_course, Ends, PollsKept, request_fault, request_answer, signed_in, begun_in_c, BeginsKept, outcome_in_c, IsCopyFor, Copies, IsOutcome, HearsKept};
 
 use crate::answer::{Answer, parse_answer, plain};
 use crate::codes;
@@ -463,3 +466,21 @@ pub extern "C" fn stun_types_transaction_fail(kept: &mut KeptTransaction) -> Ans
     store(kept, &parts);
     plain(codes::OK)
 }
+
+/// A law: numbers keep at most one transaction.
+#[tactic(auto, using(crate::proofs::KeptLemmas::same_parts))]
+pub fn numbers_keep_one_transaction()
+    ensures { (kept : KeptTransaction) (one other : TransactionParts)
+        → Keeps kept one → Keeps kept other → AreSame one other }
+{}
+
+/// A law: the numbers of a transaction that begins keep just that transaction.
+#[tactic(auto, using(crate::proofs::KeptLemmas::begun_keeps))]
+pub fn what_begins_is_kept()
+    ensures { (d : List ℕ) (waits : Waits) (transport protection now : ℕ) (schedule : Schedule)
+        (over : TransportType) (by : Protection) (moment : Duration) (transaction : Transaction)
+        → Schedules waits schedule → transport_numbered transport ≡ Some over
+        → mechanism_numbered protection ≡ Some (mechanism_of by) → IsAt now moment
+        → begin_fault by d ≡ None → Begins d schedule over by moment transaction
+        → Keeps (begun_in_c d waits transport protection now) (parts_of transaction) }
+{}

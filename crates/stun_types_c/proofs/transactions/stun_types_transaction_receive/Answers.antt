@@ -1,5 +1,4 @@
-use Rattle.std.proofs.Common.{◌≡◌, Ok, Err, refl, sym, ap, subst, ◌∙◌, inr}
-use Rattle.stun_types_c.specs.declared.transactions.KeptTransaction.{KeptTransaction}
+use Rattle.std.proofs.Common.{Ok, Err, refl, sym, ap, subst, ◌∙◌, inr}
 use Rattle.stun_transactions.specs.declared.parts.TransactionParts.{TransactionParts}
 use Rattle.stun_transactions.specs.Outcomes.{after}
 use Rattle.stun_transactions.specs.Parts.{course_in}
