@@ -2,3 +2,5 @@ mod TwoWords
 mod WalksLemmas
 mod NewValuesLemmas
 mod XoredLemmas
+mod TypeListsLemmas
+mod KeptLemmas

@@ -45,3 +45,12 @@ BAD_ARGUMENT = 13
 
 abbrev pub NO_KEY : ℕ
 NO_KEY = 14
+
+abbrev pub NOT_A_REQUEST : ℕ
+NOT_A_REQUEST = 16
+
+abbrev pub NOT_SIGNED : ℕ
+NOT_SIGNED = 17
+
+abbrev pub SIGNED : ℕ
+SIGNED = 18

@@ -12,3 +12,5 @@ pub mod Writing
 pub mod Server
 pub mod Channels
 pub mod Users
+pub mod TypeLists
+pub mod Transactions

@@ -1,8 +1,16 @@
 //! A client's transaction, which C keeps as plain numbers (RFC 8489, sections 6.2, 6.3.3, 6.3.4,
 //! 9.1.4 and 9.2.5).
 
-ghost use Rattle.std.specs.Prelude.{◌≡◌};
+ghost use Rattle.std.specs.Prelude.{◌≡◌, ℕ, List, Option, true, is_some, IfSome, MatchOption, MatchResult, option_map};
+ghost use Rattle.stun_types.specs.Message.{message_bytes};
+ghost use Rattle.stun_transactions.specs.declared.received.Outcome.{Outcome as ToldOutcome};
+ghost use Rattle.stun_transactions.specs.Outcomes.{outcome_of, after};
+ghost use Rattle.stun_transactions.specs.declared.guard.Protection.{Protection};
+ghost use Rattle.stun_transactions.specs.Parts.{course_in, at_course, mechanism_of, parts_of, whole_fault};
+ghost use Rattle.stun_transactions.specs.Terms.{begin_fault};
+ghost use Rattle.stun_transactions.specs.Transactions.{Begins};
 ghost use Rattle.stun_types_c.specs.KeyHandles.{held_key};
+ghost use Rattle.stun_types_c.specs.Transactions.{transport_numbered, mechanism_numbered, end_number, number_of_end, IsAt, millis_of, waits_fault, Schedules, Keeps, KeepsNone, AreSame, with_course, Ends, PollsKept, request_fault, request_answer, signed_in, begun_in_c, BeginsKept, outcome_in_c, IsCopyFor, Copies, IsOutcome, HearsKept};
 
 use crate::answer::{Answer, parse_answer, plain};
 use crate::codes;
@@ -90,7 +98,9 @@ pub struct Outcome {
 }
 
 /// The transport of a number.
-fn transport_of(number: u32) -> Option<TransportType> {
+fn transport_of(number: u32) -> Option<TransportType>
+    ensures { result ≡ transport_numbered number }
+{
     match number {
         0 => Some(TransportType::Udp),
         1 => Some(TransportType::Tcp),
@@ -99,7 +109,9 @@ fn transport_of(number: u32) -> Option<TransportType> {
 }
 
 /// The mechanism of a number, if it is the number of one or of none.
-fn mechanism_of(number: u32) -> Option<Option<Mechanism>> {
+fn mechanism_of(number: u32) -> Option<Option<Mechanism>>
+    ensures { result ≡ mechanism_numbered number }
+{
     match number {
         0 => Some(None),
         1 => Some(Some(Mechanism::ShortTerm)),
@@ -109,7 +121,10 @@ fn mechanism_of(number: u32) -> Option<Option<Mechanism>> {
 }
 
 /// The end of a number, if it is the number of one or of none.
-fn end_of(number: u8) -> Option<Option<End>> {
+fn end_of(number: u8) -> Option<Option<End>>
+    ensures { MatchOption result ((end : Option End) → ¬ (number ≡ number_of_end end))
+        (λ end. number ≡ number_of_end end) }
+{
     match number {
         0 => Some(None),
         1 => Some(Some(End::Answered)),
@@ -123,7 +138,9 @@ fn end_of(number: u8) -> Option<Option<End>> {
 }
 
 /// The number of an end.
-fn end_number(end: End) -> u8 {
+fn end_number(end: End) -> u8
+    ensures { result ≡ end_number end }
+{
     match end {
         End::Answered => 1,
         End::TimedOut => 2,
@@ -135,18 +152,31 @@ fn end_number(end: End) -> u8 {
 }
 
 /// The schedule of C's numbers, if they are those of one.
-fn schedule_of(waits: &Waits) -> Option<Schedule> {
+fn schedule_of(waits: &Waits) -> Option<Schedule>
+    ensures { MatchOption result (is_some (waits_fault waits.now) ≡ true) (Schedules waits.now) }
+{
     let schedule = Schedule::new(waits.rto, waits.requests, waits.last_wait).ok()?;
     Some(schedule.with_reliable_wait(waits.reliable_wait))
 }
 
+/// The moment that is so many milliseconds.
+fn moment_of(millis: u64) -> Duration
+    ensures { IsAt millis result }
+{
+    Duration::from_millis(millis)
+}
+
 /// Milliseconds of a moment; `u64::MAX` where they are more.
-fn millis(moment: Duration) -> u64 {
+fn millis(moment: Duration) -> u64
+    ensures { result ≡ millis_of moment }
+{
     u64::try_from(moment.as_millis()).unwrap_or(u64::MAX)
 }
 
 /// The transaction that C keeps; `None` where its numbers are those of none.
-fn parts_of(kept: &KeptTransaction) -> Option<TransactionParts> {
+fn parts_of(kept: &KeptTransaction) -> Option<TransactionParts>
+    ensures { MatchOption result (KeepsNone kept.now) (Keeps kept.now) }
+{
     if kept.signed_by > 3 || kept.violated > 1 || !Method::is_valid(kept.method) {
         return None;
     }
@@ -159,8 +189,8 @@ fn parts_of(kept: &KeptTransaction) -> Option<TransactionParts> {
         sha256: kept.signed_by > 1,
         mechanism: mechanism_of(u32::from(kept.protection))?,
         sent: kept.sent,
-        last: Duration::from_millis(kept.last),
-        clock: Duration::from_millis(kept.clock),
+        last: moment_of(kept.last),
+        clock: moment_of(kept.clock),
         violated: kept.violated == 1,
         end: end_of(kept.end)?,
     };
@@ -169,7 +199,9 @@ fn parts_of(kept: &KeptTransaction) -> Option<TransactionParts> {
 }
 
 /// Stores how far a transaction has come.
-fn store(kept: &mut KeptTransaction, parts: &TransactionParts) {
+fn store(kept: &mut KeptTransaction, parts: &TransactionParts)
+    ensures { kept.new ≡ with_course kept.old (course_in parts.now) }
+{
     kept.sent = parts.sent;
     kept.last = millis(parts.last);
     kept.clock = millis(parts.clock);
@@ -179,7 +211,8 @@ fn store(kept: &mut KeptTransaction, parts: &TransactionParts) {
 
 /// Whether a handle holds a key.
 fn has_key(alloc: Global, key: &mut KeyHandle) -> bool
-    ensures { held_key key.new ≡ held_key key.old }
+    ensures key { held_key key.new ≡ held_key key.old }
+    ensures has { result ≡ is_some (held_key key.old) }
 {
     match take(key, alloc) {
         Some(held) => {
@@ -190,7 +223,27 @@ fn has_key(alloc: Global, key: &mut KeyHandle) -> bool
     }
 }
 
+/// The number of the integrity attributes that a request shows, or why a message isn't a request
+/// that is protected, or one that isn't.
+fn signed_request(message: &Message<'_>, protected: bool) -> Result<u8, Answer>
+    ensures { let d = message_bytes message.now in MatchResult result
+        (λ signed. (request_fault protected d ≡ None) × (signed ≡ signed_in d))
+        (λ answer. option_map request_answer (request_fault protected d) ≡ Some answer) }
+{
+    if !message.has_class(MessageClass::Request) {
+        return Err(plain(codes::NOT_A_REQUEST));
+    }
+    let sha1 = message.has_attribute(MessageIntegrity::TYPE);
+    let sha256 = message.has_attribute(MessageIntegritySha256::TYPE);
+    match (protected, sha1 || sha256) {
+        (true, false) => Err(plain(codes::NOT_SIGNED)),
+        (false, true) => Err(plain(codes::SIGNED)),
+        _ => Ok(u8::from(sha1) + 2 * u8::from(sha256)),
+    }
+}
+
 /// Begins the transaction of a request.
+#[tactic(auto, using(stun_grammar::proofs::HeadersLemmas::header_there, stun_grammar::proofs::ParsingLemmas::parsed_header))]
 #[unsafe(no_mangle)]
 pub extern "C" fn stun_types_transaction_begin(
     alloc: Global,
@@ -202,33 +255,32 @@ pub extern "C" fn stun_types_transaction_begin(
     key: &mut KeyHandle,
     now: u64,
 ) -> Answer
-    ensures { held_key key.new ≡ held_key key.old }
+    ensures key { held_key key.new ≡ held_key key.old }
+    ensures begins { BeginsKept request.now schedule.now transport protection now
+        (held_key key.old) result kept.old kept.new }
 {
     let message = match Message::from_bytes(request) {
         Ok(message) => message,
         Err(error) => return parse_answer(error),
     };
-    let (Some(_), Some(mechanism)) = (transport_of(transport), mechanism_of(protection)) else {
+    if transport_of(transport).is_none() {
+        return plain(codes::BAD_ARGUMENT);
+    }
+    let Some(mechanism) = mechanism_of(protection) else {
         return plain(codes::BAD_ARGUMENT);
     };
     if schedule_of(schedule).is_none() {
         return plain(codes::OUT_OF_RANGE);
     }
-    if !message.has_class(MessageClass::Request) {
-        return plain(codes::NOT_A_REQUEST);
-    }
-    let sha1 = message.has_attribute(MessageIntegrity::TYPE);
-    let sha256 = message.has_attribute(MessageIntegritySha256::TYPE);
-    match (mechanism.is_some(), sha1 || sha256) {
-        (true, false) => return plain(codes::NOT_SIGNED),
-        (false, true) => return plain(codes::SIGNED),
-        _ => {}
-    }
+    let signed_by = match signed_request(&message, mechanism.is_some()) {
+        Ok(signed_by) => signed_by,
+        Err(answer) => return answer,
+    };
     if mechanism.is_some() && !has_key(alloc, key) {
         return plain(codes::NO_KEY);
     }
     let mut id = [0; 12];
-    id.copy_from_slice(&message.transaction_id().value().to_be_bytes()[4..]);
+    id.copy_from_slice(&request[8..20]);
     *kept = KeptTransaction {
         schedule: *schedule,
         last: now,
@@ -236,13 +288,9 @@ pub extern "C" fn stun_types_transaction_begin(
         id: Id { bytes: id },
         sent: 0,
         method: message.method().value(),
-        transport: u8::from(transport == 1),
-        protection: match mechanism {
-            None => 0,
-            Some(Mechanism::ShortTerm) => 1,
-            Some(Mechanism::LongTerm) => 2,
-        },
-        signed_by: u8::from(sha1) + 2 * u8::from(sha256),
+        transport: transport as u8,
+        protection: protection as u8,
+        signed_by,
         violated: 0,
         end: 0,
         reserved: 0,
@@ -256,11 +304,15 @@ pub extern "C" fn stun_types_transaction_poll(
     kept: &mut KeptTransaction,
     now: u64,
     wanted: &mut Wanted,
-) -> Answer {
+) -> Answer
+    ensures { PollsKept now result
+        (record { kept = kept.old; wanted = wanted.old })
+        (record { kept = kept.new; wanted = wanted.new }) }
+{
     let Some(mut parts) = parts_of(kept) else {
         return plain(codes::BAD_ARGUMENT);
     };
-    let action = parts.poll(Duration::from_millis(now));
+    let action = parts.poll(moment_of(now));
     store(kept, &parts);
     *wanted = match action {
         Action::Send => Wanted {
@@ -283,7 +335,9 @@ pub extern "C" fn stun_types_transaction_poll(
 }
 
 /// What received bytes are, as C's numbers.
-fn outcome_of(received: &Received<'_>) -> Outcome {
+fn outcome_of(received: &Received<'_>) -> Outcome
+    ensures { result ≡ outcome_in_c (outcome_of received.now) }
+{
     let (kind, number) = match received {
         Received::NotForThis => (0, 0),
         Received::Discarded(Discard::NotAuthentic) => (1, 0),
@@ -300,11 +354,36 @@ fn outcome_of(received: &Received<'_>) -> Outcome {
 
 /// A copy of the key that a transaction of this mechanism validates with: a long-term key works with
 /// both algorithms (RFC 8489, section 9.2.5).
-fn copy_for(alloc: Global, mechanism: Mechanism, key: &IntegrityKey) -> Option<IntegrityKey> {
+fn copy_for(alloc: Global, mechanism: Mechanism, key: &IntegrityKey) -> Option<IntegrityKey>
+    ensures { IfSome result (IsCopyFor mechanism key.now) }
+{
     let copy = key.clone(alloc).ok()?;
     match mechanism {
         Mechanism::ShortTerm => Some(copy),
         Mechanism::LongTerm => Some(copy.for_both()),
+    }
+}
+
+/// The key of a transaction of this mechanism, or of none: a copy of the one that a handle holds.
+fn key_for(
+    alloc: Global,
+    mechanism: Option<Mechanism>,
+    key: &mut KeyHandle,
+) -> Result<Option<IntegrityKey>, Answer>
+    ensures key { held_key key.new ≡ held_key key.old }
+    ensures copies { Copies mechanism (held_key key.old) result }
+{
+    let Some(mechanism) = mechanism else {
+        return Ok(None);
+    };
+    let Some(held) = take(key, alloc) else {
+        return Err(plain(codes::NO_KEY));
+    };
+    let copy = copy_for(alloc, mechanism, &held);
+    put_back(key, held);
+    match copy {
+        Some(copy) => Ok(Some(copy)),
+        None => Err(plain(codes::OUT_OF_MEMORY)),
     }
 }
 
@@ -314,7 +393,13 @@ fn hear(
     key: Option<IntegrityKey>,
     bytes: &[u8],
     understood: &[AttributeType],
-) -> Result<(TransactionParts, Outcome), PartsError> {
+) -> Result<(TransactionParts, Outcome), PartsError>
+    ensures { MatchResult result
+        (λ told. (outcome : ToldOutcome) × IsOutcome parts key understood.now bytes.now outcome
+        × (told.0 ≡ at_course parts (after outcome (course_in parts)))
+        × (told.1 ≡ outcome_in_c outcome))
+        (λ e. whole_fault parts key ≡ Some e) }
+{
     let mut transaction = Transaction::from_parts(parts, key)?;
     let outcome = outcome_of(&transaction.receive(bytes, understood));
     let (parts, _key) = transaction.into_parts();
@@ -331,24 +416,20 @@ pub extern "C" fn stun_types_transaction_receive(
     understood: &[u16],
     received: &mut Outcome,
 ) -> Answer
-    ensures { held_key key.new ≡ held_key key.old }
+    ensures key { held_key key.new ≡ held_key key.old }
+    ensures hears { HearsKept (held_key key.old) understood.now bytes.now result
+        (record { kept = kept.old; told = received.old })
+        (record { kept = kept.new; told = received.new }) }
 {
-    let (Some(parts), Some(understood)) = (parts_of(kept), types_of(understood)) else {
+    let Some(understood) = types_of(understood) else {
         return plain(codes::BAD_ARGUMENT);
     };
-    let copy = match parts.mechanism {
-        None => None,
-        Some(mechanism) => {
-            let Some(held) = take(key, alloc) else {
-                return plain(codes::NO_KEY);
-            };
-            let copy = copy_for(alloc, mechanism, &held);
-            put_back(key, held);
-            match copy {
-                Some(copy) => Some(copy),
-                None => return plain(codes::OUT_OF_MEMORY),
-            }
-        }
+    let Some(parts) = parts_of(kept) else {
+        return plain(codes::BAD_ARGUMENT);
+    };
+    let copy = match key_for(alloc, parts.mechanism, key) {
+        Ok(copy) => copy,
+        Err(answer) => return answer,
     };
     match hear(parts, copy, bytes, understood.as_slice()) {
         Ok((parts, outcome)) => {
@@ -362,7 +443,9 @@ pub extern "C" fn stun_types_transaction_receive(
 
 /// Ends a transaction, unless it has ended: the caller wants no response.
 #[unsafe(no_mangle)]
-pub extern "C" fn stun_types_transaction_cancel(kept: &mut KeptTransaction) -> Answer {
+pub extern "C" fn stun_types_transaction_cancel(kept: &mut KeptTransaction) -> Answer
+    ensures { Ends End.Cancelled result kept.old kept.new }
+{
     let Some(mut parts) = parts_of(kept) else {
         return plain(codes::BAD_ARGUMENT);
     };
@@ -373,7 +456,9 @@ pub extern "C" fn stun_types_transaction_cancel(kept: &mut KeptTransaction) -> A
 
 /// Ends a transaction, unless it has ended: the transport failed.
 #[unsafe(no_mangle)]
-pub extern "C" fn stun_types_transaction_fail(kept: &mut KeptTransaction) -> Answer {
+pub extern "C" fn stun_types_transaction_fail(kept: &mut KeptTransaction) -> Answer
+    ensures { Ends End.TransportFailed result kept.old kept.new }
+{
     let Some(mut parts) = parts_of(kept) else {
         return plain(codes::BAD_ARGUMENT);
     };
@@ -381,3 +466,21 @@ pub extern "C" fn stun_types_transaction_fail(kept: &mut KeptTransaction) -> Ans
     store(kept, &parts);
     plain(codes::OK)
 }
+
+/// A law: numbers keep at most one transaction.
+#[tactic(auto, using(crate::proofs::KeptLemmas::same_parts))]
+pub fn numbers_keep_one_transaction()
+    ensures { (kept : KeptTransaction) (one other : TransactionParts)
+        → Keeps kept one → Keeps kept other → AreSame one other }
+{}
+
+/// A law: the numbers of a transaction that begins keep just that transaction.
+#[tactic(auto, using(crate::proofs::KeptLemmas::begun_keeps))]
+pub fn what_begins_is_kept()
+    ensures { (d : List ℕ) (waits : Waits) (transport protection now : ℕ) (schedule : Schedule)
+        (over : TransportType) (by : Protection) (moment : Duration) (transaction : Transaction)
+        → Schedules waits schedule → transport_numbered transport ≡ Some over
+        → mechanism_numbered protection ≡ Some (mechanism_of by) → IsAt now moment
+        → begin_fault by d ≡ None → Begins d schedule over by moment transaction
+        → Keeps (begun_in_c d waits transport protection now) (parts_of transaction) }
+{}

@@ -1,6 +1,7 @@
 //! Lists of attribute types.
 
-ghost use Rattle.std.specs.Prelude.{◌≤◌};
+ghost use Rattle.std.specs.Prelude.{◌≡◌, ◌<◌, ◌≤◌, length, take, MatchOption};
+ghost use Rattle.stun_types_c.specs.TypeLists.{types_numbered};
 
 use crate::answer::{Answer, plain};
 use crate::attribute::ShownAttribute;
@@ -22,13 +23,18 @@ pub(crate) struct FewTypes {
 
 impl FewTypes {
     /// The types.
-    pub(crate) fn as_slice(&self) -> &[AttributeType] {
+    pub(crate) fn as_slice(&self) -> &[AttributeType]
+        ensures { result.now ≡ take self.now.count self.now.all }
+    {
         &self.all[..self.count]
     }
 }
 
 /// The types of C's numbers; `None` where there are more than 64.
-pub(crate) fn types_of(numbers: &[u16]) -> Option<FewTypes> {
+pub(crate) fn types_of(numbers: &[u16]) -> Option<FewTypes>
+    ensures { MatchOption result (64 < length numbers.now)
+        (λ few. (length numbers.now ≤ 64) × (take few.count few.all ≡ types_numbered numbers.now)) }
+{
     if numbers.len() > MOST {
         return None;
     }

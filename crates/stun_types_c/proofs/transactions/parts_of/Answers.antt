@@ -1,0 +1,24 @@
+use Rattle.std.proofs.Common.{rules, refl}
+use Rattle.stun_types_c.proofs.KeptLemmas.{bit_told, signed_told}
+use Rattle.stun_types_c.proofs.transactions.parts_of.Goals as goal
+
+pub returns : goal.returns
+returns c = record {
+  tells = record {
+    schedule = c.in_ok-schedule_of.ensures;
+    transport = search rules;
+    method = search rules;
+    method_valid = search rules;
+    id = search rules;
+    signed = signed_told c.args.kept.now.signed_by c.if-kept-gt3.false;
+    mechanism = search rules;
+    course = record {
+      sent = refl;
+      last = c.moment_of.ensures;
+      clock = c.moment_of-2.ensures;
+      violated = bit_told c.args.kept.now.violated c.if-kept-gt1.false;
+      end = c.in_ok-end_of.ensures;
+    };
+  };
+  sound = search rules;
+}

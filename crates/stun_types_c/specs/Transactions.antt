@@ -1,0 +1,328 @@
+-- A client's transaction, which C keeps as plain numbers (RFC 8489, sections 6.2, 6.3.3, 6.3.4, 9.1.4
+-- and 9.2.5). Moments are whole milliseconds since a beginning of C's choice.
+use Rattle.std.specs.Prelude.{◌≡◌, ℕ, ◌+◌, ◌-◌, ◌*◌, ◌/◌, ◌^◌, ◌<◌, ◌≤◌, ◌==◌, ◌⊎◌, Bool, List, length, slice_range, Option, None, Some, Result, Ok, Err, is_some, min, not, ◌&&◌, MatchOption, MatchResult, IsSomeAnd, option_map, if◌then◌else◌}
+use Rattle.std.specs.Int.{from_bool}
+use Rattle.std.specs.Option.{option_map_or, option_or}
+use Rattle.std.specs.Duration.{as_nanos}
+use Rattle.std.specs.declared.time.Duration.{Duration}
+use Rattle.stun_grammar.specs.declared.attribute_type.AttributeType.{AttributeType}
+use Rattle.stun_grammar.specs.Headers.{type_field}
+use Rattle.stun_grammar.specs.Numbers.{number}
+use Rattle.stun_grammar.specs.Parsing.{parse_fault}
+use Rattle.stun_base.specs.declared.transport.TransportType.{TransportType}
+use Rattle.stun_base.specs.declared.transport.TransportType.TheVariants.{Udp, Tcp}
+use Rattle.stun_base.specs.MessageTypes.{class_of, method_of}
+use Rattle.stun_keys.specs.declared.keys.integrity_key.IntegrityKey.{IntegrityKey}
+use Rattle.stun_keys.specs.Keys.{IsKey, key_bytes, key_algorithm}
+use Rattle.stun_transactions.specs.declared.course.Action.{Action}
+use Rattle.stun_transactions.specs.declared.course.Action.TheVariants.{Send, WaitUntil, Ended}
+use Rattle.stun_transactions.specs.declared.course.Course.{Course}
+use Rattle.stun_transactions.specs.declared.course.End.{End}
+use Rattle.stun_transactions.specs.declared.course.End.TheVariants.{Answered, TimedOut, IntegrityViolated, Refused, Cancelled, TransportFailed}
+use Rattle.stun_transactions.specs.declared.parts.Mechanism.{Mechanism}
+use Rattle.stun_transactions.specs.declared.parts.Mechanism.TheVariants.{ShortTerm, LongTerm}
+use Rattle.stun_transactions.specs.declared.parts.TransactionParts.{TransactionParts}
+use Rattle.stun_transactions.specs.declared.received.Discard.TheVariants.{NotAuthentic, BidDown, UnsignedBadRequest}
+use Rattle.stun_transactions.specs.declared.received.Failure.TheVariants.{IntegrityViolated as Violated, UnknownAttribute, NoErrorCode}
+use Rattle.stun_transactions.specs.declared.received.Outcome.{Outcome}
+use Rattle.stun_transactions.specs.declared.received.Outcome.TheVariants.{NotForThis, Discarded, Failed, Success, Error}
+use Rattle.stun_transactions.specs.declared.schedule.Schedule.{Schedule}
+use Rattle.stun_transactions.specs.declared.schedule.ScheduleError.{ScheduleError}
+use Rattle.stun_transactions.specs.declared.terms.BeginError.{BeginError}
+use Rattle.stun_transactions.specs.declared.terms.BeginError.TheVariants.{NotARequest, NotSigned, Signed}
+use Rattle.stun_transactions.specs.declared.transaction.Transaction.{Transaction}
+use Rattle.stun_transactions.specs.Courses.{Polls, ended_by}
+use Rattle.stun_transactions.specs.Guards.{signed_by, is_signed}
+use Rattle.stun_transactions.specs.Outcomes.{after}
+use Rattle.stun_transactions.specs.Parts.{plan_in, course_in, at_course, parts_of, key_of, parts_fault}
+use Rattle.stun_transactions.specs.Receiving.{heard}
+use Rattle.stun_transactions.specs.Schedules.{schedule_fault, IsSchedule}
+use Rattle.stun_transactions.specs.Terms.{is_request, mismatch}
+use Rattle.stun_transactions.specs.Transactions.{terms_of, course_of}
+use Rattle.stun_types_c.specs.declared.answer.Answer.{Answer}
+use Rattle.stun_types_c.specs.declared.transactions.KeptTransaction.{KeptTransaction}
+use Rattle.stun_types_c.specs.declared.transactions.Outcome.{Outcome as OutcomeOut}
+use Rattle.stun_types_c.specs.declared.transactions.Waits.{Waits}
+use Rattle.stun_types_c.specs.declared.transactions.Wanted.{Wanted}
+use Rattle.stun_types_c.specs.Answers.{plain, parse_answer}
+use Rattle.stun_types_c.specs.TypeLists.{types_numbered}
+use Rattle.stun_types_c.specs.Codes.{OK, OUT_OF_MEMORY, OUT_OF_RANGE, BAD_ARGUMENT, NO_KEY, NOT_A_REQUEST, NOT_SIGNED, SIGNED}
+
+-- ---- What each number means
+
+-- the transport of a number
+abbrev pub transport_numbered : ℕ → Option TransportType
+transport_numbered number =
+    if number == 0 then Some Udp else (if number == 1 then Some Tcp else None)
+
+-- the mechanism of a number, which is that of one or of none
+abbrev pub mechanism_numbered : ℕ → Option (Option Mechanism)
+mechanism_numbered number =
+    if number == 0 then Some None else (
+    if number == 1 then Some (Some ShortTerm) else (
+    if number == 2 then Some (Some LongTerm) else None))
+
+-- the number of an end, and of no end
+abbrev pub end_number : End → ℕ
+end_number Answered = 1
+end_number TimedOut = 2
+end_number IntegrityViolated = 3
+end_number Refused = 4
+end_number Cancelled = 5
+end_number TransportFailed = 6
+
+abbrev pub number_of_end : Option End → ℕ
+number_of_end end = option_map_or end_number end 0
+
+-- the number of the integrity attributes that a request shows
+abbrev pub signed_number : (sha1 sha256 : Bool) → ℕ
+signed_number sha1 sha256 = from_bool sha1 + 2 * from_bool sha256
+
+-- a moment is so many milliseconds, a number of 64 bits
+pub record IsAt (millis : ℕ) (moment : Duration) : Type 0 where
+  pub fits : millis < 2 ^ 64
+  pub nanos : as_nanos moment ≡ millis * 1_000_000
+
+-- the whole milliseconds of a moment, or the greatest number of 64 bits where they are more
+abbrev pub millis_of : Duration → ℕ
+millis_of moment = min (as_nanos moment / 1_000_000) (2 ^ 64 - 1)
+
+-- why no schedule has these numbers
+abbrev pub waits_fault : Waits → Option ScheduleError
+waits_fault waits = schedule_fault waits.rto waits.requests waits.last_wait
+
+-- the schedule of these numbers
+pub record Schedules (waits : Waits) (schedule : Schedule) : Type 0 where
+  pub sound : waits_fault waits ≡ None
+  pub numbers :
+      IsSchedule waits.rto waits.requests waits.last_wait waits.reliable_wait schedule
+
+-- ---- Which transaction C keeps
+
+-- how far it has come
+pub record TellsCourse (kept : KeptTransaction) (course : Course) : Type 0 where
+  pub sent : course.sent ≡ kept.sent
+  pub last : IsAt kept.last course.last
+  pub clock : IsAt kept.clock course.clock
+  pub violated : kept.violated ≡ from_bool course.violated
+  pub end : kept.end ≡ number_of_end course.end
+
+-- its parts
+pub record TellsParts (kept : KeptTransaction) (parts : TransactionParts) : Type 0 where
+  pub schedule : Schedules kept.schedule parts.schedule
+  pub transport : transport_numbered kept.transport ≡ Some parts.transport
+  pub method : parts.method ≡ kept.method
+  pub method_valid : kept.method < 0xf000
+  pub id : parts.id ≡ number kept.id.bytes
+  pub signed : kept.signed_by ≡ signed_number parts.sha1 parts.sha256
+  pub mechanism : mechanism_numbered kept.protection ≡ Some parts.mechanism
+  pub course : TellsCourse kept (course_in parts)
+
+-- the numbers keep a transaction of these parts
+pub record Keeps (kept : KeptTransaction) (parts : TransactionParts) : Type 0 where
+  pub tells : TellsParts kept parts
+  pub sound : parts_fault parts ≡ None
+
+-- they keep none
+abbrev pub KeepsNone : KeptTransaction → Type 0
+KeepsNone kept = (parts : TransactionParts) → ¬ Keeps kept parts
+
+-- P where they keep none, and Q of the transaction that they keep
+abbrev pub MatchKept : KeptTransaction → Type 0 → (TransactionParts → Type 0) → Type 0
+MatchKept kept P Q =
+    (KeepsNone kept × P) ⊎ ((parts : TransactionParts) × Keeps kept parts × Q parts)
+
+-- two transactions are the same: moments are compared by how long they are
+pub record AreSame (one other : TransactionParts) : Type 0 where
+  pub schedule : IsSchedule other.schedule.rto other.schedule.requests other.schedule.last_wait
+      other.schedule.reliable_wait one.schedule
+  pub transport : one.transport ≡ other.transport
+  pub method : one.method ≡ other.method
+  pub id : one.id ≡ other.id
+  pub sha1 : one.sha1 ≡ other.sha1
+  pub sha256 : one.sha256 ≡ other.sha256
+  pub mechanism : one.mechanism ≡ other.mechanism
+  pub sent : one.sent ≡ other.sent
+  pub last : as_nanos one.last ≡ as_nanos other.last
+  pub clock : as_nanos one.clock ≡ as_nanos other.clock
+  pub violated : one.violated ≡ other.violated
+  pub end : one.end ≡ other.end
+
+-- ---- What calls leave
+
+-- the numbers of the same transaction that has come so far
+abbrev pub with_course : KeptTransaction → Course → KeptTransaction
+with_course kept course = record kept {
+  sent = course.sent;
+  last = millis_of course.last;
+  clock = millis_of course.clock;
+  violated = from_bool course.violated;
+  end = number_of_end course.end;
+}
+
+-- a transaction goes on, and nothing of it is lost
+pub record GoesOn (parts : TransactionParts) (course : Course)
+    (old new : KeptTransaction) : Type 0 where
+  pub numbers : new ≡ with_course old course
+  pub keeps : Keeps new (at_course parts course)
+
+-- a transaction ends, unless it has ended
+abbrev pub Ends : End → Answer → KeptTransaction → KeptTransaction → Type 0
+Ends end result old new =
+    MatchKept old ((result ≡ plain BAD_ARGUMENT) × (new ≡ old))
+    (λ parts. (result ≡ plain OK) × GoesOn parts (ended_by end (course_in parts)) old new)
+
+-- what is wanted, in C's numbers
+abbrev pub wanted_of : Action → Wanted
+wanted_of Send = record { kind = 0; end = 0; until = 0 }
+wanted_of (WaitUntil until) = record { kind = 1; end = 0; until = millis_of until }
+wanted_of (Ended end) = record { kind = 2; end = end_number end; until = 0 }
+
+-- what C keeps, and what it is told to do
+pub record Polled : Type 0 where
+  pub kept : KeptTransaction
+  pub wanted : Wanted
+
+-- a transaction of these parts is polled at a moment
+pub record PollsParts (parts : TransactionParts) (now : ℕ) (old new : Polled) : Type 0 where
+  pub moment : Duration
+  pub at : IsAt now moment
+  pub action : Action
+  pub course : Course
+  pub polls : Polls (plan_in parts) (course_in parts) moment action course
+  pub goes_on : GoesOn parts course old.kept new.kept
+  pub told : new.wanted ≡ wanted_of action
+
+-- the one that C keeps is
+abbrev pub PollsKept : ℕ → Answer → Polled → Polled → Type 0
+PollsKept now result old new =
+    MatchKept old.kept ((result ≡ plain BAD_ARGUMENT) × (new ≡ old))
+    (λ parts. (result ≡ plain OK) × PollsParts parts now old new)
+
+-- ---- What begins
+
+-- which integrity attributes the message d shows, by their number
+abbrev pub signed_in : List ℕ → ℕ
+signed_in d = signed_number (signed_by d).sha1 (signed_by d).sha256
+
+-- why a message isn't a request that is protected, or one that isn't
+abbrev pub request_fault : (protected : Bool) → List ℕ → Option BeginError
+request_fault protected d =
+    if is_request (class_of (type_field d)) then mismatch protected (is_signed (signed_by d))
+    else Some NotARequest
+
+abbrev pub request_answer : BeginError → Answer
+request_answer NotARequest = plain NOT_A_REQUEST
+request_answer NotSigned = plain NOT_SIGNED
+request_answer Signed = plain SIGNED
+
+-- why no transaction begins by a mechanism, or by none: by the schedule, the request or the key
+abbrev pub terms_answer : Waits → Option Mechanism → Option IntegrityKey → List ℕ → Option Answer
+terms_answer waits mechanism held d =
+    if is_some (waits_fault waits) then Some (plain OUT_OF_RANGE)
+    else option_or (option_map request_answer (request_fault (is_some mechanism) d))
+    (if is_some mechanism && not (is_some held) then Some (plain NO_KEY) else None)
+
+-- why none begins with the bytes d: they are no message, or a number has no meaning, or by the terms
+abbrev pub begin_answer : Waits → (transport protection : ℕ) → Option IntegrityKey → List ℕ
+    → Option Answer
+begin_answer waits transport protection held d =
+    option_or (option_map parse_answer (parse_fault d))
+    (if is_some (transport_numbered transport) then
+    option_map_or (λ mechanism. terms_answer waits mechanism held d) (mechanism_numbered protection)
+    (Some (plain BAD_ARGUMENT))
+    else Some (plain BAD_ARGUMENT))
+
+-- the numbers of a transaction of the request d that begins
+abbrev pub begun_in_c : List ℕ → Waits → (transport protection now : ℕ) → KeptTransaction
+begun_in_c d waits transport protection now = record {
+  schedule = waits;
+  last = now;
+  clock = now;
+  id = record { bytes = slice_range d 8 20 };
+  sent = 0;
+  method = method_of (type_field d);
+  transport = transport;
+  protection = protection;
+  signed_by = signed_in d;
+  violated = 0;
+  end = 0;
+  reserved = 0;
+}
+
+-- a transaction of the request d begins, or it is told why none does, and nothing changes
+abbrev pub BeginsKept : List ℕ → Waits → (transport protection now : ℕ) → Option IntegrityKey
+    → Answer → KeptTransaction → KeptTransaction → Type 0
+BeginsKept d waits transport protection now held result old new =
+    MatchOption (begin_answer waits transport protection held d)
+    ((result ≡ plain OK) × (new ≡ begun_in_c d waits transport protection now))
+    (λ answer. (result ≡ answer) × (new ≡ old))
+
+-- ---- What is received
+
+-- what a message is for a transaction, in C's numbers
+abbrev pub outcome_in_c : Outcome → OutcomeOut
+outcome_in_c NotForThis = record { kind = 0; number = 0 }
+outcome_in_c (Discarded NotAuthentic) = record { kind = 1; number = 0 }
+outcome_in_c (Discarded BidDown) = record { kind = 2; number = 0 }
+outcome_in_c (Discarded UnsignedBadRequest) = record { kind = 3; number = 0 }
+outcome_in_c (Failed Violated) = record { kind = 4; number = 0 }
+outcome_in_c (Failed (UnknownAttribute type)) = record { kind = 5; number = type.0 }
+outcome_in_c (Failed NoErrorCode) = record { kind = 6; number = 0 }
+outcome_in_c Success = record { kind = 7; number = 0 }
+outcome_in_c (Error code) = record { kind = 8; number = code }
+
+-- what C keeps, and what it is told of received bytes
+pub record Heard : Type 0 where
+  pub kept : KeptTransaction
+  pub told : OutcomeOut
+
+-- a copy of a key with which responses are validated: by a long-term credential it works with both
+-- algorithms (RFC 8489, section 9.2.5)
+abbrev pub IsCopyFor : Mechanism → (held copy : IntegrityKey) → Type 0
+IsCopyFor ShortTerm held copy = IsKey (key_algorithm held) (key_bytes held) copy
+IsCopyFor LongTerm held copy = IsKey None (key_bytes held) copy
+
+-- the key of a transaction: none where nothing protects it, and else a copy of the one that a handle
+-- holds; or there is none, or no memory for the copy
+abbrev pub Copies : Option Mechanism → Option IntegrityKey → Result (Option IntegrityKey) Answer
+    → Type 0
+Copies None held made = made ≡ Ok None
+Copies (Some mechanism) None made = made ≡ Err (plain NO_KEY)
+Copies (Some mechanism) (Some held) made =
+    MatchResult made (λ key. IsSomeAnd key (IsCopyFor mechanism held))
+    (λ answer. answer ≡ plain OUT_OF_MEMORY)
+
+-- what the bytes d are for the transaction of these parts and this key
+pub record IsOutcome (parts : TransactionParts) (key : Option IntegrityKey)
+    (understood : List AttributeType) (d : List ℕ) (outcome : Outcome) : Type 0 where
+  pub transaction : Transaction
+  pub parts_are : parts_of transaction ≡ parts
+  pub key_is : key_of transaction ≡ key
+  pub is : outcome ≡ heard (terms_of transaction) (course_of transaction) understood d
+
+-- the transaction hears of them, and goes on
+pub record HearsParts (parts : TransactionParts) (key : Option IntegrityKey)
+    (understood : List AttributeType) (d : List ℕ) (old new : Heard) : Type 0 where
+  pub outcome : Outcome
+  pub is_outcome : IsOutcome parts key understood d outcome
+  pub goes_on : GoesOn parts (after outcome (course_in parts)) old.kept new.kept
+  pub told : new.told ≡ outcome_in_c outcome
+
+-- the same with the key of a handle
+abbrev pub HearsWith : Option IntegrityKey → (understood d : List ℕ) → TransactionParts → Answer
+    → Heard → Heard → Type 0
+HearsWith held understood d parts result old new =
+    (made : Result (Option IntegrityKey) Answer) × Copies parts.mechanism held made
+    × MatchResult made
+    (λ key. (result ≡ plain OK) × HearsParts parts key (types_numbered understood) d old new)
+    (λ answer. (result ≡ answer) × (new ≡ old))
+
+-- the same for the transaction that C keeps, by a client that understands at most 64 types
+abbrev pub HearsKept : Option IntegrityKey → (understood d : List ℕ) → Answer → Heard → Heard
+    → Type 0
+HearsKept held understood d result old new =
+    ((64 < length understood) × (result ≡ plain BAD_ARGUMENT) × (new ≡ old))
+    ⊎ ((length understood ≤ 64)
+    × MatchKept old.kept ((result ≡ plain BAD_ARGUMENT) × (new ≡ old))
+    (λ parts. HearsWith held understood d parts result old new))
