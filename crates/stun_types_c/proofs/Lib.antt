@@ -1,3 +1,4 @@
 mod TwoWords
 mod WalksLemmas
 mod PushesLemmas
+mod TypeListsLemmas

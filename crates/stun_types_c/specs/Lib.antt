@@ -12,3 +12,4 @@ pub mod Writing
 pub mod Server
 pub mod Channels
 pub mod Users
+pub mod TypeLists
