@@ -2,3 +2,4 @@ mod TwoWords
 mod WalksLemmas
 mod PushesLemmas
 mod TypeListsLemmas
+mod CredentialsLemmas

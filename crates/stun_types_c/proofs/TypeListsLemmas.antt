@@ -1,5 +1,5 @@
 -- Numbers of attribute types that are laid over C's, one after the other.
-use Rattle.std.proofs.Common.{◌≡◌, ℕ, zero, suc, ◌+◌, ◌-◌, ◌*◌, ◌/◌, ◌<◌, ◌≤◌, Bool, true, false, List, [], ◌∷◌, ◌++◌, length, get_or, take, drop, map, set, min, slice_range, refl, ap, ◌∙◌, sym, add-one, arith}
+use Rattle.std.proofs.Common.{◌≡◌, ℕ, zero, suc, ◌+◌, ◌-◌, ◌*◌, ◌<◌, ◌≤◌, Bool, true, false, List, [], ◌∷◌, ◌++◌, length, get_or, take, drop, map, set, min, slice_range, refl, ap, ◌∙◌, sym, add-one, arith}
 use Rattle.std.specs.List.{filter}
 use Rattle.std.proofs.lemmas.List.{map-append, length-append, drop-drop, take_more, take_more_set}
 use Rattle.std.proofs.lemmas.List.Sums.{length-filter, count_by-le-length}
@@ -8,7 +8,7 @@ use Rattle.stun_grammar.specs.Numbers.{number}
 use Rattle.stun_grammar.specs.Adding.{numbers}
 use Rattle.stun_text.specs.Slices.{laid_over}
 use Rattle.stun_attrs.specs.declared.raw.RawAttribute.{RawAttribute}
-use Rattle.stun_values.specs.TypeLists.{types_within, types_in}
+use Rattle.stun_values.specs.TypeLists.{types_within}
 use Rattle.stun_types.proofs.ShownTypesLemmas.{item_type, passes_more, fails_more}
 use Rattle.stun_types_c.specs.TypeLists.{types_numbered}
 
@@ -35,12 +35,7 @@ within_more (suc n) value =
     ap (λ (l : List ℕ). number (take 2 value) ∷ l)
     (within_more n (drop 2 value) ∙ ap (λ (b : List ℕ). types_within n (drop 2 value) ++ number (take 2 b) ∷ []) (drop-drop (2 * n) 2 value ∙ ap (λ (k : ℕ). drop k value) place))
 
--- none is laid over
-pub laid_none : (value start : List ℕ) → start ≡ laid_over (types_within 0 value) start
-laid_none value [] = refl
-laid_none value (s ∷ start) = refl
-
--- one more is
+-- one more is laid over
 pub read_more : (n : ℕ) (value places start : List ℕ) (x : ℕ) → x ≡ number (slice_range value (2 * n) (2 * n + 2)) → places ≡ laid_over (types_within n value) start
     → set places n x ≡ laid_over (types_within (n + 1) value) start
 read_more n value places start x x-is so_far =

@@ -13,3 +13,4 @@ pub mod Server
 pub mod Channels
 pub mod Users
 pub mod TypeLists
+pub mod Credentials
