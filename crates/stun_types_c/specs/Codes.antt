@@ -45,3 +45,6 @@ BAD_ARGUMENT = 13
 
 abbrev pub NO_KEY : ℕ
 NO_KEY = 14
+
+abbrev pub NOT_PADDED : ℕ
+NOT_PADDED = 15
