@@ -3,4 +3,5 @@ mod WalksLemmas
 mod NewValuesLemmas
 mod XoredLemmas
 mod TypeListsLemmas
+mod CredentialsLemmas
 mod KeptLemmas

@@ -1,16 +1,18 @@
 -- Protocols and ChannelData as C sees them (RFC 7983, section 7, and RFC 8656, section 12.4).
-use Rattle.std.specs.Prelude.{◌≡◌, ℕ, ◌+◌, List, Option, None, Some, MatchOption}
-use Rattle.stun_grammar.specs.Numbers.{padded_length}
+use Rattle.std.specs.Prelude.{◌≡◌, ℕ, ◌+◌, ◌-◌, Bool, List, ◌++◌, length, drop, replicate, Option, None, Some, MatchOption, nat_lt, if◌then◌else◌}
+use Rattle.stun_grammar.specs.Numbers.{be16, padded_length}
 use Rattle.turn_attrs.specs.declared.protocol.Protocol.{Protocol}
 use Rattle.turn_attrs.specs.declared.protocol.Protocol.TheVariants.{Stun, Zrtp, Dtls, TurnChannel, Quic, Rtp}
 use Rattle.turn_attrs.specs.declared.channel_data.ChannelDataError.{ChannelDataError}
 use Rattle.turn_attrs.specs.declared.channel_data.ChannelDataError.TheVariants.{NotChannelData, Truncated, TooLarge}
 use Rattle.turn_attrs.specs.Channels.{begin_fault, channel_field, data_length}
 use Rattle.turn_attrs.specs.ChannelMessages.{channel_fault}
+use Rattle.turn_attrs.specs.Turn.{is_channel}
 use Rattle.stun_types_c.specs.declared.answer.Answer.{Answer}
 use Rattle.stun_types_c.specs.declared.channels.ChannelMessage.{ChannelMessage}
-use Rattle.stun_types_c.specs.Codes.{OK, NOT_STUN, TRUNCATED, TOO_LARGE}
+use Rattle.stun_types_c.specs.Codes.{OK, NOT_STUN, TRUNCATED, TOO_LARGE, TOO_SMALL, OUT_OF_RANGE}
 use Rattle.stun_types_c.specs.Answers.{plain, counted}
+use Rattle.stun_types_c.specs.Writing.{Written, Refuses}
 
 -- the number of a protocol, and 0 for none
 abbrev pub protocol_number : Option Protocol → ℕ
@@ -48,3 +50,33 @@ ReadsChannel b result old new =
     ((result ≡ plain OK)
     × (new ≡ record { data_at = 4; channel = channel_field b; length = data_length b }))
     (λ e. (result ≡ channel_answer e) × (new ≡ old))
+
+-- a message: the number of its channel and the length of its data, in two bytes each, its data, and
+-- where it is padded, as on a stream, zeros up to a multiple of 4
+abbrev pub channel_message : (padded : Bool) → (channel : ℕ) → (sent : List ℕ) → List ℕ
+channel_message padded channel sent =
+    let message = be16 channel ++ (be16 (length sent) ++ sent) in
+    let n = 4 + length sent in
+    if padded then message ++ replicate (padded_length n - n) 0 else message
+
+-- why no message is written: no channel has the number, its length field can't state how long the
+-- data is, or the slice has no room
+abbrev pub channel_refusal : (padded : Bool) → (channel : ℕ) → (sent slice : List ℕ) → Option Answer
+channel_refusal padded channel sent slice =
+    let n = length (channel_message padded channel sent) in
+    if is_channel channel then (
+    if nat_lt 65535 (length sent) then Some (counted TOO_LARGE 65535 (length sent)) else (
+    if nat_lt (length slice) n then Some (counted TOO_SMALL n (length slice)) else None))
+    else Some (counted OUT_OF_RANGE 0x4FFF channel)
+
+-- a message is written at the start of a slice, or it is refused; what stands behind it stays
+abbrev pub WritesChannel : (padded : Bool) → (channel : ℕ) → (sent : List ℕ) → Answer
+    → Written → Written → Type 0
+WritesChannel padded channel sent result old new =
+    let message = channel_message padded channel sent in
+    MatchOption (channel_refusal padded channel sent old.slice)
+    ((result ≡ plain OK) × (new ≡ record {
+      slice = message ++ drop (length message) old.slice;
+      count = length message;
+    }))
+    (λ answer. Refuses answer result old new)

@@ -46,6 +46,9 @@ BAD_ARGUMENT = 13
 abbrev pub NO_KEY : ℕ
 NO_KEY = 14
 
+abbrev pub NOT_PADDED : ℕ
+NOT_PADDED = 15
+
 abbrev pub NOT_A_REQUEST : ℕ
 NOT_A_REQUEST = 16
 

@@ -1,6 +1,7 @@
 -- What making a key and validating with one answers (RFC 8489, sections 9.1.1, 9.2.2, 9.1.3, 9.2.4
 -- and 14.5 to 14.6).
 use Rattle.std.specs.Prelude.{◌≡◌, ℕ, List, Option, None, Some, Result, Ok, Err, MatchOption, MatchResult, IsSomeAnd, ◌==◌, if◌then◌else◌, ◌⊎◌}
+use Rattle.std.specs.Option.{option_map}
 use Rattle.stun_grammar.specs.declared.error.StunWriteError.{StunWriteError}
 use Rattle.stun_grammar.specs.declared.integrity_algorithm.IntegrityAlgorithm.{IntegrityAlgorithm}
 use Rattle.stun_grammar.specs.declared.integrity_algorithm.IntegrityAlgorithm.TheVariants.{Sha1, Sha256}
@@ -10,7 +11,7 @@ use Rattle.stun_grammar.specs.Verdicts.{is_checked_type, verdict}
 use Rattle.stun_keys.specs.declared.keys.integrity_key.IntegrityKey.{IntegrityKey}
 use Rattle.stun_keys.specs.Keys.{IsKey, key_bytes, key_algorithm}
 use Rattle.stun_types_c.specs.declared.answer.Answer.{Answer}
-use Rattle.stun_types_c.specs.Codes.{OK, OUT_OF_MEMORY, NO_KEY}
+use Rattle.stun_types_c.specs.Codes.{OK, OUT_OF_MEMORY, BAD_ARGUMENT, NO_KEY}
 use Rattle.stun_types_c.specs.Answers.{plain, parse_answer, validate_answer, write_answer}
 
 -- the algorithm of a number, and the number of an algorithm
@@ -36,6 +37,19 @@ abbrev pub Holds : Option IntegrityAlgorithm → List ℕ → Answer → (old ne
 Holds made_for bytes result old new =
     ((result ≡ plain OK) × IsSomeAnd new (IsKey made_for bytes))
     ⊎ ((result ≡ plain OUT_OF_MEMORY) × (new ≡ old))
+
+-- the algorithm that a key is made for by a number, and by 0 none; nothing by another number
+abbrev pub made_for_named : ℕ → Option (Option IntegrityAlgorithm)
+made_for_named number =
+    if number == 0 then Some None
+    else option_map (λ algorithm. Some algorithm) (algorithm_named number)
+
+-- a handle holds a key with these bytes for the algorithm of a number, or no algorithm has the number
+abbrev pub HoldsNamed : ℕ → List ℕ → Answer → (old new : Option IntegrityKey) → Type 0
+HoldsNamed number bytes result old new =
+    MatchOption (made_for_named number)
+    ((result ≡ plain BAD_ARGUMENT) × (new ≡ old))
+    (λ made_for. Holds made_for bytes result old new)
 
 -- a verdict as C sees it: the number of the algorithm that was checked, or why the message isn't
 -- valid

@@ -11,6 +11,8 @@ pub mod Keys
 pub mod Writing
 pub mod Server
 pub mod Channels
+pub mod Streams
 pub mod Users
 pub mod TypeLists
 pub mod Transactions
+pub mod Credentials

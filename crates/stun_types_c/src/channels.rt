@@ -2,7 +2,7 @@
 
 ghost use Rattle.std.specs.Prelude.{◌≡◌};
 ghost use Rattle.turn_attrs.specs.Protocols.{protocol};
-ghost use Rattle.stun_types_c.specs.Channels.{protocol_number, channel_answer, FramesChannel, ReadsChannel};
+ghost use Rattle.stun_types_c.specs.Channels.{protocol_number, channel_answer, FramesChannel, ReadsChannel, WritesChannel};
 
 use crate::answer::{Answer, counted, plain, write_answer};
 use crate::codes;
@@ -99,7 +99,11 @@ pub extern "C" fn stun_types_write_channel_data(
     padded: bool,
     room: &mut [u8],
     written: &mut usize,
-) -> Answer {
+) -> Answer
+    ensures { WritesChannel padded channel «data».now result
+        (record { slice = room.old; count = written.old })
+        (record { slice = room.new; count = written.new }) }
+{
     let Some(channel) = Channel::new(channel) else {
         return counted(codes::OUT_OF_RANGE, 0x4FFF, channel as usize);
     };

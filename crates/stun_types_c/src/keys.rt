@@ -1,8 +1,11 @@
 //! Making keys, and validating messages with them.
 
-ghost use Rattle.std.specs.Prelude.{◌≡◌, None};
+ghost use Rattle.std.specs.Prelude.{◌≡◌, true, false, None, MatchOption, MatchResult};
+ghost use Rattle.std.specs.Str.{is_utf8};
+ghost use Rattle.std.specs.String.{string_bytes};
 ghost use Rattle.stun_types_c.specs.KeyHandles.{held_key};
-ghost use Rattle.stun_types_c.specs.Keys.{algorithm_named, number_of, Holds, HoldsMade, TellsVerdict, ValidatesWith};
+ghost use Rattle.stun_types_c.specs.Keys.{algorithm_named, number_of, Holds, HoldsNamed, HoldsMade, TellsVerdict, ValidatesWith};
+ghost use Rattle.stun_types_c.specs.Credentials.{RefusesText, IsLongTerm, RefusesLongTerm, HoldsLongTerm, ValidatesShortTerm, ValidatesLongTerm, TellsUserhash};
 
 use crate::answer::{Answer, parse_answer, plain, validate_answer, write_answer};
 use crate::codes;
@@ -72,7 +75,9 @@ pub extern "C" fn stun_types_key_from_bytes(
     key: &mut KeyHandle,
     bytes: &[u8],
     algorithm: u32,
-) -> Answer {
+) -> Answer
+    ensures { HoldsNamed algorithm bytes.now result (held_key key.old) (held_key key.new) }
+{
     let algorithm = match algorithm {
         0 => None,
         number => match algorithm_of(number) {
@@ -115,9 +120,22 @@ pub extern "C" fn stun_types_validate(
     told(verdict, algorithm)
 }
 
+/// The text that C's bytes are; `None` where they aren't UTF-8.
+#[tactic(auto, using(crate::proofs::CredentialsLemmas::is_text, crate::proofs::CredentialsLemmas::is_no_text))]
+fn text_in(bytes: &[u8]) -> Option<&str>
+    ensures { MatchOption result (is_utf8 bytes.now ≡ false)
+        (λ text. (is_utf8 bytes.now ≡ true) × (text.now ≡ bytes.now)) }
+{
+    str::from_utf8(bytes).ok()
+}
+
 /// A text of C's bytes, in memory that `alloc` gives.
-fn text_of(alloc: Global, bytes: &[u8]) -> Result<String, Answer> {
-    let Ok(text) = str::from_utf8(bytes) else {
+fn text_of(alloc: Global, bytes: &[u8]) -> Result<String, Answer>
+    ensures { MatchResult result
+        (λ text. (is_utf8 bytes.now ≡ true) × (string_bytes text ≡ bytes.now))
+        (RefusesText bytes.now) }
+{
+    let Some(text) = text_in(bytes) else {
         return Err(plain(codes::INVALID_DATA));
     };
     match String::from_str(alloc, text) {
@@ -132,7 +150,10 @@ fn long_term_of(
     user: &[u8],
     realm: &[u8],
     password: &[u8],
-) -> Result<LongTermKeyCredentials, Answer> {
+) -> Result<LongTermKeyCredentials, Answer>
+    ensures { MatchResult result (IsLongTerm user.now realm.now password.now)
+        (RefusesLongTerm user.now realm.now password.now) }
+{
     let user = text_of(alloc, user)?;
     let realm = text_of(alloc, realm)?;
     let password = text_of(alloc, password)?;
@@ -148,7 +169,10 @@ pub extern "C" fn stun_types_key_long_term(
     realm: &[u8],
     password: &[u8],
     algorithm: u32,
-) -> Answer {
+) -> Answer
+    ensures { HoldsLongTerm algorithm user.now realm.now password.now result
+        (held_key key.old) (held_key key.new) }
+{
     let Some(algorithm) = algorithm_of(algorithm) else {
         return plain(codes::BAD_ARGUMENT);
     };
@@ -178,7 +202,9 @@ pub extern "C" fn stun_types_validate_short_term(
     bytes: &[u8],
     password: &[u8],
     algorithm: &mut u32,
-) -> Answer {
+) -> Answer
+    ensures { ValidatesShortTerm password.now bytes.now result algorithm.old algorithm.new }
+{
     let message = match Message::from_bytes(bytes) {
         Ok(message) => message,
         Err(error) => return parse_answer(error),
@@ -198,7 +224,10 @@ pub extern "C" fn stun_types_validate_long_term(
     realm: &[u8],
     password: &[u8],
     algorithm: &mut u32,
-) -> Answer {
+) -> Answer
+    ensures { ValidatesLongTerm user.now realm.now password.now bytes.now result
+        algorithm.old algorithm.new }
+{
     let message = match Message::from_bytes(bytes) {
         Ok(message) => message,
         Err(error) => return parse_answer(error),
@@ -222,8 +251,10 @@ pub struct Hash {
 
 /// The hash by which a request names its user.
 #[unsafe(no_mangle)]
-pub extern "C" fn stun_types_userhash(user: &[u8], realm: &[u8], hash: &mut Hash) -> Answer {
-    let (Ok(user), Ok(realm)) = (str::from_utf8(user), str::from_utf8(realm)) else {
+pub extern "C" fn stun_types_userhash(user: &[u8], realm: &[u8], hash: &mut Hash) -> Answer
+    ensures { TellsUserhash user.now realm.now result hash.old hash.new }
+{
+    let (Some(user), Some(realm)) = (text_in(user), text_in(realm)) else {
         return plain(codes::INVALID_DATA);
     };
     *hash = Hash {

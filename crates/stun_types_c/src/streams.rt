@@ -1,5 +1,8 @@
 //! The messages of a stream that comes in pieces.
 
+ghost use Rattle.std.specs.Prelude.{◌≡◌};
+ghost use Rattle.stun_types_c.specs.Streams.{fault_answer, PushesPiece};
+
 use crate::answer::{Answer, counted, plain};
 use crate::codes;
 use stun_framing::{MessageStream, StreamFault};
@@ -17,7 +20,9 @@ pub struct KeptStream {
 }
 
 /// Why no message begins where one had to.
-fn fault_answer(fault: StreamFault, size: usize) -> Answer {
+fn fault_answer(fault: StreamFault, size: usize) -> Answer
+    ensures { result ≡ fault_answer size fault }
+{
     match fault {
         StreamFault::NotStun => plain(codes::NOT_STUN),
         StreamFault::NotPadded(field) => counted(codes::NOT_PADDED, 0, field as usize),
@@ -32,7 +37,9 @@ pub extern "C" fn stun_types_stream_push(
     buffer: &mut [u8],
     piece: &[u8],
     taken: &mut usize,
-) -> Answer {
+) -> Answer
+    ensures { PushesPiece buffer.old piece.now result kept.old kept.new taken.old taken.new }
+{
     let size = buffer.len();
     let Some(mut stream) = MessageStream::resume(buffer, kept.pending, kept.offset) else {
         return plain(codes::BAD_ARGUMENT);

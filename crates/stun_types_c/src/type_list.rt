@@ -1,12 +1,16 @@
 //! Lists of attribute types.
 
-ghost use Rattle.std.specs.Prelude.{◌≡◌, ◌<◌, ◌≤◌, length, take, MatchOption};
-ghost use Rattle.stun_types_c.specs.TypeLists.{types_numbered};
+ghost use Rattle.std.specs.Prelude.{◌≡◌, ◌≤◌, ◌<◌, length, take, slice_set, MatchOption};
+ghost use Rattle.stun_text.specs.Slices.{laid_over};
+ghost use Rattle.stun_values.specs.TypeLists.{types_in};
+ghost use Rattle.stun_types.specs.Replies.{is_unknown};
+ghost use Rattle.stun_types_c.specs.TypeLists.{types_numbered, unknown_numbers, ReadsTypes};
 
 use crate::answer::{Answer, plain};
 use crate::attribute::ShownAttribute;
 use crate::codes;
 use crate::values::value_in;
+use stun_base::number_at;
 use stun_types::attribute::AttributeType;
 use stun_types::message::MessageAttributesIter;
 
@@ -48,32 +52,51 @@ pub(crate) fn types_of(numbers: &[u16]) -> Option<FewTypes>
     })
 }
 
+/// The types in a value of an even number of bytes, as many as there is room for.
+fn read_into(value: &[u8], types: &mut [u16])
+    ensures { types.new ≡ laid_over (types_in value.now) types.old }
+{
+    for i in 0..types.len().min(value.len() / 2) {
+        types[i] = number_at(value, 2 * i);
+    }
+}
+
 /// The types in an UNKNOWN-ATTRIBUTES, as many as there is room for, and how many there are.
+#[tactic(auto, using(crate::proofs::TypeListsLemmas::count_within))]
 #[unsafe(no_mangle)]
 pub extern "C" fn stun_types_read_types(
     bytes: &[u8],
     attribute: &ShownAttribute,
     types: &mut [u16],
     count: &mut usize,
-) -> Answer {
+) -> Answer
+    ensures { ReadsTypes attribute.now bytes.now result types.old types.new count.old count.new }
+{
     let Some(value) = value_in(bytes, attribute) else {
         return plain(codes::BAD_ARGUMENT);
     };
     if value.len() % 2 != 0 {
         return plain(codes::INVALID_DATA);
     }
-    for (place, pair) in types.iter_mut().zip(value.chunks_exact(2)) {
-        if let [high, low] = pair {
-            *place = u16::from_be_bytes([*high, *low]);
-        }
-    }
+    read_into(value, types);
     *count = value.len() / 2;
     plain(codes::OK)
 }
 
 /// Whether an attribute of this type must be understood, and isn't.
-fn is_unknown(supported: &[u16], atype: u16) -> bool {
-    atype < 0x8000 && !supported.contains(&atype)
+fn is_unknown(supported: &[u16], atype: AttributeType) -> bool
+    ensures { result ≡ is_unknown (types_numbered supported.now) atype }
+{
+    atype.0 < 0x8000 && !supported.contains(&atype.0)
+}
+
+/// Puts the number of a type behind as many others, where there is room for it.
+fn put_behind(count: usize, atype: AttributeType, types: &mut [u16])
+    ensures { types.new ≡ slice_set types.old count atype.0 }
+{
+    if count < types.len() {
+        types[count] = atype.0;
+    }
 }
 
 /// The types of attributes that a message shows, that must be understood and are none of those
@@ -83,15 +106,16 @@ pub extern "C" fn stun_types_unknown_types(
     bytes: &[u8],
     supported: &[u16],
     types: &mut [u16],
-) -> usize {
-    let mut count: usize = 0;
+) -> usize
+    ensures count { result ≡ length (unknown_numbers supported.now bytes.now) }
+    ensures types { types.new ≡ laid_over (unknown_numbers supported.now bytes.now) types.old }
+{
+    let mut count = 0;
     for (_offset, attribute) in MessageAttributesIter::new(bytes) {
-        let atype = attribute.header().get_type().value();
+        let atype = attribute.header().get_type();
         if is_unknown(supported, atype) {
-            if count < types.len() {
-                types[count] = atype;
-            }
-            count = count.saturating_add(1);
+            put_behind(count, atype, types);
+            count += 1;
         }
     }
     count
