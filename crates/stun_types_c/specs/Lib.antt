@@ -12,3 +12,6 @@ pub mod Writing
 pub mod Server
 pub mod Channels
 pub mod Users
+pub mod Passwords
+pub mod Authentication
+pub mod Challenges
