@@ -1,4 +1,5 @@
--- What a server in C is told of a message that it authenticates (RFC 8489, sections 9.1.3 and 9.2.4).
+-- What a server in C is told of a message that it authenticates (RFC 8489, sections 9.1.3 and
+-- 9.2.4).
 use Rattle.std.specs.Prelude.{◌≡◌, ◌⊎◌, ℕ, List, [], Option, None, Some, MatchOption, option_and_then, ◌==◌, if◌then◌else◌}
 use Rattle.std.specs.Option.{option_map}
 use Rattle.stun_grammar.specs.declared.integrity_algorithm.IntegrityAlgorithm.{IntegrityAlgorithm}
@@ -31,8 +32,8 @@ policy_named counted =
     option_map (λ a. record { algorithm = a; shortest = counted.shortest })
     (algorithms_counted counted.algorithm)
 
--- what C knows of a nonce, by the number of its state, and the numbers of the algorithms that it was
--- sent with
+-- what C knows of a nonce, by the number of its state, and the numbers of the algorithms that it
+-- was sent with
 abbrev pub nonce_named : ℕ → List ℕ → Option Known
 nonce_named state numbers = option_and_then (nonce_in state) (passwords_named numbers)
 

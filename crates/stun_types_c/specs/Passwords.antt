@@ -11,7 +11,8 @@ names_password number = number == 1 || number == 2
 abbrev pub password_named : ℕ → PasswordAlgorithmValue
 password_named number = if number == 1 then MD5 else SHA256
 
--- the algorithms of these numbers; none where one has another number, or there are more than sixteen
+-- the algorithms of these numbers; none where another number is among them, or there are more than
+-- sixteen
 abbrev pub passwords_named : List ℕ → Option (List PasswordAlgorithmValue)
 passwords_named numbers =
     if nat_le (length numbers) 16 && list_all names_password numbers

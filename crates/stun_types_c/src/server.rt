@@ -18,7 +18,8 @@ fn reply_to(
     room: &mut [u8],
     reply_length: &mut usize,
 ) -> Answer
-    ensures { RepliesTo source bytes.now result room.old room.new reply_length.old reply_length.new }
+    ensures { RepliesTo source bytes.now result room.old room.new reply_length.old
+        reply_length.new }
 {
     match reply_into(alloc, source, bytes, room) {
         Ok(Some(length)) => {
@@ -42,7 +43,8 @@ pub extern "C" fn stun_types_binding_reply(
     room: &mut [u8],
     reply_length: &mut usize,
 ) -> Answer
-    ensures { RepliesAt source.now bytes.now result room.old room.new reply_length.old reply_length.new }
+    ensures { RepliesAt source.now bytes.now result room.old room.new reply_length.old
+        reply_length.new }
 {
     match socket_of(source) {
         Some(source) => reply_to(alloc, bytes, source, room, reply_length),
