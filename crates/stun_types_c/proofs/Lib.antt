@@ -1,3 +1,5 @@
 mod TwoWords
 mod WalksLemmas
 mod PushesLemmas
+mod StandsLemmas
+mod AskedLemmas

@@ -1,13 +1,13 @@
 -- The value of an attribute that is found stands in the message where C is told that it does.
-use Rattle.std.proofs.Common.{◌≡◌, ℕ, ◌+◌, ◌-◌, ◌≤◌, Bool, true, false, cond, eqb, ltb, List, [], ◌∷◌, ◌++◌, length, take, drop, Option, None, Some, refl, sym, ap, subst, ◌∙◌, arith, append_assoc, length-append}
-use Rattle.std.specs.Prelude.{filter, slice_get}
+use Rattle.std.proofs.Common.{◌≡◌, ℕ, ◌+◌, ◌-◌, ◌≤◌, Bool, true, false, cond, eqb, List, [], ◌∷◌, ◌++◌, length, take, drop, Option, None, Some, refl, sym, ap, subst, ◌∙◌, arith, inl, inr, append_assoc, length-append, length-take}
+use Rattle.std.specs.Prelude.{filter, slice_get, slice_range, IfSome}
 use Rattle.std.proofs.lemmas.List.{take-append-drop}
 use Rattle.std.proofs.Math.Seq.{take-append_seam, drop-append_seam}
 use Rattle.std.proofs.lemmas.Bool.Decides.{nat_tests}
 use Rattle.stun_grammar.specs.Attributes.{Attribute, encoding, encodings}
 use Rattle.stun_grammar.specs.Chains.{Shown, placed, chain}
 use Rattle.stun_grammar.specs.Numbers.{be16, IsBytes}
-use Rattle.stun_grammar.specs.Showing.{frame_fault, shown, shown_prefix}
+use Rattle.stun_grammar.specs.Showing.{frame_fault, shown_prefix}
 use Rattle.stun_grammar.proofs.ChainsLemmas.{none_or_some}
 use Rattle.stun_grammar.proofs.HeadersLemmas.{frame_there, header_there}
 use Rattle.stun_grammar.proofs.ShowingLemmas.{shows, nothing}
@@ -63,24 +63,37 @@ found d type x bytes e = elim (none_or_some (frame_fault d)) [
       let among-is : slice_get (filter (λ (a : Shown). eqb a.type type) (placed 20 (shown_prefix (chain (drop 20 d))))) 0 ≡ Some x =
       ap (λ (xs : List Shown). slice_get (filter (λ (a : Shown). eqb a.type type) xs) 0) (sym s.shown_is) ∙ e in
       let there = (header_there d (frame_there d frame)).0 in
-      let rest-has = subst (λ (b : List ℕ). Has b 20 x) (sym s.whole) (among type 20 (shown_prefix (chain (drop 20 d))) s.others x among-is) in
-      ?
+      let behind = subst (λ (b : List ℕ). Has b 20 x) (sym s.whole) (among type 20 (shown_prefix (chain (drop 20 d))) s.others x among-is) in
+      let header : 20 ≡ 0 + length (take 20 d) = omega (arith, length-take 20 d) in
+      subst (λ (b : List ℕ). Has b 0 x) (take-append-drop 20 d) (further 0 (take 20 d) (drop 20 d) x (subst (λ (n : ℕ). Has (drop 20 d) n x) header behind))
   | inr (told, refused) ↦
       absurd (cc (ap (λ (xs : List Shown). slice_get (filter (λ (a : Shown). eqb a.type type) xs) 0) (nothing d told refused), e))
 ]
 
-read : (d : List ℕ) (x : Shown) → Has d 0 x → value_of (in_c x) d ≡ Some x.value
-read d x has =
+range : (d : List ℕ) (x : Shown) → Has d 0 x → (x.offset + 4 + length x.value ≤ length d) × (slice_range d (x.offset + 4) (x.offset + 4 + length x.value) ≡ x.value)
+range d x has =
     let at-is : x.offset + 4 ≡ length has.before = omega (arith, has.at) in
     let dropped : drop (x.offset + 4) d ≡ x.value ++ has.behind =
     ap (λ (n : ℕ). drop n d) at-is ∙ ap (drop (length has.before)) has.whole ∙ drop-append_seam has.before (x.value ++ has.behind) in
-    let within : x.offset + 4 + length x.value ≤ length d =
-    omega (arith, ap length has.whole, at-is, length-append has.before (x.value ++ has.behind), length-append x.value has.behind) in
-    let count : x.offset + 4 + length x.value - (x.offset + 4) ≡ length x.value = omega arith in
-    let taken : take (x.offset + 4 + length x.value - (x.offset + 4)) (drop (x.offset + 4) d) ≡ x.value =
-    rw (count, dropped) (take-append_seam x.value has.behind) in
-    ?
+    let count : x.offset + 4 + length x.value - (x.offset + 4) ≡ length x.value = omega arith in (
+      omega (arith, ap length has.whole, at-is, length-append has.before (x.value ++ has.behind), length-append x.value has.behind),
+      rw (count, dropped) (take-append_seam x.value has.behind),
+    )
 
--- an attribute that is found can be read by what C is told of it
-pub value_there : (d : List ℕ) (type : ℕ) (x : Shown) → IsBytes d → nth d type 0 ≡ Some x → value_of (in_c x) d ≡ Some x.value
-value_there d type x bytes e = read d x (found d type x bytes e)
+-- the bytes from there on are the value
+pub range_there : (d : List ℕ) (type : ℕ) (x : Shown) → IsBytes d → nth d type 0 ≡ Some x → slice_range d (x.offset + 4) (x.offset + 4 + length x.value) ≡ x.value
+range_there d type x bytes e = (range d x (found d type x bytes e)).1
+
+value_there : (d : List ℕ) (type : ℕ) (x : Shown) → IsBytes d → nth d type 0 ≡ Some x → value_of (in_c x) d ≡ Some x.value
+value_there d type x bytes e =
+    let there = range d x (found d type x bytes e) in
+    let within : x.offset + 4 + length x.value ≤ length d = there.0 in
+    let is = there.1 in grind (arith, nat_tests)
+
+at_some : {A : Type 0} (P : A → Type 0) (o : Option A) → ((x : A) → o ≡ Some x → P x) → IfSome o P
+at_some P None each = tt
+at_some P (Some x) each = each x refl
+
+-- so an attribute that is found can be read by what C is told of it
+pub found_there : (d : List ℕ) (type : ℕ) → IsBytes d → IfSome (nth d type 0) (λ (a : Shown). value_of (in_c a) d ≡ Some a.value)
+found_there d type bytes = at_some (λ (a : Shown). value_of (in_c a) d ≡ Some a.value) (nth d type 0) (λ x e. value_there d type x bytes e)

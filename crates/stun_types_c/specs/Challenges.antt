@@ -1,5 +1,5 @@
 -- What a client in C is told of a challenge (RFC 8489, section 9.2.5).
-use Rattle.std.specs.Prelude.{◌≡◌, ℕ, List, length, Option, None, is_some, Result, MatchOption, MatchResult, if◌then◌else◌}
+use Rattle.std.specs.Prelude.{◌≡◌, ℕ, ◌+◌, List, length, slice_range, Option, None, is_some, Result, MatchOption, MatchResult, if◌then◌else◌}
 use Rattle.std.specs.Option.{option_map_or}
 use Rattle.std.specs.Result.{result_ok}
 use Rattle.stun_grammar.specs.AttributeTypes.{REALM, NONCE, PASSWORD_ALGORITHMS}
@@ -43,6 +43,13 @@ in_c d asked = record {
   anonymous = if asked.anonymous then 1 else 0;
   integrity_algorithm = number_of (signing_algorithm asked);
 }
+
+-- what is asked for stands in d where C is told that it does
+pub record StandsWhereTold (d : List ℕ) (asked : Asked) (told : AskedInC) : Type 0 where
+  pub realm : slice_range d told.realm_at (told.realm_at + told.realm_length) ≡ asked.realm
+  pub nonce : slice_range d told.nonce_at (told.nonce_at + told.nonce_length) ≡ asked.nonce
+  pub list : MatchOption asked.list (told.algorithms_at ≡ 0)
+      (λ list. slice_range d told.algorithms_at (told.algorithms_at + told.algorithms_length) ≡ list)
 
 -- the challenge in the response before, where it was a message, and one
 abbrev pub challenge_before : List PasswordAlgorithmValue → List ℕ → Option Asked
