@@ -5,3 +5,5 @@ mod XoredLemmas
 mod TypeListsLemmas
 mod CredentialsLemmas
 mod KeptLemmas
+mod StandsLemmas
+mod AskedLemmas

@@ -57,3 +57,18 @@ NOT_SIGNED = 17
 
 abbrev pub SIGNED : ℕ
 SIGNED = 18
+
+abbrev pub NOT_A_CHALLENGE : ℕ
+NOT_A_CHALLENGE = 19
+
+abbrev pub BID_DOWN : ℕ
+BID_DOWN = 20
+
+abbrev pub INCOMPLETE : ℕ
+INCOMPLETE = 21
+
+abbrev pub NO_ALGORITHM : ℕ
+NO_ALGORITHM = 22
+
+abbrev pub SAME_CREDENTIALS : ℕ
+SAME_CREDENTIALS = 23

@@ -16,3 +16,6 @@ pub mod Users
 pub mod TypeLists
 pub mod Transactions
 pub mod Credentials
+pub mod Passwords
+pub mod Authentication
+pub mod Challenges

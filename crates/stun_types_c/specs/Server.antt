@@ -1,10 +1,12 @@
 -- What the server's reply is, in a slice of C's.
-use Rattle.std.specs.Prelude.{◌≡◌, ℕ, List, length, Option, None, Some, MatchResult}
+use Rattle.std.specs.Prelude.{◌≡◌, ℕ, List, length, Option, None, Some, MatchOption, MatchResult}
 use Rattle.std.specs.declared.net.socket_addr.SocketAddr.{SocketAddr}
 use Rattle.stun_server.specs.Reply.{reply}
 use Rattle.stun_server.specs.InSlice.{answer_in, slice_after}
+use Rattle.stun_types_c.specs.declared.address.Address.{Address}
 use Rattle.stun_types_c.specs.declared.answer.Answer.{Answer}
-use Rattle.stun_types_c.specs.Codes.{OK}
+use Rattle.stun_types_c.specs.Codes.{OK, BAD_ARGUMENT}
+use Rattle.stun_types_c.specs.Addresses.{ip_named, IsAt}
 use Rattle.stun_types_c.specs.Answers.{plain, write_answer}
 
 -- how many bytes are written, and 0 where no reply is owed
@@ -21,3 +23,11 @@ RepliesTo source datagram result old new before after =
     × MatchResult (answer_in (reply source datagram) (length old))
     (λ told. (result ≡ plain OK) × (after ≡ length_told told))
     (λ e. (result ≡ write_answer e) × (after ≡ before))
+
+-- the same for a datagram that came from the address that C's form names, if it names one
+abbrev pub RepliesAt : Address → List ℕ → Answer → (old new : List ℕ) → (before after : ℕ) → Type 0
+RepliesAt address datagram result old new before after =
+    MatchOption (ip_named address)
+    ((result ≡ plain BAD_ARGUMENT) × (new ≡ old) × (after ≡ before))
+    (λ ip. (source : SocketAddr)
+    × (IsAt ip address.port source × RepliesTo source datagram result old new before after))

@@ -1,6 +1,7 @@
 //! Attributes, a walk over them, and a look-up.
 
 ghost use Rattle.std.specs.Prelude.{◌≡◌, ◌≤◌, [], false, length, Some, None, MatchOption};
+ghost use Rattle.std.specs.Option.{option_map};
 ghost use Rattle.stun_read.specs.Iterating.{shown_behind};
 ghost use Rattle.stun_read.specs.LookingUp.{nth};
 ghost use Rattle.stun_types_c.specs.Attributes.{in_c, first_of_type, left, Steps, Tells};
@@ -108,16 +109,21 @@ fn find_from(bytes: &[u8], cursor: Cursor, atype: u16) -> Option<ShownAttribute>
     None
 }
 
+/// The first attribute of a type that a message shows, if there is one.
+pub(crate) fn first_shown(bytes: &[u8], atype: u16) -> Option<ShownAttribute>
+    ensures { option_map in_c (nth bytes.now atype 0) ≡ result }
+{
+    let start = Cursor { offset: 0, last: 0 };
+    let at = place(bytes, start)?;
+    find_from(bytes, at, atype)
+}
+
 /// The first attribute of a type that a message shows; false where there is none.
 #[unsafe(no_mangle)]
 pub extern "C" fn stun_types_find(bytes: &[u8], atype: u16, attribute: &mut ShownAttribute) -> bool
     ensures { Tells (nth bytes.now atype 0) result attribute.old attribute.new }
 {
-    let start = Cursor { offset: 0, last: 0 };
-    let Some(at) = place(bytes, start) else {
-        return false;
-    };
-    match find_from(bytes, at, atype) {
+    match first_shown(bytes, atype) {
         Some(found) => {
             *attribute = found;
             true

@@ -2,9 +2,11 @@
 
 ghost use Rattle.std.specs.Prelude.{◌≡◌, None, IfOk, box_value};
 ghost use Rattle.std.specs.Option.{option_map};
-ghost use Rattle.stun_keys.specs.Keys.{key_bytes};
+ghost use Rattle.stun_authentication.specs.Answers.{Decision, Tells};
 ghost use Rattle.stun_authentication.specs.Lookups.{IsKeyOf};
 ghost use Rattle.stun_types_c.specs.KeyHandles.{held_key};
+ghost use Rattle.stun_types_c.specs.Users.{bytes_of, borrowed_bytes, known_of};
+ghost use Rattle.stun_types_c.specs.Authentication.{policy_named, nonce_named, in_c, by_short_term, by_long_term, TellsDecision, Authenticates};
 
 use crate::answer::{Answer, parse_answer, plain};
 use crate::codes;
@@ -54,7 +56,7 @@ struct OneUser<'a> {
 
 /// A copy of a key, where there is one.
 fn copy_of(alloc: Global, key: Option<&IntegrityKey>) -> Result<Option<IntegrityKey>, AllocError>
-    ensures { IfOk result (IsKeyOf (option_map (λ key. key_bytes key.now) key.entry)) }
+    ensures { IfOk result (IsKeyOf (borrowed_bytes key.entry)) }
 {
     match key {
         Some(key) => match key.clone(alloc) {
@@ -66,10 +68,9 @@ fn copy_of(alloc: Global, key: Option<&IntegrityKey>) -> Result<Option<Integrity
 }
 
 impl ShortTermKeys for OneUser<'_> {
-    ghost use Rattle.std.specs.Option.{option_map};
-    ghost use Rattle.stun_keys.specs.Keys.{key_bytes};
+    ghost use Rattle.stun_types_c.specs.Users.{borrowed_bytes};
 
-    ghost key_of = { λ user _. option_map (λ key. key_bytes key.now) user.md5 };
+    ghost key_of = { λ user _. borrowed_bytes user.md5 };
 
     fn key(&self, alloc: Global, _username: &[u8]) -> Result<Option<IntegrityKey>, AllocError> {
         copy_of(alloc, self.md5)
@@ -77,9 +78,10 @@ impl ShortTermKeys for OneUser<'_> {
 }
 
 impl LongTermKeys for OneUser<'_> {
-    ghost use Rattle.stun_types_c.specs.Users.{long_term_key_of};
+    ghost use Rattle.stun_types_c.specs.Users.{borrowed_bytes, long_term_key_of};
 
-    ghost key_of = { λ user _ _ algorithm. long_term_key_of user.md5 user.sha256 algorithm };
+    ghost key_of = { λ user _ _.
+        long_term_key_of (borrowed_bytes user.md5) (borrowed_bytes user.sha256) };
 
     fn key(
         &self,
@@ -103,9 +105,9 @@ struct OneNonce {
 }
 
 impl Nonces for OneNonce {
-    ghost use Rattle.stun_types_c.specs.Users.{known_nonce};
+    ghost use Rattle.stun_types_c.specs.Users.{known_of};
 
-    ghost state_of = { λ one _. known_nonce one.is_valid one.sent };
+    ghost state_of = { λ one _. known_of one };
 
     fn nonce(&self, _nonce: &[u8]) -> KnownNonce<'_> {
         if self.is_valid {
@@ -116,8 +118,25 @@ impl Nonces for OneNonce {
     }
 }
 
+/// What a caller knows of the nonce, by the number of its state, and the numbers of the password
+/// algorithms that it was sent with.
+fn nonce_of(state: u32, algorithms: &[u16]) -> Option<OneNonce>
+    ensures { nonce_named state algorithms.now ≡ option_map known_of result }
+{
+    let sent = algorithms_of(algorithms)?;
+    if state > 2 {
+        return None;
+    }
+    Some(OneNonce {
+        is_valid: state == 0,
+        sent,
+    })
+}
+
 /// The policy of C's numbers.
-fn policy_of(counted: &CountedIntegrity) -> Option<Policy> {
+fn policy_of(counted: &CountedIntegrity) -> Option<Policy>
+    ensures { result ≡ policy_named counted.now }
+{
     let algorithm = match counted.algorithm {
         0 => None,
         number => Some(algorithm_of(number)?),
@@ -129,7 +148,9 @@ fn policy_of(counted: &CountedIntegrity) -> Option<Policy> {
 }
 
 /// An answer, as C's numbers.
-fn in_c(answer: &Authentication) -> Authenticated {
+fn in_c(answer: &Authentication) -> Authenticated
+    ensures { (decision : Decision) → Tells decision answer.now → result ≡ in_c decision }
+{
     match answer {
         Authentication::Accepted(accepted) => Authenticated {
             kind: 0,
@@ -153,7 +174,10 @@ fn in_c(answer: &Authentication) -> Authenticated {
 }
 
 /// Tells C an answer, or that an allocation failed.
-fn tell(answer: Result<Authentication, AllocError>, out: &mut Authenticated) -> Answer {
+fn tell(answer: Result<Authentication, AllocError>, out: &mut Authenticated) -> Answer
+    ensures { (decision : Decision) → IfOk answer (Tells decision)
+        → TellsDecision decision result out.old out.new }
+{
     match answer {
         Ok(answer) => {
             *out = in_c(&answer);
@@ -174,7 +198,9 @@ fn give_back(key: &mut KeyHandle, held: Option<Box<IntegrityKey>>)
 }
 
 /// The key in a box, if there is one.
-fn key_in(held: &Option<Box<IntegrityKey>>) -> Option<&IntegrityKey> {
+fn key_in(held: &Option<Box<IntegrityKey>>) -> Option<&IntegrityKey>
+    ensures { borrowed_bytes result ≡ bytes_of (option_map box_value held.now) }
+{
     match held {
         Some(held) => Some(held),
         None => None,
@@ -190,7 +216,9 @@ pub extern "C" fn stun_types_authenticate_short_term(
     key: &mut KeyHandle,
     out: &mut Authenticated,
 ) -> Answer
-    ensures { held_key key.new ≡ held_key key.old }
+    ensures key { held_key key.new ≡ held_key key.old }
+    ensures answer { let decided = by_short_term policy.now (held_key key.old) bytes.now in
+        Authenticates decided bytes.now result out.old out.new }
 {
     let message = match Message::from_bytes(bytes) {
         Ok(message) => message,
@@ -223,20 +251,17 @@ pub extern "C" fn stun_types_authenticate_long_term(
 ) -> Answer
     ensures md5 { held_key md5_key.new ≡ held_key md5_key.old }
     ensures sha256 { held_key sha256_key.new ≡ held_key sha256_key.old }
+    ensures answer { let nonce = nonce_named nonce_state algorithms.now in
+        let decided = by_long_term policy.now nonce (held_key md5_key.old)
+        (held_key sha256_key.old) bytes.now in
+        Authenticates decided bytes.now result out.old out.new }
 {
     let message = match Message::from_bytes(bytes) {
         Ok(message) => message,
         Err(error) => return parse_answer(error),
     };
-    let (Some(policy), Some(sent)) = (policy_of(policy), algorithms_of(algorithms)) else {
+    let (Some(policy), Some(nonce)) = (policy_of(policy), nonce_of(nonce_state, algorithms)) else {
         return plain(codes::BAD_ARGUMENT);
-    };
-    if nonce_state > 2 {
-        return plain(codes::BAD_ARGUMENT);
-    }
-    let nonce = OneNonce {
-        is_valid: nonce_state == 0,
-        sent,
     };
     let md5 = take(md5_key, alloc);
     let sha256 = take(sha256_key, alloc);

@@ -1,13 +1,18 @@
 //! A client's half of the long-term credential mechanism (RFC 8489, section 9.2.5).
 
+ghost use Rattle.std.specs.Prelude.{◌≡◌, take};
+ghost use Rattle.std.specs.Option.{option_map};
+ghost use Rattle.stun_authentication.specs.Challenges.{asked_by};
+ghost use Rattle.stun_types_c.specs.Challenges.{retry_answer, value_at, in_c, challenge_before, ReadsFor, ReadsChallenge};
+
 use crate::answer::{Answer, parse_answer, plain};
+use crate::attribute::first_shown;
 use crate::codes;
 use crate::keys::number_of;
 use crate::passwords::{Listed, algorithms_of};
 use stun_authentication::{Challenge, NoRetry, challenge_of};
-use stun_types::attribute::{
-    AttributeStaticType, AttributeType, Nonce, PasswordAlgorithmValue, PasswordAlgorithms, Realm,
-};
+use stun_grammar::attribute_types::{NONCE, PASSWORD_ALGORITHMS, REALM};
+use stun_types::attribute::PasswordAlgorithmValue;
 use stun_types::message::Message;
 
 /// What a 401 or a 438 asks the next request to carry.
@@ -35,7 +40,9 @@ pub struct Asked {
 }
 
 /// Why a request isn't sent again.
-fn no_retry(reason: NoRetry) -> Answer {
+fn no_retry(reason: NoRetry) -> Answer
+    ensures { result ≡ retry_answer reason }
+{
     match reason {
         NoRetry::NotAChallenge => plain(codes::NOT_A_CHALLENGE),
         NoRetry::BidDown => plain(codes::BID_DOWN),
@@ -46,26 +53,26 @@ fn no_retry(reason: NoRetry) -> Answer {
 }
 
 /// Where the value of the first attribute of a type stands; 0 where there is none.
-fn value_at(message: &Message<'_>, atype: AttributeType) -> usize {
-    match message.raw_attribute_and_offset(atype) {
-        Some((offset, _attribute)) => offset.saturating_add(4),
+fn value_at(response: &[u8], atype: u16) -> usize
+    ensures { result ≡ value_at atype response.now }
+{
+    match first_shown(response, atype) {
+        Some(attribute) => attribute.value_at,
         None => 0,
     }
 }
 
 /// A challenge, as C sees it.
-fn in_c(response: &Message<'_>, challenge: &Challenge<'_>) -> Asked {
-    let list = challenge.password_algorithms();
+fn in_c(response: &[u8], challenge: &Challenge<'_>) -> Asked
+    ensures { result ≡ in_c response.now (asked_by challenge.now) }
+{
     Asked {
-        realm_at: value_at(response, Realm::TYPE),
+        realm_at: value_at(response, REALM),
         realm_length: challenge.realm().len(),
-        nonce_at: value_at(response, Nonce::TYPE),
+        nonce_at: value_at(response, NONCE),
         nonce_length: challenge.nonce().len(),
-        algorithms_at: match list {
-            Some(_) => value_at(response, PasswordAlgorithms::TYPE),
-            None => 0,
-        },
-        algorithms_length: list.map_or(0, |list| list.len()),
+        algorithms_at: value_at(response, PASSWORD_ALGORITHMS),
+        algorithms_length: challenge.password_algorithms().map_or(0, |list| list.len()),
         password_algorithm: match challenge.password_algorithm() {
             PasswordAlgorithmValue::MD5 => 1,
             PasswordAlgorithmValue::SHA256 => 2,
@@ -75,20 +82,28 @@ fn in_c(response: &Message<'_>, challenge: &Challenge<'_>) -> Asked {
     }
 }
 
+/// The challenge in the response before, where it was one.
+fn challenge_before<'a>(supported: &Listed, before: &'a [u8]) -> Option<Challenge<'a>>
+    ensures { option_map asked_by result
+        ≡ challenge_before (take supported.now.count supported.now.all) before.now }
+{
+    let earlier = Message::from_bytes(before).ok()?;
+    challenge_of(&earlier, supported.as_slice(), None).ok()
+}
+
 /// What a response asks for, after the one before it, if there was one.
-fn asked_by(response: &[u8], supported: &Listed, before: &[u8], asked: &mut Asked) -> Answer {
+fn asked_by(response: &[u8], supported: &Listed, before: &[u8], asked: &mut Asked) -> Answer
+    ensures { ReadsFor (take supported.now.count supported.now.all) before.now response.now result
+        asked.old asked.new }
+{
     let message = match Message::from_bytes(response) {
         Ok(message) => message,
         Err(error) => return parse_answer(error),
     };
-    let earlier = Message::from_bytes(before).ok();
-    let before = match &earlier {
-        Some(earlier) => challenge_of(earlier, supported.as_slice(), None).ok(),
-        None => None,
-    };
+    let before = challenge_before(supported, before);
     match challenge_of(&message, supported.as_slice(), before) {
         Ok(challenge) => {
-            *asked = in_c(&message, &challenge);
+            *asked = in_c(response, &challenge);
             plain(codes::OK)
         }
         Err(reason) => no_retry(reason),
@@ -102,7 +117,9 @@ pub extern "C" fn stun_types_challenge_of(
     supported: &[u16],
     before: &[u8],
     asked: &mut Asked,
-) -> Answer {
+) -> Answer
+    ensures { ReadsChallenge supported.now before.now response.now result asked.old asked.new }
+{
     match algorithms_of(supported) {
         Some(supported) => asked_by(response, &supported, before, asked),
         None => plain(codes::BAD_ARGUMENT),

@@ -11,6 +11,7 @@ use crate::answer::{Answer, parse_answer, plain, validate_answer, write_answer};
 use crate::codes;
 use crate::key_handle::KeyHandle;
 use crate::key_store::{hold, put_back, release, take};
+use crate::values::text_in;
 use std::alloc::Global;
 use stun_types::attribute::Userhash;
 use stun_types::message::keys::{
@@ -118,15 +119,6 @@ pub extern "C" fn stun_types_validate(
     let verdict = message.validate_integrity_with_key(&taken);
     put_back(key, taken);
     told(verdict, algorithm)
-}
-
-/// The text that C's bytes are; `None` where they aren't UTF-8.
-#[tactic(auto, using(crate::proofs::CredentialsLemmas::is_text, crate::proofs::CredentialsLemmas::is_no_text))]
-fn text_in(bytes: &[u8]) -> Option<&str>
-    ensures { MatchOption result (is_utf8 bytes.now ≡ false)
-        (λ text. (is_utf8 bytes.now ≡ true) × (text.now ≡ bytes.now)) }
-{
-    str::from_utf8(bytes).ok()
 }
 
 /// A text of C's bytes, in memory that `alloc` gives.

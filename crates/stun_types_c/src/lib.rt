@@ -15,6 +15,7 @@ mod key_handle;
 mod key_place;
 mod key_store;
 mod keys;
+mod laws;
 mod new_values;
 mod passwords;
 mod printing;
@@ -45,6 +46,7 @@ pub use keys::{
     stun_types_key_short_term, stun_types_userhash, stun_types_validate,
     stun_types_validate_long_term, stun_types_validate_short_term,
 };
+pub use laws::{asked_texts_stand_where_they_are_told, found_value_stands_where_it_is_told};
 pub use printing::stun_types_print;
 pub use reading::{
     Header, Id, stun_types_framed_length, stun_types_message_type, stun_types_parse,

@@ -2,7 +2,6 @@
 
 ghost use Rattle.std.specs.Prelude.{◌≡◌, ◌+◌, ◌*◌, ◌≤◌, ◌++◌, length, drop};
 ghost use Rattle.std.specs.List.{flat_map};
-ghost use Rattle.std.specs.Str.{is_utf8};
 ghost use Rattle.stun_grammar.specs.Numbers.{be16};
 
 use byteorder::{BigEndian, ByteOrder};
@@ -34,17 +33,6 @@ impl EncodeValue for ErrorValue<'_> {
 
     fn held_bytes(&self) -> Option<&[u8]> {
         None
-    }
-}
-
-/// Whether bytes are a text, UTF-8.
-#[tactic(auto, using(crate::proofs::NewValuesLemmas::is_text, crate::proofs::NewValuesLemmas::no_text))]
-pub(crate) fn is_text(bytes: &[u8]) -> bool
-    ensures { result ≡ is_utf8 bytes.now }
-{
-    match str::from_utf8(bytes) {
-        Ok(_) => true,
-        Err(_) => false,
     }
 }
 

@@ -1,6 +1,8 @@
 //! Lists of password algorithms, by their numbers (RFC 8489, section 18.5).
 
-ghost use Rattle.std.specs.Prelude.{◌≡◌, ◌≤◌, take};
+ghost use Rattle.std.specs.Prelude.{◌≡◌, ◌≤◌, take, if◌then◌else◌};
+ghost use Rattle.std.specs.Option.{option_map};
+ghost use Rattle.stun_types_c.specs.Passwords.{names_password, password_named, passwords_named};
 
 use stun_types::attribute::PasswordAlgorithmValue;
 
@@ -24,19 +26,28 @@ impl Listed {
     }
 }
 
+/// The algorithm of a number.
+fn algorithm_of(number: u16) -> Option<PasswordAlgorithmValue>
+    ensures { result ≡ (if names_password number then Some (password_named number) else None) }
+{
+    match number {
+        1 => Some(PasswordAlgorithmValue::MD5),
+        2 => Some(PasswordAlgorithmValue::SHA256),
+        _ => None,
+    }
+}
+
 /// The algorithms of these numbers; `None` where one has another number, or there are more than
 /// sixteen.
-pub(crate) fn algorithms_of(numbers: &[u16]) -> Option<Listed> {
+pub(crate) fn algorithms_of(numbers: &[u16]) -> Option<Listed>
+    ensures { passwords_named numbers.now ≡ option_map (λ list. take list.count list.all) result }
+{
     if numbers.len() > MOST {
         return None;
     }
     let mut all = [PasswordAlgorithmValue::MD5; MOST];
     for i in 0..numbers.len() {
-        all[i] = match numbers[i] {
-            1 => PasswordAlgorithmValue::MD5,
-            2 => PasswordAlgorithmValue::SHA256,
-            _ => return None,
-        };
+        all[i] = algorithm_of(numbers[i])?;
     }
     Some(Listed {
         all,

@@ -1,7 +1,7 @@
 //! A server without credentials.
 
 ghost use Rattle.std.specs.Prelude.{◌≡◌};
-ghost use Rattle.stun_types_c.specs.Server.{RepliesTo};
+ghost use Rattle.stun_types_c.specs.Server.{RepliesTo, RepliesAt};
 
 use crate::address::{Address, socket_of};
 use crate::answer::{Answer, plain, write_answer};
@@ -33,7 +33,10 @@ pub extern "C" fn stun_types_binding_reply(
     source: &Address,
     room: &mut [u8],
     reply_length: &mut usize,
-) -> Answer {
+) -> Answer
+    ensures { RepliesAt source.now bytes.now result room.old room.new reply_length.old
+        reply_length.new }
+{
     match socket_of(source) {
         Some(source) => reply_to(bytes, source, room, reply_length),
         None => plain(codes::BAD_ARGUMENT),

@@ -1,6 +1,7 @@
-//! Values of attributes: errors, and lists of types.
+//! Values of attributes: where they are, texts, and errors.
 
-ghost use Rattle.std.specs.Prelude.{◌≡◌};
+ghost use Rattle.std.specs.Prelude.{◌≡◌, true, false, MatchOption};
+ghost use Rattle.std.specs.Str.{is_utf8};
 ghost use Rattle.std.specs.Option.{option_map};
 ghost use Rattle.stun_types_c.specs.Values.{value_of, ErrorOut, ReadsError};
 
@@ -18,6 +19,15 @@ pub(crate) fn value_in<'a>(bytes: &'a [u8], attribute: &ShownAttribute) -> Optio
         return None;
     }
     Some(&bytes[attribute.value_at..attribute.value_at + length])
+}
+
+/// The text that C's bytes are; `None` where they aren't UTF-8.
+#[tactic(auto, using(crate::proofs::CredentialsLemmas::is_text, crate::proofs::CredentialsLemmas::is_no_text))]
+pub(crate) fn text_in(bytes: &[u8]) -> Option<&str>
+    ensures { MatchOption result (is_utf8 bytes.now ≡ false)
+        (λ text. (is_utf8 bytes.now ≡ true) × (text.now ≡ bytes.now)) }
+{
+    str::from_utf8(bytes).ok()
 }
 
 /// Reads the code in an ERROR-CODE, and where its reason stands in the message.

@@ -17,8 +17,9 @@ use crate::codes;
 use crate::key_handle::KeyHandle;
 use crate::key_store::{put_back, take};
 use crate::keys::algorithm_of;
-use crate::new_values::{ErrorValue, TypeNumbers, is_text};
+use crate::new_values::{ErrorValue, TypeNumbers};
 use crate::reading::{Id, id_of};
+use crate::values::text_in;
 use std::alloc::Global;
 use std::net::SocketAddr;
 use stun_base::MessageHeader;
@@ -174,7 +175,7 @@ pub extern "C" fn stun_types_add_error(
     if reason.len() > 763 {
         return counted(codes::TOO_LARGE, 763, reason.len());
     }
-    if !is_text(reason) {
+    if text_in(reason).is_none() {
         return plain(codes::INVALID_DATA);
     }
     let value = ErrorValue { code, reason };

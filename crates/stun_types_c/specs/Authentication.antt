@@ -1,0 +1,86 @@
+-- What a server in C is told of a message that it authenticates (RFC 8489, sections 9.1.3 and
+-- 9.2.4).
+use Rattle.std.specs.Prelude.{◌≡◌, ◌⊎◌, ℕ, List, [], Option, None, Some, MatchOption, option_and_then, ◌==◌, if◌then◌else◌}
+use Rattle.std.specs.Option.{option_map}
+use Rattle.stun_grammar.specs.declared.integrity_algorithm.IntegrityAlgorithm.{IntegrityAlgorithm}
+use Rattle.stun_grammar.specs.Parsing.{parse_fault}
+use Rattle.stun_keys.specs.declared.keys.integrity_key.IntegrityKey.{IntegrityKey}
+use Rattle.stun_authentication.specs.declared.policy.Policy.{Policy}
+use Rattle.stun_authentication.specs.Answers.{Decision, accept, refuse, discard, refusal_code}
+use Rattle.stun_authentication.specs.Lookups.{Known}
+use Rattle.stun_authentication.specs.LongTerm.{long_term}
+use Rattle.stun_authentication.specs.ShortTerm.{short_term}
+use Rattle.stun_types_c.specs.declared.answer.Answer.{Answer}
+use Rattle.stun_types_c.specs.declared.authentication.Authenticated.{Authenticated}
+use Rattle.stun_types_c.specs.declared.authentication.CountedIntegrity.{CountedIntegrity}
+use Rattle.stun_types_c.specs.Codes.{OK, OUT_OF_MEMORY, BAD_ARGUMENT}
+use Rattle.stun_types_c.specs.Answers.{plain, parse_answer}
+use Rattle.stun_types_c.specs.Keys.{algorithm_named, number_of}
+use Rattle.stun_types_c.specs.Passwords.{passwords_named}
+use Rattle.stun_types_c.specs.Users.{bytes_of, long_term_key_of, nonce_in}
+
+-- ---- What C hands in
+
+-- which algorithms a number counts: 0 both, and any other the one that it names
+abbrev pub algorithms_counted : ℕ → Option (Option IntegrityAlgorithm)
+algorithms_counted number =
+    if number == 0 then Some None else option_map (λ a. Some a) (algorithm_named number)
+
+-- the policy of C's numbers
+abbrev pub policy_named : CountedIntegrity → Option Policy
+policy_named counted =
+    option_map (λ a. record { algorithm = a; shortest = counted.shortest })
+    (algorithms_counted counted.algorithm)
+
+-- what C knows of a nonce, by the number of its state, and the numbers of the algorithms that it
+-- was sent with
+abbrev pub nonce_named : ℕ → List ℕ → Option Known
+nonce_named state numbers = option_and_then (nonce_in state) (passwords_named numbers)
+
+-- what becomes of d, by the one key that C holds; none where it hands in no policy
+abbrev pub by_short_term : CountedIntegrity → Option IntegrityKey → List ℕ → Option Decision
+by_short_term counted key d =
+    option_map (λ policy. short_term policy (λ user. bytes_of key) d) (policy_named counted)
+
+-- the same by the keys of both password algorithms; none where it knows no state of the nonce. The
+-- realm makes the keys, and C has made them
+abbrev pub by_long_term : CountedIntegrity → Option Known → (md5 sha256 : Option IntegrityKey)
+    → List ℕ → Option Decision
+by_long_term counted nonce md5 sha256 d =
+    option_and_then (λ policy. option_map (λ known.
+    long_term policy [] (λ shown. known)
+    (λ user realm. long_term_key_of (bytes_of md5) (bytes_of sha256)) d) nonce)
+    (policy_named counted)
+
+-- ---- What C is told
+
+-- a decision in C's numbers: accepted, refused or dropped
+abbrev pub in_c : Decision → Authenticated
+in_c (accept key algorithm reply) = record {
+  kind = 0;
+  error_code = 0;
+  algorithm = number_of algorithm;
+  reply_algorithm = number_of reply;
+}
+in_c (refuse refusal) = record {
+  kind = 1;
+  error_code = refusal_code refusal;
+  algorithm = 0;
+  reply_algorithm = 0;
+}
+in_c discard = record { kind = 2; error_code = 0; algorithm = 0; reply_algorithm = 0 }
+
+-- a decision is told; or an allocation failed, and nothing is told
+abbrev pub TellsDecision : Decision → Answer → (old new : Authenticated) → Type 0
+TellsDecision decision result old new =
+    ((result ≡ plain OK) × (new ≡ in_c decision))
+    ⊎ ((result ≡ plain OUT_OF_MEMORY) × (new ≡ old))
+
+-- authenticating d: why it is no message, or that C handed in what is none, or the decision
+abbrev pub Authenticates : Option Decision → List ℕ → Answer → (old new : Authenticated) → Type 0
+Authenticates decided d result old new =
+    MatchOption (parse_fault d)
+    (MatchOption decided
+    ((result ≡ plain BAD_ARGUMENT) × (new ≡ old))
+    (λ decision. TellsDecision decision result old new))
+    (λ e. (result ≡ parse_answer e) × (new ≡ old))

@@ -1,0 +1,22 @@
+//! Laws of what C is told. Each function does nothing: its contract is the law.
+
+ghost use Rattle.std.specs.Prelude.{◌≡◌, ℕ, List, Option, Some, Ok, IfSome};
+ghost use Rattle.stun_values.specs.declared.algorithm.PasswordAlgorithmValue.{PasswordAlgorithmValue};
+ghost use Rattle.stun_read.specs.LookingUp.{nth};
+ghost use Rattle.stun_authentication.specs.Challenges.{Asked, challenge_of};
+ghost use Rattle.stun_types_c.specs.Attributes.{in_c};
+ghost use Rattle.stun_types_c.specs.Challenges.{in_c as asked_in_c, StandsWhereTold};
+ghost use Rattle.stun_types_c.specs.Values.{value_of};
+
+/// The value of an attribute that is found stands where C is told that it does.
+pub fn found_value_stands_where_it_is_told(bytes: &[u8])
+    ensures { (type : ℕ) → IfSome (nth bytes.now type 0)
+        (λ a. value_of (in_c a) bytes.now ≡ Some a.value) }
+{}
+
+/// So do the texts and the list that a challenge asks for.
+pub fn asked_texts_stand_where_they_are_told(response: &[u8])
+    ensures { (supported : List PasswordAlgorithmValue) (before : Option Asked) (asked : Asked)
+        → challenge_of supported before response.now ≡ Ok asked
+        → StandsWhereTold response.now asked (asked_in_c response.now asked) }
+{}
