@@ -79,7 +79,7 @@ static void begin(void) {
     room_region = guarded_make(ROOM);
     other_region = guarded_make(4 * ROOM);
     text_region = guarded_make(TEXT);
-    HOLDS(stun_types_key_short_term(&key, (const uint8_t *)PASSWORD, PASSWORD_LENGTH).code
+    HOLDS(stun_types_key_short_term(&key, PASSWORD, PASSWORD_LENGTH).code
           == STUN_TYPES_OK);
 }
 
@@ -256,7 +256,7 @@ static void check_validation(const uint8_t *bytes, size_t length) {
     if (answer.code == STUN_TYPES_OK) HOLDS(told == expected);
     else HOLDS(told == 99);
     if (length % 8 == 0) {
-        HOLDS(is_same(stun_types_validate_short_term(bytes, length, (const uint8_t *)PASSWORD,
+        HOLDS(is_same(stun_types_validate_short_term(bytes, length, PASSWORD,
                                                      PASSWORD_LENGTH, &by_password), answer));
         HOLDS(by_password == told);
     }

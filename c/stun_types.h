@@ -2,11 +2,13 @@
  *
  * - A slice is a pointer and a length in bytes. The pointer is never NULL; a slice of length 0 is
  *   nothing, whatever its pointer. Slices that a call writes into overlap no other argument of it.
+ *   Messages are uint8_t; a text or a value that is handed in may be char or uint8_t (const void *).
  * - No call keeps a pointer, prints, blocks or aborts. Only the calls whose comments say so allocate
  *   (by malloc). All may run in several threads at once, on one key in one call at a time.
  * - Numbers in messages are big-endian; numbers in these structs are the machine's.
  * - Most calls return a stun_types_answer. Where its code isn't STUN_TYPES_OK, nothing else that the
- *   call was to write is written, unless its comment says otherwise.
+ *   call was to write is written, unless its comment says otherwise. Where several codes apply, the
+ *   one that the comment lists first is told; OUT_OF_MEMORY may come before the last of them.
  * - What C hands in is tested. Only a key has to be what the library made (see Keys).
  */
 #ifndef STUN_TYPES_H
@@ -253,12 +255,14 @@ typedef struct {
 
 /* The next attribute that the message shows: ordinary ones, and then at most one of
    MESSAGE-INTEGRITY, MESSAGE-INTEGRITY-SHA256 and FINGERPRINT each, in this order (RFC 8489,
-   sections 14.5 to 14.7). False where there are no more, and from then on. The bytes need not
-   parse: they show nothing where they have no header or another length than it states. */
+   sections 14.5 to 14.7). False where there are no more, and from then on: cursor and attribute stay
+   as they were. The bytes need not parse: they show nothing where they have no header or another
+   length than it states. */
 bool stun_types_next(const uint8_t *bytes, size_t length, stun_types_cursor *cursor,
                      stun_types_attribute *attribute);
 
-/* The first attribute of a type that the message shows; false where there is none. */
+/* The first attribute of a type that the message shows; false where there is none, and *attribute
+   stays as it was. */
 bool stun_types_find(const uint8_t *bytes, size_t length, uint16_t type, stun_types_attribute *attribute);
 
 /* A transport address. */
@@ -272,14 +276,14 @@ typedef struct {
    BAD_ARGUMENT: the attribute isn't within the bytes. */
 
 /* The address in an XOR-MAPPED-ADDRESS, XOR-PEER-ADDRESS or XOR-RELAYED-ADDRESS (RFC 8489, section
-   14.2). TRUNCATED, TOO_LARGE, INVALID_DATA: the value is no address. NOT_STUN: there is no header,
-   whose transaction ID is needed. */
+   14.2). NOT_STUN, TRUNCATED: the bytes begin with no header, whose transaction ID is needed.
+   TRUNCATED, TOO_LARGE, INVALID_DATA: the value is no address. */
 stun_types_answer stun_types_read_xor_address(const uint8_t *bytes, size_t length,
                                               const stun_types_attribute *attribute,
                                               stun_types_address *address);
 
 /* The address in a MAPPED-ADDRESS, ALTERNATE-SERVER, RESPONSE-ORIGIN or OTHER-ADDRESS (RFC 8489,
-   section 14.1), by the same errors. */
+   section 14.1). TRUNCATED, TOO_LARGE, INVALID_DATA: the value is no address. */
 stun_types_answer stun_types_read_address(const uint8_t *bytes, size_t length,
                                           const stun_types_attribute *attribute,
                                           stun_types_address *address);
@@ -290,7 +294,7 @@ stun_types_answer stun_types_read_error(const uint8_t *bytes, size_t length,
                                         const stun_types_attribute *attribute, uint16_t *code,
                                         size_t *reason_at, size_t *reason_length);
 
-/* The types in an UNKNOWN-ATTRIBUTES (RFC 8489, section 14.9). *count is how many there are, also
+/* The types in an UNKNOWN-ATTRIBUTES (RFC 8489, section 14.13). *count is how many there are, also
    where it is more than room; the first room of them are written. INVALID_DATA: an odd length. */
 stun_types_answer stun_types_read_types(const uint8_t *bytes, size_t length,
                                         const stun_types_attribute *attribute, uint16_t *types,
@@ -324,21 +328,21 @@ typedef struct {
 
 /* The key of a short-term credential, the password (RFC 8489, section 9.1.1). It serves both
    algorithms. Allocates: OUT_OF_MEMORY, and the key stays as it was. */
-stun_types_answer stun_types_key_short_term(stun_types_key *key, const uint8_t *password,
+stun_types_answer stun_types_key_short_term(stun_types_key *key, const void *password,
                                             size_t password_length);
 
 /* The key of a long-term credential (RFC 8489, sections 9.2.2 and 18.5.1): the MD5 of
    user:realm:password for STUN_TYPES_SHA1, its SHA-256 for STUN_TYPES_SHA256. The texts are taken
-   as they are, with no SASLprep and no OpaqueString. Allocates: OUT_OF_MEMORY, and the key stays.
-   INVALID_DATA: a text isn't UTF-8. BAD_ARGUMENT: another algorithm. */
-stun_types_answer stun_types_key_long_term(stun_types_key *key, const uint8_t *user,
-                                           size_t user_length, const uint8_t *realm,
-                                           size_t realm_length, const uint8_t *password,
+   as they are, with no SASLprep and no OpaqueString. BAD_ARGUMENT: another algorithm. INVALID_DATA: a
+   text isn't UTF-8. Allocates: OUT_OF_MEMORY, and the key stays. */
+stun_types_answer stun_types_key_long_term(stun_types_key *key, const void *user,
+                                           size_t user_length, const void *realm,
+                                           size_t realm_length, const void *password,
                                            size_t password_length, uint32_t algorithm);
 
 /* The key with these bytes, made for an algorithm or, by STUN_TYPES_ANY, for both: as a server
-   stores them. Allocates: OUT_OF_MEMORY, and the key stays. BAD_ARGUMENT: no such algorithm. */
-stun_types_answer stun_types_key_from_bytes(stun_types_key *key, const uint8_t *bytes, size_t length,
+   stores them. BAD_ARGUMENT: no such algorithm. Allocates: OUT_OF_MEMORY, and the key stays. */
+stun_types_answer stun_types_key_from_bytes(stun_types_key *key, const void *bytes, size_t length,
                                             uint32_t algorithm);
 
 /* A user's hash: what a USERHASH holds. */
@@ -348,7 +352,7 @@ typedef struct {
 
 /* The SHA-256 of user:realm, by which a request names its user where the server asks for that (RFC
    8489, section 14.4). INVALID_DATA: a text isn't UTF-8. */
-stun_types_answer stun_types_userhash(const uint8_t *user, size_t user_length, const uint8_t *realm,
+stun_types_answer stun_types_userhash(const void *user, size_t user_length, const void *realm,
                                       size_t realm_length, stun_types_hash *hash);
 
 /* Overwrites the key's bytes, frees it, and leaves STUN_TYPES_NO_KEY_YET. Of that it does nothing. */
@@ -360,20 +364,21 @@ void stun_types_key_free(stun_types_key *key);
    was checked: act on it, since who takes MESSAGE-INTEGRITY-SHA256 out of a message that has both
    leaves one that validates by SHA-1. It allocates nothing.
    What stands behind the attribute that was checked, and the length field, are not authentic.
-   The errors of stun_types_parse; MISSING_ATTRIBUTE; INTEGRITY_FAILED; TRUNCATED, TOO_LARGE,
-   INVALID_DATA: the attribute has no lawful length; NO_KEY. */
+   The errors of stun_types_parse; NO_KEY; MISSING_ATTRIBUTE; TRUNCATED, TOO_LARGE, INVALID_DATA: the
+   attribute has no lawful length; INTEGRITY_FAILED. */
 stun_types_answer stun_types_validate(const uint8_t *bytes, size_t length, stun_types_key *key,
                                       uint32_t *algorithm);
 
-/* The same by a short-term or a long-term credential, of which the key is made and freed. Allocates:
-   OUT_OF_MEMORY. INVALID_DATA: also where a text of the long-term one isn't UTF-8. */
+/* The same by a short-term or a long-term credential, of which the key is made and freed: of the
+   long-term one that of the algorithm that is checked. After the errors of stun_types_parse comes
+   INVALID_DATA: a text of the long-term one isn't UTF-8. Allocates: OUT_OF_MEMORY. */
 stun_types_answer stun_types_validate_short_term(const uint8_t *bytes, size_t length,
-                                                 const uint8_t *password, size_t password_length,
+                                                 const void *password, size_t password_length,
                                                  uint32_t *algorithm);
 stun_types_answer stun_types_validate_long_term(const uint8_t *bytes, size_t length,
-                                                const uint8_t *user, size_t user_length,
-                                                const uint8_t *realm, size_t realm_length,
-                                                const uint8_t *password, size_t password_length,
+                                                const void *user, size_t user_length,
+                                                const void *realm, size_t realm_length,
+                                                const void *password, size_t password_length,
                                                 uint32_t *algorithm);
 
 /* ---- Writing ---------------------------------------------------------------------------------- */
@@ -402,7 +407,7 @@ stun_types_answer stun_types_begin(uint8_t *room, size_t size, uint16_t type, co
 /* Adds an attribute by its type and value: header, value, zeros up to a multiple of 4.
    TOO_LARGE: the value has more than 65,535 bytes. */
 stun_types_answer stun_types_add(uint8_t *room, size_t size, size_t *written, uint16_t type,
-                                 const uint8_t *value, size_t value_length);
+                                 const void *value, size_t value_length);
 
 /* Adds an address, XORed with the message's transaction ID or as it is. BAD_ARGUMENT: the family is
    neither 4 nor 6. */
@@ -414,7 +419,7 @@ stun_types_answer stun_types_add_address(uint8_t *room, size_t size, size_t *wri
 /* Adds an ERROR-CODE with a reason, UTF-8. OUT_OF_RANGE: the code is none of 300 to 699.
    TOO_LARGE: the reason has more than 763 bytes. INVALID_DATA: it isn't UTF-8. */
 stun_types_answer stun_types_add_error(uint8_t *room, size_t size, size_t *written, uint16_t code,
-                                       const uint8_t *reason, size_t reason_length);
+                                       const void *reason, size_t reason_length);
 
 /* Adds an UNKNOWN-ATTRIBUTES of types. TOO_LARGE: more than 32,767 of them. */
 stun_types_answer stun_types_add_unknown_types(uint8_t *room, size_t size, size_t *written,
@@ -431,11 +436,14 @@ stun_types_answer stun_types_add_fingerprint(uint8_t *room, size_t size, size_t 
 
 /* ---- A server without credentials -------------------------------------------------------------- */
 
+/* Greatest length of a reply: a room of that size takes any. */
+#define STUN_TYPES_GREATEST_REPLY 32840
+
 /* Writes the reply to a datagram that came from source: to a binding request the address that it
    came from, or 420 where it shows types that must be understood; with a FINGERPRINT where the
    request has one. *reply_length is 0 where none is owed. A reply is at most 48 bytes longer than
    its request and at most three times as long.
-   TOO_SMALL: expected is what the reply takes, and nothing is written. BAD_ARGUMENT: the family. */
+   BAD_ARGUMENT: the family. TOO_SMALL: expected is what the reply takes, and nothing is written. */
 stun_types_answer stun_types_binding_reply(const uint8_t *bytes, size_t length,
                                            const stun_types_address *source, uint8_t *room,
                                            size_t size, size_t *reply_length);
@@ -529,9 +537,9 @@ typedef struct {
 
 /* Begins the transaction of a request, signed where it is protected. key is that of the credential
    that protects it, and isn't looked at otherwise. Nothing allocates.
-   The errors of stun_types_parse; NOT_A_REQUEST; NOT_SIGNED, SIGNED: against protection; NO_KEY.
-   OUT_OF_RANGE, of no number: one of the schedule is 0, or they are too large. BAD_ARGUMENT:
-   transport or protection. */
+   The errors of stun_types_parse; BAD_ARGUMENT: transport or protection; OUT_OF_RANGE, of no number:
+   one of the schedule is 0, or they are too large; NOT_A_REQUEST; NOT_SIGNED, SIGNED: against
+   protection; NO_KEY. */
 stun_types_answer stun_types_transaction_begin(stun_types_transaction *transaction,
                                                const uint8_t *request, size_t length,
                                                const stun_types_schedule *schedule,
@@ -608,9 +616,10 @@ typedef struct {
 } stun_types_challenge;
 
 /* Reads it (RFC 8489, section 9.2.5). supported are the password algorithms that the client knows;
-   before is the response whose challenge the refused request answered, or nothing.
-   The errors of stun_types_parse; NOT_A_CHALLENGE, BID_DOWN, INCOMPLETE, NO_ALGORITHM,
-   SAME_CREDENTIALS. BAD_ARGUMENT: a password algorithm, or more than 16 of them. */
+   before is the response whose challenge the refused request answered. Where it is no message, or no
+   challenge, as a slice of length 0, there was none.
+   BAD_ARGUMENT: a password algorithm, or more than 16 of them. The errors of stun_types_parse;
+   NOT_A_CHALLENGE, BID_DOWN, INCOMPLETE, NO_ALGORITHM, SAME_CREDENTIALS. */
 stun_types_answer stun_types_challenge_of(const uint8_t *bytes, size_t length,
                                           const uint16_t *supported, size_t supported_count,
                                           const uint8_t *before, size_t before_length,
@@ -631,9 +640,9 @@ typedef struct {
 
 /* Takes the bytes at the start of a piece that belong to the message that is coming; *taken is how
    many. Where they make it whole, it stands at the start of the buffer until the next call.
+   BAD_ARGUMENT: fewer than 20 bytes of buffer, or what is pending isn't the beginning of a message.
    NOT_STUN, NOT_PADDED, TOO_LARGE (expected is the buffer's size): no message begins where one had
-   to, at stream->offset; close the connection. BAD_ARGUMENT: fewer than 20 bytes of buffer, or what
-   is pending isn't the beginning of a message. */
+   to, at stream->offset; close the connection. */
 stun_types_answer stun_types_stream_push(stun_types_stream *stream, uint8_t *buffer, size_t size,
                                          const uint8_t *piece, size_t piece_length, size_t *taken);
 
@@ -657,7 +666,7 @@ stun_types_answer stun_types_read_channel_data(const uint8_t *bytes, size_t leng
 
 /* Writes one, padded with zeros to a multiple of 4 where padded. OUT_OF_RANGE: the channel.
    TOO_LARGE: more than 65,535 bytes of data. TOO_SMALL. */
-stun_types_answer stun_types_write_channel_data(uint16_t channel, const uint8_t *data,
+stun_types_answer stun_types_write_channel_data(uint16_t channel, const void *data,
                                                 size_t data_length, bool padded, uint8_t *room,
                                                 size_t size, size_t *written);
 

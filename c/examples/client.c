@@ -187,8 +187,7 @@ static void add_user(bool *well, const stun_types_challenge *challenge, const ch
         add(well, STUN_TYPES_USERNAME, user, strlen(user));
         return;
     }
-    *well = *well && stun_types_userhash((const uint8_t *)user, strlen(user),
-                                         before.bytes + challenge->realm_at,
+    *well = *well && stun_types_userhash(user, strlen(user), before.bytes + challenge->realm_at,
                                          challenge->realm_length, &hash).code == STUN_TYPES_OK;
     add(well, STUN_TYPES_USERHASH, hash.bytes, sizeof hash.bytes);
 }
@@ -214,12 +213,10 @@ static bool make_key(const stun_types_challenge *challenge, const task *asked,
     uint32_t digest = challenge->password_algorithm == STUN_TYPES_PASSWORD_SHA256
                           ? STUN_TYPES_SHA256
                           : STUN_TYPES_SHA1;
-    const uint8_t *user = (const uint8_t *)asked->user;
-    const uint8_t *password = (const uint8_t *)asked->password;
-    return stun_types_key_long_term(key, user, strlen(asked->user),
+    return stun_types_key_long_term(key, asked->user, strlen(asked->user),
                                     before.bytes + challenge->realm_at, challenge->realm_length,
-                                    password, strlen(asked->password),
-                                    digest).code == STUN_TYPES_OK;
+                                    asked->password, strlen(asked->password), digest)
+               .code == STUN_TYPES_OK;
 }
 
 /* The request that answers the challenge in `before`, signed by a key that is made for it. */

@@ -31,7 +31,6 @@
 #include "addresses.h"
 
 enum {
-    LONGEST_REPLY = 32840, /* to any request, as the library promises */
     MOST_PROCESSES = 64
 };
 
@@ -68,7 +67,7 @@ static size_t reply_to(const uint8_t *message, size_t length, const stun_types_a
                        uint8_t *room) {
     size_t written = 0;
     stun_types_answer answer =
-        stun_types_binding_reply(message, length, source, room, LONGEST_REPLY, &written);
+        stun_types_binding_reply(message, length, source, room, STUN_TYPES_GREATEST_REPLY, &written);
     return answer.code == STUN_TYPES_OK ? written : 0;
 }
 
@@ -449,7 +448,7 @@ static void answer_piece(connection *of, connection_bytes *bytes) {
 /* Answers what was read, as long as there is room for any reply. */
 static void answer_pieces(connection *of, connection_bytes *bytes) {
     while (!of->closing && of->piece_at < of->piece_end &&
-           of->replies_end + LONGEST_REPLY <= REPLIES) {
+           of->replies_end + STUN_TYPES_GREATEST_REPLY <= REPLIES) {
         answer_piece(of, bytes);
     }
 }

@@ -122,17 +122,16 @@ static int show(stun_types_key *key) {
 }
 
 /* Whether a text is UTF-8: a user's hash is made of nothing else. */
-static bool is_utf8(const uint8_t *text, size_t length) {
+static bool is_utf8(const char *text, size_t length) {
     stun_types_hash hash;
     return stun_types_userhash(text, length, text, 0, &hash).code == STUN_TYPES_OK;
 }
 
 /* The same with a password, which makes the key. */
-static int show_with(const char *text) {
-    const uint8_t *password = (const uint8_t *)text;
+static int show_with(const char *password) {
     stun_types_key key = STUN_TYPES_NO_KEY_YET;
-    if (!is_utf8(password, strlen(text))) return fail("usage: stun_show [password]");
-    stun_types_answer made = stun_types_key_short_term(&key, password, strlen(text));
+    if (!is_utf8(password, strlen(password))) return fail("usage: stun_show [password]");
+    stun_types_answer made = stun_types_key_short_term(&key, password, strlen(password));
     if (made.code != STUN_TYPES_OK) return fail(stun_types_message_of(made.code));
     int status = show(&key);
     stun_types_key_free(&key);
