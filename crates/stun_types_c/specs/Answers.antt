@@ -1,5 +1,5 @@
 -- What a call answers to C: a code and what it is about.
-use Rattle.std.specs.Prelude.{ℕ, Option, None, Some}
+use Rattle.std.specs.Prelude.{◌≡◌, ℕ, Option, None, Some}
 use Rattle.stun_grammar.specs.declared.error.StunParseError.{StunParseError}
 use Rattle.stun_grammar.specs.declared.error.StunParseError.TheVariants as Parse
 use Rattle.stun_grammar.specs.declared.error.StunWriteError.{StunWriteError}
@@ -22,6 +22,10 @@ about code type = record { code = code; atype = type; expected = 0; actual = 0 }
 abbrev pub counted : ℕ → ℕ → ℕ → Answer
 counted code expected actual =
     record { code = code; atype = 0; expected = expected; actual = actual }
+
+-- a call answers no, and C's place stays
+abbrev pub Refuses : {T : Type 0} → Answer → Answer → (old new : T) → Type 0
+Refuses answer result old new = (result ≡ answer) × (new ≡ old)
 
 -- why bytes aren't read; what no function of the libraries below answers is invalid data too
 abbrev pub parse_answer : StunParseError → Answer

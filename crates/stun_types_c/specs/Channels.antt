@@ -11,8 +11,8 @@ use Rattle.turn_attrs.specs.Turn.{is_channel}
 use Rattle.stun_types_c.specs.declared.answer.Answer.{Answer}
 use Rattle.stun_types_c.specs.declared.channels.ChannelMessage.{ChannelMessage}
 use Rattle.stun_types_c.specs.Codes.{OK, NOT_STUN, TRUNCATED, TOO_LARGE, TOO_SMALL, OUT_OF_RANGE}
-use Rattle.stun_types_c.specs.Answers.{plain, counted}
-use Rattle.stun_types_c.specs.Writing.{Written, Refuses}
+use Rattle.stun_types_c.specs.Answers.{plain, counted, Refuses}
+use Rattle.stun_types_c.specs.Writing.{Written}
 
 -- the number of a protocol, and 0 for none
 abbrev pub protocol_number : Option Protocol → ℕ

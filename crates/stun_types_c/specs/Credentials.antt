@@ -12,7 +12,7 @@ use Rattle.stun_keys.specs.Keys.{IsKey, long_term_key, long_term_username, long_
 use Rattle.stun_types_c.specs.declared.answer.Answer.{Answer}
 use Rattle.stun_types_c.specs.declared.keys.Hash.{Hash}
 use Rattle.stun_types_c.specs.Codes.{OK, INVALID_DATA, OUT_OF_MEMORY, BAD_ARGUMENT}
-use Rattle.stun_types_c.specs.Answers.{plain, parse_answer}
+use Rattle.stun_types_c.specs.Answers.{plain, parse_answer, Refuses}
 use Rattle.stun_types_c.specs.Keys.{algorithm_named, TellsVerdict}
 
 -- ---- Texts
@@ -24,10 +24,6 @@ texts_refusal texts = if list_all is_utf8 texts then None else Some (plain INVAL
 -- the texts of a long-term credential, in the order in which they are tested and copied
 abbrev pub credential_texts : (user realm password : List ℕ) → List (List ℕ)
 credential_texts user realm password = user ∷ realm ∷ password ∷ []
-
--- a call answers no, and C's place stays
-abbrev pub Refuses : {T : Type 0} → Answer → Answer → (old new : T) → Type 0
-Refuses answer result old new = (result ≡ answer) × (new ≡ old)
 
 -- something is done with the texts of a long-term credential, or one of them isn't UTF-8; or an
 -- allocation failed, and then the first is a text at least, since it is tested before any allocation

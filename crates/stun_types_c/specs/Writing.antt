@@ -24,17 +24,13 @@ use Rattle.stun_types_c.specs.declared.address.Address.{Address}
 use Rattle.stun_types_c.specs.declared.reading.Id.{Id}
 use Rattle.stun_types_c.specs.Addresses.{ip_named, IsAt}
 use Rattle.stun_types_c.specs.Codes.{OK, TOO_LARGE, TOO_SMALL, OUT_OF_RANGE, INVALID_DATA, BAD_ARGUMENT, NO_KEY}
-use Rattle.stun_types_c.specs.Answers.{plain, counted, write_answer}
+use Rattle.stun_types_c.specs.Answers.{plain, counted, write_answer, Refuses}
 use Rattle.stun_types_c.specs.Keys.{algorithm_named}
 
 -- a slice, and how many bytes of it are a message
 pub record Written : Type 0 where
   pub slice : List ℕ
   pub count : ℕ
-
--- a call answers no, and the slice stays
-abbrev pub Refuses : Answer → Answer → Written → Written → Type 0
-Refuses answer result old new = (result ≡ answer) × (new ≡ old)
 
 -- why no message begins: the type isn't one, or the slice has no room for a header
 abbrev pub begin_answer : ℕ → List ℕ → Option Answer
