@@ -1,6 +1,6 @@
 -- What a client in C is told of a challenge (RFC 8489, section 9.2.5).
-use Rattle.std.specs.Prelude.{◌≡◌, ℕ, ◌+◌, List, length, slice_range, Option, None, is_some, Result, MatchOption, MatchResult, if◌then◌else◌}
-use Rattle.std.specs.Option.{option_map_or}
+use Rattle.std.specs.Prelude.{◌≡◌, ℕ, ◌+◌, List, length, slice_range, Option, None, Some, is_some, option_and_then, Result, MatchOption, MatchResult, ◌==◌, if◌then◌else◌}
+use Rattle.std.specs.Option.{option_map, option_map_or}
 use Rattle.std.specs.Result.{result_ok}
 use Rattle.stun_grammar.specs.AttributeTypes.{REALM, NONCE, PASSWORD_ALGORITHMS}
 use Rattle.stun_grammar.specs.Parsing.{parse_fault}
@@ -51,10 +51,13 @@ pub record StandsWhereTold (d : List ℕ) (asked : Asked) (told : AskedInC) : Ty
   pub list : MatchOption asked.list (told.algorithms_at ≡ 0)
       (λ list. slice_range d told.algorithms_at (told.algorithms_at + told.algorithms_length) ≡ list)
 
--- the challenge in the response before, where it was a message, and one
-abbrev pub challenge_before : List PasswordAlgorithmValue → List ℕ → Option Asked
+-- the challenge in the response before, if C hands in bytes; none of the two where they are no
+-- message, or no challenge that a client with these algorithms can have answered
+abbrev pub challenge_before : List PasswordAlgorithmValue → List ℕ → Option (Option Asked)
 challenge_before supported before =
-    if is_some (parse_fault before) then None else result_ok (challenge_of supported None before)
+    if length before == 0 then Some None else (
+    if is_some (parse_fault before) then None
+    else option_map (λ asked. Some asked) (result_ok (challenge_of supported None before)))
 
 -- what d asks for is told, or why the request isn't sent again
 abbrev pub TellsChallenge : List ℕ → Result Asked NoRetry → Answer → (old new : AskedInC) → Type 0
@@ -64,17 +67,25 @@ TellsChallenge d told result old new =
     (λ reason. (result ≡ retry_answer reason) × (new ≡ old))
 
 -- reading the challenge in d: why it is no message, or what a client is told that supports these
--- algorithms
-abbrev pub ReadsFor : List PasswordAlgorithmValue → (before d : List ℕ) → Answer
+-- algorithms, after the challenge before, if there was one
+abbrev pub ReadsFor : List PasswordAlgorithmValue → (before : Option Asked) → (d : List ℕ) → Answer
     → (old new : AskedInC) → Type 0
 ReadsFor supported before d result old new =
     MatchOption (parse_fault d)
-    (TellsChallenge d (challenge_of supported (challenge_before supported before) d) result old new)
+    (TellsChallenge d (challenge_of supported before d) result old new)
     (λ e. (result ≡ parse_answer e) × (new ≡ old))
 
--- the same by the numbers of the algorithms, which are tested first
+-- the algorithms that a client supports and the challenge before, by what C hands in
+abbrev pub handed_in : (numbers before : List ℕ)
+    → Option (List PasswordAlgorithmValue × Option Asked)
+handed_in numbers before =
+    option_and_then (λ supported.
+    option_map (λ earlier. (supported, earlier)) (challenge_before supported before))
+    (passwords_named numbers)
+
+-- the same by these
 abbrev pub ReadsChallenge : (numbers before d : List ℕ) → Answer → (old new : AskedInC) → Type 0
 ReadsChallenge numbers before d result old new =
-    MatchOption (passwords_named numbers)
+    MatchOption (handed_in numbers before)
     ((result ≡ plain BAD_ARGUMENT) × (new ≡ old))
-    (λ supported. ReadsFor supported before d result old new)
+    (λ told. ReadsFor told.0 told.1 d result old new)

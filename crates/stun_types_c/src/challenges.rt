@@ -82,25 +82,36 @@ fn in_c(response: &[u8], challenge: &Challenge<'_>) -> Asked
     }
 }
 
-/// The challenge in the response before, where it was one.
-fn challenge_before<'a>(supported: &Listed, before: &'a [u8]) -> Option<Challenge<'a>>
-    ensures { option_map asked_by result
+/// The challenge in the response before, if C hands one in; `None` where the bytes are no message,
+/// or no challenge that a client with these algorithms can have answered.
+fn challenge_before<'a>(supported: &Listed, before: &'a [u8]) -> Option<Option<Challenge<'a>>>
+    ensures { option_map (λ earlier. option_map asked_by earlier) result
         ≡ challenge_before (take supported.now.count supported.now.all) before.now }
 {
+    if before.is_empty() {
+        return Some(None);
+    }
     let earlier = Message::from_bytes(before).ok()?;
-    challenge_of(&earlier, supported.as_slice(), None).ok()
+    match challenge_of(&earlier, supported.as_slice(), None) {
+        Ok(challenge) => Some(Some(challenge)),
+        Err(_) => None,
+    }
 }
 
-/// What a response asks for, after the one before it, if there was one.
-fn asked_by(response: &[u8], supported: &Listed, before: &[u8], asked: &mut Asked) -> Answer
-    ensures { ReadsFor (take supported.now.count supported.now.all) before.now response.now result
-        asked.old asked.new }
+/// What a response asks for, after the challenge before it, if there was one.
+fn asked_by(
+    response: &[u8],
+    supported: &Listed,
+    before: Option<Challenge<'_>>,
+    asked: &mut Asked,
+) -> Answer
+    ensures { ReadsFor (take supported.now.count supported.now.all) (option_map asked_by before.entry)
+        response.now result asked.old asked.new }
 {
     let message = match Message::from_bytes(response) {
         Ok(message) => message,
         Err(error) => return parse_answer(error),
     };
-    let before = challenge_before(supported, before);
     match challenge_of(&message, supported.as_slice(), before) {
         Ok(challenge) => {
             *asked = in_c(response, &challenge);
@@ -120,8 +131,11 @@ pub extern "C" fn stun_types_challenge_of(
 ) -> Answer
     ensures { ReadsChallenge supported.now before.now response.now result asked.old asked.new }
 {
-    match algorithms_of(supported) {
-        Some(supported) => asked_by(response, &supported, before, asked),
+    let Some(supported) = algorithms_of(supported) else {
+        return plain(codes::BAD_ARGUMENT);
+    };
+    match challenge_before(&supported, before) {
+        Some(earlier) => asked_by(response, &supported, earlier, asked),
         None => plain(codes::BAD_ARGUMENT),
     }
 }
