@@ -1,5 +1,5 @@
--- Credentials in C's bytes: the keys and the hash that they give, and validating with them (RFC 8489,
--- sections 9.1.1, 9.1.3, 9.2.2, 9.2.4, 14.4 and 18.5.1).
+-- Credentials in C's bytes: the keys and the hash that they give, and validating with them
+-- (RFC 8489, sections 9.1.1, 9.1.3, 9.2.2, 9.2.4, 14.4 and 18.5.1).
 use Rattle.std.specs.Prelude.{◌≡◌, ℕ, true, false, List, [], ◌∷◌, Option, None, Some, MatchOption, IsSomeAnd, if◌then◌else◌, ◌⊎◌}
 use Rattle.std.specs.List.{list_all}
 use Rattle.std.specs.Str.{is_utf8}
@@ -26,7 +26,7 @@ abbrev pub credential_texts : (user realm password : List ℕ) → List (List �
 credential_texts user realm password = user ∷ realm ∷ password ∷ []
 
 -- something is done with the texts of a long-term credential, or one of them isn't UTF-8; or an
--- allocation failed, and then the first is a text at least, since it is tested before any allocation
+-- allocation failed, and then the first is a text at least: it is tested before any allocation
 abbrev pub WithTexts : {T : Type 0} → (user realm password : List ℕ) → (Done : Type 0) → Answer
     → (old new : T) → Type 0
 WithTexts user realm password Done result old new =
@@ -41,7 +41,8 @@ RefusesText bytes answer =
     ⊎ ((is_utf8 bytes ≡ true) × (answer ≡ plain OUT_OF_MEMORY))
 
 -- credentials with these texts
-pub record IsLongTerm (user realm password : List ℕ) (credentials : LongTermKeyCredentials) : Type 0 where
+pub record IsLongTerm (user realm password : List ℕ)
+    (credentials : LongTermKeyCredentials) : Type 0 where
   pub texts : texts_refusal (credential_texts user realm password) ≡ None
   pub username_is : long_term_username credentials ≡ user
   pub realm_is : long_term_realm credentials ≡ realm
@@ -67,7 +68,7 @@ HoldsLongTerm number user realm password result old new =
     result old new)
 
 -- validating d under a password: why it is no message, or the verdict where the password is the key
--- of either algorithm, or an allocation failed
+-- for both algorithms, or an allocation failed
 abbrev pub ValidatesShortTerm : (password d : List ℕ) → Answer → (old new : ℕ) → Type 0
 ValidatesShortTerm password d result old new =
     MatchOption (parse_fault d)

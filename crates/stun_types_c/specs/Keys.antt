@@ -44,7 +44,8 @@ made_for_named number =
     if number == 0 then Some None
     else option_map (λ algorithm. Some algorithm) (algorithm_named number)
 
--- a handle holds a key with these bytes for the algorithm of a number, or no algorithm has the number
+-- a handle holds a key with these bytes for the algorithm of a number, or no algorithm has that
+-- number
 abbrev pub HoldsNamed : ℕ → List ℕ → Answer → (old new : Option IntegrityKey) → Type 0
 HoldsNamed number bytes result old new =
     MatchOption (made_for_named number)

@@ -16,7 +16,8 @@ fault_answer room NotStun = plain NOT_STUN
 fault_answer room (NotPadded field) = counted NOT_PADDED 0 field
 fault_answer room (TooLong stated) = counted TOO_LARGE room stated
 
--- the stream that goes on with what C keeps: an offset, and as many bytes of its buffer as are pending
+-- the stream that goes on with what C keeps: an offset, and as many bytes at the start of its buffer
+-- as are pending
 abbrev pub stream_kept : KeptStream → (buffer : List ℕ) → Stream
 stream_kept kept buffer = resumed (length buffer) kept.offset (take kept.pending buffer)
 

@@ -15,8 +15,8 @@ use Rattle.stun_types_c.specs.Values.{value_of}
 abbrev pub types_numbered : List ℕ → List AttributeType
 types_numbered = map (λ number. record { 0 = number })
 
--- the numbers of the types that d shows, that must be understood and are none of those supported, in
--- order and as often as shown
+-- the numbers of the types that d shows, that must be understood and are none of those supported,
+-- in order and as often as shown
 abbrev pub unknown_numbers : (supported d : List ℕ) → List ℕ
 unknown_numbers supported d = numbers (unknown_types (types_numbered supported) d)
 
