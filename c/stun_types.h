@@ -1,7 +1,7 @@
 /* STUN messages (RFC 8489) for C: read, validated, written and answered by a library that is proved.
  *
  * - A slice is a pointer and a length in bytes. The pointer is never NULL; a slice of length 0 is
- *   nothing, whatever its pointer. Slices that a call writes into overlap no other argument of it.
+ *   nothing, whatever its pointer. What a call writes, a key too, overlaps no other argument of it.
  *   Messages are uint8_t; a text or a value that is handed in may be char or uint8_t (const void *).
  * - No call keeps a pointer, prints, blocks or aborts. Only the calls whose comments say so allocate
  *   (by malloc). All may run in several threads at once, on one key in one call at a time.
@@ -493,7 +493,8 @@ enum { /* password algorithms (RFC 8489, section 18.5) */
 /* Authenticates a request by long-term credentials (RFC 8489, section 9.2.4). nonce_state is what the
    server knows of its NONCE, and algorithms are the password algorithms that it sent with a valid
    one. md5_key and sha256_key are the keys, in the server's realm, of the user whom its USERNAME or
-   USERHASH names, by either password algorithm; one that holds none says that there is no such user.
+   USERHASH names, by either password algorithm, in two structs; one that holds none says that there is
+   no such user.
    The errors of stun_types_parse. BAD_ARGUMENT: the policy's algorithm, the state, a password
    algorithm, or more than 16 of them. Allocates: OUT_OF_MEMORY. */
 stun_types_answer stun_types_authenticate_long_term(const uint8_t *bytes, size_t length,
@@ -616,9 +617,9 @@ typedef struct {
 } stun_types_challenge;
 
 /* Reads it (RFC 8489, section 9.2.5). supported are the password algorithms that the client knows;
-   before is the response whose challenge the refused request answered. Where it is no message, or no
-   challenge, as a slice of length 0, there was none.
-   BAD_ARGUMENT: a password algorithm, or more than 16 of them. The errors of stun_types_parse;
+   before is the response whose challenge the refused request answered, or a slice of length 0.
+   BAD_ARGUMENT: a password algorithm, or more than 16 of them; before is no message, or no challenge
+   that such a client could have answered. The errors of stun_types_parse;
    NOT_A_CHALLENGE, BID_DOWN, INCOMPLETE, NO_ALGORITHM, SAME_CREDENTIALS. */
 stun_types_answer stun_types_challenge_of(const uint8_t *bytes, size_t length,
                                           const uint16_t *supported, size_t supported_count,
