@@ -166,7 +166,7 @@ pub record GoesOn (parts : TransactionParts) (course : Course)
   pub numbers : new ≡ with_course old course
   pub keeps : Keeps new (at_course parts course)
 
--- a transaction ends, unless it has ended
+-- the transaction that C keeps ends, unless it has ended
 abbrev pub Ends : End → Answer → KeptTransaction → KeptTransaction → Type 0
 Ends end result old new =
     MatchKept old ((result ≡ plain BAD_ARGUMENT) × (new ≡ old))
@@ -193,7 +193,7 @@ pub record PollsParts (parts : TransactionParts) (now : ℕ) (old new : Polled) 
   pub goes_on : GoesOn parts course old.kept new.kept
   pub told : new.wanted ≡ wanted_of action
 
--- the one that C keeps is
+-- the transaction that C keeps is polled, unless it keeps none
 abbrev pub PollsKept : ℕ → Answer → Polled → Polled → Type 0
 PollsKept now result old new =
     MatchKept old.kept ((result ≡ plain BAD_ARGUMENT) × (new ≡ old))
@@ -205,7 +205,7 @@ PollsKept now result old new =
 abbrev pub signed_in : List ℕ → ℕ
 signed_in d = signed_number (signed_by d).sha1 (signed_by d).sha256
 
--- why a message isn't a request that is protected, or one that isn't
+-- why a message is no request, or is signed otherwise than it is to be protected
 abbrev pub request_fault : (protected : Bool) → List ℕ → Option BeginError
 request_fault protected d =
     if is_request (class_of (type_field d)) then mismatch protected (is_signed (signed_by d))
@@ -283,8 +283,8 @@ abbrev pub IsCopyFor : Mechanism → (held copy : IntegrityKey) → Type 0
 IsCopyFor ShortTerm held copy = IsKey (key_algorithm held) (key_bytes held) copy
 IsCopyFor LongTerm held copy = IsKey None (key_bytes held) copy
 
--- the key of a transaction: none where nothing protects it, and else a copy of the one that a handle
--- holds; or there is none, or no memory for the copy
+-- the key of a transaction: none where nothing protects its request, and else a copy of the one that a
+-- handle holds; or the handle holds none, or an allocation failed
 abbrev pub Copies : Option Mechanism → Option IntegrityKey → Result (Option IntegrityKey) Answer
     → Type 0
 Copies None held made = made ≡ Ok None
@@ -309,7 +309,7 @@ pub record HearsParts (parts : TransactionParts) (key : Option IntegrityKey)
   pub goes_on : GoesOn parts (after outcome (course_in parts)) old.kept new.kept
   pub told : new.told ≡ outcome_in_c outcome
 
--- the same with the key of a handle
+-- the same with the key of a handle, if there is one
 abbrev pub HearsWith : Option IntegrityKey → (understood d : List ℕ) → TransactionParts → Answer
     → Heard → Heard → Type 0
 HearsWith held understood d parts result old new =

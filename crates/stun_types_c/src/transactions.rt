@@ -223,8 +223,8 @@ fn has_key(alloc: Global, key: &mut KeyHandle) -> bool
     }
 }
 
-/// The number of the integrity attributes that a request shows, or why a message isn't a request
-/// that is protected, or one that isn't.
+/// The number of the integrity attributes that a request shows, or why a message is no request, or
+/// is signed otherwise than it is to be protected.
 fn signed_request(message: &Message<'_>, protected: bool) -> Result<u8, Answer>
     ensures { let d = message_bytes message.now in MatchResult result
         (λ signed. (request_fault protected d ≡ None) × (signed ≡ signed_in d))
