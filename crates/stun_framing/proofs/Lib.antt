@@ -5,3 +5,4 @@ mod CutsLemmas
 mod RunsLemmas
 pub mod ComingLemmas
 mod ResumingLemmas
+pub mod KeptLemmas

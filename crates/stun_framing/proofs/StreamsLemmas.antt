@@ -170,7 +170,7 @@ refused_is_told : (room offset : ℕ) (b : List ℕ) (fault : StreamFault) → s
 refused_is_told room offset b fault e = ap (option_map {T = StreamFault} {U = StreamError} (λ fault. record { offset = offset; fault = fault })) e
 
 -- what is pending isn't whole
-part_of : (kept : Kept) → kept.held < kept.wanted → is_all kept ≡ false
+pub part_of : (kept : Kept) → kept.held < kept.wanted → is_all kept ≡ false
 part_of kept part = ne_eqb kept.held kept.wanted (λ e. omega (arith, e, part))
 
 pub refused_left : (old new piece : List ℕ) (kept : Kept) (offset : ℕ) (fault : StreamFault) → length new ≡ length old → IsPending old (pending_of kept)

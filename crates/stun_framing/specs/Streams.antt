@@ -1,7 +1,9 @@
 -- A stream of which so much has come, and what a further piece leads to.
-use Rattle.std.specs.Prelude.{ℕ, ◌+◌, ◌-◌, ◌^◌, min, Bool, not, ◌&&◌, List, [], ◌++◌, length, take, nat_le, if◌then◌else◌, Option, None, Some, is_some, option_map, Result, Ok, Err}
+use Rattle.std.specs.Prelude.{◌≡◌, ℕ, ◌+◌, ◌-◌, ◌^◌, min, Bool, not, ◌&&◌, List, [], ◌++◌, length, take, nat_le, if◌then◌else◌, Option, None, Some, is_some, IfSome, option_map, Result, Ok, Err}
 use Rattle.std.specs.Option.{option_or}
+use Rattle.std.specs.Result.{result_map_both}
 use Rattle.stun_framing.specs.declared.error.StreamError.{StreamError}
+use Rattle.stun_framing.specs.declared.kept_stream.Pushed.{Pushed}
 use Rattle.stun_framing.specs.Framing.{stated_length, stream_fault}
 
 -- how many bytes the buffer takes, the offset in the stream of the pending bytes, which are those of a
@@ -82,3 +84,25 @@ left_of (Some error) stream b = record stream { message = None; error = Some err
 
 abbrev pub left : Stream → List ℕ → Stream
 left stream piece = left_of (refusal stream piece) stream (joined stream piece)
+
+-- ---- A stream of which the caller keeps the buffer
+
+-- its bytes stand at the start of the buffer: those that are pending, and the message that the last
+-- piece made whole
+pub record StandsIn (stream : Stream) (buffer : List ℕ) : Type 0 where
+  pub pending : take (length stream.pending) buffer ≡ stream.pending
+  pub message : IfSome stream.message (λ message. take (length message) buffer ≡ message)
+
+-- what the caller is told of a stream that took so many bytes of a piece
+abbrev pub pushed_of : Stream → (taken : ℕ) → Pushed
+pushed_of stream taken = record {
+  taken = taken;
+  offset = stream.offset;
+  pending = length stream.pending;
+  message = option_map length stream.message;
+}
+
+-- a piece is answered by what is told of the stream that it leaves, or by how the stream ended
+abbrev pub pushed : Stream → List ℕ → Result Pushed StreamError
+pushed stream piece =
+    result_map_both (pushed_of (left stream piece)) (λ error. error) (answer stream piece)

@@ -2,18 +2,20 @@
 //! (RFC 8489, section 6.2.2).
 //!
 //! A [`MessageStream`] is handed the pieces, and yields each message whole. It has no socket, and it
-//! allocates nothing.
+//! allocates nothing. [`push_kept`] does the same for a caller that keeps the buffer and two numbers.
 #![tactic(auto)]
 
 mod error;
 mod fault;
 mod gather;
+mod kept_stream;
 mod laws;
 mod message_stream;
 #[cfg(test)]
 mod tests;
 
 pub use error::{StreamError, StreamFault};
+pub use kept_stream::{Pushed, push_kept};
 pub use laws::{
     calls_go_on, cuts_change_nothing, faults_are_right, messages_are_framed, one_cut,
     resuming_changes_nothing,

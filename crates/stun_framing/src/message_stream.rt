@@ -14,7 +14,7 @@ use std::marker::Model;
 pub const GREATEST_MESSAGE: usize = 65552;
 
 /// What is kept of a message that isn't whole.
-fn pending_of(kept: Kept) -> Kept
+pub(crate) fn pending_of(kept: Kept) -> Kept
     ensures { result ≡ pending_of kept }
 {
     if kept.held == kept.wanted {
@@ -24,7 +24,7 @@ fn pending_of(kept: Kept) -> Kept
 }
 
 /// The offset of what comes next, where what is kept began at `offset`.
-fn offset_behind(offset: u64, kept: Kept) -> u64
+pub(crate) fn offset_behind(offset: u64, kept: Kept) -> u64
     ensures { result ≡ offset_behind offset kept }
 {
     if kept.held == kept.wanted {

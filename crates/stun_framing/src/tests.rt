@@ -3,7 +3,7 @@
 ghost use Rattle.std.specs.Prelude.{◌<◌};
 
 use crate::StreamFault::{NotPadded, NotStun, TooLong};
-use crate::{MessageStream, StreamError, StreamFault};
+use crate::{MessageStream, Pushed, StreamError, StreamFault, push_kept};
 use std::test::Fail;
 
 const SHORT: &[u8] = b"\x00\x01\x00\x00\x21\x12\xA4\x42abcdefghijkl";
@@ -202,6 +202,73 @@ fn resumes(rt: HostRuntime) -> Result<(), Fail> {
             None => !is_some,
         };
         assert!(rt; right, "{name}");
+    }
+    Ok(())
+}
+
+/// That a piece was taken into a buffer that the caller keeps.
+fn took(
+    taken: usize,
+    offset: u64,
+    pending: usize,
+    message: Option<usize>,
+) -> Option<Result<Pushed, StreamError>> {
+    Some(Ok(Pushed {
+        taken,
+        offset,
+        pending,
+        message,
+    }))
+}
+
+#[test]
+fn pushes_kept(rt: HostRuntime) -> Result<(), Fail> {
+    let refused = StreamError {
+        offset: 40,
+        fault: NotPadded(6),
+    };
+    let rows: [(
+        &str,
+        &[u8],
+        &[u8],
+        Option<Result<Pushed, StreamError>>,
+        &[u8],
+    ); 7] = [
+        ("a message", b"", SHORT, took(20, 60, 0, Some(20)), SHORT),
+        (
+            "an end and more",
+            &LONGER[..27],
+            b"\xFFmore",
+            took(1, 68, 0, Some(28)),
+            LONGER,
+        ),
+        (
+            "a part",
+            &LONGEST[..3],
+            &LONGEST[3..31],
+            took(28, 40, 31, None),
+            &LONGEST[..31],
+        ),
+        ("nothing", b"\x00", b"", took(0, 40, 1, None), b"\x00"),
+        (
+            "a length field of 6",
+            b"\x00\x01\x00",
+            b"\x06more",
+            Some(Err(refused)),
+            b"\x00\x01\x00",
+        ),
+        ("behind a message", SHORT, LONGER, None, SHORT),
+        ("behind another protocol", b"GET ", b"/", None, b"GET "),
+    ];
+    for (name, held, piece, answer, stands) in rows {
+        let mut buffer = [0xEE; 32];
+        let count = held.len().min(32);
+        buffer[..count].copy_from_slice(&held[..count]);
+        assert!(rt;
+            push_kept(&mut buffer, count, 40, piece) == answer,
+            "{name}"
+        );
+        assert!(rt; buffer.starts_with(stands), "{name}");
     }
     Ok(())
 }

@@ -1,9 +1,9 @@
 -- Streams of messages, as C keeps them between its calls (RFC 8489, section 6.2.2).
-use Rattle.std.specs.Prelude.{◌≡◌, ℕ, List, length, take, Option, Some, MatchOption, if◌then◌else◌}
+use Rattle.std.specs.Prelude.{◌≡◌, ℕ, true, false, List, length, take, Option, Some, MatchOption, if◌then◌else◌}
 use Rattle.std.specs.Option.{option_map, option_map_or}
 use Rattle.stun_framing.specs.declared.error.StreamFault.{StreamFault}
 use Rattle.stun_framing.specs.declared.error.StreamFault.TheVariants.{NotStun, NotPadded, TooLong}
-use Rattle.stun_framing.specs.Streams.{Stream, resumed, can_resume, refusal, answer, left}
+use Rattle.stun_framing.specs.Streams.{Stream, resumed, can_resume, refusal, answer, left, StandsIn}
 use Rattle.stun_framing.specs.Runs.{taken_of}
 use Rattle.stun_types_c.specs.declared.answer.Answer.{Answer}
 use Rattle.stun_types_c.specs.declared.streams.KeptStream.{KeptStream}
@@ -37,13 +37,21 @@ push_refusal kept buffer piece =
     (refusal (stream_kept kept buffer) piece)
     else Some (plain BAD_ARGUMENT)
 
--- the bytes at the start of a piece that belong to the message that is coming are taken, or it is
--- refused, and C keeps what it kept
-abbrev pub PushesPiece : (buffer piece : List ℕ) → Answer → (old new : KeptStream)
+-- what the buffer holds then: the bytes of the stream that the piece leaves, or what it held, where
+-- what C keeps is no stream's
+abbrev pub HoldsStream : KeptStream → (piece old new : List ℕ) → Type 0
+HoldsStream kept piece old new =
+    (can_resume old kept.pending ≡ true → StandsIn (left (stream_kept kept old) piece) new)
+    × (can_resume old kept.pending ≡ false → new ≡ old)
+
+-- the bytes at the start of a piece that belong to the message that is coming are taken into the
+-- buffer, or it is refused, and C keeps what it kept
+abbrev pub PushesPiece : (piece buffer filled : List ℕ) → Answer → (old new : KeptStream)
     → (before after : ℕ) → Type 0
-PushesPiece buffer piece result old new before after =
+PushesPiece piece buffer filled result old new before after =
     let stream = stream_kept old buffer in
     MatchOption (push_refusal old buffer piece)
     ((result ≡ plain OK) × (new ≡ kept_of (left stream piece))
     × (after ≡ taken_of (answer stream piece)))
     (λ why. (result ≡ why) × (new ≡ old) × (after ≡ before))
+    × HoldsStream old piece buffer filled

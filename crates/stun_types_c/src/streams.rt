@@ -5,7 +5,7 @@ ghost use Rattle.stun_types_c.specs.Streams.{fault_answer, PushesPiece};
 
 use crate::answer::{Answer, counted, plain};
 use crate::codes;
-use stun_framing::{MessageStream, StreamFault};
+use stun_framing::{StreamFault, push_kept};
 
 /// A stream, as C keeps it.
 #[repr(C)]
@@ -38,19 +38,20 @@ pub extern "C" fn stun_types_stream_push(
     piece: &[u8],
     taken: &mut usize,
 ) -> Answer
-    ensures { PushesPiece buffer.old piece.now result kept.old kept.new taken.old taken.new }
+    ensures { PushesPiece piece.now buffer.old buffer.new result kept.old kept.new
+        taken.old taken.new }
 {
     let size = buffer.len();
-    let Some(mut stream) = MessageStream::resume(buffer, kept.pending, kept.offset) else {
+    let Some(answer) = push_kept(buffer, kept.pending, kept.offset, piece) else {
         return plain(codes::BAD_ARGUMENT);
     };
-    match stream.push(piece) {
-        Ok(count) => {
-            *taken = count;
+    match answer {
+        Ok(pushed) => {
+            *taken = pushed.taken;
             *kept = KeptStream {
-                offset: stream.offset(),
-                pending: stream.pending().len(),
-                message: stream.message().map_or(0, |message| message.len()),
+                offset: pushed.offset,
+                pending: pushed.pending,
+                message: pushed.message.unwrap_or(0),
             };
             plain(codes::OK)
         }

@@ -1,0 +1,85 @@
+-- A stream of which the caller keeps the buffer.
+use Rattle.std.proofs.Common.{◌≡◌, ℕ, ◌-◌, ◌≤◌, true, List, ◌++◌, length, take, Option, None, Some, Ok, refl, sym, ap, subst, ◌∙◌, inl, inr, arith}
+use Rattle.std.specs.Prelude.{if◌then◌else◌, Result}
+use Rattle.std.specs.Result.{result_map_both}
+use Rattle.std.proofs.lemmas.Bool.{cases_Bool}
+use Rattle.std.proofs.lemmas.List.{length-take, length-take-le, take_min}
+use Rattle.stun_framing.specs.declared.error.StreamError.{StreamError}
+use Rattle.stun_framing.specs.declared.gather.Kept.{Kept}
+use Rattle.stun_framing.specs.declared.kept_stream.Pushed.{Pushed}
+use Rattle.stun_framing.specs.Gathering.{wanted_for, IsKept, HoldsFirst}
+use Rattle.stun_framing.specs.Streams.{Stream, resumed, can_resume, left, StandsIn, pushed_of, pushed}
+use Rattle.stun_framing.specs.Fields.{is_all, pending_of, offset_behind, stream_of}
+use Rattle.stun_framing.proofs.ResumingLemmas.{Resumes, resumes_if, resumed_is}
+use Rattle.stun_framing.proofs.StreamsLemmas.{IsPending, part_of, left_is, answer_is, takes}
+
+-- the first bytes of a buffer stand there
+first_stand : (n : ℕ) (buffer : List ℕ) → take (length (take n buffer)) buffer ≡ take n buffer
+first_stand n buffer = ap (λ (k : ℕ). take k buffer) (length-take n buffer) ∙ take_min n buffer
+
+-- the bytes of a stream stand in its buffer
+stands : (buffer : List ℕ) (kept : Kept) (offset : ℕ) (error : Option StreamError) → StandsIn (stream_of buffer kept offset error) buffer
+stands buffer kept offset error = elim (cases_Bool (is_all kept)) [
+  | inl all ↦ rw all (record { pending = refl; message = first_stand kept.held buffer })
+  | inr part ↦ rw part (record { pending = first_stand kept.held buffer; message = tt })
+]
+
+-- what the caller is told, by what is kept
+abbrev pub told_of : (taken offset : ℕ) → Kept → Pushed
+told_of taken offset kept = record {
+  taken = taken;
+  offset = offset;
+  pending = (pending_of kept).held;
+  message = if is_all kept then Some kept.held else None;
+}
+
+told_is : (buffer : List ℕ) (kept : Kept) (taken offset : ℕ) (error : Option StreamError) → kept.held ≤ length buffer → told_of taken offset kept ≡ pushed_of (stream_of buffer kept offset error) taken
+told_is buffer kept taken offset error within =
+    let held : kept.held ≡ length (take kept.held buffer) = sym (length-take-le kept.held buffer within) in
+    elim (cases_Bool (is_all kept)) [
+      | inl all ↦ rw all (λ i. record { taken = taken; offset = offset; pending = 0; message = Some (held i) })
+      | inr part ↦ rw part (λ i. record { taken = taken; offset = offset; pending = held i; message = None })
+    ]
+
+-- what is pending where a stream goes on
+pending_held : (buffer : List ℕ) (held : ℕ) → Resumes buffer held → IsPending buffer (record { held = held; wanted = wanted_for (take held buffer) })
+pending_held buffer held resumes = record {
+  bound = resumes.part;
+  within = resumes.within;
+  sound = (resumed_is buffer held resumes).sound;
+}
+
+-- a piece that goes on
+pub record GoesOn (old new piece : List ℕ) (held offset : ℕ) (after : Kept) : Type 0 where
+  pub grows : held ≤ after.held
+  pub answer : Ok (told_of (after.held - held) (offset_behind offset after) after) ≡ pushed (resumed (length old) offset (take held old)) piece
+  pub stands : StandsIn (left (resumed (length old) offset (take held old)) piece) new
+
+pub goes_on : (old new piece : List ℕ) (held offset : ℕ) (before after : Kept) → can_resume old held ≡ true → before ≡ record { held = held; wanted = wanted_for (take held old) }
+    → length new ≡ length old → HoldsFirst (take before.held old ++ piece) after new → GoesOn old new piece held offset after
+goes_on old new piece held offset before after can e same holds =
+    let part : Kept = record { held = held; wanted = wanted_for (take held old) } in
+    let pending : IsPending old part = pending_held old held (resumes_if old held can) in
+    let here : HoldsFirst (take held old ++ piece) after new = subst (λ (k : Kept). HoldsFirst (take k.held old ++ piece) after new) e holds in
+    let is : pending_of part ≡ part = rw (part_of part pending.bound) refl in
+    let at : stream_of old part offset None ≡ resumed (length old) offset (take held old) = rw (part_of part pending.bound) refl in
+    let first : HoldsFirst (take (pending_of part).held old ++ piece) after new =
+    subst (λ (k : Kept). HoldsFirst (take k.held old ++ piece) after new) (sym is) here in
+    let stream = stream_of old part offset None in
+    let behind = stream_of new after (offset_behind offset after) None in
+    let leaves : behind ≡ left stream piece = left_is old new piece part after offset same first in
+    let within : (pending_of part).held ≤ length old = omega (arith, ap (λ (k : Kept). k.held) is, pending.within) in
+    record {
+      grows = (takes old new piece part after pending here).grows;
+      answer = ap (λ (p : Pushed). Ok p) (told_is new after (after.held - held) (offset_behind offset after) None holds.held)
+          ∙ ap (λ (s : Stream). Ok (pushed_of s (after.held - held))) leaves
+          ∙ ap (λ (r : Result ℕ StreamError). result_map_both (pushed_of (left stream piece)) (λ error. error) r)
+          (ap (λ (k : Kept). Ok (after.held - k.held)) (sym is) ∙ answer_is old new piece part after offset same within first)
+          ∙ ap (λ (s : Stream). pushed s piece) at;
+      stands = subst (λ (s : Stream). StandsIn s new) (leaves ∙ ap (λ (s : Stream). left s piece) at)
+          (stands new after (offset_behind offset after) None);
+    }
+
+-- what is pending is kept
+pub resumed_kept : (buffer : List ℕ) (held : ℕ) → can_resume buffer held ≡ true → IsKept (length buffer) (take held buffer) (wanted_for (take held buffer))
+resumed_kept buffer held can = (pending_held buffer held (resumes_if buffer held can)).sound

@@ -1,0 +1,90 @@
+//! A stream of messages of which the caller keeps the buffer.
+
+ghost use Rattle.std.specs.Prelude.{◌≡◌, length, take, true, false, Some, None, if◌then◌else◌, MatchOption};
+ghost use Rattle.stun_framing.specs.Fields.{is_all};
+ghost use Rattle.stun_framing.specs.Streams.{resumed, can_resume, pushed, left, StandsIn};
+
+use crate::error::StreamError;
+use crate::gather::{Kept, gather, held_part};
+use crate::message_stream::{offset_behind, pending_of};
+
+/// What a piece made of a stream of which the caller keeps the buffer.
+#[derive(Clone, Copy, Debug, PartialEq, Eq)]
+pub struct Pushed {
+    /// How many bytes at the start of the piece were taken.
+    pub taken: usize,
+    /// The offset in the stream of what is pending, as [`MessageStream::offset`] tells it.
+    ///
+    /// [`MessageStream::offset`]: crate::MessageStream::offset
+    pub offset: u64,
+    /// How many bytes at the start of the buffer belong to a message that isn't whole.
+    pub pending: usize,
+    /// How many bytes at the start of the buffer are the message that the piece made whole, if it
+    /// did.
+    pub message: Option<usize>,
+}
+
+/// How many bytes are the message, where it is whole.
+fn whole_length(kept: Kept) -> Option<usize>
+    ensures { result ≡ (if is_all kept then Some kept.held else None) }
+{
+    if kept.held == kept.wanted {
+        return Some(kept.held);
+    }
+    None
+}
+
+/// Takes the bytes at the start of `piece` that belong to the message that is coming, as
+/// [`MessageStream::push`] does where [`MessageStream::resume`] went on with `held` and `offset`:
+/// for a caller that keeps the buffer and two numbers, and no stream. Both are 0 at first, and then
+/// what [`Pushed`] tells of `pending` and `offset`.
+///
+/// A message that is whole stands at the start of `buffer` until the next call; else the bytes that
+/// are pending do.
+///
+/// `None` where `held` isn't what a stream leaves, as for [`MessageStream::resume`]. `buffer` then
+/// stays as it was.
+///
+/// ```
+/// match push_kept(&mut buffer, held, offset, piece) {
+///     Some(Ok(pushed)) => {
+///         (held, offset) = (pushed.pending, pushed.offset);
+///         rest = &piece[pushed.taken..];
+///         if let Some(length) = pushed.message {
+///             let message = Message::from_bytes(&buffer[..length])?;
+///         }
+///     }
+///     Some(Err(error)) => return Err(error.into()),
+///     None => return Err(Error::NoStream),
+/// }
+/// ```
+///
+/// # Errors
+///
+/// As for [`MessageStream::push`]. The bytes that were pending stay at the start of `buffer`.
+///
+/// [`MessageStream::push`]: crate::MessageStream::push
+/// [`MessageStream::resume`]: crate::MessageStream::resume
+#[tactic(auto, using(crate::proofs::KeptLemmas::resumed_kept))]
+pub fn push_kept(
+    buffer: &mut [u8],
+    held: usize,
+    offset: u64,
+    piece: &[u8],
+) -> Option<Result<Pushed, StreamError>>
+    ensures { let stream = resumed (length buffer.old) offset (take held buffer.old) in
+        MatchOption result ((can_resume buffer.old held ≡ false) × (buffer.new ≡ buffer.old))
+        (λ answered. (can_resume buffer.old held ≡ true)
+        × (answered ≡ pushed stream piece.now) × StandsIn (left stream piece.now) buffer.new) }
+{
+    let part = held_part(buffer, held)?;
+    Some(match gather(buffer, part, piece) {
+        Ok(kept) => Ok(Pushed {
+            taken: kept.held - held,
+            offset: offset_behind(offset, kept),
+            pending: pending_of(kept).held,
+            message: whole_length(kept),
+        }),
+        Err(fault) => Err(StreamError { offset, fault }),
+    })
+}
