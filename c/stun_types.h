@@ -643,7 +643,8 @@ typedef struct {
    many. Where they make it whole, it stands at the start of the buffer until the next call.
    BAD_ARGUMENT: fewer than 20 bytes of buffer, or what is pending isn't the beginning of a message.
    NOT_STUN, NOT_PADDED, TOO_LARGE (expected is the buffer's size): no message begins where one had
-   to, at stream->offset; close the connection. */
+   to, at stream->offset; close the connection. The bytes that were pending stay, and stream->message
+   is 0. */
 stun_types_answer stun_types_stream_push(stun_types_stream *stream, uint8_t *buffer, size_t size,
                                          const uint8_t *piece, size_t piece_length, size_t *taken);
 

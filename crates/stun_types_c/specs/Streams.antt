@@ -1,10 +1,10 @@
 -- Streams of messages, as C keeps them between its calls (RFC 8489, section 6.2.2).
-use Rattle.std.specs.Prelude.{◌≡◌, ℕ, true, false, List, length, take, Option, Some, MatchOption, if◌then◌else◌}
-use Rattle.std.specs.Option.{option_map, option_map_or}
+use Rattle.std.specs.Prelude.{◌≡◌, ℕ, true, false, List, length, take, Option, None, Some, Result, Ok, Err}
+use Rattle.std.specs.Option.{option_map_or}
+use Rattle.stun_framing.specs.declared.error.StreamError.{StreamError}
 use Rattle.stun_framing.specs.declared.error.StreamFault.{StreamFault}
 use Rattle.stun_framing.specs.declared.error.StreamFault.TheVariants.{NotStun, NotPadded, TooLong}
 use Rattle.stun_framing.specs.Streams.{Stream, resumed, can_resume, refusal, answer, left, StandsIn}
-use Rattle.stun_framing.specs.Runs.{taken_of}
 use Rattle.stun_types_c.specs.declared.answer.Answer.{Answer}
 use Rattle.stun_types_c.specs.declared.streams.KeptStream.{KeptStream}
 use Rattle.stun_types_c.specs.Codes.{OK, NOT_STUN, TOO_LARGE, BAD_ARGUMENT, NOT_PADDED}
@@ -29,29 +29,27 @@ kept_of stream = record {
   message = option_map_or length stream.message 0;
 }
 
--- why a piece isn't taken: what C keeps is no stream's, or no message begins where one has to
-abbrev pub push_refusal : KeptStream → (buffer piece : List ℕ) → Option Answer
-push_refusal kept buffer piece =
-    if can_resume buffer kept.pending
-    then option_map (λ error. fault_answer (length buffer) error.fault)
-    (refusal (stream_kept kept buffer) piece)
-    else Some (plain BAD_ARGUMENT)
+-- what a piece is answered by: OK, or why no message begins where one has to
+abbrev pub piece_answer : (room : ℕ) → Option StreamError → Answer
+piece_answer room None = plain OK
+piece_answer room (Some error) = fault_answer room error.fault
 
--- what the buffer holds then: the bytes of the stream that the piece leaves, or what it held, where
--- what C keeps is no stream's
-abbrev pub HoldsStream : KeptStream → (piece old new : List ℕ) → Type 0
-HoldsStream kept piece old new =
-    (can_resume old kept.pending ≡ true → StandsIn (left (stream_kept kept old) piece) new)
-    × (can_resume old kept.pending ≡ false → new ≡ old)
+-- how many bytes are taken: with a refusal C's count stays
+abbrev pub taken_after : ℕ → Result ℕ StreamError → ℕ
+taken_after before (Ok taken) = taken
+taken_after before (Err error) = before
 
--- the bytes at the start of a piece that belong to the message that is coming are taken into the
--- buffer, or it is refused, and C keeps what it kept
+-- the bytes at the start of a piece that belong to the message that is coming are taken, or no
+-- message begins so: C keeps the stream that the piece leaves, whose bytes stand in the buffer; or
+-- what C keeps is no stream's, and all stays
 abbrev pub PushesPiece : (piece buffer filled : List ℕ) → Answer → (old new : KeptStream)
     → (before after : ℕ) → Type 0
 PushesPiece piece buffer filled result old new before after =
     let stream = stream_kept old buffer in
-    MatchOption (push_refusal old buffer piece)
-    ((result ≡ plain OK) × (new ≡ kept_of (left stream piece))
-    × (after ≡ taken_of (answer stream piece)))
-    (λ why. (result ≡ why) × (new ≡ old) × (after ≡ before))
-    × HoldsStream old piece buffer filled
+    elim (can_resume buffer old.pending) [
+      | false ↦ (result ≡ plain BAD_ARGUMENT) × (new ≡ old) × (filled ≡ buffer) × (after ≡ before)
+      | true ↦ (result ≡ piece_answer (length buffer) (refusal stream piece))
+          × (new ≡ kept_of (left stream piece))
+          × (after ≡ taken_after before (answer stream piece))
+          × StandsIn (left stream piece) filled
+    ]

@@ -55,6 +55,9 @@ pub extern "C" fn stun_types_stream_push(
             };
             plain(codes::OK)
         }
-        Err(error) => fault_answer(error.fault, size),
+        Err(error) => {
+            kept.message = 0;
+            fault_answer(error.fault, size)
+        }
     }
 }
