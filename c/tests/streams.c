@@ -50,6 +50,7 @@ static void check_pieces(size_t i, slice bytes, size_t size) {
         slice piece = given(bytes.bytes + at, bytes.length - at < size ? bytes.length - at : size);
         size_t *taken = NEW(size_t);
         stun_types_stream before = *stream;
+        slice pending = given(buffer, before.pending);
         stun_types_answer answer
             = stun_types_stream_push(stream, buffer, BUFFER, piece.bytes, piece.length, taken);
         if (answer.code != STUN_TYPES_OK) {
@@ -57,7 +58,8 @@ static void check_pieces(size_t i, slice bytes, size_t size) {
                          __LINE__);
             CHECK(is_untouched(taken, sizeof *taken));
             CHECK(stream->offset == whole && stream->offset == before.offset);
-            CHECK(stream->pending == before.pending);
+            CHECK(stream->pending == before.pending && stream->message == 0);
+            CHECK_BYTES(buffer, before.pending, pending);
             break;
         }
         CHECK(*taken > 0 && *taken <= piece.length);
@@ -126,7 +128,7 @@ static void test_calls(void) {
     piece = hex("6D6F7265");
     ANSWERS(stun_types_stream_push(stream, buffer, BUFFER, piece.bytes, piece.length, &taken),
             PLAIN(STUN_TYPES_NOT_STUN));
-    CHECK(stream->offset == 48 && stream->pending == 0);
+    CHECK(stream->offset == 48 && stream->pending == 0 && stream->message == 0);
 }
 
 /* ---- buffers and streams that aren't taken */
