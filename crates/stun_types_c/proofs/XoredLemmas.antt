@@ -1,5 +1,5 @@
 -- An address is added XORed with the transaction ID.
-use Rattle.std.proofs.Common.{◌≡◌, ℕ, List, length, Option, Some, None, MatchOption, sym}
+use Rattle.std.proofs.Common.{◌≡◌, ℕ, length, Option, Some, None, MatchOption, sym}
 use Rattle.std.specs.declared.net.ip_addr.IpAddr.{IpAddr}
 use Rattle.std.specs.declared.net.socket_addr.SocketAddr.{SocketAddr}
 use Rattle.std.specs.Prelude.{IsSomeAnd}
