@@ -46,22 +46,18 @@ fn whole_length(kept: Kept) -> Option<usize>
 /// stays as it was.
 ///
 /// ```
-/// match push_kept(&mut buffer, held, offset, piece) {
-///     Some(Ok(pushed)) => {
-///         (held, offset) = (pushed.pending, pushed.offset);
-///         rest = &piece[pushed.taken..];
-///         if let Some(length) = pushed.message {
-///             let message = Message::from_bytes(&buffer[..length])?;
-///         }
-///     }
-///     Some(Err(error)) => return Err(error.into()),
-///     None => return Err(Error::NoStream),
+/// let pushed = push_kept(&mut buffer, held, offset, piece).ok_or(Error::BadArgument)??;
+/// (held, offset) = (pushed.pending, pushed.offset);
+/// rest = &piece[pushed.taken..];
+/// if let Some(length) = pushed.message {
+///     let message = Message::from_bytes(&buffer[..length])?;
 /// }
 /// ```
 ///
 /// # Errors
 ///
-/// As for [`MessageStream::push`]. The bytes that were pending stay at the start of `buffer`.
+/// As for [`MessageStream::push`]. The bytes that were pending stay at the start of `buffer`. That
+/// the stream has ended is for the caller to keep: a further call looks at its own piece.
 ///
 /// [`MessageStream::push`]: crate::MessageStream::push
 /// [`MessageStream::resume`]: crate::MessageStream::resume

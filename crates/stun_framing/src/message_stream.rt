@@ -99,7 +99,7 @@ impl<'b> MessageStream<'b> {
     /// A stream that goes on where an earlier one was left, as by a caller that keeps the buffer and
     /// two numbers between its calls: the first `held` bytes of `buffer` are those that
     /// [`MessageStream::pending`] told then, and `offset` is what [`MessageStream::offset`] told. A
-    /// message that was whole is gone.
+    /// message that was whole is gone. For one piece [`push_kept`](crate::push_kept) does the same.
     ///
     /// What is handed in is tested. `None` where it isn't what a stream leaves: `buffer` has fewer
     /// than twenty bytes, or fewer than `held`; no message begins with those, or none for which
