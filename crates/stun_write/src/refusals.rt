@@ -1,7 +1,8 @@
 //! Why an attribute can't be added.
 
-ghost use Rattle.std.specs.Prelude.{◌≡◌, ◌+◌, ◌^◌, ◌<◌, ◌≤◌, ℕ, List, length, OnOk, MatchResult, None, Some};
+ghost use Rattle.std.specs.Prelude.{◌≡◌, ◌+◌, ◌^◌, ◌<◌, ◌≤◌, ℕ, List, [], ◌∷◌, length, OnOk, MatchResult, None, Some};
 ghost use Rattle.std.specs.Option.{option_map, option_or};
+ghost use Rattle.stun_grammar.specs.AttributeTypes.{MESSAGE_INTEGRITY as MI, MESSAGE_INTEGRITY_SHA256 as SHA256, FINGERPRINT as FP};
 ghost use Rattle.stun_grammar.specs.Steps.{barring_types};
 ghost use Rattle.stun_grammar.specs.Writing.{greatest_length};
 ghost use Rattle.stun_grammar.specs.Adding.{first_of, numbers, Fits, exists_refusal, order_refusal, room_refusal};
@@ -25,21 +26,47 @@ pub(crate) enum Addition {
 }
 
 /// The types that end a message, in the order in which their attributes stand.
-static ENDING: [AttributeType; 3] = [
-    AttributeType(MESSAGE_INTEGRITY),
-    AttributeType(MESSAGE_INTEGRITY_SHA256),
-    AttributeType(FINGERPRINT),
-];
-
-/// The types that bar an addition.
 #[inline(always)]
-pub(crate) fn barring(addition: Addition) -> &'static [AttributeType]
+pub(crate) fn ending_types() -> [AttributeType; 3]
+    ensures { numbers result ≡ MI ∷ SHA256 ∷ FP ∷ [] }
+{
+    [
+        AttributeType(MESSAGE_INTEGRITY),
+        AttributeType(MESSAGE_INTEGRITY_SHA256),
+        AttributeType(FINGERPRINT),
+    ]
+}
+
+/// Those of them that bar an addition. A caller makes the array, so that the compiler knows it.
+#[inline(always)]
+pub(crate) fn barring(addition: Addition, ending: &[AttributeType; 3]) -> &[AttributeType]
+    requires { numbers ending.now ≡ MI ∷ SHA256 ∷ FP ∷ [] }
     ensures { numbers result.now ≡ barring_types (step_of addition) }
 {
     match addition {
-        Addition::Ordinary | Addition::Integrity(IntegrityAlgorithm::Sha1) => &ENDING,
-        Addition::Integrity(IntegrityAlgorithm::Sha256) => &ENDING[1..],
-        Addition::Fingerprint => &ENDING[2..],
+        Addition::Ordinary | Addition::Integrity(IntegrityAlgorithm::Sha1) => ending,
+        Addition::Integrity(IntegrityAlgorithm::Sha256) => &ending[1..],
+        Addition::Fingerprint => &ending[2..],
+    }
+}
+
+/// The first written type that bars an addition.
+#[inline(always)]
+fn found_before<W: MessageWrite>(write: &W, addition: Addition) -> Option<AttributeType>
+    ensures { option_map (λ found. found.0) result
+        ≡ first_of (barring_types (step_of addition)) (W.state write.now).types }
+{
+    let integrity = AttributeType(MESSAGE_INTEGRITY);
+    let sha256 = AttributeType(MESSAGE_INTEGRITY_SHA256);
+    let fingerprint = AttributeType(FINGERPRINT);
+    match addition {
+        Addition::Ordinary | Addition::Integrity(IntegrityAlgorithm::Sha1) => {
+            write.has_any_attribute(&[integrity, sha256, fingerprint])
+        }
+        Addition::Integrity(IntegrityAlgorithm::Sha256) => {
+            write.has_any_attribute(&[sha256, fingerprint])
+        }
+        Addition::Fingerprint => write.has_any_attribute(&[fingerprint]),
     }
 }
 
@@ -57,7 +84,6 @@ fn exists(addition: Addition, found: AttributeType) -> StunWriteError
 
 /// Checks that no type was found that bars an addition.
 #[tactic(auto, unfolding(stun_grammar::specs::Adding::order_refusal))]
-#[inline(always)]
 pub(crate) fn check_order(
     found: Option<AttributeType>,
     addition: Addition,
@@ -76,7 +102,6 @@ pub(crate) fn check_order(
 /// Checks that of `len` bytes twenty are written, and that with `added` bytes more the message is no
 /// longer than the writer takes, nor than a message may be.
 #[tactic(auto, unfolding(stun_grammar::specs::Adding::room_refusal))]
-#[inline(always)]
 pub(crate) fn check_room(
     len: usize,
     greatest: Option<usize>,
@@ -117,6 +142,7 @@ pub(crate) fn check_room(
 
 /// Checks that an attribute may be added that takes `added` bytes with its header and padding: the
 /// order first, and then the room.
+#[inline(always)]
 pub(crate) fn check_add<W: MessageWrite>(
     write: &W,
     addition: Addition,
@@ -135,6 +161,6 @@ pub(crate) fn check_add<W: MessageWrite>(
         (Fits (W.state write.now).greatest (length (W.state write.now).bytes + added)) }
     ensures fits { OnOk result (length (W.state write.now).bytes + added ≤ greatest_length) }
 {
-    check_order(write.has_any_attribute(barring(addition)), addition)?;
+    check_order(found_before(write, addition), addition)?;
     check_room(write.len(), write.max_size(), added)
 }

@@ -1,7 +1,7 @@
 //! Adding to a message that lies in a slice, without a writer: for a caller that keeps the slice and
 //! how many bytes of it are the message.
 
-use crate::refusals::{Addition, barring, check_order, check_room};
+use crate::refusals::{Addition, barring, check_order, check_room, ending_types};
 use crate::{ResumePoint, append_encoded, append_value};
 use stun_attrs::EncodeValue;
 use stun_base::{AttributeType, StunWriteError, pad_attribute_len};
@@ -43,9 +43,10 @@ impl ResumePoint {
         ensures room { OnOk result (resumed_length self + added ≤ length slice.now) }
         ensures fits { OnOk result (resumed_length self + added ≤ greatest_length) }
     {
+        let ending = ending_types();
         let found = self
             .listed
-            .first_of(&slice[..self.written], barring(addition));
+            .first_of(&slice[..self.written], barring(addition, &ending));
         check_order(found, addition)?;
         check_room(self.written, Some(slice.len()), added)
     }

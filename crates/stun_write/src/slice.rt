@@ -186,6 +186,7 @@ impl<'a> MessageWrite for MessageWriteMutSlice<'a> {
         self.listed.has(self.data(), atype) || self.len() != 0 && self.attributes.has(atype)
     }
 
+    #[inline(always)]
     fn has_any_attribute(&self, asked: &[AttributeType]) -> Option<AttributeType> {
         if let Some(found) = self.listed.first_of(self.data(), asked) {
             return Some(found);
