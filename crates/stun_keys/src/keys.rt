@@ -6,7 +6,6 @@
 mod copied;
 mod credentials;
 mod integrity_key;
-mod key_digests;
 mod long_term;
 mod long_term_key;
 mod md5_key;
