@@ -1,6 +1,6 @@
 //! HMAC over SHA-1 and SHA-256 (RFC 2104).
 
-ghost use Rattle.std.specs.Prelude.{◌≡◌, ℕ, ◌≤◌, List, ◌++◌, IfOk, IfErr, length, map};
+ghost use Rattle.std.specs.Prelude.{◌≡◌, ℕ, ◌≤◌, List, [], ◌++◌, IfOk, IfErr, length, map};
 ghost use Rattle.std.specs.List.{concat};
 ghost use Rattle.stun_grammar.specs.Hmac.{hmac, digest_of, block_of_key, padded_with};
 ghost use Rattle.stun_keys.specs.Blocks.{filled_up, blocks_over, AreKeyed};
@@ -123,7 +123,10 @@ impl<const N: usize, H: HashFunction<N>> KeyedHashers<N, H> {
     }
 
     /// Replaces both hashers by such that have taken in nothing.
-    pub(crate) fn overwrite(&mut self) {
+    pub(crate) fn overwrite(&mut self)
+        ensures inner { H.holds self.new.inner [] }
+        ensures outer { H.holds self.new.outer [] }
+    {
         self.inner = H::start();
         self.outer = H::start();
     }

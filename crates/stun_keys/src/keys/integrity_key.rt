@@ -68,8 +68,9 @@ impl IntegrityKey {
     ghost use Rattle.stun_keys.specs.Prepared.{ArePrepared};
     ghost use Rattle.stun_keys.specs.Keys.{key_bytes, key_algorithm, serves, IsKey};
 
-    /// The key with these bytes, made for an algorithm or with none. The bytes are copied into
-    /// memory that `alloc` gives.
+    /// The key with these bytes, made for an algorithm or with none. The bytes are copied, and the
+    /// blocks of its HMACs are made, in one allocation by `alloc`. For a key that makes more than two
+    /// HMACs, [`IntegrityKey::prepare`] pays.
     ///
     /// A server that keeps no passwords makes the keys of long-term credentials by it: for `Sha1`
     /// of the MD5 of `username:realm:password`, 16 bytes, and for `Sha256` of its SHA-256, 32 bytes
@@ -93,12 +94,13 @@ impl IntegrityKey {
         })
     }
 
-    /// Prepares the key for many HMACs by the algorithms that it serves, in one
-    /// allocation by `alloc`. From then on an HMAC compresses two blocks fewer, which is a third of a
-    /// short HMAC. Preparing compresses two blocks for each algorithm, so it pays for a key that makes
-    /// more than two HMACs. If the key is prepared already, nothing is done.
+    /// Prepares the key for many HMACs by the algorithms that it serves, in one allocation by
+    /// `alloc`: it keeps hashers that have taken in its blocks, so that from then on an HMAC
+    /// compresses two blocks fewer, which is a third of the time of a short one. Preparing itself
+    /// compresses two blocks for each algorithm, so it pays for a key that makes more than two HMACs.
+    /// A key that is prepared already allocates nothing.
     ///
-    /// The key stays the same, and so does every HMAC. A clone isn't prepared.
+    /// The key stays the same, and so does every HMAC.
     ///
     /// # Errors
     ///
@@ -128,8 +130,7 @@ impl IntegrityKey {
         }
     }
 
-    /// The same key, in memory that `alloc` gives. Its bytes are copied, and the hashers that it
-    /// may keep by then aren't.
+    /// The same key, in memory from `alloc`. Its bytes are copied; the copy isn't prepared.
     ///
     /// # Errors
     ///
