@@ -333,7 +333,7 @@ int main(int count, char **words) {
         {"short-term key, twice", SHORT_KEY, 1, 0, NULL, &key, 1},
         {"long-term key by MD5, twice", LONG_KEY, 1, 0, USER, &key, 1},
         {"long-term key by SHA-256, twice", LONG_KEY, 2, 0, USER, &key, 1},
-        {"make a USERNAME", USERNAME, 0, 0, USER, &plain, strlen(USER)},
+        {"make a USERNAME", USERNAME, 0, 0, USER, &plain, (uint64_t)23 << 32 | ('e' + '8')},
         {"write a plain check, vector", PLAIN_VEC, 0, 0, USER, &plain, write_answer(&plain)},
         {"write a plain check, slice", PLAIN_SLICE, 0, 0, USER, &plain, write_answer(&plain)},
         {"send an ICE check, SHA-1, vector", WRITE_VEC, 1, 0, USER, &check, write_answer(&check)},
