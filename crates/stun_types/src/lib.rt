@@ -20,4 +20,6 @@ pub use stun_attributes::xor_twice;
 pub use stun_base::{AddressFamily, ParseTransportTypeError, TransportType};
 pub use stun_grammar::{length_is_stated, message_grows};
 pub use stun_read::{found_has_its_type, shown_is_found};
-pub use stun_text::{PrintText, TextSink, TextTooLong};
+pub use stun_text::{
+    PrintText, TextSink, TextSlice, TextTooLong, put_decimal, put_hex, write_text,
+};
