@@ -8,6 +8,8 @@
 //! at its offset, and then the bytes that the HMAC covers.
 //! [`message::Message::builder`] begins a message, and
 //! [`message::write::MessageWriteExt::add_attribute`] adds to it.
+//! Values, attributes and messages print by `Display`, and [`write_text`] writes the same text to a
+//! slice, which succeeds exactly if the slice has room.
 #![tactic(auto)]
 
 pub mod attribute;
