@@ -22,7 +22,7 @@ use stun_types::message::{
 };
 use stun_types::prelude::*;
 use stun_types::show::Registry;
-use stun_types::{AddressFamily, show};
+use stun_types::{AddressFamily, PrintText, TextTooLong, show, write_text};
 use test_messages::short_term;
 use turn_attrs::{
     AccessToken, AdditionalAddressFamily, AddressErrorCode, Channel, ChannelNumber, ConnectionId,
@@ -197,6 +197,47 @@ fn is_written(
     write_signed(alloc, credentials, attribute, &mut array)?;
     let is_same = slice.data() == vector.data() && array.data() == vector.data();
     Ok(is_made && is_same && holds(alloc, credentials, vector.data(), row)?)
+}
+
+/// Whether the value writes this text to a slice that just has room, and reports its length for a
+/// slice with a byte less.
+fn is_text<T: PrintText>(value: &T, text: &str) -> bool {
+    let length = text.len();
+    let mut to = [0xAA; 80];
+    if length == 0 || length > to.len() {
+        return false;
+    }
+    let refused = write_text(value, &mut to[..length - 1]);
+    let answer = write_text(value, &mut to[..length]);
+    let is_written = to[..length] == text.as_bytes()[..length];
+    refused == Err(TextTooLong { length }) && answer == Ok(length) && is_written
+}
+
+#[test]
+fn texts_are_written_to_slices(rt: HostRuntime) -> Result<(), Fail> {
+    let alloc = rt.alloc();
+    assert!(rt; is_text(&Priority::new(1862270975), ICE[0].2));
+    assert!(rt; is_text(&UseCandidate::new(), ICE[1].2));
+    assert!(rt; is_text(&ChannelNumber::new(channel(0x4001)?), TURN[0].2));
+    assert!(rt; is_text(&Lifetime::new(600), TURN[1].2));
+    assert!(rt; is_text(&XorPeerAddress::new(seen(), id()), TURN[2].2));
+    assert!(rt; is_text(&PeerData::new(&[1, 2, 0xFF])?, TURN[4].2));
+    assert!(rt; is_text(&EvenPort::new(true), TURN[8].2));
+    assert!(rt; is_text(&AdditionalAddressFamily::new(OnlyIpv6), TURN[15].2));
+    let error = ErrorCode::new(alloc, 440, "No")?;
+    assert!(rt;
+        is_text(
+            &AddressErrorCode::new(AddressFamily::IPV6, error),
+            TURN[16].2
+        )
+    );
+    assert!(rt; is_text(&Icmp::new(too_big()), TURN[17].2));
+    assert!(rt; is_text(&ThirdPartyAuthorization::new(alloc, "turn1")?, TURN[18].2));
+    assert!(rt; is_text(&ChangeRequest::new(change(true, true)), DISCOVERY[1].2));
+    assert!(rt; is_text(&ResponsePort::new(3479), DISCOVERY[6].2));
+    assert!(rt; is_text(&TransactionTransmitCounter::new(counts()), DISCOVERY[7].2));
+    assert!(rt; is_text(&ResponseOrigin::new(other()), DISCOVERY[8].2));
+    Ok(())
 }
 
 #[test]

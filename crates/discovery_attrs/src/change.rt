@@ -1,6 +1,7 @@
 use crate::ChangeRequestKind;
 use std::fmt;
 use stun_types::attribute::FieldsKind;
+use stun_types::{PrintText, TextSink};
 
 /// What is to differ where the server answers.
 #[derive(Clone, Copy, Debug, PartialEq, Eq)]
@@ -11,6 +12,21 @@ pub struct Change {
     pub port: bool,
 }
 
+impl PrintText for Change {
+    ghost use Rattle.discovery_attrs.specs.Discovery.{change_text};
+
+    ghost text = { change_text };
+
+    fn print<S: TextSink>(&self, sink: &mut S) -> Result<(), S::Error> {
+        sink.put(match (self.ip, self.port) {
+            (true, true) => "IP and port",
+            (true, false) => "IP",
+            (false, true) => "port",
+            (false, false) => "nothing",
+        })
+    }
+}
+
 /// `IP and port`, `IP`, `port` or `nothing`.
 impl fmt::Display for Change {
     ghost use Rattle.std.specs.Prelude.{Some};
@@ -19,12 +35,7 @@ impl fmt::Display for Change {
     ghost output = { λ change. Some (change_text change) };
 
     fn fmt<W: fmt::Write>(&self, f: &mut fmt::Formatter<W>) -> fmt::Result {
-        f.write_str(match (self.ip, self.port) {
-            (true, true) => "IP and port",
-            (true, false) => "IP",
-            (false, true) => "port",
-            (false, false) => "nothing",
-        })
+        self.print(f)
     }
 }
 

@@ -3,6 +3,7 @@ use std::alloc::Global;
 use std::fmt;
 use stun_types::attribute::{EncodeValue, ReadValue, TypedAttribute, check_length};
 use stun_types::message::StunParseError;
+use stun_types::{PrintText, TextSink};
 
 /// RESPONSE-PORT: the port that the response is to be sent to (RFC 5780, section 7.5). The value is
 /// two bytes, big-endian, and two bytes of padding, which are written 0 and ignored.
@@ -74,6 +75,20 @@ impl ReadValue for ResponsePort {
     }
 }
 
+impl PrintText for ResponsePort {
+    ghost use Rattle.std.specs.Prelude.{codes, ◌++◌};
+    ghost use Rattle.std.specs.Fmt.{decimal};
+    ghost use Rattle.discovery_attrs.specs.Discovery.{port_of};
+
+    ghost text = { λ attribute. codes "RESPONSE-PORT: " ++ decimal (port_of attribute) };
+
+    fn print<S: TextSink>(&self, sink: &mut S) -> Result<(), S::Error> {
+        sink.put("RESPONSE-PORT: ")?;
+        self.port.print(sink)?;
+        Ok(())
+    }
+}
+
 /// `RESPONSE-PORT: 3479`.
 impl fmt::Display for ResponsePort {
     ghost use Rattle.std.specs.Prelude.{Some, codes, ◌++◌};
@@ -83,7 +98,6 @@ impl fmt::Display for ResponsePort {
     ghost output = { λ attribute. Some (codes "RESPONSE-PORT: " ++ decimal (port_of attribute)) };
 
     fn fmt<W: fmt::Write>(&self, f: &mut fmt::Formatter<W>) -> fmt::Result {
-        let port = self.port;
-        write!(f, "RESPONSE-PORT: {port}")
+        self.print(f)
     }
 }

@@ -1,6 +1,7 @@
 use crate::TransactionTransmitCounterKind;
 use std::fmt;
 use stun_types::attribute::FieldsKind;
+use stun_types::{PrintText, TextSink};
 
 /// How often a request and its response were sent.
 #[derive(Clone, Copy, Debug, PartialEq, Eq)]
@@ -11,6 +12,20 @@ pub struct Transmissions {
     pub responses: u8,
 }
 
+impl PrintText for Transmissions {
+    ghost use Rattle.discovery_attrs.specs.Discovery.{counts_text};
+
+    ghost text = { counts_text };
+
+    fn print<S: TextSink>(&self, sink: &mut S) -> Result<(), S::Error> {
+        sink.put("requests ")?;
+        self.requests.print(sink)?;
+        sink.put(", responses ")?;
+        self.responses.print(sink)?;
+        Ok(())
+    }
+}
+
 /// `requests 2, responses 1`.
 impl fmt::Display for Transmissions {
     ghost use Rattle.std.specs.Prelude.{Some};
@@ -19,9 +34,7 @@ impl fmt::Display for Transmissions {
     ghost output = { λ counts. Some (counts_text counts) };
 
     fn fmt<W: fmt::Write>(&self, f: &mut fmt::Formatter<W>) -> fmt::Result {
-        let requests = self.requests;
-        let responses = self.responses;
-        write!(f, "requests {requests}, responses {responses}")
+        self.print(f)
     }
 }
 

@@ -8,6 +8,7 @@ use std::net::SocketAddr;
 use stun_attrs::{Attribute, EncodeValue, ReadValue, TypedAttribute};
 use stun_base::StunParseError;
 use stun_grammar::attribute_types;
+use stun_text::{PrintText, TextSink};
 use stun_values::print_address;
 
 /// ALTERNATE-SERVER (0x8023): the address of another server that the client is to try (RFC 8489,
@@ -82,6 +83,18 @@ impl ReadValue for AlternateServer {
     }
 }
 
+impl PrintText for AlternateServer {
+    ghost use Rattle.std.specs.Net.Text.{socket_text};
+    ghost use Rattle.stun_grammar.specs.AttributeTypes.{ALTERNATE_SERVER};
+    ghost use Rattle.stun_grammar.specs.Names.{plain_text};
+
+    ghost text = { λ server. plain_text ALTERNATE_SERVER (socket_text (server_addr server)) };
+
+    fn print<S: TextSink>(&self, sink: &mut S) -> Result<(), S::Error> {
+        print_address(sink, self.get_type(), self.server())
+    }
+}
+
 /// The type and the address: `32803(0x8023: ALTERNATE-SERVER): 192.168.0.1:3178`.
 impl fmt::Display for AlternateServer {
     ghost use Rattle.std.specs.Prelude.{Some};
@@ -93,6 +106,6 @@ impl fmt::Display for AlternateServer {
         Some (plain_text ALTERNATE_SERVER (socket_text (server_addr server))) };
 
     fn fmt<W: fmt::Write>(&self, f: &mut fmt::Formatter<W>) -> fmt::Result {
-        print_address(f, self.get_type(), self.server())
+        self.print(f)
     }
 }

@@ -8,6 +8,7 @@ use std::fmt;
 use stun_attrs::{EncodeValue, ReadValue, TypedAttribute, copy_to_start};
 use stun_base::{StunParseError, StunWriteError};
 use stun_grammar::attribute_types;
+use stun_text::{PrintText, TextSink};
 use stun_values::{print_error, read_error};
 
 /// ERROR-CODE: why a request failed, as a code of 300 to 699 and a reason of at most 763 bytes of
@@ -260,6 +261,17 @@ impl ReadValue for ErrorCode {
     }
 }
 
+impl PrintText for ErrorCode {
+    ghost use Rattle.stun_values.specs.ErrorValues.{error_text};
+    ghost use Rattle.stun_attributes.specs.ErrorCodes.{error_code, error_reason};
+
+    ghost text = { λ attribute. error_text (error_code attribute) (error_reason attribute) };
+
+    fn print<S: TextSink>(&self, sink: &mut S) -> Result<(), S::Error> {
+        print_error(sink, self.code(), self.reason())
+    }
+}
+
 /// The type, the code and the reason: `9(0x9: ERROR-CODE): 420 'Unknown Attribute'`.
 impl fmt::Display for ErrorCode {
     ghost use Rattle.std.specs.Prelude.{Some};
@@ -270,6 +282,6 @@ impl fmt::Display for ErrorCode {
         Some (error_text (error_code attribute) (error_reason attribute)) };
 
     fn fmt<W: fmt::Write>(&self, f: &mut fmt::Formatter<W>) -> fmt::Result {
-        print_error(f, self.code(), self.reason())
+        self.print(f)
     }
 }

@@ -9,6 +9,7 @@ use std::fmt;
 use std::net::SocketAddr;
 use stun_attrs::{EncodeValue, RawAttribute, to_owned_raw};
 use stun_base::{AttributeType, StunParseError, StunWriteError};
+use stun_text::{PrintText, TextSink, put_socket};
 use stun_values::{address_length, read_address, write_address};
 
 /// An address as it stands in the value of an attribute (RFC 8489, section 14.1): a zero byte, the
@@ -120,6 +121,16 @@ impl EncodeValue for MappedSocketAddr {
     }
 }
 
+impl PrintText for MappedSocketAddr {
+    ghost use Rattle.std.specs.Net.Text.{socket_text};
+
+    ghost text = { λ mapped. socket_text (mapped_addr mapped) };
+
+    fn print<S: TextSink>(&self, sink: &mut S) -> Result<(), S::Error> {
+        put_socket(sink, self.addr())
+    }
+}
+
 /// The address, as `{:?}` and `{}` print it: `192.168.0.1:3178`, `[::1]:1234`.
 impl fmt::Display for MappedSocketAddr {
     ghost use Rattle.std.specs.Prelude.{Some};
@@ -128,7 +139,6 @@ impl fmt::Display for MappedSocketAddr {
     ghost output = { λ mapped. Some (socket_text (mapped_addr mapped)) };
 
     fn fmt<W: fmt::Write>(&self, f: &mut fmt::Formatter<W>) -> fmt::Result {
-        let addr = self.addr();
-        write!(f, "{addr}")
+        self.print(f)
     }
 }

@@ -6,6 +6,7 @@ use std::fmt;
 use stun_attrs::{EncodeValue, ReadValue, TypedAttribute};
 use stun_base::StunParseError;
 use stun_grammar::attribute_types;
+use stun_text::{PrintText, TextSink};
 use stun_values::{PasswordAlgorithmValue, print_algorithm, read_one, write_algorithm};
 
 /// PASSWORD-ALGORITHM: the algorithm that a client chose for its password (RFC 8489, section
@@ -74,6 +75,16 @@ impl ReadValue for PasswordAlgorithm {
     }
 }
 
+impl PrintText for PasswordAlgorithm {
+    ghost use Rattle.stun_values.specs.Algorithms.{algorithm_text};
+
+    ghost text = { λ attribute. algorithm_text (held_algorithm attribute) };
+
+    fn print<S: TextSink>(&self, sink: &mut S) -> Result<(), S::Error> {
+        print_algorithm(sink, self.algorithm())
+    }
+}
+
 /// The type and the algorithm: `29(0x1d: PASSWORD-ALGORITHM): MD5`.
 impl fmt::Display for PasswordAlgorithm {
     ghost use Rattle.std.specs.Prelude.{Some};
@@ -82,6 +93,6 @@ impl fmt::Display for PasswordAlgorithm {
     ghost output = { λ attribute. Some (algorithm_text (held_algorithm attribute)) };
 
     fn fmt<W: fmt::Write>(&self, f: &mut fmt::Formatter<W>) -> fmt::Result {
-        print_algorithm(f, self.algorithm())
+        self.print(f)
     }
 }

@@ -6,6 +6,7 @@ use std::fmt;
 use stun_attrs::{EncodeValue, ReadValue, TypedAttribute};
 use stun_base::{StunParseError, StunWriteError};
 use stun_grammar::attribute_types;
+use stun_text::{PrintText, TextSink};
 use stun_values::{
     PasswordAlgorithmValue, check_algorithms, print_algorithms, read_algorithm, write_algorithms,
 };
@@ -136,6 +137,17 @@ impl ReadValue for PasswordAlgorithms {
     }
 }
 
+impl PrintText for PasswordAlgorithms {
+    ghost use Rattle.stun_values.specs.Algorithms.{algorithms_text};
+    ghost use Rattle.stun_attributes.specs.Passwords.{held_algorithms};
+
+    ghost text = { λ attribute. algorithms_text (held_algorithms attribute) };
+
+    fn print<S: TextSink>(&self, sink: &mut S) -> Result<(), S::Error> {
+        print_algorithms(sink, self.algorithms())
+    }
+}
+
 /// The type and the algorithms: `32770(0x8002: PASSWORD_ALGORITHMS): [MD5, SHA256]`.
 impl fmt::Display for PasswordAlgorithms {
     ghost use Rattle.std.specs.Prelude.{Some};
@@ -145,6 +157,6 @@ impl fmt::Display for PasswordAlgorithms {
     ghost output = { λ attribute. Some (algorithms_text (held_algorithms attribute)) };
 
     fn fmt<W: fmt::Write>(&self, f: &mut fmt::Formatter<W>) -> fmt::Result {
-        print_algorithms(f, self.algorithms())
+        self.print(f)
     }
 }

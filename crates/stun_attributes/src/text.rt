@@ -6,6 +6,7 @@ use std::fmt;
 use stun_attrs::{Attribute, BorrowValue, EncodeValue, ReadValue, TypedAttribute, copy_to_start};
 use stun_base::{StunParseError, StunWriteError};
 use stun_grammar::attribute_types;
+use stun_text::{PrintText, TextSink};
 use stun_values::{print_plain, print_quoted, read_text};
 
 /// An attribute of the type `TYPE` whose value is a text: at most `MAX` bytes of UTF-8, with no
@@ -120,6 +121,21 @@ impl<const TYPE: u16, const MAX: u16> ReadValue for TextAttribute<TYPE, MAX> {
     }
 }
 
+impl<const TYPE: u16, const MAX: u16> PrintText for TextAttribute<TYPE, MAX> {
+    ghost use Rattle.stun_attributes.specs.Texts.{text_bytes, shown_text};
+
+    ghost text = { λ attribute. shown_text TYPE (text_bytes attribute) };
+
+    fn print<S: TextSink>(&self, sink: &mut S) -> Result<(), S::Error> {
+        match TYPE {
+            attribute_types::USERNAME | attribute_types::SOFTWARE => {
+                print_quoted(sink, self.get_type(), self.text())
+            }
+            _ => print_plain(sink, self.get_type(), self.text()),
+        }
+    }
+}
+
 /// The type and the text: `20(0x14: REALM): example.org`. A USERNAME and a SOFTWARE have the text
 /// in quotation marks: `32802(0x8022: SOFTWARE): 'my client'`.
 impl<const TYPE: u16, const MAX: u16> fmt::Display for TextAttribute<TYPE, MAX> {
@@ -129,11 +145,6 @@ impl<const TYPE: u16, const MAX: u16> fmt::Display for TextAttribute<TYPE, MAX> 
     ghost output = { λ attribute. Some (shown_text TYPE (text_bytes attribute)) };
 
     fn fmt<W: fmt::Write>(&self, f: &mut fmt::Formatter<W>) -> fmt::Result {
-        match TYPE {
-            attribute_types::USERNAME | attribute_types::SOFTWARE => {
-                print_quoted(f, self.get_type(), self.text())
-            }
-            _ => print_plain(f, self.get_type(), self.text()),
-        }
+        self.print(f)
     }
 }

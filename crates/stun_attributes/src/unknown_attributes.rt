@@ -7,6 +7,7 @@ use std::fmt;
 use stun_attrs::{EncodeValue, ReadValue, TypedAttribute};
 use stun_base::{AttributeType, StunParseError, StunWriteError, number_at};
 use stun_grammar::attribute_types;
+use stun_text::{PrintText, TextSink};
 use stun_values::{check_types, print_types};
 
 /// Writes two bytes for each type at the start of `dest`, which has room for them, in order.
@@ -179,6 +180,17 @@ impl ReadValue for UnknownAttributes {
     }
 }
 
+impl PrintText for UnknownAttributes {
+    ghost use Rattle.stun_values.specs.TypeLists.{listed_text};
+    ghost use Rattle.stun_attributes.specs.Unknown.{listed};
+
+    ghost text = { λ attribute. listed_text (listed attribute) };
+
+    fn print<S: TextSink>(&self, sink: &mut S) -> Result<(), S::Error> {
+        print_types(sink, self.attributes())
+    }
+}
+
 /// The type and the list: `10(0xa: UNKNOWN-ATTRIBUTES): [AttributeType(20), AttributeType(21)]`.
 impl fmt::Display for UnknownAttributes {
     ghost use Rattle.std.specs.Prelude.{Some};
@@ -188,6 +200,6 @@ impl fmt::Display for UnknownAttributes {
     ghost output = { λ attribute. Some (listed_text (listed attribute)) };
 
     fn fmt<W: fmt::Write>(&self, f: &mut fmt::Formatter<W>) -> fmt::Result {
-        print_types(f, self.attributes())
+        self.print(f)
     }
 }

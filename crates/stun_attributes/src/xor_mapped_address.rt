@@ -7,6 +7,7 @@ use std::net::SocketAddr;
 use stun_attrs::{Attribute, EncodeValue, ReadValue, TypedAttribute};
 use stun_base::{StunParseError, TransactionId};
 use stun_grammar::attribute_types;
+use stun_text::{PrintText, TextSink};
 use stun_values::print_xored;
 
 /// XOR-MAPPED-ADDRESS (0x0020): the address that a request came from, as the server saw it
@@ -103,6 +104,20 @@ impl ReadValue for XorMappedAddress {
     }
 }
 
+impl PrintText for XorMappedAddress {
+    ghost use Rattle.stun_grammar.specs.AttributeTypes.{XOR_MAPPED_ADDRESS};
+    ghost use Rattle.stun_grammar.specs.Names.{plain_text};
+    ghost use Rattle.stun_values.specs.Addresses.{xored_text};
+    ghost use Rattle.stun_attributes.specs.AddressAttributes.{written_mapped_addr};
+
+    ghost text = { λ mapped.
+        plain_text XOR_MAPPED_ADDRESS (xored_text (written_mapped_addr mapped)) };
+
+    fn print<S: TextSink>(&self, sink: &mut S) -> Result<(), S::Error> {
+        print_xored(sink, self.get_type(), self.addr.addr.addr())
+    }
+}
+
 /// The type and the address: `32(0x20: XOR-MAPPED-ADDRESS): 192.168.0.1:3178` for IPv4, as it is
 /// without the XOR, and `32(0x20: XOR-MAPPED-ADDRESS): XOR([2112:a442::5679]:9664)` for IPv6, as it
 /// is written.
@@ -117,6 +132,6 @@ impl fmt::Display for XorMappedAddress {
         Some (plain_text XOR_MAPPED_ADDRESS (xored_text (written_mapped_addr mapped))) };
 
     fn fmt<W: fmt::Write>(&self, f: &mut fmt::Formatter<W>) -> fmt::Result {
-        print_xored(f, self.get_type(), self.addr.addr.addr())
+        self.print(f)
     }
 }

@@ -13,6 +13,7 @@ use std::fmt;
 use std::net::SocketAddr;
 use stun_attrs::RawAttribute;
 use stun_base::{AttributeType, StunParseError, StunWriteError, TransactionId};
+use stun_text::{PrintText, TextSink};
 use stun_values::{write_xored, xor_addr};
 
 /// An address as it stands in the value of an XOR-MAPPED-ADDRESS (RFC 8489, section 14.2): in the
@@ -119,6 +120,16 @@ impl XorSocketAddr {
     }
 }
 
+impl PrintText for XorSocketAddr {
+    ghost use Rattle.stun_values.specs.Addresses.{xored_text};
+
+    ghost text = { λ xored. xored_text (written_addr xored) };
+
+    fn print<S: TextSink>(&self, sink: &mut S) -> Result<(), S::Error> {
+        write_xored(sink, self.addr.addr())
+    }
+}
+
 /// An IPv4 address as it is without the XOR, since its XOR takes no transaction ID:
 /// `192.168.0.1:3178`. An IPv6 address as it is written, after the XOR:
 /// `XOR([2112:a442::5679]:9664)`.
@@ -129,6 +140,6 @@ impl fmt::Display for XorSocketAddr {
     ghost output = { λ xored. Some (xored_text (written_addr xored)) };
 
     fn fmt<W: fmt::Write>(&self, f: &mut fmt::Formatter<W>) -> fmt::Result {
-        write_xored(f, self.addr.addr())
+        self.print(f)
     }
 }

@@ -9,6 +9,7 @@ ghost use Rattle.stun_attrs.specs.PrintedAttributes.{bytes_in_decimal, data_show
 use crate::{Attribute, RawAttribute};
 use std::fmt;
 use stun_base::Data;
+use stun_grammar::put_type_debug;
 use stun_text::{PrintText, TextSink, TextTooLong, put_comma, put_decimal, write_text};
 use stun_values::read_value;
 
@@ -98,7 +99,7 @@ fn print_untyped<S: TextSink>(raw: &RawAttribute<'_>, sink: &mut S) -> Result<()
         sink.new) }
 {
     sink.put("RawAttribute (type: ")?;
-    raw.get_type().put_debug(sink)?;
+    put_type_debug(sink, raw.get_type())?;
     sink.put(", ")?;
     put_value(sink, raw)?;
     Ok(())

@@ -17,7 +17,7 @@ pub use data::{Data, DataOwned, DataSlice};
 pub use header::{GREATEST_LENGTH, MessageHeader, check_header, number_at, read_header};
 pub use hex::Hex;
 pub use laws::{binding_request, one_message_type};
-pub use message_type::{BINDING, MessageClass, MessageType, Method};
+pub use message_type::{BINDING, MessageClass, MessageType, Method, put_class_and_method};
 pub use stun_grammar::{AttributeType, StunParseError, StunWriteError, ValidateError};
 pub use transaction_id::{MAGIC_COOKIE, TransactionId};
 pub use transport::{AddressFamily, ParseTransportTypeError, TransportType};

@@ -232,22 +232,6 @@ impl MessageType {
         self.method() == method
     }
 
-    /// Writes the name of the class and the method: `Request, method: 1(0x1: BINDING)`.
-    ///
-    /// # Errors
-    ///
-    /// That of the sink.
-    pub fn put_class_and_method<S: TextSink>(self, sink: &mut S) -> Result<(), S::Error>
-        ensures { OnOk result (S.wrote sink.old
-            (class_name (class_of self) ++ codes ", method: " ++ method_text (method_of self))
-            sink.new) }
-    {
-        sink.put(self.class().name())?;
-        sink.put(", method: ")?;
-        self.method().print(sink)?;
-        Ok(())
-    }
-
     /// Writes the two bytes at the start of `dest`. The others keep their values.
     ///
     /// # Requires
@@ -302,6 +286,23 @@ impl MessageType {
     }
 }
 
+/// Writes the name of the class of a message type, and its method:
+/// `Request, method: 1(0x1: BINDING)`.
+///
+/// # Errors
+///
+/// That of the sink.
+pub fn put_class_and_method<S: TextSink>(sink: &mut S, mtype: MessageType) -> Result<(), S::Error>
+    ensures { OnOk result (S.wrote sink.old
+        (class_name (class_of mtype) ++ codes ", method: " ++ method_text (method_of mtype))
+        sink.new) }
+{
+    sink.put(mtype.class().name())?;
+    sink.put(", method: ")?;
+    mtype.method().print(sink)?;
+    Ok(())
+}
+
 impl PrintText for MessageType {
     ghost use Rattle.stun_base.specs.MessageTypes.{message_type_text};
 
@@ -309,7 +310,7 @@ impl PrintText for MessageType {
 
     fn print<S: TextSink>(&self, sink: &mut S) -> Result<(), S::Error> {
         sink.put("MessageType(class: ")?;
-        self.put_class_and_method(sink)?;
+        put_class_and_method(sink, *self)?;
         Ok(())
     }
 }

@@ -1,8 +1,12 @@
 //! The transports that carry messages, and the families of addresses.
 
+ghost use Rattle.std.specs.Prelude.{◌≡◌};
+ghost use Rattle.stun_base.specs.Transports.{transport_name};
+
 use std::fmt;
 use std::net::{IpAddr, Ipv4Addr, Ipv6Addr, SocketAddr, SocketAddrV4, SocketAddrV6};
 use std::str::FromStr;
+use stun_text::{PrintText, TextSink};
 use thiserror::Error;
 
 /// The transport that carries a message.
@@ -12,6 +16,28 @@ pub enum TransportType {
     Udp,
     /// TCP.
     Tcp,
+}
+
+impl TransportType {
+    /// The name: `UDP` or `TCP`.
+    fn name(self) -> &'static str
+        ensures { result.now ≡ transport_name self }
+    {
+        match self {
+            TransportType::Udp => "UDP",
+            TransportType::Tcp => "TCP",
+        }
+    }
+}
+
+impl PrintText for TransportType {
+    ghost use Rattle.stun_base.specs.Transports.{transport_name};
+
+    ghost text = { transport_name };
+
+    fn print<S: TextSink>(&self, sink: &mut S) -> Result<(), S::Error> {
+        sink.put(self.name())
+    }
 }
 
 /// `UDP` or `TCP`, in the width, with the fill and on the side that the format asks for, and cut to
@@ -27,10 +53,7 @@ impl fmt::Display for TransportType {
         Some (styled_text options (transport_name transport)) };
 
     fn fmt<W: fmt::Write>(&self, f: &mut fmt::Formatter<W>) -> fmt::Result {
-        match self {
-            TransportType::Udp => f.pad("UDP"),
-            TransportType::Tcp => f.pad("TCP"),
-        }
+        f.pad(self.name())
     }
 }
 
@@ -74,6 +97,19 @@ pub enum AddressFamily {
     IPV6,
 }
 
+impl PrintText for AddressFamily {
+    ghost use Rattle.stun_base.specs.Transports.{family_name};
+
+    ghost text = { family_name };
+
+    fn print<S: TextSink>(&self, sink: &mut S) -> Result<(), S::Error> {
+        sink.put(match self {
+            AddressFamily::IPV4 => "IPV4",
+            AddressFamily::IPV6 => "IPV6",
+        })
+    }
+}
+
 /// `IPV4` or `IPV6`.
 impl fmt::Display for AddressFamily {
     ghost use Rattle.std.specs.Prelude.{Some};
@@ -82,10 +118,7 @@ impl fmt::Display for AddressFamily {
     ghost output = { λ family. Some (family_name family) };
 
     fn fmt<W: fmt::Write>(&self, f: &mut fmt::Formatter<W>) -> fmt::Result {
-        match self {
-            AddressFamily::IPV4 => write!(f, "IPV4"),
-            AddressFamily::IPV6 => write!(f, "IPV6"),
-        }
+        self.print(f)
     }
 }
 

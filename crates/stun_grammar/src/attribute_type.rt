@@ -70,20 +70,20 @@ impl AttributeType {
     {
         attribute_types::is_ending(self.0)
     }
+}
 
-    /// Writes the number in decimal, as `{:?}` prints it: `AttributeType(32)`.
-    ///
-    /// # Errors
-    ///
-    /// That of the sink.
-    pub fn put_debug<S: TextSink>(self, sink: &mut S) -> Result<(), S::Error>
-        ensures { OnOk result (S.wrote sink.old (attribute_type_debug self.0) sink.new) }
-    {
-        sink.put("AttributeType(")?;
-        put_decimal(sink, self.0 as u64)?;
-        sink.put(")")?;
-        Ok(())
-    }
+/// Writes a type as `{:?}` prints it, its number in decimal: `AttributeType(32)`.
+///
+/// # Errors
+///
+/// That of the sink.
+pub fn put_type_debug<S: TextSink>(sink: &mut S, atype: AttributeType) -> Result<(), S::Error>
+    ensures { OnOk result (S.wrote sink.old (attribute_type_debug atype.0) sink.new) }
+{
+    sink.put("AttributeType(")?;
+    put_decimal(sink, atype.0 as u64)?;
+    sink.put(")")?;
+    Ok(())
 }
 
 impl From<u16> for AttributeType {
@@ -138,6 +138,6 @@ impl fmt::Debug for AttributeType {
         if f.alternate() {
             return f.debug_tuple("AttributeType").field(&self.0).finish();
         }
-        self.put_debug(f)
+        put_type_debug(f, *self)
     }
 }

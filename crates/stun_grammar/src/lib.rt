@@ -18,7 +18,7 @@ mod laws;
 mod numbered;
 
 pub use adding_laws::message_grows;
-pub use attribute_type::AttributeType;
+pub use attribute_type::{AttributeType, put_type_debug};
 pub use error::{StunParseError, StunWriteError, ValidateError};
 pub use integrity_algorithm::IntegrityAlgorithm;
 pub use integrity_laws::{

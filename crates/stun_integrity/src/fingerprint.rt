@@ -4,6 +4,7 @@ use stun_attrs::{Attribute, EncodeValue, ReadValue, TypedAttribute, copy_to_star
 use stun_base::StunParseError;
 use stun_grammar::attribute_types;
 use stun_keys::digest::crc32;
+use stun_text::{PrintText, TextSink};
 use stun_values::{masked, print_hex, read_checksum};
 
 /// FINGERPRINT: the CRC-32 of the message before it, in four bytes, big-endian (RFC 8489, section
@@ -88,6 +89,18 @@ impl ReadValue for Fingerprint {
     }
 }
 
+impl PrintText for Fingerprint {
+    ghost use Rattle.stun_grammar.specs.AttributeTypes.{FINGERPRINT};
+    ghost use Rattle.stun_grammar.specs.Names.{hex_text};
+    ghost use Rattle.stun_integrity.specs.Integrity.{checksum_bytes};
+
+    ghost text = { λ attribute. hex_text FINGERPRINT (checksum_bytes attribute) };
+
+    fn print<S: TextSink>(&self, sink: &mut S) -> Result<(), S::Error> {
+        print_hex(sink, self.get_type(), self.fingerprint())
+    }
+}
+
 /// The type and the checksum, not XORed, in hexadecimal:
 /// `32808(0x8028: FINGERPRINT): 0x0102fffe`.
 impl fmt::Display for Fingerprint {
@@ -99,6 +112,6 @@ impl fmt::Display for Fingerprint {
     ghost output = { λ attribute. Some (hex_text FINGERPRINT (checksum_bytes attribute)) };
 
     fn fmt<W: fmt::Write>(&self, f: &mut fmt::Formatter<W>) -> fmt::Result {
-        print_hex(f, self.get_type(), self.fingerprint())
+        self.print(f)
     }
 }

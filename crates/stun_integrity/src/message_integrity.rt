@@ -5,6 +5,7 @@ use stun_attrs::{Attribute, BorrowValue, EncodeValue, ReadValue, TypedAttribute,
 use stun_base::{StunParseError, StunWriteError};
 use stun_grammar::{IntegrityAlgorithm, attribute_types};
 use stun_keys::keys::IntegrityKey;
+use stun_text::{PrintText, TextSink};
 use stun_values::{check_sha1_length, print_hex};
 
 /// MESSAGE-INTEGRITY (0x0008): the HMAC-SHA1 of the message before it, 20 bytes (RFC 8489, section
@@ -122,6 +123,18 @@ impl ReadValue for MessageIntegrity {
     }
 }
 
+impl PrintText for MessageIntegrity {
+    ghost use Rattle.stun_grammar.specs.AttributeTypes.{MESSAGE_INTEGRITY};
+    ghost use Rattle.stun_grammar.specs.Names.{hex_text};
+    ghost use Rattle.stun_integrity.specs.Integrity.{sha1_hmac};
+
+    ghost text = { λ attribute. hex_text MESSAGE_INTEGRITY (sha1_hmac attribute) };
+
+    fn print<S: TextSink>(&self, sink: &mut S) -> Result<(), S::Error> {
+        print_hex(sink, self.get_type(), self.hmac())
+    }
+}
+
 /// The type and the HMAC in hexadecimal, two digits for each byte, in lower case:
 /// `8(0x8: MESSAGE-INTEGRITY): 0x00010203` and so on.
 impl fmt::Display for MessageIntegrity {
@@ -133,6 +146,6 @@ impl fmt::Display for MessageIntegrity {
     ghost output = { λ attribute. Some (hex_text MESSAGE_INTEGRITY (sha1_hmac attribute)) };
 
     fn fmt<W: fmt::Write>(&self, f: &mut fmt::Formatter<W>) -> fmt::Result {
-        print_hex(f, self.get_type(), self.hmac())
+        self.print(f)
     }
 }

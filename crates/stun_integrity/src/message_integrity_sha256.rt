@@ -7,6 +7,7 @@ use stun_attrs::{Attribute, BorrowValue, EncodeValue, ReadValue, TypedAttribute,
 use stun_base::{StunParseError, StunWriteError};
 use stun_grammar::{IntegrityAlgorithm, attribute_types};
 use stun_keys::keys::IntegrityKey;
+use stun_text::{PrintText, TextSink};
 use stun_values::{check_sha256_length, print_hex};
 
 /// Whether the bytes are a nonempty prefix of an HMAC.
@@ -201,6 +202,18 @@ impl ReadValue for MessageIntegritySha256 {
     }
 }
 
+impl PrintText for MessageIntegritySha256 {
+    ghost use Rattle.stun_grammar.specs.AttributeTypes.{MESSAGE_INTEGRITY_SHA256};
+    ghost use Rattle.stun_grammar.specs.Names.{hex_text};
+    ghost use Rattle.stun_integrity.specs.Integrity.{sha256_hmac};
+
+    ghost text = { λ attribute. hex_text MESSAGE_INTEGRITY_SHA256 (sha256_hmac attribute) };
+
+    fn print<S: TextSink>(&self, sink: &mut S) -> Result<(), S::Error> {
+        print_hex(sink, self.get_type(), self.hmac())
+    }
+}
+
 /// The type and the HMAC, or the prefix of it that the attribute holds, in hexadecimal, two digits
 /// for each byte, in lower case: `28(0x1c: MESSAGE-INTEGRITY-SHA256): 0x00010203` and so on.
 impl fmt::Display for MessageIntegritySha256 {
@@ -213,6 +226,6 @@ impl fmt::Display for MessageIntegritySha256 {
         Some (hex_text MESSAGE_INTEGRITY_SHA256 (sha256_hmac attribute)) };
 
     fn fmt<W: fmt::Write>(&self, f: &mut fmt::Formatter<W>) -> fmt::Result {
-        print_hex(f, self.get_type(), self.hmac())
+        self.print(f)
     }
 }

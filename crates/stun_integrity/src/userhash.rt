@@ -7,6 +7,7 @@ use std::fmt;
 use stun_attrs::{Attribute, BorrowValue, EncodeValue, ReadValue, TypedAttribute, copy_to_start};
 use stun_base::StunParseError;
 use stun_grammar::attribute_types;
+use stun_text::{PrintText, TextSink};
 use stun_values::{check_hash_length, print_hex};
 
 /// USERHASH (0x001E): the SHA-256 of `username:realm`, 32 bytes, which is sent in place of the
@@ -100,6 +101,17 @@ impl ReadValue for Userhash {
     }
 }
 
+impl PrintText for Userhash {
+    ghost use Rattle.stun_grammar.specs.AttributeTypes.{USERHASH};
+    ghost use Rattle.stun_grammar.specs.Names.{hex_text};
+
+    ghost text = { λ attribute. hex_text USERHASH (hash_bytes attribute) };
+
+    fn print<S: TextSink>(&self, sink: &mut S) -> Result<(), S::Error> {
+        print_hex(sink, self.get_type(), self.hash())
+    }
+}
+
 /// The type and the hash in hexadecimal, two digits for each byte, in lower case:
 /// `30(0x1e: USERHASH): 0x00010203` and so on.
 impl fmt::Display for Userhash {
@@ -110,6 +122,6 @@ impl fmt::Display for Userhash {
     ghost output = { λ attribute. Some (hex_text USERHASH (hash_bytes attribute)) };
 
     fn fmt<W: fmt::Write>(&self, f: &mut fmt::Formatter<W>) -> fmt::Result {
-        print_hex(f, self.get_type(), self.hash())
+        self.print(f)
     }
 }

@@ -1,6 +1,5 @@
 -- Attributes that are a number and a name, and a value of one of a few forms.
 use Rattle.std.specs.Prelude.{◌≡◌, ℕ, Bool, List, length, ◌++◌, codes, Option, Result, Ok, Err, MatchResult, None, IsOkAnd, MatchOption, ⊤}
-use Rattle.std.specs.Option.{option_map}
 use Rattle.std.specs.declared.net.socket_addr.SocketAddr.{SocketAddr}
 use Rattle.stun_grammar.specs.declared.error.StunParseError.{StunParseError}
 use Rattle.stun_grammar.specs.declared.error.StunParseError.TheVariants.{InvalidAttributeData}
@@ -17,8 +16,8 @@ use Rattle.stun_kinds.specs.declared.address.AddressAttribute.{AddressAttribute}
 use Rattle.stun_kinds.specs.declared.xored.XorAddressAttribute.{XorAddressAttribute}
 
 -- how an attribute is printed: its name, and behind it its value
-abbrev pub named_text : List ℕ → Option (List ℕ) → Option (List ℕ)
-named_text name = option_map (λ value. name ++ codes ": " ++ value)
+abbrev pub named_text : List ℕ → List ℕ → List ℕ
+named_text name value = name ++ codes ": " ++ value
 
 -- ---- Numbers
 

@@ -1,4 +1,5 @@
 use crate::AttributeKind;
+use crate::printed::put_named;
 use std::alloc::Global;
 use std::fmt;
 use std::marker::PhantomData;
@@ -6,6 +7,7 @@ use std::net::SocketAddr;
 use stun_attributes::MappedSocketAddr;
 use stun_attrs::{EncodeValue, ReadValue, TypedAttribute};
 use stun_base::StunParseError;
+use stun_text::{PrintText, TextSink};
 
 /// An attribute whose value is an address as it is, in the form of a [`MappedSocketAddr`]: 8 bytes
 /// for IPv4 and 20 for IPv6.
@@ -82,17 +84,26 @@ impl<K> ReadValue for AddressAttribute<K> {
     }
 }
 
+impl<K: AttributeKind> PrintText for AddressAttribute<K> {
+    ghost use Rattle.std.specs.Net.Text.{socket_text};
+    ghost use Rattle.stun_kinds.specs.Kinds.{addr_of, named_text};
+
+    ghost text = { λ attribute. named_text K.NAME (socket_text (addr_of attribute)) };
+
+    fn print<S: TextSink>(&self, sink: &mut S) -> Result<(), S::Error> {
+        put_named(sink, K::name(), &self.addr)
+    }
+}
+
 /// The name and the address: `OTHER-ADDRESS: 192.168.0.1:3479`.
 impl<K: AttributeKind> fmt::Display for AddressAttribute<K> {
     ghost use Rattle.std.specs.Prelude.{Some};
     ghost use Rattle.std.specs.Net.Text.{socket_text};
     ghost use Rattle.stun_kinds.specs.Kinds.{addr_of, named_text};
 
-    ghost output = { λ attribute. named_text K.NAME (Some (socket_text (addr_of attribute))) };
+    ghost output = { λ attribute. Some (named_text K.NAME (socket_text (addr_of attribute))) };
 
     fn fmt<W: fmt::Write>(&self, f: &mut fmt::Formatter<W>) -> fmt::Result {
-        let name = K::name();
-        let addr = &self.addr;
-        write!(f, "{name}: {addr}")
+        self.print(f)
     }
 }

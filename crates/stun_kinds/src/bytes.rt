@@ -12,6 +12,7 @@ use stun_attrs::{
     borrowed_attribute, check_type, write_attribute,
 };
 use stun_base::{AttributeType, Data, Hex, StunParseError, StunWriteError};
+use stun_text::{PrintText, TextSink};
 
 /// At most 65535 bytes, which are borrowed or owned.
 #[derive(Debug, Drop)]
@@ -168,17 +169,31 @@ impl<'a, K: AttributeKind> AttributeFromRaw<'a> for BytesAttribute<K, ShortBytes
     }
 }
 
+impl<K: AttributeKind> PrintText for BytesAttribute<K, ShortBytes<'_>> {
+    ghost use Rattle.std.specs.Prelude.{◌++◌, codes};
+    ghost use Rattle.stun_grammar.specs.Names.{hex};
+    ghost use Rattle.stun_kinds.specs.Kinds.{bytes_of, named_text};
+
+    ghost text = { λ attribute. named_text K.NAME (codes "0x" ++ hex (bytes_of attribute)) };
+
+    fn print<S: TextSink>(&self, sink: &mut S) -> Result<(), S::Error> {
+        sink.put(K::name())?;
+        sink.put(": 0x")?;
+        Hex(self.data()).print(sink)?;
+        Ok(())
+    }
+}
+
 /// The name, and the bytes in hexadecimal: `DATA: 0x0102ff`.
 impl<K: AttributeKind> fmt::Display for BytesAttribute<K, ShortBytes<'_>> {
     ghost use Rattle.std.specs.Prelude.{Some, ◌++◌, codes};
     ghost use Rattle.stun_grammar.specs.Names.{hex};
     ghost use Rattle.stun_kinds.specs.Kinds.{bytes_of, named_text};
 
-    ghost output = { λ attribute. named_text K.NAME (Some (codes "0x" ++ hex (bytes_of attribute))) };
+    ghost output = { λ attribute.
+        Some (named_text K.NAME (codes "0x" ++ hex (bytes_of attribute))) };
 
     fn fmt<W: fmt::Write>(&self, f: &mut fmt::Formatter<W>) -> fmt::Result {
-        let name = K::name();
-        let digits = Hex(self.data());
-        write!(f, "{name}: 0x{digits}")
+        self.print(f)
     }
 }

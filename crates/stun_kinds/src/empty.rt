@@ -4,6 +4,7 @@ use std::fmt;
 use std::marker::PhantomData;
 use stun_attrs::{BorrowValue, EncodeValue, ReadValue, TypedAttribute};
 use stun_base::StunParseError;
+use stun_text::{PrintText, TextSink};
 use stun_values::check_length;
 
 /// An attribute whose value has no bytes.
@@ -65,6 +66,14 @@ impl<K> ReadValue for EmptyAttribute<K> {
     }
 }
 
+impl<K: AttributeKind> PrintText for EmptyAttribute<K> {
+    ghost text = { λ _. K.NAME };
+
+    fn print<S: TextSink>(&self, sink: &mut S) -> Result<(), S::Error> {
+        sink.put(K::name())
+    }
+}
+
 /// The name: `USE-CANDIDATE`.
 impl<K: AttributeKind> fmt::Display for EmptyAttribute<K> {
     ghost use Rattle.std.specs.Prelude.{Some};
@@ -72,6 +81,6 @@ impl<K: AttributeKind> fmt::Display for EmptyAttribute<K> {
     ghost output = { λ _. Some K.NAME };
 
     fn fmt<W: fmt::Write>(&self, f: &mut fmt::Formatter<W>) -> fmt::Result {
-        f.write_str(K::name())
+        self.print(f)
     }
 }

@@ -1,11 +1,13 @@
 ghost use Rattle.std.specs.Prelude.{◌≡◌, Option};
 
 use crate::AttributeKind;
+use crate::printed::put_named;
 use std::alloc::Global;
 use std::fmt;
 use std::marker::PhantomData;
 use stun_attrs::{EncodeValue, ReadValue, TypedAttribute};
 use stun_base::StunParseError;
+use stun_text::{PrintText, TextSink};
 
 /// A kind of attribute whose value is a number in a few fixed bytes, of which some bits hold a `V`,
 /// and others are 0 or ignored.
@@ -28,7 +30,8 @@ pub trait FieldsKind<V>: AttributeKind {
         ensures { result ≡ fields_of number };
 }
 
-/// An attribute whose value is fields of a number, big-endian.
+/// An attribute whose value is fields of a number, big-endian. It prints if `V` does, by
+/// [`PrintText`].
 ///
 /// Reading refuses a value of another length than `wanted`, that of the number, as
 /// `Truncated { expected: wanted, actual }` or `TooLarge { expected: wanted, actual }`, and fields
@@ -116,15 +119,24 @@ where
     }
 }
 
-/// The name and the value: `REQUESTED-TRANSPORT: 17`.
-impl<K: AttributeKind, V: fmt::Display> fmt::Display for FieldsAttribute<K, V> {
+impl<K: AttributeKind, V: PrintText> PrintText for FieldsAttribute<K, V> {
     ghost use Rattle.stun_kinds.specs.Kinds.{fields_held, named_text};
 
-    ghost output = { λ attribute. named_text K.NAME (V.output (fields_held attribute)) };
+    ghost text = { λ attribute. named_text K.NAME (V.text (fields_held attribute)) };
+
+    fn print<S: TextSink>(&self, sink: &mut S) -> Result<(), S::Error> {
+        put_named(sink, K::name(), &self.value)
+    }
+}
+
+/// The name and the value: `REQUESTED-TRANSPORT: 17`.
+impl<K: AttributeKind, V: PrintText> fmt::Display for FieldsAttribute<K, V> {
+    ghost use Rattle.std.specs.Prelude.{Some};
+    ghost use Rattle.stun_kinds.specs.Kinds.{fields_held, named_text};
+
+    ghost output = { λ attribute. Some (named_text K.NAME (V.text (fields_held attribute))) };
 
     fn fmt<W: fmt::Write>(&self, f: &mut fmt::Formatter<W>) -> fmt::Result {
-        let name = K::name();
-        let value = &self.value;
-        write!(f, "{name}: {value}")
+        self.print(f)
     }
 }

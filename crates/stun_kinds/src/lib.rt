@@ -9,6 +9,7 @@ mod fields;
 mod kind;
 mod laws;
 mod number;
+mod printed;
 mod xored;
 
 pub use address::AddressAttribute;

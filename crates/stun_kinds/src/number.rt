@@ -1,11 +1,13 @@
 ghost use Rattle.std.specs.Prelude.{◌≡◌};
 
 use crate::AttributeKind;
+use crate::printed::put_named;
 use std::alloc::Global;
 use std::fmt;
 use std::marker::PhantomData;
 use stun_attrs::{EncodeValue, ReadValue, TypedAttribute};
 use stun_base::StunParseError;
+use stun_text::{PrintText, TextSink};
 
 /// An attribute whose value is a number `N`, which is a `u16`, a `u32` or a `u64`: two, four or
 /// eight bytes, big-endian.
@@ -80,15 +82,24 @@ impl<K, N: ReadValue> ReadValue for NumberAttribute<K, N> {
     }
 }
 
-/// The name and the number: `PRIORITY: 1862270975`.
-impl<K: AttributeKind, N: fmt::Display> fmt::Display for NumberAttribute<K, N> {
+impl<K: AttributeKind, N: PrintText> PrintText for NumberAttribute<K, N> {
     ghost use Rattle.stun_kinds.specs.Kinds.{named_text, number_of};
 
-    ghost output = { λ attribute. named_text K.NAME (N.output (number_of attribute)) };
+    ghost text = { λ attribute. named_text K.NAME (N.text (number_of attribute)) };
+
+    fn print<S: TextSink>(&self, sink: &mut S) -> Result<(), S::Error> {
+        put_named(sink, K::name(), &self.number)
+    }
+}
+
+/// The name and the number: `PRIORITY: 1862270975`.
+impl<K: AttributeKind, N: PrintText> fmt::Display for NumberAttribute<K, N> {
+    ghost use Rattle.std.specs.Prelude.{Some};
+    ghost use Rattle.stun_kinds.specs.Kinds.{named_text, number_of};
+
+    ghost output = { λ attribute. Some (named_text K.NAME (N.text (number_of attribute))) };
 
     fn fmt<W: fmt::Write>(&self, f: &mut fmt::Formatter<W>) -> fmt::Result {
-        let name = K::name();
-        let number = &self.number;
-        write!(f, "{name}: {number}")
+        self.print(f)
     }
 }

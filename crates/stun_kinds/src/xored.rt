@@ -1,4 +1,5 @@
 use crate::AttributeKind;
+use crate::printed::put_named;
 use std::alloc::Global;
 use std::fmt;
 use std::marker::PhantomData;
@@ -6,6 +7,7 @@ use std::net::SocketAddr;
 use stun_attributes::XorSocketAddr;
 use stun_attrs::{EncodeValue, ReadValue, TypedAttribute};
 use stun_base::{StunParseError, TransactionId};
+use stun_text::{PrintText, TextSink};
 
 /// An attribute whose value is an address that is XORed, in the form of a [`XorSocketAddr`]: 8
 /// bytes for IPv4 and 20 for IPv6.
@@ -82,6 +84,17 @@ impl<K> ReadValue for XorAddressAttribute<K> {
     }
 }
 
+impl<K: AttributeKind> PrintText for XorAddressAttribute<K> {
+    ghost use Rattle.stun_values.specs.Addresses.{xored_text};
+    ghost use Rattle.stun_kinds.specs.Kinds.{named_text, xored_of};
+
+    ghost text = { λ attribute. named_text K.NAME (xored_text (xored_of attribute)) };
+
+    fn print<S: TextSink>(&self, sink: &mut S) -> Result<(), S::Error> {
+        put_named(sink, K::name(), &self.addr)
+    }
+}
+
 /// The name and the address: `XOR-RELAYED-ADDRESS: 192.168.0.1:3478` for IPv4, as it is without the
 /// XOR, and `XOR-RELAYED-ADDRESS: XOR([2112:a442::5679]:9664)` for IPv6, as it is written.
 impl<K: AttributeKind> fmt::Display for XorAddressAttribute<K> {
@@ -89,11 +102,9 @@ impl<K: AttributeKind> fmt::Display for XorAddressAttribute<K> {
     ghost use Rattle.stun_values.specs.Addresses.{xored_text};
     ghost use Rattle.stun_kinds.specs.Kinds.{named_text, xored_of};
 
-    ghost output = { λ attribute. named_text K.NAME (Some (xored_text (xored_of attribute))) };
+    ghost output = { λ attribute. Some (named_text K.NAME (xored_text (xored_of attribute))) };
 
     fn fmt<W: fmt::Write>(&self, f: &mut fmt::Formatter<W>) -> fmt::Result {
-        let name = K::name();
-        let addr = &self.addr;
-        write!(f, "{name}: {addr}")
+        self.print(f)
     }
 }

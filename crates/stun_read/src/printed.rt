@@ -9,7 +9,7 @@ ghost use Rattle.stun_read.specs.PrintedMessages.{head_text, attributes_text, me
 
 use crate::iter_framed;
 use stun_attrs::RawAttribute;
-use stun_base::{MessageHeader, read_header};
+use stun_base::{MessageHeader, put_class_and_method, read_header};
 use stun_text::{PrintText, TextSink};
 
 /// Prints what stands before the attributes: the class, the method and the transaction ID.
@@ -17,7 +17,7 @@ fn print_head<S: TextSink>(header: &MessageHeader, sink: &mut S) -> Result<(), S
     ensures { OnOk result (S.wrote sink.old (head_text header.now) sink.new) }
 {
     sink.put("Message(class: ")?;
-    header.get_type().put_class_and_method(sink)?;
+    put_class_and_method(sink, header.get_type())?;
     sink.put(", transaction: ")?;
     header.transaction_id().print(sink)?;
     sink.put(", attributes: [")?;

@@ -1,8 +1,9 @@
 //! Text that is written piece by piece: into a formatter, which may refuse a piece, or into a
-//! slice, which refuses none and counts the text. It takes no memory.
+//! slice, which refuses none and counts the text. Nothing allocates.
 #![tactic(auto)]
 
 mod address;
+mod basic;
 mod list;
 mod number;
 mod printed;

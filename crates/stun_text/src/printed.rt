@@ -5,7 +5,10 @@ ghost use Rattle.stun_text.specs.Slices.{laid_over, text_answer};
 
 use crate::{TextSink, TextSlice, TextTooLong};
 
-/// A value that prints as a text.
+/// A value that prints as a text. [`write_text`] writes the text to a slice, and `print` to any
+/// [`TextSink`]; a formatter is one, so a body of `Display` is `self.print(f)`.
+///
+/// In contracts `text` is the text.
 pub trait PrintText {
     ghost text: { Self → List ℕ };
 
@@ -18,13 +21,20 @@ pub trait PrintText {
         ensures { OnOk result (S.wrote sink.old (text self.now) sink.new) };
 }
 
-/// Writes the text of a value at the start of a slice, and returns how many bytes it has. The bytes
-/// of the slice behind the text stay as they were.
+/// Writes the text of a value, in UTF-8, at the start of a slice, and returns how many bytes it has.
+/// It succeeds exactly if the slice has room for the text. The bytes of the slice after the text
+/// are unchanged.
+///
+/// ```
+/// let mut text = [0; 64];
+/// let length = write_text(&transport, &mut text)?;
+/// assert_eq!(&text[..length], b"UDP");
+/// ```
 ///
 /// # Errors
 ///
-/// How many bytes the text has, where they are more than the slice has. The slice then holds as
-/// many of them as it has room for, from the first on; a character may be cut at its end.
+/// [`TextTooLong`], with the length of the text, if it is longer than the slice. The slice then
+/// holds the first bytes of the text, as many as fit; a character may be cut at its end.
 #[tactic(auto, using(crate::proofs::TextsLemmas::text_lies, crate::proofs::TextsLemmas::text_counts))]
 pub fn write_text<T: PrintText>(value: &T, to: &mut [u8]) -> Result<usize, TextTooLong>
     ensures answer { result ≡ text_answer (length (T.text value.now)) (length to.old) }

@@ -23,8 +23,11 @@ fn lay_over(to: &mut [u8], text: &[u8])
     to[..count].copy_from_slice(&text[..count]);
 }
 
-/// A slice that takes text from its first byte on. It keeps as much of the text as it has room for,
-/// and counts all of it, so it never refuses a piece.
+/// A borrowed slice that takes text from its first byte on. It keeps as much of the text as it has
+/// room for, and counts all of it, so it never refuses a piece.
+///
+/// In contracts `text_count` is how many bytes the text has so far, `lent_bytes` the bytes of the
+/// slice, and `lent_name` says which slice it is.
 #[derive(Drop)]
 pub struct TextSlice<'a> {
     to: &'a mut [u8],
@@ -32,26 +35,29 @@ pub struct TextSlice<'a> {
 }
 
 impl<'a> TextSlice<'a> {
-    ghost use Rattle.std.specs.Prelude.{◌≡◌, ◌^◌, ◌-◌, length, min, Result, Ok, Err};
-    ghost use Rattle.stun_text.specs.Slices.{laid_over, SliceWrote, text_answer};
+    ghost use Rattle.std.specs.Prelude.{◌≡◌, length};
+    ghost use Rattle.stun_text.specs.Slices.{lent_bytes, lent_name, text_answer, text_count};
 
     /// A slice with no text in it yet.
     pub fn new(to: &'a mut [u8]) -> Self
-        ensures to { result.to.now ≡ to.old }
-        ensures length { result.length ≡ 0 }
-        ensures same { result.to.ghost_name ≡ to.entry.ghost_name }
+        ensures bytes { lent_bytes result ≡ to.old }
+        ensures count { text_count result ≡ 0 }
+        ensures name { lent_name result ≡ to.entry.ghost_name }
     {
         TextSlice { to, length: 0 }
     }
 
-    /// How many bytes the text has, if it fits.
+    /// Returns how many bytes the text has. The slice holds the text, followed by what was there
+    /// before.
     ///
     /// # Errors
     ///
-    /// How many it has, where they are more than the slice.
+    /// [`TextTooLong`], with the length of the text, if it is longer than the slice. The slice then
+    /// holds the first bytes of the text, as many as fit.
     pub fn finish(self) -> Result<usize, TextTooLong>
-        ensures answer { result ≡ text_answer self.entry.length (length self.entry.to.now) }
-        ensures slice { self.exit.0.now ≡ self.entry.to.now }
+        ensures answer { result ≡ text_answer (text_count self.entry)
+            (length (lent_bytes self.entry)) }
+        ensures slice { self.exit.0.now ≡ lent_bytes self.entry }
     {
         let TextSlice { to, length } = self;
         if length <= to.len() {

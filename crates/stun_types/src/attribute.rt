@@ -12,7 +12,7 @@ pub use stun_kinds::{
     NumberAttribute, ShortBytes, XorAddressAttribute,
 };
 pub use stun_registry::AttributeDisplay;
-pub use stun_values::{check_length, read_error};
+pub use stun_values::{check_length, read_error, read_text};
 pub use typed::{
     AlternateDomain, AlternateServer, ErrorCode, ErrorCodeBuilder, Fingerprint, MappedSocketAddr,
     MessageIntegrity, MessageIntegritySha256, Nonce, PasswordAlgorithm, PasswordAlgorithmValue,

@@ -8,6 +8,8 @@
 //! at its offset, and then the bytes that the HMAC covers.
 //! [`message::Message::builder`] begins a message, and
 //! [`message::write::MessageWriteExt::add_attribute`] adds to it.
+//! Values, attributes and messages print by `Display`, and [`write_text`] writes the same text to a
+//! slice, which succeeds exactly if the slice has room.
 #![tactic(auto)]
 
 pub mod attribute;
@@ -20,4 +22,6 @@ pub use stun_attributes::xor_twice;
 pub use stun_base::{AddressFamily, ParseTransportTypeError, TransportType};
 pub use stun_grammar::{length_is_stated, message_grows};
 pub use stun_read::{found_has_its_type, shown_is_found};
-pub use stun_text::{PrintText, TextSink, TextTooLong};
+pub use stun_text::{
+    PrintText, TextSink, TextSlice, TextTooLong, put_decimal, put_hex, write_text,
+};

@@ -43,6 +43,16 @@ impl PasswordAlgorithmValue {
     }
 }
 
+impl PrintText for PasswordAlgorithmValue {
+    ghost use Rattle.stun_values.specs.Algorithms.{algorithm_name};
+
+    ghost text = { algorithm_name };
+
+    fn print<S: TextSink>(&self, sink: &mut S) -> Result<(), S::Error> {
+        sink.put(self.name())
+    }
+}
+
 /// `MD5` or `SHA256`.
 impl fmt::Display for PasswordAlgorithmValue {
     ghost use Rattle.std.specs.Prelude.{Some};
@@ -51,7 +61,7 @@ impl fmt::Display for PasswordAlgorithmValue {
     ghost output = { λ algorithm. Some (algorithm_name algorithm) };
 
     fn fmt<W: fmt::Write>(&self, f: &mut fmt::Formatter<W>) -> fmt::Result {
-        f.write_str(self.name())
+        self.print(f)
     }
 }
 

@@ -6,7 +6,7 @@ ghost use Rattle.stun_text.specs.Lists.{with_commas, comma_before};
 ghost use Rattle.stun_values.specs.TypeLists.{types_fault, types_in, types_text, listed_text};
 
 use stun_base::{AttributeType, StunParseError, number_at};
-use stun_grammar::attribute_types;
+use stun_grammar::{attribute_types, put_type_debug};
 use stun_text::{PrintText, TextSink, put_comma};
 
 /// Tests that a value is a list of types: it has an even number of bytes.
@@ -35,7 +35,7 @@ fn put_listed<S: TextSink>(sink: &mut S, index: usize, atype: AttributeType) -> 
         (S.wrote sink.old (comma_before index ++ attribute_type_debug atype.0) sink.new) }
 {
     put_comma(sink, index)?;
-    atype.put_debug(sink)?;
+    put_type_debug(sink, atype)?;
     Ok(())
 }
 

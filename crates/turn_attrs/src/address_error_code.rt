@@ -1,9 +1,9 @@
 use crate::family::{family_from_byte, family_to_byte};
 use std::alloc::Global;
 use std::fmt;
-use stun_types::AddressFamily;
 use stun_types::attribute::{EncodeValue, ErrorCode, ReadValue, TypedAttribute};
 use stun_types::message::StunParseError;
+use stun_types::{AddressFamily, PrintText, TextSink};
 
 /// ADDRESS-ERROR-CODE: why the server did not allocate an address of a family (RFC 8656, section
 /// 18.12). The value is the family in a byte, 1 for IPv4 and 2 for IPv6, and then that of an
@@ -91,6 +91,26 @@ impl ReadValue for AddressErrorCode {
     }
 }
 
+impl PrintText for AddressErrorCode {
+    ghost use Rattle.std.specs.Prelude.{codes, ◌++◌};
+    ghost use Rattle.stun_base.specs.Transports.{family_name};
+    ghost use Rattle.turn_attrs.specs.Turn.{address_error_text, failed_family};
+
+    ghost text = { λ attribute. codes "ADDRESS-ERROR-CODE: "
+        ++ family_name (failed_family attribute) ++ codes " " ++ address_error_text attribute };
+
+    fn print<S: TextSink>(&self, sink: &mut S) -> Result<(), S::Error> {
+        sink.put("ADDRESS-ERROR-CODE: ")?;
+        self.family.print(sink)?;
+        sink.put(" ")?;
+        self.error.code().print(sink)?;
+        sink.put(" '")?;
+        sink.put(self.error.reason())?;
+        sink.put("'")?;
+        Ok(())
+    }
+}
+
 /// The family, the code and the reason: `ADDRESS-ERROR-CODE: IPV6 440 'Address Family not
 /// Supported'`.
 impl fmt::Display for AddressErrorCode {
@@ -102,9 +122,6 @@ impl fmt::Display for AddressErrorCode {
         ++ family_name (failed_family attribute) ++ codes " " ++ address_error_text attribute) };
 
     fn fmt<W: fmt::Write>(&self, f: &mut fmt::Formatter<W>) -> fmt::Result {
-        let family = self.family;
-        let code = self.error.code();
-        let reason = self.error.reason();
-        write!(f, "ADDRESS-ERROR-CODE: {family} {code} '{reason}'")
+        self.print(f)
     }
 }

@@ -2,6 +2,7 @@ use crate::ChannelNumberKind;
 use std::fmt;
 use std::marker::Model;
 use stun_types::attribute::FieldsKind;
+use stun_types::{PrintText, TextSink, put_hex};
 
 /// The number of a channel: 0x4000 to 0x4FFF (RFC 8656, section 12).
 #[derive(Clone, Copy, Debug, PartialEq, Eq)]
@@ -53,6 +54,18 @@ impl Channel {
     }
 }
 
+impl PrintText for Channel {
+    ghost use Rattle.turn_attrs.specs.Turn.{channel_text};
+
+    ghost text = { channel_text };
+
+    fn print<S: TextSink>(&self, sink: &mut S) -> Result<(), S::Error> {
+        sink.put("0x")?;
+        put_hex(sink, self.0 as u128)?;
+        Ok(())
+    }
+}
+
 /// The number in hexadecimal: `0x4001`.
 impl fmt::Display for Channel {
     ghost use Rattle.std.specs.Prelude.{Some};
@@ -61,8 +74,7 @@ impl fmt::Display for Channel {
     ghost output = { λ channel. Some (channel_text channel) };
 
     fn fmt<W: fmt::Write>(&self, f: &mut fmt::Formatter<W>) -> fmt::Result {
-        let number = self.0;
-        write!(f, "0x{number:x}")
+        self.print(f)
     }
 }
 

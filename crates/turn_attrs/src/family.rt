@@ -5,12 +5,22 @@ use crate::{
     AdditionalAddressFamilyKind, EvenPortKind, RequestedAddressFamilyKind, RequestedTransportKind,
 };
 use std::fmt;
-use stun_types::AddressFamily;
 use stun_types::attribute::FieldsKind;
+use stun_types::{AddressFamily, PrintText, TextSink};
 
 /// IPv6, the one family that may be asked for beside IPv4.
 #[derive(Clone, Copy, Debug, PartialEq, Eq)]
 pub struct OnlyIpv6;
+
+impl PrintText for OnlyIpv6 {
+    ghost use Rattle.std.specs.Prelude.{codes};
+
+    ghost text = { λ _. codes "IPV6" };
+
+    fn print<S: TextSink>(&self, sink: &mut S) -> Result<(), S::Error> {
+        sink.put("IPV6")
+    }
+}
 
 /// `IPV6`.
 impl fmt::Display for OnlyIpv6 {
@@ -19,7 +29,7 @@ impl fmt::Display for OnlyIpv6 {
     ghost output = { λ _. Some (codes "IPV6") };
 
     fn fmt<W: fmt::Write>(&self, f: &mut fmt::Formatter<W>) -> fmt::Result {
-        f.write_str("IPV6")
+        self.print(f)
     }
 }
 

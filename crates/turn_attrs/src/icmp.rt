@@ -1,6 +1,7 @@
 use crate::IcmpKind;
 use std::fmt;
 use stun_types::attribute::FieldsKind;
+use stun_types::{PrintText, TextSink};
 
 /// An ICMP message about a packet that a peer did not get. What type and code mean depends on
 /// whether it came over IPv4 or IPv6.
@@ -14,6 +15,22 @@ pub struct IcmpError {
     pub data: u32,
 }
 
+impl PrintText for IcmpError {
+    ghost use Rattle.turn_attrs.specs.Turn.{icmp_text};
+
+    ghost text = { icmp_text };
+
+    fn print<S: TextSink>(&self, sink: &mut S) -> Result<(), S::Error> {
+        sink.put("type ")?;
+        self.icmp_type.print(sink)?;
+        sink.put(", code ")?;
+        self.code.print(sink)?;
+        sink.put(", data ")?;
+        self.data.print(sink)?;
+        Ok(())
+    }
+}
+
 /// `type 3, code 4, data 1500`.
 impl fmt::Display for IcmpError {
     ghost use Rattle.std.specs.Prelude.{Some};
@@ -22,10 +39,7 @@ impl fmt::Display for IcmpError {
     ghost output = { λ error. Some (icmp_text error) };
 
     fn fmt<W: fmt::Write>(&self, f: &mut fmt::Formatter<W>) -> fmt::Result {
-        let icmp_type = self.icmp_type;
-        let code = self.code;
-        let data = self.data;
-        write!(f, "type {icmp_type}, code {code}, data {data}")
+        self.print(f)
     }
 }
 

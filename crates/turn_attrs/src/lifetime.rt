@@ -3,6 +3,7 @@ use std::alloc::Global;
 use std::fmt;
 use stun_types::attribute::{EncodeValue, ReadValue, TypedAttribute, check_length};
 use stun_types::message::StunParseError;
+use stun_types::{PrintText, TextSink};
 
 /// LIFETIME: for how many seconds the server keeps an allocation that isn't refreshed (RFC 8656,
 /// section 18.2). The value is four bytes, big-endian.
@@ -70,6 +71,20 @@ impl ReadValue for Lifetime {
     }
 }
 
+impl PrintText for Lifetime {
+    ghost use Rattle.std.specs.Prelude.{codes, ◌++◌};
+    ghost use Rattle.std.specs.Fmt.{decimal};
+    ghost use Rattle.turn_attrs.specs.Turn.{seconds_of};
+
+    ghost text = { λ lifetime. codes "LIFETIME: " ++ decimal (seconds_of lifetime) };
+
+    fn print<S: TextSink>(&self, sink: &mut S) -> Result<(), S::Error> {
+        sink.put("LIFETIME: ")?;
+        self.seconds.print(sink)?;
+        Ok(())
+    }
+}
+
 /// `LIFETIME: 600`.
 impl fmt::Display for Lifetime {
     ghost use Rattle.std.specs.Prelude.{Some, codes, ◌++◌};
@@ -79,7 +94,6 @@ impl fmt::Display for Lifetime {
     ghost output = { λ lifetime. Some (codes "LIFETIME: " ++ decimal (seconds_of lifetime)) };
 
     fn fmt<W: fmt::Write>(&self, f: &mut fmt::Formatter<W>) -> fmt::Result {
-        let seconds = self.seconds;
-        write!(f, "LIFETIME: {seconds}")
+        self.print(f)
     }
 }

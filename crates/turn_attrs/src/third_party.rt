@@ -2,6 +2,7 @@ use std::alloc::Global;
 use std::fmt;
 use stun_types::attribute::{BorrowValue, EncodeValue, ReadValue, TextAttribute, TypedAttribute};
 use stun_types::message::{StunParseError, StunWriteError};
+use stun_types::{PrintText, TextSink};
 
 /// THIRD-PARTY-AUTHORIZATION: the server takes tokens that another server issues, and has this name
 /// there (RFC 7635, section 6.1). The value is the name in UTF-8, at most 65535 bytes.
@@ -86,6 +87,19 @@ impl ReadValue for ThirdPartyAuthorization {
     }
 }
 
+impl PrintText for ThirdPartyAuthorization {
+    ghost use Rattle.std.specs.Prelude.{codes, ◌++◌};
+    ghost use Rattle.turn_attrs.specs.Turn.{server_name};
+
+    ghost text = { λ attribute. codes "THIRD-PARTY-AUTHORIZATION: " ++ server_name attribute };
+
+    fn print<S: TextSink>(&self, sink: &mut S) -> Result<(), S::Error> {
+        sink.put("THIRD-PARTY-AUTHORIZATION: ")?;
+        sink.put(self.server())?;
+        Ok(())
+    }
+}
+
 /// `THIRD-PARTY-AUTHORIZATION: turn1.example.com`.
 impl fmt::Display for ThirdPartyAuthorization {
     ghost use Rattle.std.specs.Prelude.{Some, codes, ◌++◌};
@@ -95,7 +109,6 @@ impl fmt::Display for ThirdPartyAuthorization {
         Some (codes "THIRD-PARTY-AUTHORIZATION: " ++ server_name attribute) };
 
     fn fmt<W: fmt::Write>(&self, f: &mut fmt::Formatter<W>) -> fmt::Result {
-        let name = self.server();
-        write!(f, "THIRD-PARTY-AUTHORIZATION: {name}")
+        self.print(f)
     }
 }

@@ -1,6 +1,7 @@
 //! What values and attributes print, each to the last byte, and that a writer's refusal alone stops
 //! them.
 
+use crate::written_texts::assert_writes;
 use std::alloc::Global;
 use std::fmt;
 use std::fmt::Write;
@@ -13,7 +14,7 @@ use stun_types::attribute::{
     UnknownAttributes, Userhash, XorMappedAddress, XorSocketAddr,
 };
 use stun_types::message::TransactionId;
-use stun_types::{AddressFamily, TransportType};
+use stun_types::{AddressFamily, PrintText, TransportType};
 use stun_values::{check_algorithms, print_algorithms_in};
 
 /// A writer that takes that many bytes, and then refuses.
@@ -53,12 +54,23 @@ pub(crate) fn assert_prints<D: fmt::Display>(
     Ok(())
 }
 
+/// The value prints this text to a formatter, and writes it to a slice.
+fn assert_text<T: fmt::Display + PrintText>(
+    rt: &impl Abort,
+    alloc: Global,
+    value: &T,
+    expected: &str,
+) -> Result<(), Fail> {
+    assert_prints(rt, alloc, value, expected)?;
+    assert_writes(rt, alloc, value, expected)
+}
+
 #[test]
 fn prints_transports_and_families(rt: HostRuntime) -> Result<(), Fail> {
-    assert_prints(&rt, rt.alloc(), &TransportType::Udp, "UDP")?;
-    assert_prints(&rt, rt.alloc(), &TransportType::Tcp, "TCP")?;
-    assert_prints(&rt, rt.alloc(), &AddressFamily::IPV4, "IPV4")?;
-    assert_prints(&rt, rt.alloc(), &AddressFamily::IPV6, "IPV6")
+    assert_text(&rt, rt.alloc(), &TransportType::Udp, "UDP")?;
+    assert_text(&rt, rt.alloc(), &TransportType::Tcp, "TCP")?;
+    assert_text(&rt, rt.alloc(), &AddressFamily::IPV4, "IPV4")?;
+    assert_text(&rt, rt.alloc(), &AddressFamily::IPV6, "IPV6")
 }
 
 #[test]
@@ -88,7 +100,7 @@ static ERRORS: [(u16, &str, &str); 4] = [
 fn prints_errors(rt: HostRuntime) -> Result<(), Fail> {
     for &(code, reason, expected) in &ERRORS {
         let error = ErrorCode::new(rt.alloc(), code, reason)?;
-        assert_prints(&rt, rt.alloc(), &error, expected)?;
+        assert_text(&rt, rt.alloc(), &error, expected)?;
     }
     Ok(())
 }
@@ -106,7 +118,7 @@ static UNKNOWN: [(&[AttributeType], &str); 3] = [
 fn prints_unknown_types(rt: HostRuntime) -> Result<(), Fail> {
     for &(types, expected) in &UNKNOWN {
         let unknown = UnknownAttributes::new(rt.alloc(), types)?;
-        assert_prints(&rt, rt.alloc(), &unknown, expected)?;
+        assert_text(&rt, rt.alloc(), &unknown, expected)?;
         let of_debug = format!(in rt.alloc(); "10(0xa: UNKNOWN-ATTRIBUTES): {types:?}")?;
         assert!(rt; of_debug.as_str() == expected);
     }
@@ -127,17 +139,17 @@ static ALGORITHMS: [(&[PasswordAlgorithmValue], &str); 4] = [
 #[test]
 fn prints_algorithms(rt: HostRuntime) -> Result<(), Fail> {
     let (md5, sha256) = (PasswordAlgorithmValue::MD5, PasswordAlgorithmValue::SHA256);
-    assert_prints(&rt, rt.alloc(), &md5, "MD5")?;
-    assert_prints(&rt, rt.alloc(), &sha256, "SHA256")?;
+    assert_text(&rt, rt.alloc(), &md5, "MD5")?;
+    assert_text(&rt, rt.alloc(), &sha256, "SHA256")?;
     let chosen = PasswordAlgorithm::new(md5);
-    assert_prints(
+    assert_text(
         &rt,
         rt.alloc(),
         &chosen,
         "29(0x1d: PASSWORD-ALGORITHM): MD5",
     )?;
     let chosen = PasswordAlgorithm::new(sha256);
-    assert_prints(
+    assert_text(
         &rt,
         rt.alloc(),
         &chosen,
@@ -145,7 +157,7 @@ fn prints_algorithms(rt: HostRuntime) -> Result<(), Fail> {
     )?;
     for &(algorithms, expected) in &ALGORITHMS {
         let listed = PasswordAlgorithms::new(rt.alloc(), algorithms)?;
-        assert_prints(&rt, rt.alloc(), &listed, expected)?;
+        assert_text(&rt, rt.alloc(), &listed, expected)?;
     }
     Ok(())
 }
@@ -184,27 +196,27 @@ const BYTES: [u8; 32] = [
 fn prints_fingerprints_and_hmacs(rt: HostRuntime) -> Result<(), Fail> {
     let fingerprint = Fingerprint::new([0x00, 0x0A, 0xA0, 0xFF]);
     let expected = "32808(0x8028: FINGERPRINT): 0x000aa0ff";
-    assert_prints(&rt, rt.alloc(), &fingerprint, expected)?;
+    assert_text(&rt, rt.alloc(), &fingerprint, expected)?;
     let mut hmac = [0; 20];
     hmac.copy_from_slice(&BYTES[..20]);
     let integrity = MessageIntegrity::new(hmac);
     let expected = "8(0x8: MESSAGE-INTEGRITY): 0x000aa0099000ff5e010203040506070810203040";
-    assert_prints(&rt, rt.alloc(), &integrity, expected)
+    assert_text(&rt, rt.alloc(), &integrity, expected)
 }
 
 #[test]
 fn prints_hashes(rt: HostRuntime) -> Result<(), Fail> {
     let cut = MessageIntegritySha256::new(&BYTES[..16])?;
     let expected = "28(0x1c: MESSAGE-INTEGRITY-SHA256): 0x000aa0099000ff5e0102030405060708";
-    assert_prints(&rt, rt.alloc(), &cut, expected)?;
+    assert_text(&rt, rt.alloc(), &cut, expected)?;
     let whole = MessageIntegritySha256::new(&BYTES)?;
     let expected = "28(0x1c: MESSAGE-INTEGRITY-SHA256): \
         0x000aa0099000ff5e01020304050607081020304050607080bcdef1cbed1f7ae7";
-    assert_prints(&rt, rt.alloc(), &whole, expected)?;
+    assert_text(&rt, rt.alloc(), &whole, expected)?;
     let userhash = Userhash::new(BYTES);
     let expected = "30(0x1e: USERHASH): \
         0x000aa0099000ff5e01020304050607081020304050607080bcdef1cbed1f7ae7";
-    assert_prints(&rt, rt.alloc(), &userhash, expected)
+    assert_text(&rt, rt.alloc(), &userhash, expected)
 }
 
 /// An address as it is printed: by itself, and after `32803(0x8023: ALTERNATE-SERVER): `.
@@ -215,9 +227,9 @@ fn assert_prints_plain(
     plain: &str,
 ) -> Result<(), Fail> {
     assert!(rt; format!(in alloc; "{addr:?}")?.as_str() == plain);
-    assert_prints(rt, alloc, &MappedSocketAddr::new(addr), plain)?;
+    assert_text(rt, alloc, &MappedSocketAddr::new(addr), plain)?;
     let typed = format!(in alloc; "32803(0x8023: ALTERNATE-SERVER): {plain}")?;
-    assert_prints(rt, alloc, &AlternateServer::new(addr), &typed)
+    assert_text(rt, alloc, &AlternateServer::new(addr), &typed)
 }
 
 /// An address as it is printed once it is XORed: by itself, and after
@@ -229,9 +241,9 @@ fn assert_prints_xored(
     xored: &str,
 ) -> Result<(), Fail> {
     let id = TransactionId::from(0x5678);
-    assert_prints(rt, alloc, &XorSocketAddr::new(addr, id), xored)?;
+    assert_text(rt, alloc, &XorSocketAddr::new(addr, id), xored)?;
     let typed = format!(in alloc; "32(0x20: XOR-MAPPED-ADDRESS): {xored}")?;
-    assert_prints(rt, alloc, &XorMappedAddress::new(addr, id), &typed)
+    assert_text(rt, alloc, &XorMappedAddress::new(addr, id), &typed)
 }
 
 /// An address as it is printed, plain and XORed.
@@ -270,5 +282,5 @@ fn prints_a_scope(rt: HostRuntime) -> Result<(), Fail> {
     let ip = Ipv6Addr::new(0xFE80, 0, 0, 0, 0, 0, 0, 1);
     let addr = SocketAddr::V6(SocketAddrV6::new(ip, 1, 0, 7));
     let mapped = MappedSocketAddr::new(addr);
-    assert_prints(&rt, rt.alloc(), &mapped, "[fe80::1%7]:1")
+    assert_text(&rt, rt.alloc(), &mapped, "[fe80::1%7]:1")
 }

@@ -1,12 +1,12 @@
-//! What attributes and messages write to a slice: the text that they print, in a slice that has
+//! What values, attributes and messages write to a slice: the text that they print, in a slice that has
 //! room for it, and how long the text is, in one that hasn't.
 
 use std::alloc::Global;
 use std::process::Abort;
 use std::test::Fail;
-use stun_types::TextTooLong;
 use stun_types::attribute::{AttributeType, RawAttribute};
 use stun_types::message::Message;
+use stun_types::{PrintText, TextTooLong, write_text};
 
 /// A slice of that many bytes which nothing was written to.
 fn untouched(alloc: Global, length: usize) -> Result<Vec<u8>, Fail> {
@@ -39,6 +39,21 @@ fn rooms(length: usize) -> [usize; 4] {
         length,
         length.saturating_add(3),
     ]
+}
+
+/// The value writes this text.
+pub(crate) fn assert_writes<T: PrintText>(
+    rt: &impl Abort,
+    alloc: Global,
+    value: &T,
+    text: &str,
+) -> Result<(), Fail> {
+    for room in rooms(text.len()) {
+        let mut to = untouched(alloc, room)?;
+        let answer = write_text(value, &mut to);
+        assert_wrote(rt, answer, &to, text);
+    }
+    Ok(())
 }
 
 /// The attribute writes this text.

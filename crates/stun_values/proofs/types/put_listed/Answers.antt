@@ -8,5 +8,5 @@ returns g c =
     let wrote = g.S.TextSink.wrote in
     let joins = g.met.S.TextSink.joins in
     let a = c.in_ok-put_comma.ensures in
-    let b = c.in_ok-put_debug.ensures in
+    let b = c.in_ok-put_type_debug.ensures in
     spelled_so wrote joins (first_of (search rules, grind (arith, common_steps))) (both wrote joins a b)

@@ -1,7 +1,7 @@
 use Rattle.std.proofs.Common.{rules, arith}
 use Rattle.std.proofs.lemmas.Grind.{common_steps}
 use Rattle.stun_text.proofs.Joining.{both, spelled_so}
-use Rattle.stun_base.proofs.message_type.MessageType.put_class_and_method.Goals as goal
+use Rattle.stun_kinds.proofs.bytes.BytesAttributeShortBytesPrintText.print.Goals as goal
 
 pub returns : goal.returns
 returns g c =
