@@ -27,8 +27,8 @@ ghost use Rattle.stun_attributes.specs.Texts.{text_bytes, IsReadAsText, ReadsTex
 ghost use Rattle.stun_attributes.specs.Unknown.{ReadsTypes, listed};
 
 use crate::{
-    AlternateDomain, AlternateServer, ErrorCode, Nonce, PasswordAlgorithm, PasswordAlgorithms, Realm,
-    Software, UnknownAttributes, Username, XorMappedAddress,
+    AlternateDomain, AlternateServer, ErrorCode, Nonce, PasswordAlgorithm, PasswordAlgorithms,
+    Realm, Software, UnknownAttributes, Username, XorMappedAddress,
 };
 use stun_attrs::{Attribute, AttributeFromRaw};
 
