@@ -1,2 +1,3 @@
 mod RawLemmas
 mod EncodingLemmas
+pub mod ReadBackLemmas

@@ -1,4 +1,5 @@
 pub mod Checks
 pub mod PrintedAttributes
 pub mod Raw
+pub mod ReadBack
 pub mod Reading

@@ -1,6 +1,6 @@
 //! The traits of attributes: what an attribute is, and how one is read and written.
 
-ghost use Rattle.std.specs.Prelude.{◌≡◌, ℕ, Bool, true, List, Result, IsOk, Ok, Err, ◌+◌, ◌<◌, ◌≤◌, ◌++◌, IfOk, IfErr, length, drop};
+ghost use Rattle.std.specs.Prelude.{◌≡◌, ℕ, Bool, true, ⊤, List, Result, IsOk, Ok, Err, ◌+◌, ◌<◌, ◌≤◌, ◌++◌, IfOk, IfErr, length, drop};
 ghost use Rattle.stun_grammar.specs.declared.error.StunParseError.{StunParseError};
 ghost use Rattle.stun_grammar.specs.declared.attribute_type.AttributeType.{AttributeType};
 ghost use Rattle.stun_base.specs.Data.{is_borrowed};
@@ -55,11 +55,16 @@ pub trait AttributeStaticType: Attribute {
 /// An attribute that can be read from a raw one, which may borrow its value for `'a`.
 ///
 /// In contracts `reads_ref` and `reads` say what `from_raw_ref` and `from_raw` may return for a
-/// type and a value. They differ where only one of the two may need memory.
+/// type and a value. They differ where only one of the two may need memory. `reads_borrowed` says
+/// what else holds of what `from_raw` returns if the value is borrowed, as every value that is found
+/// in a message is: an attribute that keeps it says here that it still borrows it. It has a default,
+/// which says nothing.
 pub trait AttributeFromRaw<'a>: Attribute {
     ghost reads_ref: { ℕ → List ℕ → Result Self StunParseError → Type 0 };
 
     ghost reads: { ℕ → List ℕ → Result Self StunParseError → Type 0 };
+
+    ghost reads_borrowed: { ℕ → List ℕ → Result Self StunParseError → Type 0 } = { λ _ _ _. ⊤ };
 
     /// Reads a raw attribute that the caller keeps. `alloc` gives the memory that the attribute
     /// needs, if it needs any.
@@ -81,7 +86,9 @@ pub trait AttributeFromRaw<'a>: Attribute {
     fn from_raw(alloc: Global, raw: RawAttribute<'a>) -> Result<Self, StunParseError>
     where
         Self: Sized,
-        ensures { reads (raw_type raw.entry) (raw_value raw.entry) result };
+        ensures reads { reads (raw_type raw.entry) (raw_value raw.entry) result }
+        ensures borrowed { is_borrowed (raw_data raw.entry) ≡ true
+            → reads_borrowed (raw_type raw.entry) (raw_value raw.entry) result };
 }
 
 /// An attribute that can be written.

@@ -13,7 +13,9 @@ pub const MAGIC_COOKIE: u32 = 0x2112_A442;
 /// A transaction ID, by which a response is matched with its request: 96 bits (RFC 8489, section
 /// 5).
 ///
-/// It prints in hexadecimal without leading zeros: `0x3e8`.
+/// It prints in hexadecimal without leading zeros: `0x3e8`. The number is
+/// [`TransactionId::value`]: `u128::from(id)` returns it too, but only in a crate that lists
+/// `stun_base`, where this type is declared, in `crates.txt`.
 #[derive(Clone, Copy, Debug, PartialEq, Eq, PartialOrd, Ord, Hash)]
 pub struct TransactionId {
     id: u128,

@@ -8,7 +8,9 @@ use stun_text::{PrintText, TextSink, put_decimal};
 
 /// The type of an attribute: 16 bits (RFC 8489, section 14).
 ///
-/// It prints as its number and its name: `32(0x20: XOR-MAPPED-ADDRESS)`.
+/// It prints as its number and its name: `32(0x20: XOR-MAPPED-ADDRESS)`. The number is
+/// [`AttributeType::value`]: `u16::from(atype)` returns it too, but only in a crate that lists
+/// `stun_grammar`, where this type is declared, in `crates.txt`.
 #[derive(Clone, Copy, Default, PartialEq, Eq, PartialOrd, Ord, Hash)]
 pub struct AttributeType(pub u16);
 

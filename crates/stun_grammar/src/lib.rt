@@ -17,7 +17,7 @@ mod integrity_laws;
 mod laws;
 mod numbered;
 
-pub use adding_laws::message_grows;
+pub use adding_laws::{fingerprint_has_length, hmac_has_length, message_grows, step_has_length};
 pub use attribute_type::{AttributeType, put_type_debug};
 pub use error::{StunParseError, StunWriteError, ValidateError};
 pub use integrity_algorithm::IntegrityAlgorithm;

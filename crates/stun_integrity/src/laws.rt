@@ -1,6 +1,7 @@
 //! Laws of the attributes that protect a message, and of USERHASH. Each function does nothing: its
-//! contract is the law. The value of an attribute is read as the same attribute; that its type is
-//! then the right one, `stun_attrs::is_read_back` says of all of them.
+//! contract is the law. The value of an attribute is read as the same attribute;
+//! `integrity_types_are_read_back` says so of the type and the value together, for `from_raw_ref`
+//! and `from_raw` of each of the four types.
 
 ghost use Rattle.std.specs.Prelude.{◌≡◌, ◌≤◌, ◌%◌, Result, IsOkAnd, length};
 ghost use Rattle.stun_grammar.specs.declared.error.StunParseError.{StunParseError};
@@ -12,6 +13,10 @@ ghost use Rattle.stun_integrity.specs.declared.userhash.Userhash.{Userhash};
 ghost use Rattle.stun_integrity.specs.Integrity.{checksum_bytes, sha1_hmac, sha256_hmac, ReadsFingerprint, ReadsIntegrity, ReadsIntegritySha256};
 ghost use Rattle.stun_values.specs.FingerprintValues.{masked_bytes};
 ghost use Rattle.stun_integrity.specs.Userhash.{hash_bytes, ReadsUserhash};
+ghost use Rattle.stun_attrs.specs.ReadBack.{IsReadBack};
+
+use crate::{Fingerprint, MessageIntegrity, MessageIntegritySha256, Userhash};
+use stun_attrs::{Attribute, AttributeFromRaw};
 
 /// A MESSAGE-INTEGRITY, of 20 bytes, is read back.
 pub fn integrity_is_read_back()
@@ -45,4 +50,36 @@ pub fn userhash_is_read_back()
         → length (hash_bytes attribute) ≡ 32
         → ReadsUserhash (hash_bytes attribute) result
         → IsOkAnd result (λ read. hash_bytes read ≡ hash_bytes attribute) }
+{}
+
+/// Each of the four types is read back: whatever `from_raw_ref` and `from_raw` may return
+/// (`reads_ref` and `reads` of [`AttributeFromRaw`]) for the type and the value of an attribute,
+/// which are what is written of it, is `Ok` of an attribute that holds the same. The lengths, and
+/// that a checksum is bytes, hold of every value of the Rust types.
+pub fn integrity_types_are_read_back()
+    ensures message_integrity { (attribute : MessageIntegrity) →
+        length (sha1_hmac attribute) ≡ 20 → IsReadBack
+        ⟦<MessageIntegrity as Attribute>⟧.atype ⟦<MessageIntegrity as Attribute>⟧.value
+        ⟦<MessageIntegrity as AttributeFromRaw<'static>>⟧.reads_ref
+        ⟦<MessageIntegrity as AttributeFromRaw<'static>>⟧.reads attribute
+        (λ read. sha1_hmac read ≡ sha1_hmac attribute) }
+    ensures message_integrity_sha256 { (attribute : MessageIntegritySha256) →
+        16 ≤ length (sha256_hmac attribute) → length (sha256_hmac attribute) ≤ 32
+        → length (sha256_hmac attribute) % 4 ≡ 0 → IsReadBack
+        ⟦<MessageIntegritySha256 as Attribute>⟧.atype ⟦<MessageIntegritySha256 as Attribute>⟧.value
+        ⟦<MessageIntegritySha256 as AttributeFromRaw<'static>>⟧.reads_ref
+        ⟦<MessageIntegritySha256 as AttributeFromRaw<'static>>⟧.reads attribute
+        (λ read. sha256_hmac read ≡ sha256_hmac attribute) }
+    ensures fingerprint { (attribute : Fingerprint) →
+        length (checksum_bytes attribute) ≡ 4 → IsBytes (checksum_bytes attribute) → IsReadBack
+        ⟦<Fingerprint as Attribute>⟧.atype ⟦<Fingerprint as Attribute>⟧.value
+        ⟦<Fingerprint as AttributeFromRaw<'static>>⟧.reads_ref
+        ⟦<Fingerprint as AttributeFromRaw<'static>>⟧.reads attribute
+        (λ read. checksum_bytes read ≡ checksum_bytes attribute) }
+    ensures userhash { (attribute : Userhash) →
+        length (hash_bytes attribute) ≡ 32 → IsReadBack
+        ⟦<Userhash as Attribute>⟧.atype ⟦<Userhash as Attribute>⟧.value
+        ⟦<Userhash as AttributeFromRaw<'static>>⟧.reads_ref
+        ⟦<Userhash as AttributeFromRaw<'static>>⟧.reads attribute
+        (λ read. hash_bytes read ≡ hash_bytes attribute) }
 {}

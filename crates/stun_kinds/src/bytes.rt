@@ -133,7 +133,7 @@ impl<K: AttributeKind> BorrowValue for BytesAttribute<K, ShortBytes<'_>> {
 /// the value as it is, so that one that is borrowed stays borrowed, and takes no memory;
 /// `from_raw_ref` copies it into memory that `alloc` gives, or answers `OutOfMemory`.
 impl<'a, K: AttributeKind> AttributeFromRaw<'a> for BytesAttribute<K, ShortBytes<'a>> {
-    ghost use Rattle.std.specs.Prelude.{◌≡◌, false, IfOk};
+    ghost use Rattle.std.specs.Prelude.{◌≡◌, true, false, IfOk};
     ghost use Rattle.stun_base.specs.Data.{is_borrowed};
     ghost use Rattle.stun_attrs.specs.Raw.{raw_type, raw_data, raw_value};
     ghost use Rattle.stun_kinds.specs.Kinds.{bytes_are_borrowed, ReadsBytes, ReadsBytesInMemory};
@@ -141,6 +141,8 @@ impl<'a, K: AttributeKind> AttributeFromRaw<'a> for BytesAttribute<K, ShortBytes
     ghost reads_ref = { ReadsBytesInMemory K.NUMBER };
 
     ghost reads = { ReadsBytes K.NUMBER };
+
+    ghost reads_borrowed = { λ _ _ result. IfOk result (λ read. bytes_are_borrowed read ≡ true) };
 
     fn from_raw_ref(alloc: Global, raw: &RawAttribute<'_>) -> Result<Self, StunParseError>
         ensures reads { ReadsBytesInMemory K.NUMBER (raw_type raw.now) (raw_value raw.now) result }
@@ -156,6 +158,8 @@ impl<'a, K: AttributeKind> AttributeFromRaw<'a> for BytesAttribute<K, ShortBytes
 
     fn from_raw(_alloc: Global, raw: RawAttribute<'a>) -> Result<Self, StunParseError>
         ensures reads { ReadsBytes K.NUMBER (raw_type raw.entry) (raw_value raw.entry) result }
+        ensures borrowed { is_borrowed (raw_data raw.entry) ≡ true
+            → IfOk result (λ read. bytes_are_borrowed read ≡ true) }
         ensures kept { IfOk result
             (λ read. bytes_are_borrowed read ≡ is_borrowed (raw_data raw.entry)) }
     {

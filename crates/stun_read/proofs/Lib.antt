@@ -10,3 +10,4 @@ mod ValidatingLemmas
 mod LookingUpLemmas
 mod FindingLemmas
 mod PrintedMessagesLemmas
+pub mod StandsLemmas

@@ -1,7 +1,7 @@
 //! The laws of looking up an attribute by its type, and of reading one at its offset. Each function
 //! does nothing: its contract is the law.
 
-ghost use Rattle.std.specs.Prelude.{◌≡◌, ◌==◌, ◌≤◌, ℕ, ◌+◌, Bool, List, ◌∷◌, ◌++◌, false, length, drop, count_by, IfSome, IsSomeAnd, None, Some, is_some};
+ghost use Rattle.std.specs.Prelude.{◌≡◌, ◌==◌, ◌≤◌, ℕ, ◌+◌, Bool, List, ◌∷◌, ◌++◌, false, length, drop, slice_range, count_by, IfSome, IsSomeAnd, None, Some, is_some};
 ghost use Rattle.std.specs.List.{list_any};
 ghost use Rattle.std.specs.Option.{option_or};
 ghost use Rattle.stun_grammar.specs.declared.integrity_algorithm.IntegrityAlgorithm.TheVariants.{Sha1, Sha256};
@@ -56,6 +56,14 @@ pub fn found_has_its_type()
     ensures same { (d : List ℕ) (type n : ℕ) → IfSome (nth d type n) (λ a. a.type ≡ type) }
     ensures any { (d : List ℕ) (type : ℕ)
         → is_some (nth d type 0) ≡ list_any (λ a. a.type == type) (shown d) }
+{}
+
+/// The value of what is found in these bytes is the part of them that follows the four bytes of its
+/// header.
+pub fn found_is_there(bytes: &[u8])
+    ensures { (type n : ℕ) → IfSome (nth bytes.now type n)
+        (λ a. (a.offset + 4 + length a.value ≤ length bytes.now)
+        × (slice_range bytes.now (a.offset + 4) (a.offset + 4 + length a.value) ≡ a.value)) }
 {}
 
 /// A walk from the offset of a chain's member is the part of the whole walk that begins there.

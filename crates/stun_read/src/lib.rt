@@ -18,7 +18,7 @@ mod validate;
 
 pub use frame::{check_frame, iter_framed, message_length};
 pub use iterate::MessageAttributesIter;
-pub use laws::{found_has_its_type, shown_is_found, walks_from_there};
+pub use laws::{found_has_its_type, found_is_there, shown_is_found, walks_from_there};
 pub use look_up::nth_raw;
 pub use offsets::IntegrityOffsets;
 pub use parse::check_message;

@@ -18,10 +18,13 @@ pub mod message;
 pub mod prelude;
 pub mod show;
 
-pub use stun_attributes::xor_twice;
+pub use stun_attributes::{attribute_types_are_read_back, xor_twice};
 pub use stun_base::{AddressFamily, ParseTransportTypeError, TransportType};
-pub use stun_grammar::{length_is_stated, message_grows};
-pub use stun_read::{found_has_its_type, shown_is_found};
+pub use stun_grammar::{
+    fingerprint_has_length, hmac_has_length, length_is_stated, message_grows, step_has_length,
+};
+pub use stun_integrity::integrity_types_are_read_back;
+pub use stun_read::{found_has_its_type, found_is_there, shown_is_found};
 pub use stun_text::{
     PrintText, TextSink, TextSlice, TextTooLong, put_decimal, put_hex, write_text,
 };

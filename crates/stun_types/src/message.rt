@@ -21,6 +21,6 @@ pub use stun_base::{
 };
 pub use stun_read::{MessageAttributesIter, message_length};
 pub use write::{
-    MessageWrite, MessageWriteExt, MessageWriteMutSlice, MessageWriteVec, Step, write_steps,
-    write_steps_into,
+    MessageWrite, MessageWriteExt, MessageWriteMutSlice, MessageWriteVec, ResumePoint, Step,
+    write_steps, write_steps_into,
 };

@@ -115,7 +115,8 @@ pub trait MessageWriteExt: MessageWrite {
     ///
     /// `attribute.get_type().is_ending()` is `false`. An attribute whose Rust type fixes the type
     /// needs no test; one whose type is known only when the program runs is added by
-    /// [`MessageWriteExt::add_any_attribute`], which tests it.
+    /// [`MessageWriteExt::add_any_attribute`], which tests it, as is a raw attribute. A type and
+    /// bytes are added by [`MessageWriteExt::add_value`], without a raw attribute.
     ///
     /// # Errors
     ///
@@ -166,6 +167,28 @@ pub trait MessageWriteExt: MessageWrite {
             (Allocates (Self.state self.old) (length (value attribute.now))) result }
         ensures adds { Adds result (Self.state self.old) (Self.state self.new)
             (atype attribute.now) (value attribute.now) };
+
+    /// As [`MessageWriteExt::add_any_attribute`], of a type and the bytes of a value, for a caller
+    /// that has no attribute but these:
+    ///
+    /// ```
+    /// message.add_value(AttributeType(0x8022), b"my client".as_slice())?;
+    /// ```
+    ///
+    /// # Requires
+    ///
+    /// `value.len()` is at most 65535.
+    ///
+    /// # Errors
+    ///
+    /// As for [`MessageWriteExt::add_any_attribute`].
+    fn add_value(&mut self, atype: AttributeType, value: &[u8]) -> Result<(), StunWriteError>
+        requires { length value.now ≤ 65535 }
+        ensures answer { IsAddAnswer
+            (any_refusal atype.0 value.now (Self.state self.old).types
+            (length (Self.state self.old).bytes) (Self.state self.old).greatest)
+            (Allocates (Self.state self.old) (length value.now)) result }
+        ensures adds { Adds result (Self.state self.old) (Self.state self.new) atype.0 value.now };
 
     /// Adds the integrity attribute of an algorithm, with the key that the credentials give for it:
     /// MESSAGE-INTEGRITY (0x0008) with the 20 bytes of the HMAC-SHA1, or MESSAGE-INTEGRITY-SHA256
@@ -344,6 +367,16 @@ impl<W: MessageWrite> MessageWriteExt for W {
         self.add_attribute(attribute)
     }
 
+    #[tactic(auto, using(stun_grammar::proofs::AddingLemmas::appended_length, crate::proofs::KeptHeadersLemmas::pushed, stun_grammar::proofs::AddingRefusedLemmas::ordinary_barred))]
+    fn add_value(&mut self, atype: AttributeType, value: &[u8]) -> Result<(), StunWriteError> {
+        if atype.is_ending() {
+            return Err(StunWriteError::EndingType(atype));
+        }
+        let added = 4 + pad_attribute_len(value.len());
+        check_add(self, Addition::Ordinary, added)?;
+        self.push_value_unchecked(atype, value)
+    }
+
     #[tactic(auto, using(stun_grammar::proofs::AddingRefusedLemmas::signing_barred, stun_grammar::proofs::AddingLemmas::hmac_padded))]
     fn add_message_integrity(
         &mut self,
@@ -386,35 +419,4 @@ impl<W: MessageWrite> MessageWriteExt for W {
     fn add_fingerprint_unchecked(&mut self) -> Result<(), StunWriteError> {
         push_fingerprint(self)
     }
-}
-
-/// As [`MessageWriteExt::add_any_attribute`], with a type and the bytes of a value in the place of an
-/// object: for a caller that holds no attribute but these.
-///
-/// # Requires
-///
-/// `value.len()` is at most 65535.
-///
-/// # Errors
-///
-/// As for [`MessageWriteExt::add_any_attribute`].
-#[tactic(auto, using(stun_grammar::proofs::AddingLemmas::appended_length, crate::proofs::KeptHeadersLemmas::pushed, stun_grammar::proofs::AddingRefusedLemmas::ordinary_barred))]
-pub fn add_value<W: MessageWrite>(
-    write: &mut W,
-    atype: AttributeType,
-    value: &[u8],
-) -> Result<(), StunWriteError>
-    requires { length value.now ≤ 65535 }
-    ensures answer { IsAddAnswer
-        (any_refusal atype.0 value.now (W.state write.old).types
-        (length (W.state write.old).bytes) (W.state write.old).greatest)
-        (Allocates (W.state write.old) (length value.now)) result }
-    ensures adds { Adds result (W.state write.old) (W.state write.new) atype.0 value.now }
-{
-    if atype.is_ending() {
-        return Err(StunWriteError::EndingType(atype));
-    }
-    let added = 4 + pad_attribute_len(value.len());
-    check_add(write, Addition::Ordinary, added)?;
-    write.push_value_unchecked(atype, value)
 }

@@ -20,7 +20,7 @@ mod types;
 mod vec;
 mod writer;
 
-pub use adds::{MessageWriteExt, add_value};
+pub use adds::MessageWriteExt;
 pub use among::{first_among, is_among};
 pub use append::{append_attribute, append_encoded, append_value};
 pub use begin::{begin_message, begin_message_into, write_message_header};

@@ -52,8 +52,9 @@ impl ResumePoint {
     }
 
     /// Adds an attribute by its type and value to the message at this point, and returns how many
-    /// bytes it has then: the same as [`add_value`](crate::add_value) by a writer that goes on here,
-    /// without memory. What follows the message in `slice` stays as it was.
+    /// bytes it has then: the same as
+    /// [`MessageWriteExt::add_value`](crate::MessageWriteExt::add_value) by a writer that goes on
+    /// here, without memory. What follows the message in `slice` stays as it was.
     ///
     /// # Requires
     ///

@@ -68,8 +68,7 @@ impl<'a> MessageWriteMutSlice<'a> {
     ///
     /// Neither the order of the attributes nor the value of a FINGERPRINT is looked at: each
     /// attribute that is there bars an add as one does that was just written, so nothing is added
-    /// behind a FINGERPRINT. What is written over the attributes that were there
-    /// ([`MessageWrite::mut_data`]) is read in their place.
+    /// after a FINGERPRINT.
     ///
     /// A message that was begun can be gone on with, and so can one that can be, with one more
     /// attribute (the laws `begun_resumes` and `appended_resumes`): so a message may be written step
@@ -77,7 +76,8 @@ impl<'a> MessageWriteMutSlice<'a> {
     ///
     /// # Errors
     ///
-    /// The first of these that applies; `slice` stays as it was:
+    /// The first of these that applies. A caller that has to know that `slice` is then as it was
+    /// calls [`ResumePoint::check`] first, which only reads it:
     ///
     /// - `Truncated { expected: written, actual }` where `slice` has fewer than `written` bytes.
     ///   All that follows is of those `written` bytes;

@@ -2,3 +2,4 @@ pub mod MyValue
 pub mod Whose
 pub mod Room
 pub mod InSlice
+pub mod Noted

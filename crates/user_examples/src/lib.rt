@@ -4,10 +4,12 @@
 
 mod behind;
 mod blob;
+mod ended;
 mod header;
 mod in_array;
 mod in_slice;
 mod my_attribute;
+mod note;
 mod overwritten;
 mod request;
 mod room;
@@ -16,10 +18,12 @@ mod write_fixed;
 
 pub use behind::software_behind;
 pub use blob::Blob;
+pub use ended::end_message;
 pub use header::header_behind_adds;
 pub use in_array::steps_in_array;
 pub use in_slice::software_in_slice;
 pub use my_attribute::{MyAttribute, my_attribute_is_read_back};
+pub use note::{Note, NoteKind, note_of};
 pub use overwritten::overwrite;
 pub use request::software_message;
 pub use room::{UseCandidate, nominate_sixteen};

@@ -88,7 +88,8 @@ impl<'a> Message<'a> {
     ///
     /// It goes over the attributes once, up to the one that it finds. It takes memory from `alloc`
     /// only where `A::from_raw` does, and what that borrows is borrowed from the bytes of the
-    /// message for `'a`.
+    /// message for `'a`: `A::from_raw` is given a value that is borrowed (`reads_borrowed` of
+    /// [`AttributeFromRaw`]).
     ///
     /// ```
     /// let (offset, software) = message.nth_attribute_and_offset::<Software>(alloc, 1)?;
@@ -104,7 +105,9 @@ impl<'a> Message<'a> {
         alloc: Global,
         n: usize,
     ) -> Result<(usize, A), StunParseError>
-        ensures { IsReadAt A.TYPE A.reads (nth (message_bytes self.now) A.TYPE.0 n) result }
+        ensures reads { IsReadAt A.TYPE A.reads (nth (message_bytes self.now) A.TYPE.0 n) result }
+        ensures borrowed { IsReadAt A.TYPE A.reads_borrowed (nth (message_bytes self.now) A.TYPE.0 n)
+            result }
     {
         let Some((offset, raw)) = self.nth_raw_attribute_and_offset(A::TYPE, n) else {
             return Err(StunParseError::MissingAttribute(A::TYPE));
@@ -125,7 +128,9 @@ impl<'a> Message<'a> {
         alloc: Global,
         n: usize,
     ) -> Result<A, StunParseError>
-        ensures { IsRead A.TYPE A.reads (nth (message_bytes self.now) A.TYPE.0 n) result }
+        ensures reads { IsRead A.TYPE A.reads (nth (message_bytes self.now) A.TYPE.0 n) result }
+        ensures borrowed { IsRead A.TYPE A.reads_borrowed (nth (message_bytes self.now) A.TYPE.0 n)
+            result }
     {
         let (_offset, attribute) = self.nth_attribute_and_offset(alloc, n)?;
         Ok(attribute)
@@ -143,7 +148,9 @@ impl<'a> Message<'a> {
         &self,
         alloc: Global,
     ) -> Result<(usize, A), StunParseError>
-        ensures { IsReadAt A.TYPE A.reads (nth (message_bytes self.now) A.TYPE.0 0) result }
+        ensures reads { IsReadAt A.TYPE A.reads (nth (message_bytes self.now) A.TYPE.0 0) result }
+        ensures borrowed { IsReadAt A.TYPE A.reads_borrowed (nth (message_bytes self.now) A.TYPE.0 0)
+            result }
     {
         self.nth_attribute_and_offset(alloc, 0)
     }
@@ -164,7 +171,9 @@ impl<'a> Message<'a> {
         &self,
         alloc: Global,
     ) -> Result<A, StunParseError>
-        ensures { IsRead A.TYPE A.reads (nth (message_bytes self.now) A.TYPE.0 0) result }
+        ensures reads { IsRead A.TYPE A.reads (nth (message_bytes self.now) A.TYPE.0 0) result }
+        ensures borrowed { IsRead A.TYPE A.reads_borrowed (nth (message_bytes self.now) A.TYPE.0 0)
+            result }
     {
         self.nth_attribute(alloc, 0)
     }

@@ -2,6 +2,6 @@
 
 pub use stun_write::{
     MessageWrite, MessageWriteExt, MessageWriteMutSlice, MessageWriteVec, ResumePoint, Step,
-    add_value, append_attribute, append_value, first_among, is_among, write_steps,
-    write_steps_into,
+    append_attribute, append_encoded, append_value, appended_resumes, begun_resumes, first_among,
+    is_among, write_message_header, write_steps, write_steps_into,
 };
