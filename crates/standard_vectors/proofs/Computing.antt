@@ -14,6 +14,7 @@ use Rattle.stun_grammar.specs.Fingerprints.{message_before, fingerprint_value, f
 use Rattle.stun_grammar.specs.Showing.{length_fault, frame_fault, shown}
 use Rattle.stun_grammar.specs.Parsing.{body_fault, parse_fault}
 use Rattle.stun_grammar.specs.Writing.{message_encoding}
+use Rattle.stun_grammar.specs.Authentic.{authentic, authentic_fingerprint}
 use Rattle.stun_grammar.specs.Steps.{appended_by}
 use Rattle.stun_grammar.specs.Sending.{body_from}
 use Rattle.stun_values.specs.Algorithms.{fault_within}
@@ -30,7 +31,7 @@ unfoldable pub digests : Unit {0}
 unfolding sha1_words sha1_schedule sha1_rounds sha1_compress sha1_after sha1_bytes sha1 sha256_words sha256_schedule sha256_rounds sha256_compress sha256_after sha256_bytes sha256 md5_words md5_rounds md5_compress md5_after md5_bytes md5 hmac_over hmac
 digests = tt
 
--- the verdict, writing by steps, and values
+-- the verdict, what it authenticates, writing by steps, and values
 unfoldable pub validating : Unit {0}
-unfolding reading digests hmac_fault verdict_on verdict appended_by body_from fault_within chars is_utf8 lib.Utf8.encode
+unfolding reading digests hmac_fault verdict_on verdict authentic authentic_fingerprint appended_by body_from fault_within chars is_utf8 lib.Utf8.encode
 validating = tt

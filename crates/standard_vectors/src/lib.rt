@@ -11,12 +11,15 @@ ghost use Rattle.md5.specs.Md5.{md5};
 ghost use Rattle.stun_grammar.specs.declared.error.StunParseError.TheVariants.{NotStun, Truncated, TooLarge, MissingAttribute, InvalidAttributeData};
 ghost use Rattle.stun_grammar.specs.declared.error.ValidateError.TheVariants.{Parse};
 ghost use Rattle.stun_grammar.specs.declared.integrity_algorithm.IntegrityAlgorithm.TheVariants.{Sha1, Sha256};
-ghost use Rattle.stun_grammar.specs.AttributeTypes.{MESSAGE_INTEGRITY, MESSAGE_INTEGRITY_SHA256, SOFTWARE, FINGERPRINT};
+ghost use Rattle.stun_grammar.specs.AttributeTypes.{USERHASH, REALM, NONCE, MESSAGE_INTEGRITY, MESSAGE_INTEGRITY_SHA256, SOFTWARE, FINGERPRINT};
 ghost use Rattle.stun_grammar.specs.Headers.{header_fault};
+ghost use Rattle.stun_grammar.specs.Attributes.{types};
+ghost use Rattle.stun_grammar.specs.Chains.{chain};
 ghost use Rattle.stun_grammar.specs.Checksums.{crc};
 ghost use Rattle.stun_grammar.specs.Parsing.{parse_fault};
 ghost use Rattle.stun_grammar.specs.Hmac.{hmac};
 ghost use Rattle.stun_grammar.specs.Verdicts.{is_checked_type, verdict};
+ghost use Rattle.stun_grammar.specs.Authentic.{authentic, authentic_fingerprint};
 ghost use Rattle.stun_grammar.specs.Sending.{sent_encoding};
 ghost use Rattle.stun_base.specs.declared.message_type.MessageClass.TheVariants.{Request, Indication, Success, Error};
 ghost use Rattle.stun_base.specs.MessageTypes.{type_of, class_of, method_of};
@@ -28,7 +31,7 @@ ghost use Rattle.stun_values.specs.TypeLists.{types_fault, types_in, types_encod
 ghost use Rattle.standard_vectors.specs.Digests.{two_blocks, eighty_digits, sha1_of_abc, sha1_of_two_blocks, sha256_of_abc, sha256_of_two_blocks, md5_of_abc, md5_of_digits, question, long_key_text, sha1_case_1, sha1_case_2, sha1_case_6, sha256_case_1, sha256_case_2, sha256_case_6, sha1_of_64, sha1_of_65, sha256_of_64, sha256_of_65};
 ghost use Rattle.standard_vectors.specs.Messages.{sample_request, ipv4_response, ipv6_response, long_term_request, sha256_request};
 ghost use Rattle.standard_vectors.specs.Parameters.{password, user_name, realm, user_key, user_hash, sha256_hmac, check_id, user_id, mapped_ipv4, mapped_ipv6, sample_request_attributes, ipv4_response_attributes, ipv6_response_attributes, long_term_request_attributes, long_term_message, message_signed_twice};
-ghost use Rattle.standard_vectors.specs.Right.{IsRead, IsSigned, HasFingerprint, IsAnswered};
+ghost use Rattle.standard_vectors.specs.Right.{signed_text, IsRead, IsSigned, HasFingerprint, IsAnswered};
 ghost use Rattle.standard_vectors.specs.WrittenMessages.{full_sha256, short_sha256, signed_twice, sha1_of_16, sha256_of_12, sha256_of_18, sha256_of_36, integrity_fingerprint_sha256, sha256_integrity_fingerprint, sha256_fingerprint_integrity, fingerprint_integrity_sha256, fingerprint_sha256_integrity, integrity_software};
 
 /// The connectivity check of RFC 5769, section 2.1.
@@ -62,9 +65,17 @@ pub fn long_term_request_is_right()
 /// rejected; its HMAC, over the bytes as printed, and its userhash are right.
 pub fn sha256_request_is_right()
     ensures refused { parse_fault sha256_request ≡ Some (Truncated 176 156) }
+    ensures attributes { types (chain (drop 20 sha256_request)) ≡ USERHASH ∷ NONCE ∷ REALM ∷ MESSAGE_INTEGRITY_SHA256 ∷ [] }
     ensures signed { hmac Sha256 (user_key Sha256) (take 120 sha256_request) ≡ sha256_hmac }
     ensures carried { slice_range sha256_request 124 156 ≡ sha256_hmac }
     ensures userhash { sha256 (user_name ++ (codes ":" ++ realm)) ≡ user_hash }
+{}
+
+/// What the HMAC of RFC 5769, section 2.1, authenticates: type, transaction ID and the attributes up to
+/// MESSAGE-INTEGRITY; and the FINGERPRINT that follows.
+pub fn authenticated_content_is_right()
+    ensures content { authentic (signed_text sample_request 76) password Sha1 ≡ record { type = 0x0001; id = check_id; attributes = take 5 sample_request_attributes } }
+    ensures fingerprint { authentic_fingerprint (signed_text sample_request 76) password Sha1 ≡ record { offset = 100; type = FINGERPRINT; value = 0xE5 ∷ 0x7A ∷ 0x3B ∷ 0xCF ∷ [] } }
 {}
 
 /// The XORed addresses of the two responses of RFC 5769.
