@@ -1,5 +1,5 @@
 -- Digests and HMACs that other documents print, and some from Python's hmac.
-use Rattle.std.specs.Prelude.{ℕ, List, [], ◌∷◌, ◌++◌, codes}
+use Rattle.std.specs.Prelude.{ℕ, List, [], ◌∷◌, codes}
 
 -- ---- Digests
 
