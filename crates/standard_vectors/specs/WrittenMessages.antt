@@ -1,5 +1,6 @@
 -- Messages that no RFC prints, built and signed by a Python program (hmac, hashlib, zlib) with the
--- password and the transaction ID of RFC 5769, section 2.1.
+-- password and the transaction ID of RFC 5769, section 2.1. tshark 4.0 lists the same attributes, and
+-- accepts each FINGERPRINT that is the last attribute.
 use Rattle.std.specs.Prelude.{ℕ, List, [], ◌∷◌}
 
 -- ---- MESSAGE-INTEGRITY-SHA256 (RFC 8489, section 14.6)

@@ -11,7 +11,7 @@ ghost use Rattle.md5.specs.Md5.{md5};
 ghost use Rattle.stun_grammar.specs.declared.error.StunParseError.TheVariants.{NotStun, Truncated, TooLarge, MissingAttribute, InvalidAttributeData};
 ghost use Rattle.stun_grammar.specs.declared.error.ValidateError.TheVariants.{Parse};
 ghost use Rattle.stun_grammar.specs.declared.integrity_algorithm.IntegrityAlgorithm.TheVariants.{Sha1, Sha256};
-ghost use Rattle.stun_grammar.specs.AttributeTypes.{USERHASH, REALM, NONCE, MESSAGE_INTEGRITY, MESSAGE_INTEGRITY_SHA256, SOFTWARE, FINGERPRINT};
+ghost use Rattle.stun_grammar.specs.AttributeTypes.{MAPPED_ADDRESS, USERNAME, MESSAGE_INTEGRITY, ERROR_CODE, UNKNOWN_ATTRIBUTES, REALM, NONCE, XOR_MAPPED_ADDRESS, SOFTWARE, ALTERNATE_SERVER, FINGERPRINT, MESSAGE_INTEGRITY_SHA256, PASSWORD_ALGORITHM, USERHASH, PASSWORD_ALGORITHMS, ALTERNATE_DOMAIN};
 ghost use Rattle.stun_grammar.specs.Headers.{header_fault};
 ghost use Rattle.stun_grammar.specs.Attributes.{types};
 ghost use Rattle.stun_grammar.specs.Chains.{chain};
@@ -170,6 +170,11 @@ pub fn headers_are_right()
     ensures no_cookie { header_fault (take 4 sample_request ++ replicate 4 0 ++ drop 8 sample_request) ≡ Some NotStun }
     ensures begun { header_fault (take 7 sample_request) ≡ Some (Truncated 20 7) }
     ensures begun_otherwise { header_fault (take 4 sample_request ++ 0x20 ∷ []) ≡ Some NotStun }
+{}
+
+/// The numbers of the attribute types (RFC 8489, section 18.3).
+pub fn attribute_types_are_right()
+    ensures { MAPPED_ADDRESS ∷ USERNAME ∷ MESSAGE_INTEGRITY ∷ ERROR_CODE ∷ UNKNOWN_ATTRIBUTES ∷ REALM ∷ NONCE ∷ XOR_MAPPED_ADDRESS ∷ SOFTWARE ∷ ALTERNATE_SERVER ∷ FINGERPRINT ∷ MESSAGE_INTEGRITY_SHA256 ∷ PASSWORD_ALGORITHM ∷ USERHASH ∷ PASSWORD_ALGORITHMS ∷ ALTERNATE_DOMAIN ∷ [] ≡ 0x0001 ∷ 0x0006 ∷ 0x0008 ∷ 0x0009 ∷ 0x000A ∷ 0x0014 ∷ 0x0015 ∷ 0x0020 ∷ 0x8022 ∷ 0x8023 ∷ 0x8028 ∷ 0x001C ∷ 0x001D ∷ 0x001E ∷ 0x8002 ∷ 0x8003 ∷ [] }
 {}
 
 /// The bits of class and method, in the order of the figure in RFC 8489, section 5.
