@@ -1,0 +1,5 @@
+pub mod Messages
+pub mod Parameters
+pub mod Right
+pub mod Digests
+pub mod WrittenMessages

@@ -1,0 +1,103 @@
+//! The definitions of authentication, of ICE and of TURN, checked against
+//! numbers from outside this repository. The functions do nothing: the prover computes what their
+//! contracts state.
+#![tactic(auto)]
+
+ghost use Rattle.std.specs.Prelude.{◌≡◌, true, false, [], ◌∷◌, ◌++◌, codes, map, slice_range, replicate, None, Some};
+ghost use Rattle.stun_grammar.specs.declared.error.StunWriteError.TheVariants.{OutOfRange};
+ghost use Rattle.stun_grammar.specs.AttributeTypes.{SOFTWARE, USERNAME, MESSAGE_INTEGRITY, FINGERPRINT};
+ghost use Rattle.stun_grammar.specs.Showing.{shown};
+ghost use Rattle.stun_base.specs.declared.transport.AddressFamily.TheVariants.{IPV6};
+ghost use Rattle.stun_values.specs.Addresses.{address_in, IsXored};
+ghost use Rattle.standard_vectors.specs.Messages.{sample_request};
+ghost use Rattle.standard_vectors.specs.Parameters.{user_name, realm, user_hash as printed_hash};
+ghost use Rattle.standard_vectors.specs.Right.{IsRead};
+ghost use Rattle.stun_integrity.specs.Userhash.{user_hash};
+ghost use Rattle.stun_authentication.specs.Cookies.{security_features, cookie};
+ghost use Rattle.ice_attrs.specs.Ice.{PRIORITY, USE_CANDIDATE, ICE_CONTROLLED, ICE_CONTROLLING, candidate_priority, priority_fault};
+ghost use Rattle.turn_attrs.specs.declared.channel_data.ChannelDataError.TheVariants.{NotChannelData, Truncated, TooLarge};
+ghost use Rattle.turn_attrs.specs.declared.protocol.Protocol.TheVariants.{Stun, Zrtp, Dtls, TurnChannel, Rtp};
+ghost use Rattle.turn_attrs.specs.Turn.{CHANNEL_NUMBER, LIFETIME, XOR_PEER_ADDRESS, DATA, XOR_RELAYED_ADDRESS, REQUESTED_ADDRESS_FAMILY, EVEN_PORT, REQUESTED_TRANSPORT, DONT_FRAGMENT, RESERVATION_TOKEN, ADDITIONAL_ADDRESS_FAMILY, ADDRESS_ERROR_CODE, ICMP, channel_in, family_in, reserve_in, protocol_in, icmp_in};
+ghost use Rattle.turn_attrs.specs.Channels.{channel_field, data_length};
+ghost use Rattle.turn_attrs.specs.ChannelMessages.{channel_fault};
+ghost use Rattle.turn_attrs.specs.Protocols.{protocol};
+ghost use Rattle.usage_vectors.specs.TurnMessages.{allocate_success, allocate_success_id, allocate_success_attributes, channel_bind, channel_bind_id, channel_bind_attributes, data_indication, data_indication_id, data_indication_attributes, relayed, peer, peer_ipv6};
+
+/// Priorities of RFC 8445, section 5.1.2.1: the PRIORITY in RFC 5769, section 2.1, and those of a host
+/// candidate and a server-reflexive candidate in RFC 8839. The types of the attributes of ICE in that
+/// message.
+pub fn priorities_are_right()
+    ensures check { candidate_priority 110 1 1 ≡ 0x6E0001FF }
+    ensures host { candidate_priority 126 65535 1 ≡ 2130706431 }
+    ensures reflexive { candidate_priority 100 65535 1 ≡ 1694498815 }
+    ensures types { map (λ a. a.type) (shown sample_request) ≡ SOFTWARE ∷ PRIORITY ∷ ICE_CONTROLLED ∷ USERNAME ∷ MESSAGE_INTEGRITY ∷ FINGERPRINT ∷ [] }
+    ensures above { priority_fault 127 65535 1 ≡ Some (OutOfRange 127 0 126) }
+{}
+
+/// Nonces with and without a nonce cookie (RFC 8489, sections 9.2 and 18.1): the one of RFC 8656,
+/// section 20, sets the bit of password algorithms; the one of RFC 8489, appendix B.1, sets only bit
+/// 22; those with username anonymity come from Python's base64; the one of RFC 5769, section 2.4, has
+/// no cookie.
+pub fn nonce_cookies_are_right()
+    ensures algorithms { security_features (codes "obMatJos2gAAAadl7W7PeDU4hKE72jda") ≡ Some (record { password_algorithms = true; username_anonymity = false }) }
+    ensures unassigned { security_features (codes "obMatJos2AAACf//499k954d6OL34oL9FSTvy64sA") ≡ Some (record { password_algorithms = false; username_anonymity = false }) }
+    ensures both { security_features (codes "obMatJos2wAAA") ≡ Some (record { password_algorithms = true; username_anonymity = true }) }
+    ensures absent { security_features (codes "f//499k954d6OL34oL9FSTvy64sA") ≡ None }
+    ensures written { cookie (record { password_algorithms = true; username_anonymity = false }) ≡ codes "obMatJos2gAAA" }
+    ensures anonymous { cookie (record { password_algorithms = false; username_anonymity = true }) ≡ codes "obMatJos2QAAA" }
+{}
+
+/// The userhash of RFC 8489, appendix B.1.
+pub fn userhash_is_right()
+    ensures { user_hash user_name realm ≡ printed_hash }
+{}
+
+/// The numbers of the attribute types of ICE (RFC 8445, section 16.1) and of TURN (RFC 8656, section
+/// 18).
+pub fn attribute_types_are_right()
+    ensures ice { PRIORITY ∷ USE_CANDIDATE ∷ ICE_CONTROLLED ∷ ICE_CONTROLLING ∷ [] ≡ 0x0024 ∷ 0x0025 ∷ 0x8029 ∷ 0x802A ∷ [] }
+    ensures turn { CHANNEL_NUMBER ∷ LIFETIME ∷ XOR_PEER_ADDRESS ∷ DATA ∷ XOR_RELAYED_ADDRESS ∷ REQUESTED_ADDRESS_FAMILY ∷ EVEN_PORT ∷ REQUESTED_TRANSPORT ∷ DONT_FRAGMENT ∷ RESERVATION_TOKEN ∷ ADDITIONAL_ADDRESS_FAMILY ∷ ADDRESS_ERROR_CODE ∷ ICMP ∷ [] ≡ 0x000C ∷ 0x000D ∷ 0x0012 ∷ 0x0013 ∷ 0x0016 ∷ 0x0017 ∷ 0x0018 ∷ 0x0019 ∷ 0x001A ∷ 0x0022 ∷ 0x8000 ∷ 0x8001 ∷ 0x8004 ∷ [] }
+{}
+
+/// Three messages of RFC 8656, section 20, and their addresses, of both families.
+pub fn turn_messages_are_right()
+    ensures allocate { IsRead allocate_success 0x0103 allocate_success_id allocate_success_attributes }
+    ensures relayed { IsXored allocate_success_id relayed (address_in (slice_range allocate_success 32 40)) }
+    ensures bind { IsRead channel_bind 0x0009 channel_bind_id channel_bind_attributes }
+    ensures peer { IsXored channel_bind_id peer (address_in (slice_range channel_bind 32 40)) }
+    ensures indication { IsRead data_indication 0x0017 data_indication_id data_indication_attributes }
+    ensures peer_ipv6 { IsXored data_indication_id peer_ipv6 (address_in (slice_range data_indication 24 44)) }
+{}
+
+/// Values of TURN's attributes, read as numbers, in the layout of RFC 8656, section 18.
+pub fn turn_values_are_right()
+    ensures channel { channel_in 0x40000000 ≡ Some 0x4000 }
+    ensures no_channel { channel_in 0x50000000 ≡ None }
+    ensures family { family_in 0x02000000 ≡ Some IPV6 }
+    ensures reserve { reserve_in 0x80 ≡ Some true }
+    ensures udp { protocol_in 0x11000000 ≡ Some 17 }
+    ensures icmp { icmp_in 0x0000030400000578 ≡ Some (record { icmp_type = 3; code = 4; «data» = 1400 }) }
+{}
+
+/// A ChannelData message with five bytes of data, in the layout of RFC 8656, section 12.4: alone, with
+/// the padding of section 12.5, truncated, with too many bytes, and with a wrong first byte.
+pub fn channel_data_is_right()
+    ensures lawful { channel_fault (0x40 ∷ 0x00 ∷ 0x00 ∷ 0x05 ∷ codes "hello") ≡ None }
+    ensures channel { channel_field (0x40 ∷ 0x01 ∷ 0x00 ∷ 0x05 ∷ codes "hello") ≡ 0x4001 }
+    ensures length { data_length (0x40 ∷ 0x01 ∷ 0x00 ∷ 0x05 ∷ codes "hello") ≡ 5 }
+    ensures padded { channel_fault (0x40 ∷ 0x00 ∷ 0x00 ∷ 0x05 ∷ codes "hello" ++ replicate 3 0) ≡ None }
+    ensures cut { channel_fault (0x40 ∷ 0x00 ∷ 0x00 ∷ 0x05 ∷ codes "hell") ≡ Some (Truncated 9 8) }
+    ensures longer { channel_fault (0x40 ∷ 0x00 ∷ 0x00 ∷ 0x05 ∷ codes "hello" ++ replicate 4 0) ≡ Some (TooLarge 12 13) }
+    ensures no_channel { channel_fault (0x50 ∷ 0x00 ∷ 0x00 ∷ 0x05 ∷ codes "hello") ≡ Some NotChannelData }
+{}
+
+/// The protocol of a packet by its first byte, in the ranges of RFC 7983, section 7.
+pub fn first_bytes_are_right()
+    ensures stun { protocol 3 ≡ Some Stun }
+    ensures none { protocol 4 ≡ None }
+    ensures zrtp { protocol 16 ≡ Some Zrtp }
+    ensures dtls { protocol 63 ≡ Some Dtls }
+    ensures channel { protocol 64 ≡ Some TurnChannel }
+    ensures channels { protocol 79 ≡ Some TurnChannel }
+    ensures rtp { protocol 191 ≡ Some Rtp }
+{}
