@@ -13,7 +13,7 @@ pub struct Lifetime {
 
 impl Lifetime {
     ghost use Rattle.std.specs.Prelude.{◌≡◌};
-    ghost use Rattle.turn_attrs.specs.Turn.{seconds_of};
+    ghost use Rattle.turn_basics.specs.TurnBasics.{seconds_of};
 
     /// The attribute of so many seconds.
     pub fn new(seconds: u32) -> Self
@@ -31,7 +31,7 @@ impl Lifetime {
 }
 
 impl TypedAttribute for Lifetime {
-    ghost use Rattle.turn_attrs.specs.Turn.{LIFETIME};
+    ghost use Rattle.turn_basics.specs.TurnBasics.{LIFETIME};
 
     ghost NUMBER = { LIFETIME };
 
@@ -40,7 +40,7 @@ impl TypedAttribute for Lifetime {
 
 impl EncodeValue for Lifetime {
     ghost use Rattle.stun_grammar.specs.Numbers.{be32};
-    ghost use Rattle.turn_attrs.specs.Turn.{seconds_of};
+    ghost use Rattle.turn_basics.specs.TurnBasics.{seconds_of};
 
     ghost bytes = { λ lifetime. be32 (seconds_of lifetime) };
 
@@ -60,7 +60,7 @@ impl EncodeValue for Lifetime {
 /// Reading refuses a value of another length than four bytes as
 /// `Truncated { expected: 4, actual }` or `TooLarge { expected: 4, actual }`. It takes no memory.
 impl ReadValue for Lifetime {
-    ghost use Rattle.turn_attrs.specs.Turn.{ReadsLifetime};
+    ghost use Rattle.turn_basics.specs.TurnBasics.{ReadsLifetime};
 
     ghost reads_value = { ReadsLifetime };
 
@@ -74,7 +74,7 @@ impl ReadValue for Lifetime {
 impl fmt::Display for Lifetime {
     ghost use Rattle.std.specs.Prelude.{Some, codes, ◌++◌};
     ghost use Rattle.std.specs.Fmt.{decimal};
-    ghost use Rattle.turn_attrs.specs.Turn.{seconds_of};
+    ghost use Rattle.turn_basics.specs.TurnBasics.{seconds_of};
 
     ghost output = { λ lifetime. Some (codes "LIFETIME: " ++ decimal (seconds_of lifetime)) };
 
