@@ -76,7 +76,7 @@ static void relayed(Text *message, size_t behind) {
 /* ---- workloads: each knows its answer */
 
 enum {
-    PARSE, ITERATE, FIND, PRINT, SHORT_KEY, LONG_KEY, VALIDATE, CREDENTIALS, RECEIVE, HMAC, USERNAME, WRITE_VEC,
+    PARSE, ITERATE, FIND, PRINT, SHORT_KEY, LONG_KEY, VALIDATE, CREDENTIALS, RECEIVE, HMAC, UNPREPARED, ONCE, USERNAME, WRITE_VEC,
     WRITE_SLICE, PLAIN_VEC, PLAIN_SLICE, EMPTIES, CRC, TYPED
 };
 
@@ -107,6 +107,10 @@ static uint64_t run(const Workload *w, uint64_t rounds) {
         return stun_bench_receive(bytes, length, password, password_length, rounds);
     case HMAC:
         return stun_bench_hmac(bytes, length, password, password_length, algorithm, rounds);
+    case UNPREPARED:
+        return stun_bench_hmac_unprepared(bytes, length, password, password_length, algorithm, rounds);
+    case ONCE:
+        return stun_bench_hmac_once(bytes, length, password, password_length, algorithm, rounds);
     case WRITE_VEC:
         return stun_bench_write_vec(user, user_length, password, password_length, algorithm, rounds);
     case WRITE_SLICE:
@@ -322,10 +326,14 @@ int main(int count, char **words) {
         {"HMAC of an ICE check, SHA-256", HMAC, 2, 0, NULL, &plain_256, hmac_answer(&plain_256, 2)},
         {"HMAC of a packet, SHA-1", HMAC, 1, 0, NULL, &packet_plain, hmac_answer(&packet_plain, 1)},
         {"HMAC of 16,000 attributes, SHA-1", HMAC, 1, 0, NULL, &empties, hmac_answer(&empties, 1)},
+        {"key made, one HMAC, SHA-1", ONCE, 1, 0, NULL, &plain, hmac_answer(&plain, 1)},
+        {"key made, one HMAC, SHA-256", ONCE, 2, 0, NULL, &plain_256, hmac_answer(&plain_256, 2)},
+        {"HMAC, key not prepared, SHA-1", UNPREPARED, 1, 0, NULL, &plain, hmac_answer(&plain, 1)},
+        {"HMAC, key not prepared, SHA-256", UNPREPARED, 2, 0, NULL, &plain_256, hmac_answer(&plain_256, 2)},
         {"short-term key, twice", SHORT_KEY, 1, 0, NULL, &key, 1},
         {"long-term key by MD5, twice", LONG_KEY, 1, 0, USER, &key, 1},
         {"long-term key by SHA-256, twice", LONG_KEY, 2, 0, USER, &key, 1},
-        {"make a USERNAME", USERNAME, 0, 0, USER, &plain, strlen(USER)},
+        {"make a USERNAME", USERNAME, 0, 0, USER, &plain, (uint64_t)23 << 32 | ('e' + '8')},
         {"write a plain check, vector", PLAIN_VEC, 0, 0, USER, &plain, write_answer(&plain)},
         {"write a plain check, slice", PLAIN_SLICE, 0, 0, USER, &plain, write_answer(&plain)},
         {"send an ICE check, SHA-1, vector", WRITE_VEC, 1, 0, USER, &check, write_answer(&check)},

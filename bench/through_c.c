@@ -157,6 +157,18 @@ uint64_t stun_bench_hmac(const uint8_t *message, size_t length, const uint8_t *p
     return UINT64_MAX;
 }
 
+uint64_t stun_bench_hmac_unprepared(const uint8_t *message, size_t length, const uint8_t *password, size_t password_length,
+                         uint32_t algorithm, uint64_t rounds) {
+    (void)message, (void)length, (void)password, (void)password_length, (void)algorithm, (void)rounds;
+    return UINT64_MAX;
+}
+
+uint64_t stun_bench_hmac_once(const uint8_t *message, size_t length, const uint8_t *password, size_t password_length,
+                         uint32_t algorithm, uint64_t rounds) {
+    (void)message, (void)length, (void)password, (void)password_length, (void)algorithm, (void)rounds;
+    return UINT64_MAX;
+}
+
 uint64_t stun_bench_username(const uint8_t *user, size_t user_length) {
     (void)user, (void)user_length;
     return UINT64_MAX;

@@ -10,9 +10,8 @@
 
 size_t __sanitizer_get_allocated_size(const volatile void *block);
 
-/* (a vector asks for at least four elements, and none of the library's has more than 24 bytes; a key asks
- * for the memory of its hashers, which the first HMAC writes) */
-enum { FILL = 0xA5, LEAST = 4 * 24, HASHERS = 592, SECRETS = 10 };
+/* (a vector asks for at least four elements, and none of the library's has more than 24 bytes) */
+enum { FILL = 0xA5, LEAST = 4 * 24, SECRETS = 10 };
 
 /* What no block may hold when it is given back. */
 static struct {
@@ -70,7 +69,7 @@ void __sanitizer_free_hook(const volatile void *block) {
     size_t size = __sanitizer_get_allocated_size(block), used = size;
     taken--;
     while (used > 0 && bytes[used - 1] == FILL) used--;
-    if (size > LEAST && size > 2 * used && !(size == HASHERS && used == 0)) {
+    if (size > LEAST && size > 2 * used) {
         unused++;
         dprintf(2, "a block of %zu bytes, of which %zu were used\n", size, used);
     }

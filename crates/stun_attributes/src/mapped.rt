@@ -95,6 +95,7 @@ impl MappedSocketAddr {
     /// # Errors
     ///
     /// As [`MappedSocketAddr::from_raw`].
+    #[inline(always)]
     pub fn read(value: &[u8]) -> Result<Self, StunParseError>
         ensures { ReadsAddress mapped_addr value.now result }
     {

@@ -46,6 +46,7 @@ impl XorSocketAddr {
     /// the cookie, an IPv4 address with the cookie, and an IPv6 address with the cookie followed by
     /// the transaction ID. Flow info and scope ID of the result are 0. XORing twice gives the
     /// address back.
+    #[inline(always)]
     pub fn xor_addr(addr: SocketAddr, transaction: TransactionId) -> SocketAddr
         ensures xored { IsXored transaction addr result }
         ensures bound { length (octets (socket_ip addr)) ≤ 16 }
@@ -109,6 +110,7 @@ impl XorSocketAddr {
     /// # Errors
     ///
     /// As [`MappedSocketAddr::from_raw`].
+    #[inline(always)]
     pub fn read(value: &[u8]) -> Result<Self, StunParseError>
         ensures { ReadsAddress written_addr value.now result }
     {

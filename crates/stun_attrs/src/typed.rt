@@ -47,6 +47,7 @@ pub trait ReadValue: EncodeValue {
 }
 
 /// Reads a raw attribute: checks its type, and then reads its value.
+#[inline(always)]
 fn read_typed<A: TypedAttribute + ReadValue>(
     alloc: Global,
     raw: &RawAttribute<'_>,

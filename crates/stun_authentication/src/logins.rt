@@ -91,8 +91,12 @@ impl LongTermKeys for Logins<'_> {
         let Ok(credentials) = user.to_key(alloc, realm) else {
             return Err(AllocError);
         };
-        match credentials.make_key(alloc, algorithm.as_integrity()) {
-            Ok(key) => Ok(Some(key)),
+        let Ok(mut key) = credentials.make_key(alloc, algorithm.as_integrity()) else {
+            return Err(AllocError);
+        };
+        // (the request is validated with it, and then the reply is signed)
+        match key.prepare(alloc) {
+            Ok(()) => Ok(Some(key)),
             Err(_) => Err(AllocError),
         }
     }

@@ -46,13 +46,22 @@ fn short_term(alloc: Global, password: &[u8]) -> Option<MessageIntegrityCredenti
     Some(MessageIntegrityCredentials::from(short))
 }
 
-/// The short-term key of a password.
-pub fn short_key(alloc: Global, password: &[u8]) -> Option<IntegrityKey>
+/// The short-term key of a password, which isn't prepared.
+fn unprepared_key(alloc: Global, password: &[u8]) -> Option<IntegrityKey>
     ensures { IfSome result (IsKey None password.now) }
 {
     short_term(alloc, password)?
         .make_key(alloc, IntegrityAlgorithm::Sha1)
         .ok()
+}
+
+/// The short-term key of a password, prepared for many HMACs.
+pub fn short_key(alloc: Global, password: &[u8]) -> Option<IntegrityKey>
+    ensures { IfSome result (IsKey None password.now) }
+{
+    let mut key = unprepared_key(alloc, password)?;
+    key.prepare(alloc).ok()?;
+    Some(key)
 }
 
 /// Makes the key of credentials twice, and returns whether both are the same.
@@ -227,9 +236,27 @@ fn hmac_behind(message: &[u8], key: &IntegrityKey, algorithm: IntegrityAlgorithm
     }
 }
 
-/// Makes the short-term key of a password, computes `rounds` times the HMAC that an integrity
-/// attribute of an algorithm holds after a message, and returns the sum of their first four bytes,
-/// each as one number.
+/// Computes `rounds` times the HMAC that an integrity attribute of an algorithm holds after a message,
+/// and returns the sum of their first four bytes, each as one number.
+fn hmac_sum(
+    message: &[u8],
+    key: &IntegrityKey,
+    algorithm: IntegrityAlgorithm,
+    rounds: u64,
+) -> u64
+    requires { 20 ≤ length message.now }
+    ensures { result ≡ (rounds * hmac_number algorithm (key_bytes key.now) message.now) % 2 ^ 64 }
+{
+    let mut sum: u64 = 0;
+    for _ in 0..rounds {
+        sum = sum.wrapping_add(u64::from(hmac_behind(message, key, algorithm)));
+    }
+    sum
+}
+
+/// Makes the short-term key of a password, prepares it, computes `rounds` times the HMAC that an
+/// integrity attribute of an algorithm holds after a message, and returns the sum of their first
+/// four bytes, each as one number.
 #[unsafe(no_mangle)]
 pub extern "C" fn stun_bench_hmac(
     alloc: Global,
@@ -244,12 +271,56 @@ pub extern "C" fn stun_bench_hmac(
     if message.len() < 20 {
         return NONE;
     }
-    let Some(key) = short_key(alloc, password) else {
+    match short_key(alloc, password) {
+        Some(key) => hmac_sum(message, &key, algorithm_of(algorithm), rounds),
+        None => NONE,
+    }
+}
+
+/// As [`stun_bench_hmac`], with a key that isn't prepared.
+#[unsafe(no_mangle)]
+pub extern "C" fn stun_bench_hmac_unprepared(
+    alloc: Global,
+    message: &[u8],
+    password: &[u8],
+    algorithm: u32,
+    rounds: u64,
+) -> u64
+    ensures { (result ≡ none) ⊎ (result
+        ≡ (rounds * hmac_number (algorithm_told algorithm) password.now message.now) % 2 ^ 64) }
+{
+    if message.len() < 20 {
+        return NONE;
+    }
+    match unprepared_key(alloc, password) {
+        Some(key) => hmac_sum(message, &key, algorithm_of(algorithm), rounds),
+        None => NONE,
+    }
+}
+
+/// As [`stun_bench_hmac`], with a key that is made in each round, from the credentials that are made
+/// once, and used once.
+#[unsafe(no_mangle)]
+pub extern "C" fn stun_bench_hmac_once(
+    alloc: Global,
+    message: &[u8],
+    password: &[u8],
+    algorithm: u32,
+    rounds: u64,
+) -> u64 {
+    if message.len() < 20 {
+        return NONE;
+    }
+    let Some(credentials) = short_term(alloc, password) else {
         return NONE;
     };
+    let algorithm = algorithm_of(algorithm);
     let mut sum: u64 = 0;
     for _ in 0..rounds {
-        sum = sum.wrapping_add(u64::from(hmac_behind(message, &key, algorithm_of(algorithm))));
+        let Ok(key) = credentials.make_key(alloc, algorithm) else {
+            return NONE;
+        };
+        sum = sum.wrapping_add(u64::from(hmac_behind(message, &key, algorithm)));
     }
     sum
 }

@@ -8,7 +8,8 @@ mod typed;
 mod writing;
 
 pub use keys::{
-    stun_bench_hmac, stun_bench_long_key, stun_bench_receive, stun_bench_short_key,
+    stun_bench_hmac, stun_bench_hmac_once, stun_bench_hmac_unprepared, stun_bench_long_key,
+    stun_bench_receive, stun_bench_short_key,
     stun_bench_validate, stun_bench_validate_credentials,
 };
 pub use reading::{

@@ -21,13 +21,18 @@ fn address_answer(alloc: Global, raw: &RawAttribute<'_>) -> Result<u64, StunPars
     }
 }
 
-/// The length of a SOFTWARE (above the low 32 bits), and the sum of its first and its last byte.
-fn software_answer(alloc: Global, raw: &RawAttribute<'_>) -> Result<u64, StunParseError> {
-    let software = Software::from_raw_ref(alloc, raw)?;
-    let text = software.software().as_bytes();
+/// The length of a text (above the low 32 bits), and the sum of its first and its last byte.
+pub(crate) fn text_answer(text: &str) -> u64 {
+    let text = text.as_bytes();
     let first = u64::from(text.first().copied().unwrap_or(0));
     let last = u64::from(text.last().copied().unwrap_or(0));
-    Ok(((text.len() as u64) << 32) | (first + last))
+    ((text.len() as u64) << 32) | (first + last)
+}
+
+/// What [`text_answer`] returns for the text of a SOFTWARE.
+fn software_answer(alloc: Global, raw: &RawAttribute<'_>) -> Result<u64, StunParseError> {
+    let software = Software::from_raw_ref(alloc, raw)?;
+    Ok(text_answer(software.software()))
 }
 
 /// The code of an ERROR-CODE (above the low 32 bits), and the length of its reason.

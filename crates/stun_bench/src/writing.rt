@@ -6,6 +6,7 @@ ghost use Rattle.stun_grammar.specs.Adding.{Fits};
 ghost use Rattle.stun_grammar.specs.AttributeTypes.{IsOrdinary};
 
 use crate::keys::{NONE, algorithm_of, short_key};
+use crate::typed::text_answer;
 use std::alloc::Global;
 use stun_types::attribute::{AttributeType, RawAttribute, Username};
 use stun_types::message::{
@@ -170,11 +171,11 @@ fn slice_answer(destination: &[u8], written: Result<usize, StunWriteError>) -> u
     }
 }
 
-/// Makes a USERNAME, and returns the length of its text, or `NONE`.
+/// Makes a USERNAME, and returns what [`text_answer`] does for its text, or `NONE`.
 #[unsafe(no_mangle)]
 pub extern "C" fn stun_bench_username(alloc: Global, user: &[u8]) -> u64 {
     match username_of(alloc, user) {
-        Some(username) => username.username().len() as u64,
+        Some(username) => text_answer(username.username()),
         None => NONE,
     }
 }

@@ -1,1 +1,2 @@
 pub mod CrcTablesLemmas
+mod BlocksLemmas

@@ -7,6 +7,7 @@ use Rattle.sha2.specs.Sha256.{sha256}
 use Rattle.stun_grammar.specs.declared.integrity_algorithm.IntegrityAlgorithm.{IntegrityAlgorithm}
 use Rattle.stun_grammar.specs.declared.integrity_algorithm.IntegrityAlgorithm.TheVariants.{Sha1, Sha256}
 use Rattle.stun_keys.specs.declared.keys.integrity_key.IntegrityKey.{IntegrityKey}
+use Rattle.stun_keys.specs.Blocks.{key_in}
 use Rattle.stun_keys.specs.declared.keys.long_term.LongTermCredentials.{LongTermCredentials}
 use Rattle.stun_keys.specs.declared.keys.long_term_key.LongTermKeyCredentials.{LongTermKeyCredentials}
 use Rattle.stun_keys.specs.declared.keys.short_term.ShortTermCredentials.{ShortTermCredentials}
@@ -54,7 +55,7 @@ SameCredentials (LongTerm copy) (ShortTerm credentials) = ⊥
 
 -- the bytes of a key
 abbrev pub key_bytes : IntegrityKey → List ℕ
-key_bytes key = boxed_slice_items key.bytes.bytes
+key_bytes key = key_in (boxed_slice_items key.bytes.bytes)
 
 -- the algorithm that a key was made for, if it was made for one
 abbrev pub key_algorithm : IntegrityKey → Option IntegrityAlgorithm

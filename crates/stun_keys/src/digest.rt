@@ -8,12 +8,12 @@ ghost use Rattle.stun_grammar.specs.Checksums.{shifted_by, after_byte, crc};
 mod crc_tables;
 mod hash_function;
 mod hmac;
-mod kept;
+mod prepared;
 
 use crc_tables::TABLES;
-pub(crate) use hmac::{BLOCK, digest};
+pub(crate) use hmac::{KeyedHashers, push_blocks};
 pub use hmac::{hmac_sha1, hmac_sha256};
-pub(crate) use kept::KeptHmacs;
+pub(crate) use prepared::{BothHashers, Prepared};
 
 /// What a byte becomes once it and that many bytes of zeros behind it are shifted out.
 fn shifted_out(byte: u8, zeros: usize) -> u32

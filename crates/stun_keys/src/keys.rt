@@ -6,16 +6,17 @@
 mod copied;
 mod credentials;
 mod integrity_key;
-mod key_digests;
 mod long_term;
 mod long_term_key;
 mod md5_key;
 mod secret;
 mod sha256_key;
+mod shared;
 mod short_term;
 
 pub use credentials::MessageIntegrityCredentials;
 pub use integrity_key::IntegrityKey;
 pub use long_term::LongTermCredentials;
 pub use long_term_key::LongTermKeyCredentials;
+pub use shared::share_key;
 pub use short_term::ShortTermCredentials;

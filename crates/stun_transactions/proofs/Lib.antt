@@ -1,6 +1,7 @@
 mod BeyondLemmas
 mod FirstPollLemmas
 mod PartsLemmas
+mod PreparingLemmas
 mod RowsLemmas
 mod RunsLemmas
 mod SlotsLemmas

@@ -43,6 +43,15 @@ IsKeptAs (ShortTerm key) kept = kept ≡ ShortTerm key
 IsKeptAs (LongTerm key) (LongTerm kept) = IsKey None (key_bytes key) kept
 IsKeptAs (LongTerm key) _ = ⊥
 
+-- the same protection: by the same mechanism, with a key of the same bytes that was made for the
+-- same algorithm
+abbrev pub HasSameKey : Protection → Protection → Type 0
+HasSameKey Unprotected other = other ≡ Unprotected
+HasSameKey (ShortTerm key) (ShortTerm other) = IsKey (key_algorithm key) (key_bytes key) other
+HasSameKey (ShortTerm key) _ = ⊥
+HasSameKey (LongTerm key) (LongTerm other) = IsKey (key_algorithm key) (key_bytes key) other
+HasSameKey (LongTerm key) _ = ⊥
+
 -- what a validation of d with the key answers
 abbrev pub validated : IntegrityKey → List ℕ → Result IntegrityAlgorithm ValidateError
 validated key d = verdict (is_checked_type (key_algorithm key)) (λ _. key_bytes key) d

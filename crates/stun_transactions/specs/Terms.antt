@@ -9,7 +9,7 @@ use Rattle.stun_transactions.specs.declared.guard.Protection.{Protection}
 use Rattle.stun_transactions.specs.declared.terms.Terms.{Terms}
 use Rattle.stun_transactions.specs.declared.terms.BeginError.{BeginError}
 use Rattle.stun_transactions.specs.declared.terms.BeginError.TheVariants.{NotARequest, NotSigned, Signed}
-use Rattle.stun_transactions.specs.Guards.{signed_by, is_signed, protects, IsKeptAs}
+use Rattle.stun_transactions.specs.Guards.{signed_by, is_signed, protects, IsKeptAs, HasSameKey}
 
 -- whether a class is that of a request
 abbrev pub is_request : MessageClass → Bool
@@ -38,6 +38,14 @@ pub record AreTerms (r : List ℕ) (plan : Plan) (protection : Protection)
   pub id_is : terms.id ≡ id_field r
   pub signed_is : terms.signed ≡ signed_by r
   pub protection_is : IsKeptAs protection terms.protection
+
+-- the same terms: those of the same request, protected by the same key
+pub record AreSameTerms (terms other : Terms) : Type 0 where
+  pub plan_is : other.plan ≡ terms.plan
+  pub method_is : other.method ≡ terms.method
+  pub id_is : other.id ≡ terms.id
+  pub signed_is : other.signed ≡ terms.signed
+  pub protection_is : HasSameKey terms.protection other.protection
 
 -- whether d is a response to the request: it has the request's method and transaction ID
 abbrev pub is_answer : Terms → List ℕ → Bool

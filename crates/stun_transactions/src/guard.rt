@@ -7,11 +7,14 @@ ghost use Rattle.stun_transactions.specs.Guards.{signed_by, is_signed, accepts, 
 use crate::parting::check_key;
 use crate::parts::{Mechanism, PartsError};
 use crate::received::Discard;
+use std::alloc::Global;
 use stun_authentication::{is_bid_down, is_challenge, response_code};
 use stun_types::attribute::{
     AttributeStaticType, ErrorCode, MessageIntegrity, MessageIntegritySha256,
 };
-use stun_types::message::{IntegrityAlgorithm, IntegrityKey, Message, ValidateError};
+use stun_types::message::{
+    IntegrityAlgorithm, IntegrityKey, Message, StunWriteError, ValidateError,
+};
 
 /// How a request is protected, and with which key (RFC 8489, section 9).
 #[derive(Debug, Drop)]
@@ -96,9 +99,9 @@ fn long_term_fault(key: &IntegrityKey, message: &Message<'_>) -> Option<Discard>
 }
 
 impl Protection {
-    ghost use Rattle.std.specs.Prelude.{◌≡◌, None, Some, MatchResult};
+    ghost use Rattle.std.specs.Prelude.{◌≡◌, None, Some, IfErr, MatchResult};
     ghost use Rattle.stun_types.specs.Message.{message_bytes};
-    ghost use Rattle.stun_transactions.specs.Guards.{guard_fault, protects, IsKeptAs};
+    ghost use Rattle.stun_transactions.specs.Guards.{guard_fault, protects, IsKeptAs, HasSameKey};
     ghost use Rattle.stun_transactions.specs.Parts.{mechanism_of, key_in, key_fault};
 
     /// What a transaction keeps of it, to validate responses: a long-term key works with both
@@ -139,6 +142,24 @@ impl Protection {
             (Some(Mechanism::ShortTerm), Some(key)) => Ok(Protection::ShortTerm(key)),
             (Some(Mechanism::LongTerm), Some(key)) => Ok(Protection::LongTerm(key)),
             _ => Ok(Protection::Unprotected),
+        }
+    }
+
+    /// Prepares the key, if there is one, for many HMACs, with memory from `alloc`: a request that is
+    /// signed with it and several responses are then validated faster
+    /// ([`IntegrityKey::prepare`]). Nothing else changes.
+    ///
+    /// # Errors
+    ///
+    /// `OutOfMemory` alone. The protection works as before.
+    pub fn prepare(&mut self, alloc: Global) -> Result<(), StunWriteError>
+        ensures same { HasSameKey self.old self.new }
+        ensures err { IfErr result (λ e. e ≡ StunWriteError.OutOfMemory) }
+    {
+        match self {
+            Protection::Unprotected => Ok(()),
+            Protection::ShortTerm(key) => key.prepare(alloc),
+            Protection::LongTerm(key) => key.prepare(alloc),
         }
     }
 

@@ -21,7 +21,7 @@ ghost use Rattle.stun_transactions.specs.declared.schedule.Schedule.{Schedule};
 ghost use Rattle.stun_transactions.specs.declared.guard.Protection.{Protection};
 ghost use Rattle.stun_transactions.specs.declared.parts.TransactionParts.{TransactionParts};
 ghost use Rattle.stun_transactions.specs.declared.transaction.Transaction.{Transaction};
-ghost use Rattle.stun_transactions.specs.Terms.{begin_fault};
+ghost use Rattle.stun_transactions.specs.Terms.{begin_fault, AreSameTerms};
 ghost use Rattle.stun_transactions.specs.Transactions.{terms_of, course_of, Begins};
 ghost use Rattle.stun_transactions.specs.Parts.{plan_in, course_in, at_course, parts_of, key_of, parts_fault, whole_fault};
 ghost use Rattle.stun_transactions.specs.Runs.{Call, IsRun, Stays, sends, IsSpaced, left_by};
@@ -41,6 +41,14 @@ pub fn waits_make_the_row()
 pub fn first_poll_sends()
     ensures { (plan : Plan) (now : Duration) (action : Action) (course : Course)
         → Polls plan (begun now) now action course → action ≡ Action.Send }
+{}
+
+/// Preparing a transaction's key changes nothing of what received bytes are for it.
+#[tactic(auto, using(crate::proofs::PreparingLemmas::hears_the_same))]
+pub fn preparing_changes_nothing()
+    ensures { (terms other : Terms) (course : Course) (understood : List AttributeType)
+        (d : List ℕ) → AreSameTerms terms other
+        → heard other course understood d ≡ heard terms course understood d }
 {}
 
 /// Whatever calls are made, with whatever moments: no request is handed out before its interval

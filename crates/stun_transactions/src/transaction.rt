@@ -8,10 +8,11 @@ use crate::plan::Plan;
 use crate::received::{Received, with_message};
 use crate::schedule::Schedule;
 use crate::terms::{BeginError, Terms};
+use std::alloc::Global;
 use std::time::Duration;
 use stun_types::TransportType;
 use stun_types::attribute::AttributeType;
-use stun_types::message::{IntegrityKey, Message, TransactionId};
+use stun_types::message::{IntegrityKey, Message, StunWriteError, TransactionId};
 
 /// A client's transaction: a request that is sent until it is answered, or given up (RFC 8489,
 /// section 6.2).
@@ -27,11 +28,11 @@ pub struct Transaction {
 }
 
 impl Transaction {
-    ghost use Rattle.std.specs.Prelude.{◌≡◌, None, Some, MatchResult};
+    ghost use Rattle.std.specs.Prelude.{◌≡◌, None, Some, IfErr, MatchResult};
     ghost use Rattle.stun_types.specs.Message.{message_bytes};
     ghost use Rattle.stun_transactions.specs.Courses.{Polls, is_ready, ended_by, TellsTime};
     ghost use Rattle.stun_transactions.specs.Outcomes.{outcome_of, Holds, after};
-    ghost use Rattle.stun_transactions.specs.Terms.{begin_fault};
+    ghost use Rattle.stun_transactions.specs.Terms.{begin_fault, AreSameTerms};
     ghost use Rattle.stun_transactions.specs.Receiving.{heard};
     ghost use Rattle.stun_transactions.specs.Transactions.{terms_of, course_of, Begins, Wakes};
     ghost use Rattle.stun_transactions.specs.Parts.{parts_of, key_of, whole_fault};
@@ -62,6 +63,21 @@ impl Transaction {
         let terms = Terms::new(request, plan, protection)?;
         let course = Course::new(now);
         Ok(Transaction { terms, course })
+    }
+
+    /// Prepares the key with which responses are validated, if there is one, with memory from
+    /// `alloc`. It pays for a transaction that is to receive more than two messages
+    /// ([`Protection::prepare`]); each message is taken or discarded as without it.
+    ///
+    /// # Errors
+    ///
+    /// `OutOfMemory` alone. The transaction works as before.
+    pub fn prepare(&mut self, alloc: Global) -> Result<(), StunWriteError>
+        ensures terms { AreSameTerms (terms_of self.old) (terms_of self.new) }
+        ensures course { course_of self.new ≡ course_of self.old }
+        ensures err { IfErr result (λ e. e ≡ StunWriteError.OutOfMemory) }
+    {
+        self.terms.protection.prepare(alloc)
     }
 
     /// Takes the transaction apart: its numbers, and the key with which its request is protected, if

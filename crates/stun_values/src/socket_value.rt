@@ -94,6 +94,7 @@ pub(crate) fn ipv6_of(bytes: &[u8]) -> Ipv6Addr
 /// `TooLarge { expected, actual }` where the value is shorter and longer than its family needs,
 /// with `expected` 8 for IPv4 and 20 for IPv6.
 #[tactic(auto, using(crate::proofs::OctetsLemmas::too_short, crate::proofs::OctetsLemmas::of_ipv4, crate::proofs::OctetsLemmas::of_ipv6, crate::proofs::OctetsLemmas::no_family, crate::proofs::OctetsLemmas::spells, crate::proofs::OctetsLemmas::holds_ipv4, crate::proofs::OctetsLemmas::holds_ipv6))]
+#[inline(always)]
 pub fn read_address(value: &[u8]) -> Result<SocketAddr, StunParseError>
     ensures spells { MatchResult result
         (λ addr. (address_fault value.now ≡ None) × Spells value.now addr)
@@ -106,17 +107,18 @@ pub fn read_address(value: &[u8]) -> Result<SocketAddr, StunParseError>
             actual: value.len(),
         });
     }
-    let ip = match value[1] {
+    let port = BigEndian::read_u16(&value[2..]);
+    match value[1] {
         1 => {
             check_length(value, 8)?;
-            IpAddr::V4(ipv4_of(&value[4..]))
+            let ip = ipv4_of(&value[4..]);
+            Ok(SocketAddr::new(IpAddr::V4(ip), port))
         }
         2 => {
             check_length(value, 20)?;
-            IpAddr::V6(ipv6_of(&value[4..]))
+            let ip = ipv6_of(&value[4..]);
+            Ok(SocketAddr::new(IpAddr::V6(ip), port))
         }
-        _ => return Err(StunParseError::InvalidAttributeData),
-    };
-    let port = BigEndian::read_u16(&value[2..]);
-    Ok(SocketAddr::new(ip, port))
+        _ => Err(StunParseError::InvalidAttributeData),
+    }
 }

@@ -2,7 +2,6 @@
 
 ghost use Rattle.std.specs.Prelude.{◌≡◌, ◌≤◌, ◌++◌, OnOk, codes, length};
 ghost use Rattle.std.specs.Net.Text.{socket_v6_text};
-ghost use Rattle.std.specs.Net.Addr.{is_ipv6};
 ghost use Rattle.std.specs.Net.Socket.{socket_ip};
 ghost use Rattle.stun_values.specs.Addresses.{octets, mask, xor_bytes, xored_text, IsXored};
 
@@ -31,36 +30,28 @@ fn xor_with(bytes: &mut [u8], mask: &[u8])
     }
 }
 
-/// The address of the same family whose bytes are XORed with the mask.
-fn xor_ip(ip: IpAddr, mask: &[u8; 16]) -> IpAddr
-    ensures family { is_ipv6 result ≡ is_ipv6 ip }
-    ensures octets { octets result ≡ xor_bytes (octets ip) mask.now }
-    ensures bound { length (octets ip) ≤ 16 }
-{
-    match ip {
-        IpAddr::V4(ip) => {
-            let mut bytes = ip.octets();
-            xor_with(&mut bytes, mask);
-            IpAddr::V4(ipv4_of(&bytes))
-        }
-        IpAddr::V6(ip) => {
-            let mut bytes = ip.octets();
-            xor_with(&mut bytes, mask);
-            IpAddr::V6(ipv6_of(&bytes))
-        }
-    }
-}
-
 /// This address XORed with the cookie and this transaction ID: the port with the high half of the
 /// cookie, an IPv4 address with the cookie, and an IPv6 address with the cookie followed by the
 /// transaction ID. Flow info and scope ID of the result are 0.
+#[tactic(auto, using(crate::proofs::XorLemmas::xor_cookie))]
+#[inline(always)]
 pub fn xor_addr(addr: SocketAddr, transaction: TransactionId) -> SocketAddr
     ensures xored { IsXored transaction addr result }
     ensures bound { length (octets (socket_ip addr)) ≤ 16 }
 {
-    let mask = mask_of(transaction);
     let port = addr.port() ^ (MAGIC_COOKIE >> 16) as u16;
-    SocketAddr::new(xor_ip(addr.ip(), &mask), port)
+    match addr {
+        SocketAddr::V4(addr) => {
+            let mut bytes = addr.ip().octets();
+            xor_with(&mut bytes, &MAGIC_COOKIE.to_be_bytes());
+            SocketAddr::new(IpAddr::V4(ipv4_of(&bytes)), port)
+        }
+        SocketAddr::V6(addr) => {
+            let mut bytes = addr.ip().octets();
+            xor_with(&mut bytes, &mask_of(transaction));
+            SocketAddr::new(IpAddr::V6(ipv6_of(&bytes)), port)
+        }
+    }
 }
 
 /// Writes `XOR(`, an IPv6 address and `)`.

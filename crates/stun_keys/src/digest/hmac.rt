@@ -1,14 +1,14 @@
 //! HMAC over SHA-1 and SHA-256 (RFC 2104).
 
-ghost use Rattle.std.specs.Prelude.{◌≡◌, ℕ, ◌≤◌, ◌-◌, true, false, List, ◌++◌, length, drop, map, replicate};
+ghost use Rattle.std.specs.Prelude.{◌≡◌, ℕ, ◌≤◌, List, [], ◌++◌, IfOk, IfErr, length, map};
 ghost use Rattle.std.specs.List.{concat};
 ghost use Rattle.stun_grammar.specs.Hmac.{hmac, digest_of, block_of_key, padded_with};
-ghost use Rattle.stun_keys.specs.Blocks.{filled_up};
+ghost use Rattle.stun_keys.specs.Blocks.{filled_up, blocks_over, AreKeyed};
 
 use super::hash_function::HashFunction;
 use sha1::Sha1;
 use sha2::Sha256;
-use stun_grammar::IntegrityAlgorithm;
+use stun_grammar::{IntegrityAlgorithm, StunWriteError};
 
 /// How many bytes a block of either digest has.
 pub(crate) const BLOCK: usize = 64;
@@ -41,7 +41,7 @@ fn padded(block: &[u8; 64], pad: u8) -> [u8; 64]
 }
 
 /// The digest of a text.
-pub(crate) fn digest<const N: usize, H: HashFunction<N>>(text: &[u8]) -> [u8; N]
+fn digest<const N: usize, H: HashFunction<N>>(text: &[u8]) -> [u8; N]
     ensures { result ≡ digest_of H.algorithm text.now }
 {
     let mut hasher = H::start();
@@ -49,25 +49,43 @@ pub(crate) fn digest<const N: usize, H: HashFunction<N>>(text: &[u8]) -> [u8; N]
     hasher.finish()
 }
 
-/// The hashers of a key of any length: a key longer than a block is digested first.
-fn keyed_hashers<const N: usize, H: HashFunction<N>>(key: &[u8]) -> KeyedHashers<N, H>
+/// A key of any length as one block: a key longer than a block is digested first.
+fn key_block<const N: usize, H: HashFunction<N>>(key: &[u8]) -> [u8; 64]
     requires { N ≤ 64 }
-    ensures block { result.block ≡ block_of_key (digest_of H.algorithm) key.now }
-    ensures keyed { result.are_keyed ≡ true }
+    ensures { result ≡ block_of_key (digest_of H.algorithm) key.now }
 {
     if key.len() > BLOCK {
-        KeyedHashers::new(&digest::<N, H>(key))
+        in_block(&digest::<N, H>(key))
     } else {
-        KeyedHashers::new(key)
+        in_block(key)
     }
 }
 
-/// A hasher that has taken in a block, with each byte XORed with a pad.
-fn keyed<const N: usize, H: HashFunction<N>>(block: &[u8; 64], pad: u8) -> H
-    ensures { H.holds result (padded_with pad block.now) }
+/// Appends the two blocks with which the HMACs of a key begin.
+pub(crate) fn push_blocks<const N: usize, H: HashFunction<N>>(
+    secret: &mut Vec<u8>,
+    key: &[u8],
+) -> Result<(), StunWriteError>
+    requires { N ≤ 64 }
+    ensures ok { IfOk result (λ _. secret.new.items
+        ≡ secret.old.items ++ blocks_over (digest_of H.algorithm) key.now) }
+    ensures err { IfErr result (λ e. e ≡ StunWriteError.OutOfMemory) }
+{
+    let block = key_block::<N, H>(key);
+    secret
+        .extend_from_slice(&padded(&block, INNER_PAD))
+        .map_err(|_| StunWriteError::OutOfMemory)?;
+    secret
+        .extend_from_slice(&padded(&block, OUTER_PAD))
+        .map_err(|_| StunWriteError::OutOfMemory)
+}
+
+/// A hasher that has taken in a block.
+fn keyed<const N: usize, H: HashFunction<N>>(block: &[u8]) -> H
+    ensures { H.holds result block.now }
 {
     let mut hasher = H::start();
-    hasher.take(&padded(block, pad));
+    hasher.take(block);
     hasher
 }
 
@@ -83,69 +101,83 @@ fn digest_after<const N: usize, H: HashFunction<N>>(keyed: &H, pieces: &[&[u8]])
     hasher.finish()
 }
 
-/// The two hashers of an HMAC, each of which has taken in the key's block with a pad, until they are
-/// overwritten; that block, and how many of its bytes are the key's.
+/// The two hashers of an HMAC: each has taken in one of the key's two blocks.
 #[derive(Drop)]
-pub(super) struct KeyedHashers<const N: usize, H: HashFunction<N>> {
-    block: [u8; 64],
-    length: usize,
-    are_keyed: bool,
+pub(crate) struct KeyedHashers<const N: usize, H: HashFunction<N>> {
     inner: H,
     outer: H,
-    ghost within: { length ≤ 64 },
-    ghost filled_up: { drop length block ≡ replicate (64 - length) 0 },
-    ghost inner_holds: { ∥ (are_keyed ≡ true → H.holds inner (padded_with 0x36 block)) ∥₁ },
-    ghost outer_holds: { ∥ (are_keyed ≡ true → H.holds outer (padded_with 0x5C block)) ∥₁ },
 }
 
-#[tactic(auto, unfolding(stun_grammar::specs::Hmac::hmac, stun_grammar::specs::Hmac::hmac_over))]
 impl<const N: usize, H: HashFunction<N>> KeyedHashers<N, H> {
-    /// For the block of a key of at most 64 bytes.
-    pub(super) fn new(key: &[u8]) -> Self
-        requires { length key.now ≤ 64 }
-        ensures block { result.block ≡ filled_up key.now }
-        ensures keyed { result.are_keyed ≡ true }
+    /// For the two blocks of a key, which follow one another.
+    pub(crate) fn new(blocks: &[u8]) -> Self
+        requires { length blocks.now ≡ 128 }
+        ensures { (key : List ℕ) → blocks.now ≡ blocks_over (digest_of H.algorithm) key
+            → AreKeyed H.holds (digest_of H.algorithm) key result.inner result.outer }
     {
-        let block = in_block(key);
+        let (inner, outer) = blocks.split_at(BLOCK);
         KeyedHashers {
-            inner: keyed(&block, INNER_PAD),
-            outer: keyed(&block, OUTER_PAD),
-            length: key.len(),
-            are_keyed: true,
-            block,
+            inner: keyed(inner),
+            outer: keyed(outer),
         }
     }
 
-    /// Puts zeros and hashers that have taken nothing in the place of these.
-    pub(super) fn overwrite(&mut self)
-        ensures { self.new.are_keyed ≡ false }
+    /// Replaces both hashers by such that have taken in nothing.
+    pub(crate) fn overwrite(&mut self)
+        ensures inner { H.holds self.new.inner [] }
+        ensures outer { H.holds self.new.outer [] }
     {
-        *self = KeyedHashers {
-            block: [0; 64],
-            length: 0,
-            are_keyed: false,
-            inner: H::start(),
-            outer: H::start(),
-        };
+        self.inner = H::start();
+        self.outer = H::start();
     }
 
-    /// Whether the hashers have taken in the block of this key.
-    pub(super) fn are_of(&self, key: &[u8]) -> bool
-        ensures { result ≡ true
-            → (self.now.are_keyed ≡ true) × (self.now.block ≡ filled_up key.now) }
-    {
-        self.are_keyed && &self.block[..self.length] == key
-    }
-
-    /// The HMAC of the pieces, joined.
-    pub(super) fn hmac(&self, pieces: &[&[u8]]) -> [u8; N]
-        requires { self.now.are_keyed ≡ true }
-        ensures { (key : List ℕ) → self.now.block ≡ block_of_key (digest_of H.algorithm) key
+    /// The HMAC of the pieces, joined, under the key whose blocks the hashers have taken in.
+    pub(crate) fn hmac(&self, pieces: &[&[u8]]) -> [u8; N]
+        ensures { (key : List ℕ)
+            → AreKeyed H.holds (digest_of H.algorithm) key self.now.inner self.now.outer
             → result ≡ hmac H.algorithm key (concat (map (λ piece. piece.now) pieces.now)) }
     {
         let inner = digest_after(&self.inner, pieces);
         digest_after(&self.outer, &[&inner])
     }
+}
+
+/// The digest of a block and the pieces after it, joined.
+fn digest_with<const N: usize, H: HashFunction<N>>(block: &[u8], pieces: &[&[u8]]) -> [u8; N]
+    ensures { result
+        ≡ digest_of H.algorithm (block.now ++ concat (map (λ piece. piece.now) pieces.now)) }
+{
+    let mut hasher = H::start();
+    hasher.take(block);
+    for piece in pieces {
+        hasher.take(piece);
+    }
+    hasher.finish()
+}
+
+/// The HMAC of the pieces, joined, by the two blocks of a key, which follow one another.
+pub(crate) fn hmac_by<const N: usize, H: HashFunction<N>>(
+    blocks: &[u8],
+    pieces: &[&[u8]],
+) -> [u8; N]
+    requires { length blocks.now ≡ 128 }
+    ensures { (key : List ℕ) → blocks.now ≡ blocks_over (digest_of H.algorithm) key
+        → result ≡ hmac H.algorithm key (concat (map (λ piece. piece.now) pieces.now)) }
+{
+    let (inner_block, outer_block) = blocks.split_at(BLOCK);
+    let inner = digest_with::<N, H>(inner_block, pieces);
+    digest_with::<N, H>(outer_block, &[&inner])
+}
+
+/// The HMAC of the pieces, joined, under a key of any length.
+fn hmac_under<const N: usize, H: HashFunction<N>>(key: &[u8], pieces: &[&[u8]]) -> [u8; N]
+    requires { N ≤ 64 }
+    ensures { result
+        ≡ hmac H.algorithm key.now (concat (map (λ piece. piece.now) pieces.now)) }
+{
+    let block = key_block::<N, H>(key);
+    let inner = digest_with::<N, H>(&padded(&block, INNER_PAD), pieces);
+    digest_with::<N, H>(&padded(&block, OUTER_PAD), &[&inner])
 }
 
 /// HMAC-SHA1 of the pieces, joined, under a key of any length: 20 bytes.
@@ -156,7 +188,7 @@ pub fn hmac_sha1(key: &[u8], pieces: &[&[u8]]) -> [u8; 20]
     ensures { result
         ≡ hmac IntegrityAlgorithm.Sha1 key.now (concat (map (λ piece. piece.now) pieces.now)) }
 {
-    keyed_hashers::<20, Sha1>(key).hmac(pieces)
+    hmac_under::<20, Sha1>(key, pieces)
 }
 
 /// HMAC-SHA256 of the pieces, joined, under a key of any length: 32 bytes.
@@ -167,5 +199,5 @@ pub fn hmac_sha256(key: &[u8], pieces: &[&[u8]]) -> [u8; 32]
     ensures { result
         ≡ hmac IntegrityAlgorithm.Sha256 key.now (concat (map (λ piece. piece.now) pieces.now)) }
 {
-    keyed_hashers::<32, Sha256>(key).hmac(pieces)
+    hmac_under::<32, Sha256>(key, pieces)
 }

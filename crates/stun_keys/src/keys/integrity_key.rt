@@ -1,51 +1,76 @@
-ghost use Rattle.std.specs.Prelude.{◌≡◌};
+ghost use Rattle.std.specs.Prelude.{◌≡◌, ◌≤◌, ◌++◌, length, IfOk, IfErr};
 ghost use Rattle.std.specs.Box.{boxed_slice_items};
-ghost use Rattle.sha1.specs.Sha1.{sha1};
-ghost use Rattle.sha2.specs.Sha256.{sha256};
-ghost use Rattle.stun_keys.specs.Blocks.{digest_of_long};
+ghost use Rattle.stun_keys.specs.Blocks.{key_in, ready_blocks};
+ghost use Rattle.stun_keys.specs.Prepared.{IfPrepared};
 
-use crate::digest::{BLOCK, KeptHmacs};
-use crate::keys::key_digests::KeyDigests;
+use crate::digest::{BothHashers, KeyedHashers, Prepared, push_blocks};
 use crate::keys::secret::SecretBytes;
+use sha1::Sha1;
+use sha2::Sha256;
 use std::alloc::Global;
 use stun_grammar::{IntegrityAlgorithm, StunWriteError};
+
+/// How many bytes the ready blocks take: two for each of the two digests.
+const READY: usize = 256;
 
 /// The key of an HMAC: any number of bytes, and the algorithm that it was made for, if it was made
 /// for one. A key with no algorithm works with both.
 ///
-/// Beside its bytes it keeps memory for two hashers of each digest, which it makes at the first
-/// HMAC by that digest and uses again for each later one. Since an HMAC may write them, two threads
-/// can't share a key (it isn't `Sync`): each takes its own clone.
+/// After its bytes, in the same allocation, a key keeps the blocks with which its HMACs begin, 256
+/// bytes: for each digest the key's block with the inner pad, and with the outer one (RFC 2104,
+/// section 2). So a key that is longer than a block is digested once, when it is made. No call
+/// through `&self` allocates or writes, and threads may share a key (it is `Sync`).
 ///
-/// It owns two blocks of memory, one for its bytes and one for the hashers, and where it is longer
-/// than 64 bytes two more for its digests. All are overwritten before they are freed, and `{:?}`
-/// prints none. What a call copies to the stack isn't overwritten.
+/// A key that makes many HMACs is faster once [`IntegrityKey::prepare`] has been called.
 ///
-/// Two keys are equal where their bytes are equal, whatever they were made for.
+/// All memory that a key owns is overwritten before it is freed, and `{:?}` prints none of it. What
+/// a call copies to the stack isn't overwritten.
+///
+/// Two keys are equal if their bytes are equal, whatever they were made for.
 #[derive(Drop)]
 #[derive_where(Debug)]
 pub struct IntegrityKey {
     algorithm: Option<IntegrityAlgorithm>,
     bytes: SecretBytes,
     #[derive_where(skip)]
-    digests: KeyDigests,
-    #[derive_where(skip)]
-    kept: KeptHmacs,
-    ghost sha1_digested: { boxed_slice_items digests.sha1.bytes
-        ≡ digest_of_long sha1 (boxed_slice_items bytes.bytes) },
-    ghost sha256_digested: { boxed_slice_items digests.sha256.bytes
-        ≡ digest_of_long sha256 (boxed_slice_items bytes.bytes) },
+    prepared: Prepared,
+    ghost long: { 256 ≤ length (boxed_slice_items bytes.bytes) },
+    ghost ready: { boxed_slice_items bytes.bytes
+        ≡ key_in (boxed_slice_items bytes.bytes)
+        ++ ready_blocks (key_in (boxed_slice_items bytes.bytes)) },
+    ghost prepared_is: { ∥ IfPrepared (key_in (boxed_slice_items bytes.bytes)) prepared.both ∥₁ },
+}
+
+/// A key's bytes and its ready blocks, in memory that `alloc` gives.
+fn with_blocks(alloc: Global, key: &[u8]) -> Result<SecretBytes, StunWriteError>
+    ensures ok { IfOk result
+        (λ made. boxed_slice_items made.bytes ≡ key.now ++ ready_blocks key.now) }
+    ensures err { IfErr result (λ e. e ≡ StunWriteError.OutOfMemory) }
+{
+    let mut secret = Vec::with_capacity(alloc, key.len() + READY).map_err(
+        |_| StunWriteError::OutOfMemory,
+    )?;
+    secret
+        .extend_from_slice(key)
+        .map_err(|_| StunWriteError::OutOfMemory)?;
+    push_blocks::<20, Sha1>(&mut secret, key)?;
+    push_blocks::<32, Sha256>(&mut secret, key)?;
+    Ok(SecretBytes::new(secret))
 }
 
 impl IntegrityKey {
     ghost use Rattle.std.specs.Prelude.{◌≡◌, ◌≤◌, None, IfOk, IfErr, length, map};
     ghost use Rattle.std.specs.List.{concat};
-    ghost use Rattle.stun_grammar.specs.Hmac.{hmac, block_of_key};
-    ghost use Rattle.stun_keys.specs.Blocks.{filled_up};
+    ghost use Rattle.sha1.specs.Sha1.{sha1};
+    ghost use Rattle.sha2.specs.Sha256.{sha256};
+    ghost use Rattle.stun_grammar.specs.Hmac.{hmac};
+    ghost use Rattle.stun_keys.specs.Blocks.{blocks_over, ready_blocks};
+    ghost use Rattle.stun_keys.specs.Prepared.{ArePrepared};
     ghost use Rattle.stun_keys.specs.Keys.{key_bytes, key_algorithm, serves, IsKey};
 
-    /// The key with these bytes, made for an algorithm or with none. The bytes are copied into
-    /// memory that `alloc` gives.
+    /// The key with these bytes, made for an algorithm or with none. The bytes are copied, and the
+    /// blocks of its HMACs are made, in one allocation by `alloc`. For a key that makes more than two
+    /// HMACs, [`IntegrityKey::prepare`] pays.
     ///
     /// A server that keeps no passwords makes the keys of long-term credentials by it: for `Sha1`
     /// of the MD5 of `username:realm:password`, 16 bytes, and for `Sha256` of its SHA-256, 32 bytes
@@ -64,14 +89,48 @@ impl IntegrityKey {
     {
         Ok(IntegrityKey {
             algorithm,
-            bytes: SecretBytes::copied(alloc, bytes)?,
-            digests: KeyDigests::of(alloc, bytes)?,
-            kept: KeptHmacs::new(alloc)?,
+            bytes: with_blocks(alloc, bytes)?,
+            prepared: Prepared::none(),
         })
     }
 
-    /// The same key, in memory that `alloc` gives. Its bytes are copied, and the hashers that it
-    /// may keep by then aren't.
+    /// Prepares the key for many HMACs by the algorithms that it serves, in one allocation by
+    /// `alloc`: it keeps hashers that have taken in its blocks, so that from then on an HMAC
+    /// compresses two blocks fewer, which is a third of the time of a short one. Preparing itself
+    /// compresses two blocks for each algorithm, so it pays for a key that makes more than two HMACs.
+    /// A key that is prepared already allocates nothing.
+    ///
+    /// The key stays the same, and so does every HMAC.
+    ///
+    /// # Errors
+    ///
+    /// `OutOfMemory` alone. The key works as before.
+    pub fn prepare(&mut self, alloc: Global) -> Result<(), StunWriteError>
+        ensures key { IsKey (key_algorithm self.old) (key_bytes self.old) self.new }
+        ensures err { IfErr result (λ e. e ≡ StunWriteError.OutOfMemory) }
+    {
+        let sha1 = self.serves(IntegrityAlgorithm::Sha1);
+        let sha256 = self.serves(IntegrityAlgorithm::Sha256);
+        if self.prepared.are_there(sha1, sha256) {
+            return Ok(());
+        }
+        self.prepared = Prepared::of(alloc, self.hashers(sha1, sha256))?;
+        Ok(())
+    }
+
+    /// The hashers of the key's HMACs, by the algorithms that are wanted.
+    fn hashers(&self, sha1: bool, sha256: bool) -> BothHashers
+        ensures { ArePrepared (key_bytes self.now) result }
+    {
+        let sha1_blocks = self.sha1_blocks();
+        let sha256_blocks = self.sha256_blocks();
+        BothHashers {
+            sha1: sha1.then(|| KeyedHashers::new(sha1_blocks)),
+            sha256: sha256.then(|| KeyedHashers::new(sha256_blocks)),
+        }
+    }
+
+    /// The same key, in memory from `alloc`. Its bytes are copied; the copy isn't prepared.
     ///
     /// # Errors
     ///
@@ -87,7 +146,7 @@ impl IntegrityKey {
     pub fn as_bytes(&self) -> &[u8]
         ensures { result.now ≡ key_bytes self.now }
     {
-        self.bytes.as_bytes()
+        self.parts().0
     }
 
     /// The algorithm that the key was made for, or `None` for a key with no algorithm.
@@ -114,8 +173,7 @@ impl IntegrityKey {
         IntegrityKey {
             algorithm,
             bytes: self.bytes,
-            digests: self.digests,
-            kept: self.kept,
+            prepared: self.prepared,
         }
     }
 
@@ -131,29 +189,32 @@ impl IntegrityKey {
         }
     }
 
-    /// What an HMAC-SHA1 under the key takes in its place: its digest, where it is longer than a
-    /// block, or the key itself.
-    fn for_sha1(&self) -> &[u8]
-        ensures block { filled_up result.now ≡ block_of_key sha1 (key_bytes self.now) }
-        ensures length { length result.now ≤ 64 }
+    /// The bytes, and the ready blocks behind them.
+    fn parts(&self) -> (&[u8], &[u8])
+        ensures key { result.0.now ≡ key_bytes self.now }
+        ensures ready { result.1.now ≡ ready_blocks (key_bytes self.now) }
+        ensures length { length result.1.now ≡ 256 }
     {
-        if self.as_bytes().len() > BLOCK {
-            self.digests.sha1()
-        } else {
-            self.as_bytes()
-        }
+        let secret = self.bytes.as_bytes();
+        secret.split_at(secret.len() - READY)
     }
 
-    /// What an HMAC-SHA256 under the key takes in its place.
-    fn for_sha256(&self) -> &[u8]
-        ensures block { filled_up result.now ≡ block_of_key sha256 (key_bytes self.now) }
-        ensures length { length result.now ≤ 64 }
+    /// The two blocks with which an HMAC-SHA1 under the key begins.
+    fn sha1_blocks(&self) -> &[u8]
+        ensures blocks { result.now ≡ blocks_over sha1 (key_bytes self.now) }
+        ensures length { length result.now ≡ 128 }
     {
-        if self.as_bytes().len() > BLOCK {
-            self.digests.sha256()
-        } else {
-            self.as_bytes()
-        }
+        let (sha1, _) = self.parts().1.split_at(READY / 2);
+        sha1
+    }
+
+    /// The two blocks with which an HMAC-SHA256 under the key begins.
+    fn sha256_blocks(&self) -> &[u8]
+        ensures blocks { result.now ≡ blocks_over sha256 (key_bytes self.now) }
+        ensures length { length result.now ≡ 128 }
+    {
+        let (_, sha256) = self.parts().1.split_at(READY / 2);
+        sha256
     }
 
     /// HMAC-SHA1 of the pieces, joined, under the key: 20 bytes (RFC 2104). The algorithm that the
@@ -162,7 +223,7 @@ impl IntegrityKey {
         ensures { result ≡ hmac IntegrityAlgorithm.Sha1 (key_bytes self.now)
             (concat (map (λ piece. piece.now) pieces.now)) }
     {
-        self.kept.hmac_sha1(self.for_sha1(), pieces)
+        self.prepared.hmac_sha1(self.sha1_blocks(), pieces)
     }
 
     /// HMAC-SHA256 of the pieces, joined, under the key: 32 bytes (RFC 2104). The algorithm that
@@ -171,7 +232,7 @@ impl IntegrityKey {
         ensures { result ≡ hmac IntegrityAlgorithm.Sha256 (key_bytes self.now)
             (concat (map (λ piece. piece.now) pieces.now)) }
     {
-        self.kept.hmac_sha256(self.for_sha256(), pieces)
+        self.prepared.hmac_sha256(self.sha256_blocks(), pieces)
     }
 }
 

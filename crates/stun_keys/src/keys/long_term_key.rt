@@ -86,9 +86,12 @@ impl LongTermKeyCredentials {
         self.realm.as_str()
     }
 
-    /// The key for an algorithm, in memory that `alloc` gives: for `Sha1` the MD5 of
+    /// The key for an algorithm, in memory from `alloc`: for `Sha1` the MD5 of
     /// `username:realm:password`, 16 bytes, and for `Sha256` its SHA-256, 32 bytes (RFC 8489,
     /// sections 9.2.2 and 18.5.1). The three texts are not copied.
+    ///
+    /// One allocation. A key that makes more than two HMACs is faster after
+    /// [`IntegrityKey::prepare`].
     ///
     /// # Errors
     ///

@@ -81,13 +81,13 @@ pub struct SecretBytes {
 }
 
 impl SecretBytes {
-    /// A copy of bytes, in memory that `alloc` gives.
-    pub(crate) fn copied(alloc: Global, bytes: &[u8]) -> Result<Self, StunWriteError>
-        ensures ok { IfOk result (λ copy. boxed_slice_items copy.bytes ≡ bytes.now) }
-        ensures err { IfErr result (λ e. e ≡ StunWriteError.OutOfMemory) }
+    /// The bytes of a vector, whose memory it owns from then on.
+    pub(crate) fn new(bytes: Vec<u8>) -> Self
+        ensures { boxed_slice_items result.bytes ≡ bytes.items }
     {
-        let bytes = BoxedSlice::from_slice(alloc, bytes).map_err(|_| StunWriteError::OutOfMemory)?;
-        Ok(SecretBytes { bytes })
+        SecretBytes {
+            bytes: bytes.into_boxed_slice(),
+        }
     }
 
     /// The bytes.

@@ -48,8 +48,11 @@ impl ShortTermCredentials {
         self.password.as_str()
     }
 
-    /// The key, in memory that `alloc` gives: the bytes of the password. It has no algorithm, and
-    /// so works with both (RFC 8489, section 9.1.1).
+    /// The key, in memory from `alloc`: the bytes of the password. It has no algorithm, and so works
+    /// with both (RFC 8489, section 9.1.1).
+    ///
+    /// One allocation. A key that makes more than two HMACs is faster after
+    /// [`IntegrityKey::prepare`].
     ///
     /// # Errors
     ///
