@@ -1,13 +1,12 @@
 -- Protocols and ChannelData as C sees them (RFC 7983, section 7, and RFC 8656, section 12.4).
 use Rattle.std.specs.Prelude.{◌≡◌, ℕ, ◌+◌, ◌-◌, Bool, List, ◌++◌, length, drop, replicate, Option, None, Some, MatchOption, nat_lt, if◌then◌else◌}
 use Rattle.stun_grammar.specs.Numbers.{be16, padded_length}
-use Rattle.turn_attrs.specs.declared.protocol.Protocol.{Protocol}
-use Rattle.turn_attrs.specs.declared.protocol.Protocol.TheVariants.{Stun, Zrtp, Dtls, TurnChannel, Quic, Rtp}
+use Rattle.turn_attrs.specs.declared.protocols.Protocol.{Protocol}
+use Rattle.turn_attrs.specs.declared.protocols.Protocol.TheVariants.{Stun, Zrtp, Dtls, TurnChannel, Quic, Rtp}
 use Rattle.turn_attrs.specs.declared.channel_data.ChannelDataError.{ChannelDataError}
 use Rattle.turn_attrs.specs.declared.channel_data.ChannelDataError.TheVariants.{NotChannelData, Truncated, TooLarge}
-use Rattle.turn_attrs.specs.Channels.{begin_fault, channel_field, data_length}
+use Rattle.turn_attrs.specs.Channels.{begin_fault, channel_field, data_length, is_channel}
 use Rattle.turn_attrs.specs.ChannelMessages.{channel_fault}
-use Rattle.turn_attrs.specs.Turn.{is_channel}
 use Rattle.stun_types_c.specs.declared.answer.Answer.{Answer}
 use Rattle.stun_types_c.specs.declared.channels.ChannelMessage.{ChannelMessage}
 use Rattle.stun_types_c.specs.Codes.{OK, NOT_STUN, TRUNCATED, TOO_LARGE, TOO_SMALL, OUT_OF_RANGE}

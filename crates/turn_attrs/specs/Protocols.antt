@@ -1,7 +1,7 @@
 -- Protocols by the first byte of a packet (RFC 7983, section 7, and RFC 9443, section 3).
 use Rattle.std.specs.Prelude.{ℕ, Option, Some, None, nat_lt, if◌then◌else◌}
-use Rattle.turn_attrs.specs.declared.protocol.Protocol.{Protocol}
-use Rattle.turn_attrs.specs.declared.protocol.Protocol.TheVariants.{Stun, Zrtp, Dtls, TurnChannel, Quic, Rtp}
+use Rattle.turn_attrs.specs.declared.protocols.Protocol.{Protocol}
+use Rattle.turn_attrs.specs.declared.protocols.Protocol.TheVariants.{Stun, Zrtp, Dtls, TurnChannel, Quic, Rtp}
 
 abbrev pub protocol : ℕ → Option Protocol
 protocol first =

@@ -1,21 +1,19 @@
 -- Attributes of TURN (RFC 8656, section 18; RFC 6062, section 6.2; RFC 7635, section 6; RFC 8016,
--- section 3.3).
-use Rattle.std.specs.Prelude.{◌≡◌, ℕ, ◌+◌, ◌*◌, ◌/◌, ◌%◌, ◌^◌, Bool, false, ◌&&◌, List, ◌∷◌, ◌++◌, codes, length, drop, slice_index, Option, Some, None, Result, nat_lt, nat_le, ◌==◌, if◌then◌else◌}
-use Rattle.std.specs.Fmt.{decimal, digits}
+-- section 3.3). LIFETIME, XOR-PEER-ADDRESS and DATA are defined in `turn_basics`, and channels in
+-- `Channels`.
+use Rattle.std.specs.Prelude.{◌≡◌, ℕ, ◌+◌, ◌*◌, ◌/◌, ◌%◌, ◌^◌, Bool, List, ◌∷◌, ◌++◌, codes, length, drop, slice_index, Option, Some, None, Result, nat_lt, nat_le, ◌==◌, if◌then◌else◌}
+use Rattle.std.specs.Fmt.{decimal}
 use Rattle.std.specs.Option.{option_or}
 use Rattle.stun_grammar.specs.declared.error.StunParseError.{StunParseError}
 use Rattle.stun_grammar.specs.declared.error.StunParseError.TheVariants.{Truncated, InvalidAttributeData}
-use Rattle.stun_grammar.specs.Lengths.{exact_fault}
-use Rattle.stun_grammar.specs.Numbers.{number}
 use Rattle.stun_base.specs.declared.transport.AddressFamily.{AddressFamily}
 use Rattle.stun_base.specs.declared.transport.AddressFamily.TheVariants.{IPV4, IPV6}
-use Rattle.stun_attrs.specs.Reading.{Reads, ReadsInMemory}
+use Rattle.stun_attrs.specs.Reading.{ReadsInMemory}
 use Rattle.stun_values.specs.ErrorValues.{error_value, error_fault, told_code}
 use Rattle.stun_attributes.specs.declared.error_code.ErrorCode.{ErrorCode}
 use Rattle.stun_attributes.specs.ErrorCodes.{error_code, error_reason, IsError}
 use Rattle.stun_attributes.specs.Texts.{text_bytes}
 use Rattle.stun_values.specs.TextValues.{text_fault}
-use Rattle.turn_attrs.specs.declared.lifetime.Lifetime.{Lifetime}
 use Rattle.turn_attrs.specs.declared.icmp.IcmpError.{IcmpError}
 use Rattle.turn_attrs.specs.declared.family.OnlyIpv6.{OnlyIpv6}
 use Rattle.turn_attrs.specs.declared.address_error_code.AddressErrorCode.{AddressErrorCode}
@@ -25,15 +23,6 @@ use Rattle.turn_attrs.specs.declared.third_party.ThirdPartyAuthorization.{ThirdP
 
 abbrev pub CHANNEL_NUMBER : ℕ
 CHANNEL_NUMBER = 0x000C
-
-abbrev pub LIFETIME : ℕ
-LIFETIME = 0x000D
-
-abbrev pub XOR_PEER_ADDRESS : ℕ
-XOR_PEER_ADDRESS = 0x0012
-
-abbrev pub DATA : ℕ
-DATA = 0x0013
 
 abbrev pub XOR_RELAYED_ADDRESS : ℕ
 XOR_RELAYED_ADDRESS = 0x0016
@@ -73,34 +62,6 @@ THIRD_PARTY_AUTHORIZATION = 0x802E
 
 abbrev pub MOBILITY_TICKET : ℕ
 MOBILITY_TICKET = 0x8030
-
--- ---- LIFETIME (RFC 8656, section 18.2): seconds, in four bytes
-
-abbrev pub seconds_of : Lifetime → ℕ
-seconds_of lifetime = lifetime.seconds
-
--- what reading a value answers: four bytes are asked for
-abbrev pub ReadsLifetime : List ℕ → Result Lifetime StunParseError → Type 0
-ReadsLifetime value =
-    Reads (exact_fault 4 (length value)) (λ read. seconds_of read ≡ number value)
-
--- ---- CHANNEL-NUMBER (sections 12 and 18.1): the high half of four bytes
-
--- whether a channel may have this number
-abbrev pub is_channel : ℕ → Bool
-is_channel n = nat_le 0x4000 n && nat_le n 0x4FFF
-
-abbrev pub channel_of : ℕ → Option ℕ
-channel_of n = if is_channel n then Some n else None
-
-abbrev pub channel_number : ℕ → ℕ
-channel_number channel = 2 ^ 16 * channel
-
-abbrev pub channel_in : ℕ → Option ℕ
-channel_in n = channel_of (n / 2 ^ 16)
-
-abbrev pub channel_text : ℕ → List ℕ
-channel_text channel = codes "0x" ++ digits 16 false channel
 
 -- ---- REQUESTED-ADDRESS-FAMILY (section 18.6) and ADDITIONAL-ADDRESS-FAMILY (section 18.11): the
 -- highest of four bytes

@@ -29,50 +29,6 @@ impl AttributeKind for ChannelNumberKind {
     }
 }
 
-/// XOR-PEER-ADDRESS: the address of a peer as the server sees it (RFC 8656, section 18.3). The
-/// value is that of an XOR-MAPPED-ADDRESS, 8 bytes for IPv4 and 20 for IPv6.
-pub type XorPeerAddress = XorAddressAttribute<XorPeerAddressKind>;
-
-/// The kind of [`XorPeerAddress`].
-pub enum XorPeerAddressKind {}
-
-impl AttributeKind for XorPeerAddressKind {
-    ghost use Rattle.std.specs.Prelude.{codes};
-    ghost use Rattle.turn_attrs.specs.Turn.{XOR_PEER_ADDRESS};
-
-    ghost NUMBER = { XOR_PEER_ADDRESS };
-
-    ghost NAME = { codes "XOR-PEER-ADDRESS" };
-
-    const NUMBER: u16 = 0x0012;
-
-    fn name() -> &'static str {
-        "XOR-PEER-ADDRESS"
-    }
-}
-
-/// DATA: what a peer is sent, or has sent (RFC 8656, section 18.4). The value is any bytes, at most
-/// 65535, which are borrowed or owned.
-pub type PeerData<'a> = BytesAttribute<DataKind, ShortBytes<'a>>;
-
-/// The kind of [`PeerData`].
-pub enum DataKind {}
-
-impl AttributeKind for DataKind {
-    ghost use Rattle.std.specs.Prelude.{codes};
-    ghost use Rattle.turn_attrs.specs.Turn.{DATA};
-
-    ghost NUMBER = { DATA };
-
-    ghost NAME = { codes "DATA" };
-
-    const NUMBER: u16 = 0x0013;
-
-    fn name() -> &'static str {
-        "DATA"
-    }
-}
-
 /// XOR-RELAYED-ADDRESS: the address that the server has allocated (RFC 8656, section 18.5). The
 /// value is that of an XOR-MAPPED-ADDRESS, 8 bytes for IPv4 and 20 for IPv6.
 pub type XorRelayedAddress = XorAddressAttribute<XorRelayedAddressKind>;

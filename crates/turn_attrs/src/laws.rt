@@ -10,7 +10,8 @@ ghost use Rattle.stun_attributes.specs.ErrorCodes.{error_code, error_reason, IsE
 ghost use Rattle.turn_attrs.specs.declared.address_error_code.AddressErrorCode.{AddressErrorCode};
 ghost use Rattle.turn_attrs.specs.declared.family.OnlyIpv6.{OnlyIpv6};
 ghost use Rattle.turn_attrs.specs.declared.icmp.IcmpError.{IcmpError};
-ghost use Rattle.turn_attrs.specs.Turn.{address_error_value, channel_in, channel_number, failed_error, failed_family, family_in, family_number, icmp_in, icmp_number, ipv6_in, ipv6_number, protocol_in, protocol_number, reserve_in, reserve_number, ReadsAddressError};
+ghost use Rattle.turn_attrs.specs.Channels.{channel_in, channel_number};
+ghost use Rattle.turn_attrs.specs.Turn.{address_error_value, failed_error, failed_family, family_in, family_number, icmp_in, icmp_number, ipv6_in, ipv6_number, protocol_in, protocol_number, reserve_in, reserve_number, ReadsAddressError};
 
 /// The number of a channel, a family, a flag, a protocol and an ICMP error holds it.
 pub fn fields_are_held()

@@ -1,41 +1,40 @@
 //! Attributes, methods and error codes of TURN (RFC 8656), which relays packets between a client
 //! and its peers, with those of its extensions: TCP (RFC 6062), third-party authorization (RFC
 //! 7635) and mobility (RFC 8016); ChannelData messages; and which protocol a packet is of. They
-//! stand on the public items of `stun_types` alone.
+//! use the public items of `stun_types` alone. LIFETIME, XOR-PEER-ADDRESS and DATA come from
+//! `turn_basics`.
 #![tactic(auto)]
 
 mod address_error_code;
-mod channel;
 mod channel_data;
+mod channels;
 pub mod error_codes;
 mod family;
 mod icmp;
 mod kinds;
 mod laws;
-mod lifetime;
 pub mod methods;
-mod protocol;
+mod protocols;
 mod registering;
 mod third_party;
 
 pub use address_error_code::AddressErrorCode;
-pub use channel::Channel;
 pub use channel_data::{ChannelData, ChannelDataError, channel_data_length};
+pub use channels::Channel;
 pub use family::OnlyIpv6;
 pub use icmp::IcmpError;
 pub use kinds::{
     AccessToken, AccessTokenKind, AdditionalAddressFamily, AdditionalAddressFamilyKind,
-    ChannelNumber, ChannelNumberKind, ConnectionId, ConnectionIdKind, DataKind, DontFragment,
+    ChannelNumber, ChannelNumberKind, ConnectionId, ConnectionIdKind, DontFragment,
     DontFragmentKind, EvenPort, EvenPortKind, Icmp, IcmpKind, MobilityTicket, MobilityTicketKind,
-    PeerData, RequestedAddressFamily, RequestedAddressFamilyKind, RequestedTransport,
-    RequestedTransportKind, ReservationToken, ReservationTokenKind, XorPeerAddress,
-    XorPeerAddressKind, XorRelayedAddress, XorRelayedAddressKind,
+    RequestedAddressFamily, RequestedAddressFamilyKind, RequestedTransport, RequestedTransportKind,
+    ReservationToken, ReservationTokenKind, XorRelayedAddress, XorRelayedAddressKind,
 };
 pub use laws::{address_error_is_read_back, fields_are_held};
-pub use lifetime::Lifetime;
-pub use protocol::{Protocol, protocol_of, stun_begins_low};
+pub use protocols::{Protocol, protocol_of, stun_begins_low};
 use stun_types::attribute::AttributeType;
 pub use third_party::ThirdPartyAuthorization;
+pub use turn_basics::{DataKind, Lifetime, PeerData, XorPeerAddress, XorPeerAddressKind};
 
 /// The types of this crate, for `Message::check_attribute_types`.
 pub const KNOWN: [AttributeType; 17] = [

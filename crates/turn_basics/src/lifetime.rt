@@ -14,7 +14,7 @@ pub struct Lifetime {
 
 impl Lifetime {
     ghost use Rattle.std.specs.Prelude.{◌≡◌};
-    ghost use Rattle.turn_attrs.specs.Turn.{seconds_of};
+    ghost use Rattle.turn_basics.specs.TurnBasics.{seconds_of};
 
     /// The attribute of so many seconds.
     pub fn new(seconds: u32) -> Self
@@ -32,7 +32,7 @@ impl Lifetime {
 }
 
 impl TypedAttribute for Lifetime {
-    ghost use Rattle.turn_attrs.specs.Turn.{LIFETIME};
+    ghost use Rattle.turn_basics.specs.TurnBasics.{LIFETIME};
 
     ghost NUMBER = { LIFETIME };
 
@@ -41,7 +41,7 @@ impl TypedAttribute for Lifetime {
 
 impl EncodeValue for Lifetime {
     ghost use Rattle.stun_grammar.specs.Numbers.{be32};
-    ghost use Rattle.turn_attrs.specs.Turn.{seconds_of};
+    ghost use Rattle.turn_basics.specs.TurnBasics.{seconds_of};
 
     ghost bytes = { λ lifetime. be32 (seconds_of lifetime) };
 
@@ -61,7 +61,7 @@ impl EncodeValue for Lifetime {
 /// Reading refuses a value of another length than four bytes as
 /// `Truncated { expected: 4, actual }` or `TooLarge { expected: 4, actual }`. It takes no memory.
 impl ReadValue for Lifetime {
-    ghost use Rattle.turn_attrs.specs.Turn.{ReadsLifetime};
+    ghost use Rattle.turn_basics.specs.TurnBasics.{ReadsLifetime};
 
     ghost reads_value = { ReadsLifetime };
 
@@ -89,7 +89,7 @@ impl PrintText for Lifetime {
 impl fmt::Display for Lifetime {
     ghost use Rattle.std.specs.Prelude.{Some, codes, ◌++◌};
     ghost use Rattle.std.specs.Fmt.{decimal};
-    ghost use Rattle.turn_attrs.specs.Turn.{seconds_of};
+    ghost use Rattle.turn_basics.specs.TurnBasics.{seconds_of};
 
     ghost output = { λ lifetime. Some (codes "LIFETIME: " ++ decimal (seconds_of lifetime)) };
 

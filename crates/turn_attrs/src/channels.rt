@@ -1,3 +1,5 @@
+//! Channels of TURN (RFC 8656, section 12), and CHANNEL-NUMBER, which holds one.
+
 use crate::ChannelNumberKind;
 use std::fmt;
 use std::marker::Model;
@@ -22,7 +24,7 @@ impl Model for Channel {
 
 impl Channel {
     ghost use Rattle.std.specs.Prelude.{◌≡◌, ◌≤◌, ◌+◌, ◌*◌};
-    ghost use Rattle.turn_attrs.specs.Turn.{channel_of};
+    ghost use Rattle.turn_attrs.specs.Channels.{channel_of};
 
     /// The channel of this number; `None` where it is below 0x4000 or above 0x4FFF.
     pub fn new(number: u16) -> Option<Channel>
@@ -69,7 +71,7 @@ impl PrintText for Channel {
 /// The number in hexadecimal: `0x4001`.
 impl fmt::Display for Channel {
     ghost use Rattle.std.specs.Prelude.{Some};
-    ghost use Rattle.turn_attrs.specs.Turn.{channel_text};
+    ghost use Rattle.turn_attrs.specs.Channels.{channel_text};
 
     ghost output = { λ channel. Some (channel_text channel) };
 
@@ -79,7 +81,7 @@ impl fmt::Display for Channel {
 }
 
 impl FieldsKind<Channel> for ChannelNumberKind {
-    ghost use Rattle.turn_attrs.specs.Turn.{channel_in, channel_number};
+    ghost use Rattle.turn_attrs.specs.Channels.{channel_in, channel_number};
 
     type Number = u32;
 
