@@ -15,6 +15,10 @@ guards : (by other : Protection) (signed : Signed) (d : List ℕ) → HasSameKey
 guards Unprotected other signed d is = rw is refl
 guards (ShortTerm key) (ShortTerm kept) signed d is = rw (is.algorithm_is, is.bytes_are) refl
 guards (LongTerm key) (LongTerm kept) signed d is = rw (is.algorithm_is, is.bytes_are) refl
+guards (ShortTerm key) Unprotected signed d is = elim is [ ]
+guards (ShortTerm key) (LongTerm kept) signed d is = elim is [ ]
+guards (LongTerm key) Unprotected signed d is = elim is [ ]
+guards (LongTerm key) (ShortTerm kept) signed d is = elim is [ ]
 
 pub hears_the_same : (terms other : Terms) (course : Course) (understood : List AttributeType) (d : List ℕ) → AreSameTerms terms other → heard other course understood d ≡ heard terms course understood d
 hears_the_same terms other course understood d same =

@@ -44,7 +44,6 @@ pub fn first_poll_sends()
 {}
 
 /// Preparing a transaction's key changes nothing of what received bytes are for it.
-#[tactic(auto, using(crate::proofs::PreparingLemmas::hears_the_same))]
 pub fn preparing_changes_nothing()
     ensures { (terms other : Terms) (course : Course) (understood : List AttributeType)
         (d : List ℕ) → AreSameTerms terms other

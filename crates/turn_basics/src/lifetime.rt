@@ -74,7 +74,7 @@ impl ReadValue for Lifetime {
 impl PrintText for Lifetime {
     ghost use Rattle.std.specs.Prelude.{codes, ◌++◌};
     ghost use Rattle.std.specs.Fmt.{decimal};
-    ghost use Rattle.turn_attrs.specs.Turn.{seconds_of};
+    ghost use Rattle.turn_basics.specs.TurnBasics.{seconds_of};
 
     ghost text = { λ lifetime. codes "LIFETIME: " ++ decimal (seconds_of lifetime) };
 
