@@ -238,12 +238,7 @@ fn hmac_behind(message: &[u8], key: &IntegrityKey, algorithm: IntegrityAlgorithm
 
 /// Computes `rounds` times the HMAC that an integrity attribute of an algorithm holds after a message,
 /// and returns the sum of their first four bytes, each as one number.
-fn hmac_sum(
-    message: &[u8],
-    key: &IntegrityKey,
-    algorithm: IntegrityAlgorithm,
-    rounds: u64,
-) -> u64
+fn hmac_sum(message: &[u8], key: &IntegrityKey, algorithm: IntegrityAlgorithm, rounds: u64) -> u64
     requires { 20 ≤ length message.now }
     ensures { result ≡ (rounds * hmac_number algorithm (key_bytes key.now) message.now) % 2 ^ 64 }
 {

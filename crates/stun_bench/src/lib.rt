@@ -9,8 +9,7 @@ mod writing;
 
 pub use keys::{
     stun_bench_hmac, stun_bench_hmac_once, stun_bench_hmac_unprepared, stun_bench_long_key,
-    stun_bench_receive, stun_bench_short_key,
-    stun_bench_validate, stun_bench_validate_credentials,
+    stun_bench_receive, stun_bench_short_key, stun_bench_validate, stun_bench_validate_credentials,
 };
 pub use reading::{
     stun_bench_crc, stun_bench_find, stun_bench_iterate, stun_bench_parse, stun_bench_print,

@@ -49,11 +49,6 @@ key_found secret key is = ap key_in is ∙ key_before key
 pub blocks_found : (secret key : List ℕ) → secret ≡ key ++ ready_blocks key → secret ≡ key_in secret ++ ready_blocks (key_in secret)
 blocks_found secret key is = is ∙ ap (λ (k : List ℕ). k ++ ready_blocks k) (sym (key_found secret key is))
 
-pub behind : (secret : List ℕ) → 256 ≤ length secret → secret ≡ key_in secret ++ ready_blocks (key_in secret) → drop (length secret - 256) secret ≡ ready_blocks (key_in secret)
-behind secret long is =
-    ap (drop (length secret - 256)) is
-    ∙ drop_at (key_in secret) (ready_blocks (key_in secret)) (length secret - 256) (omega (arith, ap length is, length-append (key_in secret) (ready_blocks (key_in secret)), ready_length (key_in secret)))
-
 pub of_sha1 : (ready key : List ℕ) → ready ≡ ready_blocks key → take 128 ready ≡ blocks_over sha1 key
 of_sha1 ready key is = ap (take 128) is ∙ take_at (blocks_over sha1 key) (blocks_over sha256 key) 128 (blocks_length Sha1 key)
 

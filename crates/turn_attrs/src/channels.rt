@@ -57,7 +57,7 @@ impl Channel {
 }
 
 impl PrintText for Channel {
-    ghost use Rattle.turn_attrs.specs.Turn.{channel_text};
+    ghost use Rattle.turn_attrs.specs.Channels.{channel_text};
 
     ghost text = { channel_text };
 

@@ -2,8 +2,9 @@
 //! XOR-PEER-ADDRESS and DATA (RFC 8656, section 18).
 //!
 //! The code uses the public items of `stun_types` alone. Contracts also name definitions, and the
-//! language has a crate list each library that it names: so `stun_grammar` stands in the line of
-//! this crate. `turn_attrs` has these attributes at its own paths, with all others.
+//! proof of a printed text a lemma, and the language has a crate list each library that it names: so
+//! `stun_grammar` and `stun_text` are in the line of this crate. `turn_attrs` has these attributes at
+//! its own paths, with all others.
 #![tactic(auto)]
 
 mod kinds;

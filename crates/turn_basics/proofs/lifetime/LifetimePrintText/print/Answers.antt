@@ -1,7 +1,7 @@
 use Rattle.std.proofs.Common.{rules, arith}
 use Rattle.std.proofs.lemmas.Grind.{common_steps}
 use Rattle.stun_text.proofs.Joining.{both, spelled_so}
-use Rattle.turn_attrs.proofs.lifetime.LifetimePrintText.print.Goals as goal
+use Rattle.turn_basics.proofs.lifetime.LifetimePrintText.print.Goals as goal
 
 pub returns : goal.returns
 returns g c =
