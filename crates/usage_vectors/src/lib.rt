@@ -1,9 +1,9 @@
-//! The definitions of authentication, of ICE and of TURN, checked against
+//! The definitions of authentication, of a client's transaction, of ICE and of TURN, checked against
 //! numbers from outside this repository. The functions do nothing: the prover computes what their
 //! contracts state.
 #![tactic(auto)]
 
-ghost use Rattle.std.specs.Prelude.{◌≡◌, true, false, [], ◌∷◌, ◌++◌, codes, map, slice_range, replicate, None, Some};
+ghost use Rattle.std.specs.Prelude.{◌≡◌, ◌-◌, true, false, [], ◌∷◌, ◌++◌, codes, map, slice_range, replicate, None, Some};
 ghost use Rattle.stun_grammar.specs.declared.error.StunWriteError.TheVariants.{OutOfRange};
 ghost use Rattle.stun_grammar.specs.AttributeTypes.{SOFTWARE, USERNAME, MESSAGE_INTEGRITY, FINGERPRINT};
 ghost use Rattle.stun_grammar.specs.Showing.{shown};
@@ -14,6 +14,7 @@ ghost use Rattle.standard_vectors.specs.Parameters.{user_name, realm, user_hash 
 ghost use Rattle.standard_vectors.specs.Right.{IsRead};
 ghost use Rattle.stun_integrity.specs.Userhash.{user_hash};
 ghost use Rattle.stun_authentication.specs.Cookies.{security_features, cookie};
+ghost use Rattle.stun_transactions.specs.Rows.{moments, row_end, row_wait};
 ghost use Rattle.ice_attrs.specs.Ice.{PRIORITY, USE_CANDIDATE, ICE_CONTROLLED, ICE_CONTROLLING, candidate_priority, priority_fault};
 ghost use Rattle.turn_attrs.specs.declared.channel_data.ChannelDataError.TheVariants.{NotChannelData, Truncated, TooLarge};
 ghost use Rattle.turn_attrs.specs.declared.protocol.Protocol.TheVariants.{Stun, Zrtp, Dtls, TurnChannel, Rtp};
@@ -22,6 +23,16 @@ ghost use Rattle.turn_attrs.specs.Channels.{channel_field, data_length};
 ghost use Rattle.turn_attrs.specs.ChannelMessages.{channel_fault};
 ghost use Rattle.turn_attrs.specs.Protocols.{protocol};
 ghost use Rattle.usage_vectors.specs.TurnMessages.{allocate_success, allocate_success_id, allocate_success_attributes, channel_bind, channel_bind_id, channel_bind_attributes, data_indication, data_indication_id, data_indication_attributes, relayed, peer, peer_ipv6};
+
+/// The times at which a request is sent if RTO is 500 ms, Rc 7 and Rm 16, as RFC 8489, section 6.2.1,
+/// prints them, and the waits between them.
+pub fn retransmissions_are_right()
+    ensures moments { moments 500 7 ≡ 0 ∷ 500 ∷ 1500 ∷ 3500 ∷ 7500 ∷ 15500 ∷ 31500 ∷ [] }
+    ensures end { row_end 500 7 16 ≡ 39500 }
+    ensures first_wait { row_wait 500 7 16 1 ≡ 500 }
+    ensures sixth_wait { row_wait 500 7 16 6 ≡ 31500 - 15500 }
+    ensures last_wait { row_wait 500 7 16 7 ≡ 39500 - 31500 }
+{}
 
 /// Priorities of RFC 8445, section 5.1.2.1: the PRIORITY in RFC 5769, section 2.1, and those of a host
 /// candidate and a server-reflexive candidate in RFC 8839. The types of the attributes of ICE in that
