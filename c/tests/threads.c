@@ -63,7 +63,9 @@ static void validate(signed_message *made) {
     for (i = 0; i < KEYS; i++)
         made->valid[i] = stun_types_validate(made->message, made->length, &keys[i],
                                              &made->algorithm[i]);
+    /* (without its FINGERPRINT, which tells of a change too) */
     memcpy(changed, made->message, ROOM);
+    changed[3] = (uint8_t)(changed[3] - 8);
     changed[24] ^= 1;
     made->changed = stun_types_validate(changed, made->length - 8, &keys[0], &algorithm);
 }
