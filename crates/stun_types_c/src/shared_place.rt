@@ -1,15 +1,15 @@
-//! Where a key lies that is shared for a while, in a form that C can store.
+//! The place of a key that is shared for a while, in a form that C can store.
 ghost use Rattle.std.specs.Prelude.{◌≡◌, ◌≢◌, Option, Some, None};
 ghost use Rattle.stun_keys.specs.declared.keys.integrity_key.IntegrityKey.{IntegrityKey};
 
 use std::marker::{Model, Send, Sync};
 use stun_types::message::keys::IntegrityKey;
 
-/// The address of a key that others may read too, or no key. It owns no key: `value` is `None`, or
-/// it is the key at `at`, which is shared for as long as the place is there.
+/// The address of a key that others may read too, or no key. It doesn't own the key: `value` is
+/// `None`, or it is the key at `at`, which is shared as long as the place exists.
 ///
-/// A C function can't be handed a type that leads to a key, since what a key owns is shared in a
-/// form of its own. So the address is that of a byte.
+/// A C function can't take a type that leads to a key, since what a key owns is shared in a form of
+/// its own. So the address is that of a byte.
 #[repr(C)]
 pub(crate) struct SharedPlace {
     at: *const u8,
@@ -24,20 +24,19 @@ impl Model for SharedPlace {
 }
 
 impl SharedPlace {
-    /// The key that lies here.
+    /// The key at the address.
     pub(crate) fn key(&self) -> &IntegrityKey
         requires { self.now.value ≢ None }
         ensures { Some result.now ≡ self.now.value }
     {
-        // A pointer is only as good as what is known of it. This struct has that a key lies there,
-        // and that it is shared until the struct is gone, as its `also_owns` states, and the proof
-        // of this function makes the reference of that.
+        // `at` is the address of a key that is shared as long as this struct exists: its `also_owns`
+        // states that, and the proof of this function makes the reference from it.
         unsafe { &*(self.at as *const IntegrityKey) }
     }
 }
 
-// A key may be read by several threads at once. A pointer alone is no claim to that, so it's said
-// here, and proved of what the struct states.
+// Several threads may read a key at once. A pointer alone doesn't say so: it's stated here, and proved
+// from what the struct states.
 unsafe impl Send for SharedPlace {}
 
 unsafe impl Sync for SharedPlace {}
