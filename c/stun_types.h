@@ -1,10 +1,12 @@
 /* STUN messages (RFC 8489) for C: read, validated, written and answered by a library that is proved.
  *
  * - A slice is a pointer and a length in bytes. The pointer is never NULL; a slice of length 0 is
- *   nothing, whatever its pointer. What a call writes, a key too, overlaps no other argument of it.
+ *   nothing, whatever its pointer. What a call writes overlaps no other argument of it.
  *   Messages are uint8_t; a text or a value that is handed in may be char or uint8_t (const void *).
  * - No call keeps a pointer, prints, blocks or aborts. Only the calls whose comments say so allocate
- *   (by malloc). All may run in several threads at once, on one key in one call at a time.
+ *   (by malloc). All may run in several threads at once. One key may be used by any number of calls
+ *   at once that take it as const stun_types_key *; a call that takes it as stun_types_key * makes or
+ *   frees it, and has it alone.
  * - Numbers in messages are big-endian; numbers in these structs are the machine's.
  * - Most calls return a stun_types_answer. Where its code isn't STUN_TYPES_OK, nothing else that the
  *   call was to write is written, unless its comment says otherwise. Where several codes apply, the
@@ -317,8 +319,10 @@ stun_types_answer stun_types_print(const uint8_t *bytes, size_t length, char *te
 
 /* A key of an HMAC, on the heap. It begins as STUN_TYPES_NO_KEY_YET, is made by one of the calls
    below, which free what it held before, and ended by stun_types_key_free. C neither reads nor
-   writes nor copies its fields, hands it to one call at a time, and leaves it on the thread that
-   made it unless a lock or a join orders the two. */
+   writes nor copies its fields.
+   The calls that take it as const stun_types_key * only read it: they may run at once, in as many
+   threads as there are. A call that makes or frees it has it alone: C orders such a call before and
+   behind all others with this key, on other threads by a lock, a join or the start of a thread. */
 typedef struct {
     void *at;
     uint64_t held;
@@ -366,8 +370,8 @@ void stun_types_key_free(stun_types_key *key);
    What stands behind the attribute that was checked, and the length field, are not authentic.
    The errors of stun_types_parse; NO_KEY; MISSING_ATTRIBUTE; TRUNCATED, TOO_LARGE, INVALID_DATA: the
    attribute has no lawful length; INTEGRITY_FAILED. */
-stun_types_answer stun_types_validate(const uint8_t *bytes, size_t length, stun_types_key *key,
-                                      uint32_t *algorithm);
+stun_types_answer stun_types_validate(const uint8_t *bytes, size_t length,
+                                      const stun_types_key *key, uint32_t *algorithm);
 
 /* The same by a short-term or a long-term credential, of which the key is made and freed: of the
    long-term one that of the algorithm that is checked. After the errors of stun_types_parse comes
@@ -429,7 +433,7 @@ stun_types_answer stun_types_add_unknown_types(uint8_t *room, size_t size, size_
    MESSAGE-INTEGRITY-SHA256 (STUN_TYPES_SHA256, 32 bytes), whichever algorithm the key was made for.
    BAD_ARGUMENT: another algorithm. NO_KEY. */
 stun_types_answer stun_types_add_integrity(uint8_t *room, size_t size, size_t *written,
-                                           stun_types_key *key, uint32_t algorithm);
+                                           const stun_types_key *key, uint32_t algorithm);
 
 /* Ends the message with a FINGERPRINT, the CRC-32 of what is written, XORed with 0x5354554E. */
 stun_types_answer stun_types_add_fingerprint(uint8_t *room, size_t size, size_t *written);
@@ -476,7 +480,7 @@ typedef struct {
    The errors of stun_types_parse. BAD_ARGUMENT: the policy's algorithm. Allocates: OUT_OF_MEMORY. */
 stun_types_answer stun_types_authenticate_short_term(const uint8_t *bytes, size_t length,
                                                      const stun_types_policy *policy,
-                                                     stun_types_key *key,
+                                                     const stun_types_key *key,
                                                      stun_types_authentication *authentication);
 
 enum { /* what a server knows of a nonce */
@@ -493,15 +497,15 @@ enum { /* password algorithms (RFC 8489, section 18.5) */
 /* Authenticates a request by long-term credentials (RFC 8489, section 9.2.4). nonce_state is what the
    server knows of its NONCE, and algorithms are the password algorithms that it sent with a valid
    one. md5_key and sha256_key are the keys, in the server's realm, of the user whom its USERNAME or
-   USERHASH names, by either password algorithm, in two structs; one that holds none says that there is
-   no such user.
+   USERHASH names, by either password algorithm; one that holds none says that there is no such user.
    The errors of stun_types_parse. BAD_ARGUMENT: the policy's algorithm, the state, a password
    algorithm, or more than 16 of them. Allocates: OUT_OF_MEMORY. */
 stun_types_answer stun_types_authenticate_long_term(const uint8_t *bytes, size_t length,
                                                     const stun_types_policy *policy,
                                                     uint32_t nonce_state, const uint16_t *algorithms,
-                                                    size_t algorithms_count, stun_types_key *md5_key,
-                                                    stun_types_key *sha256_key,
+                                                    size_t algorithms_count,
+                                                    const stun_types_key *md5_key,
+                                                    const stun_types_key *sha256_key,
                                                     stun_types_authentication *authentication);
 
 /* ---- A client -------------------------------------------------------------------------------- */
@@ -545,7 +549,7 @@ stun_types_answer stun_types_transaction_begin(stun_types_transaction *transacti
                                                const uint8_t *request, size_t length,
                                                const stun_types_schedule *schedule,
                                                uint32_t transport, uint32_t protection,
-                                               stun_types_key *key, uint64_t now);
+                                               const stun_types_key *key, uint64_t now);
 
 enum { /* stun_types_action.kind */
     STUN_TYPES_SEND_NOW = 0, /* send the request, now */
@@ -595,7 +599,7 @@ typedef struct {
    BAD_ARGUMENT: the transaction isn't one, or more types. NO_KEY. Allocates where the request is
    protected, for a copy of the key: OUT_OF_MEMORY, and the transaction stays as it was. */
 stun_types_answer stun_types_transaction_receive(stun_types_transaction *transaction,
-                                                 stun_types_key *key, const uint8_t *bytes,
+                                                 const stun_types_key *key, const uint8_t *bytes,
                                                  size_t length, const uint16_t *understood,
                                                  size_t understood_count,
                                                  stun_types_received *received);

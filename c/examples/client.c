@@ -244,7 +244,7 @@ static int tell_end(uint32_t end) {
 
 /* Waits for a message, and hands it to the transaction. *taken tells what was received. False: the
  * connection failed. */
-static bool hear(carrier *by, stun_types_transaction *transaction, stun_types_key *key,
+static bool hear(carrier *by, stun_types_transaction *transaction, const stun_types_key *key,
                  uint64_t until, stun_types_received *taken) {
     static const uint16_t understood[1] = {0}; /* nothing but what RFC 8489 has */
     int got = receive_until(by, &response, until);
@@ -256,7 +256,7 @@ static bool hear(carrier *by, stun_types_transaction *transaction, stun_types_ke
 
 /* Sends the request as often as it takes, until a response is taken: TOLD, and *taken tells what it
  * is; any other status is the end. */
-static int exchange(carrier *by, stun_types_transaction *transaction, stun_types_key *key,
+static int exchange(carrier *by, stun_types_transaction *transaction, const stun_types_key *key,
                     stun_types_received *taken) {
     for (;;) {
         stun_types_action action;
@@ -276,7 +276,8 @@ static int exchange(carrier *by, stun_types_transaction *transaction, stun_types
 }
 
 /* Begins the request's transaction and carries it through, as `exchange` tells. */
-static int ask(carrier *by, uint32_t protection, stun_types_key *key, stun_types_received *taken) {
+static int ask(carrier *by, uint32_t protection, const stun_types_key *key,
+               stun_types_received *taken) {
     const stun_types_schedule schedule = STUN_TYPES_SCHEDULE;
     stun_types_transaction transaction;
     stun_types_answer answer = stun_types_transaction_begin(

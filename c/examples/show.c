@@ -96,7 +96,7 @@ static const char *verdict(stun_types_answer answer, uint32_t algorithm) {
 }
 
 /* Prints the report of a message. A key that is NULL asks for no line on the integrity. */
-static int report(const uint8_t *message, size_t length, stun_types_key *key) {
+static int report(const uint8_t *message, size_t length, const stun_types_key *key) {
     stun_types_answer answer = stun_types_parse(message, length);
     stun_types_header header;
     uint32_t algorithm = 0;
@@ -114,7 +114,7 @@ static int report(const uint8_t *message, size_t length, stun_types_key *key) {
 }
 
 /* Reads the input and prints its report. */
-static int show(stun_types_key *key) {
+static int show(const stun_types_key *key) {
     size_t length;
     if (!read_input(&length)) return fail("read failed");
     if (length > LONGEST_INPUT) return fail("input too long");

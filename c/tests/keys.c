@@ -430,7 +430,7 @@ static const struct {
     {"bytes, the greatest algorithm", bytes_most, STUN_TYPES_BAD_ARGUMENT},
 };
 
-static void check_key_is_pass(stun_types_key *key) {
+static void check_key_is_pass(const stun_types_key *key) {
     slice bytes = message("made.check_sha256");
     uint32_t algorithm = 0;
     ANSWERS(stun_types_validate(bytes.bytes, bytes.length, key, &algorithm), OK_ANSWER);
@@ -511,9 +511,17 @@ static void add_secrets(void) {
     heap_add_secret("user:realm:pass", 15);
 }
 
-/* Makes the key over what it holds, and refuses each allocation of it in turn. */
+static void check_makes_one(size_t i, const stun_types_key *key) {
+    slice bytes = message(made[i].message);
+    uint32_t algorithm = 0;
+    ANSWERS(stun_types_validate(bytes.bytes, bytes.length, key, &algorithm), OK_ANSWER);
+    CHECK(algorithm == made[i].algorithm);
+}
+
+/* Makes the key over what it holds, and refuses each allocation of it in turn. With no memory for
+   what a key is prepared by, the key is made all the same. */
 static void check_made(size_t i, stun_types_key *key, bool is_pass) {
-    long number;
+    long number, unprepared = 0;
     for (number = 1; number < 100; number++) {
         stun_types_key before = *key;
         long held = heap_held(), asked;
@@ -527,19 +535,24 @@ static void check_made(size_t i, stun_types_key *key, bool is_pass) {
             ANSWERS(answer, OK_ANSWER);
             break;
         }
+        if (answer.code == STUN_TYPES_OK) {
+            unprepared++;
+            check_makes_one(i, key);
+            stun_types_key_free(key);
+            if (is_pass) *key = *password_key(text("pass"));
+            continue;
+        }
         ANSWERS(answer, PLAIN(STUN_TYPES_OUT_OF_MEMORY));
         CHECK(key->at == before.at && key->held == before.held);
         CHECK(heap_held() == held);
         if (is_pass) check_key_is_pass(key);
     }
     CHECK(number > 1 && number < 100);
+    CHECK(unprepared == 1);
 }
 
 static void check_makes(size_t i, stun_types_key *key) {
-    slice bytes = message(made[i].message);
-    uint32_t algorithm = 0;
-    ANSWERS(stun_types_validate(bytes.bytes, bytes.length, key, &algorithm), OK_ANSWER);
-    CHECK(algorithm == made[i].algorithm);
+    check_makes_one(i, key);
     stun_types_key_free(key);
     CHECK(key->at == NULL && key->held == 0);
     CHECK(heap_held() == 0);

@@ -1,4 +1,5 @@
 mod TwoWords
+mod SharedLemmas
 mod WalksLemmas
 mod NewValuesLemmas
 mod XoredLemmas

@@ -1,17 +1,31 @@
--- What the place of a key owns.
+-- What the place of a key owns, and what it has of a key that is shared.
 use Rattle.std.specs.Prelude.{ℕ, Option, Some, None}
 use Rattle.std.specs.Box.Ownership.{box_owns}
 use Rattle.std.specs.contracts.impls.GlobalAllocator.TheImpl.{ghosts}
 use Rattle.std.specs.declared.alloc.Global.{Global}
-use base.Fml.{Fml, ftrue}
+use base.Fml.{Lft, Share, Fml, ftrue, fsep, fex, flft}
 use denote.RattleType.{RattleType}
 use denote.RawPtr.{Ptr}
+use denote.Struct.Lending.{lent_at}
 
 -- nothing, or what a box by the heap of C owns: a value of the type R at the pointer, and the right
 -- to free its memory
 abbrev pub owns_if_some : Global → (R : RattleType) → Ptr → Option R.Denot → Fml
 owns_if_some alloc R at None = ftrue
 owns_if_some alloc R at (Some value) = box_owns (ghosts.dealloc_token alloc) R at value
+
+-- a lifetime hasn't ended, and doesn't end while this is held: a share of its token
+abbrev pub lasts : Lft → Fml
+lasts life = fex Share (λ share. flft life share)
+
+-- a value of the type R at the pointer is shared, for a lifetime that lasts
+abbrev pub is_shared : (R : RattleType) → Ptr → R.Denot → Fml
+is_shared R at value = fex Lft (λ life. fsep (lent_at R at value life) (lasts life))
+
+-- nothing, or that
+abbrev pub shared_if_some : (R : RattleType) → Ptr → Option R.Denot → Fml
+shared_if_some R at None = ftrue
+shared_if_some R at (Some value) = is_shared R at value
 
 -- how many keys there are: 0 or 1
 abbrev pub keys_in : {X : Type 0} → Option X → ℕ

@@ -23,11 +23,13 @@ abbrev pub number_of : IntegrityAlgorithm → ℕ
 number_of Sha1 = 1
 number_of Sha256 = 2
 
--- a handle holds the key that was made; or an allocation failed, and it holds what it held
+-- a handle holds the key that was made, prepared or not; or an allocation failed, and it holds what it
+-- held
 abbrev pub HoldsMade : Result IntegrityKey StunWriteError → Answer
     → (old new : Option IntegrityKey) → Type 0
 HoldsMade (Ok key) result old new =
-    ((result ≡ plain OK) × (new ≡ Some key)) ⊎ ((result ≡ plain OUT_OF_MEMORY) × (new ≡ old))
+    ((result ≡ plain OK) × IsSomeAnd new (IsKey (key_algorithm key) (key_bytes key)))
+    ⊎ ((result ≡ plain OUT_OF_MEMORY) × (new ≡ old))
 HoldsMade (Err e) result old new = (result ≡ write_answer e) × (new ≡ old)
 
 -- a handle holds a key with these bytes for an algorithm, or an allocation failed and it holds what

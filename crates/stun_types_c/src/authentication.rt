@@ -1,19 +1,18 @@
 //! A server's checks by credentials (RFC 8489, sections 9.1.3 and 9.2.4).
 
-ghost use Rattle.std.specs.Prelude.{◌≡◌, None, IfOk, box_value};
+ghost use Rattle.std.specs.Prelude.{◌≡◌, None, IfOk};
 ghost use Rattle.std.specs.Option.{option_map};
 ghost use Rattle.stun_authentication.specs.Answers.{Decision, Tells};
 ghost use Rattle.stun_authentication.specs.Lookups.{IsKeyOf};
-ghost use Rattle.stun_types_c.specs.KeyHandles.{held_key};
+ghost use Rattle.stun_types_c.specs.KeyHandles.{shared_key};
 ghost use Rattle.stun_types_c.specs.Users.{bytes_of, borrowed_bytes, known_of};
 ghost use Rattle.stun_types_c.specs.Authentication.{policy_named, nonce_named, in_c, by_short_term, by_long_term, TellsDecision, Authenticates};
 
 use crate::answer::{Answer, parse_answer, plain};
 use crate::codes;
-use crate::key_handle::KeyHandle;
-use crate::key_store::{put_back, take};
 use crate::keys::{algorithm_of, number_of};
 use crate::passwords::{Listed, algorithms_of};
+use crate::shared_key::SharedKey;
 use std::alloc::{AllocError, Global};
 use stun_authentication::{
     Authentication, Identity, KnownNonce, LongTermKeys, Nonces, Policy, ShortTermKeys,
@@ -187,24 +186,11 @@ fn tell(answer: Result<Authentication, AllocError>, out: &mut Authenticated) -> 
     }
 }
 
-/// Puts a key back, if one was taken.
-fn give_back(key: &mut KeyHandle, held: Option<Box<IntegrityKey>>)
-    requires { held_key key.old ≡ None }
-    ensures { held_key key.new ≡ option_map box_value held }
+/// The key that a handle holds, if it holds one.
+fn key_in(key: &SharedKey) -> Option<&IntegrityKey>
+    ensures { borrowed_bytes result ≡ bytes_of (shared_key key.now) }
 {
-    if let Some(held) = held {
-        put_back(key, held);
-    }
-}
-
-/// The key in a box, if there is one.
-fn key_in(held: &Option<Box<IntegrityKey>>) -> Option<&IntegrityKey>
-    ensures { borrowed_bytes result ≡ bytes_of (option_map box_value held.now) }
-{
-    match held {
-        Some(held) => Some(held),
-        None => None,
-    }
+    key.key()
 }
 
 /// Authenticates a message by short-term credentials.
@@ -213,11 +199,10 @@ pub extern "C" fn stun_types_authenticate_short_term(
     alloc: Global,
     bytes: &[u8],
     policy: &CountedIntegrity,
-    key: &mut KeyHandle,
+    key: &SharedKey,
     out: &mut Authenticated,
 ) -> Answer
-    ensures key { held_key key.new ≡ held_key key.old }
-    ensures answer { let decided = by_short_term policy.now (held_key key.old) bytes.now in
+    ensures { let decided = by_short_term policy.now (shared_key key.now) bytes.now in
         Authenticates decided bytes.now result out.old out.new }
 {
     let message = match Message::from_bytes(bytes) {
@@ -227,14 +212,11 @@ pub extern "C" fn stun_types_authenticate_short_term(
     let Some(policy) = policy_of(policy) else {
         return plain(codes::BAD_ARGUMENT);
     };
-    let held = take(key, alloc);
     let user = OneUser {
-        md5: key_in(&held),
+        md5: key_in(key),
         sha256: None,
     };
-    let answer = authenticate_short_term(alloc, &message, policy, &user);
-    give_back(key, held);
-    tell(answer, out)
+    tell(authenticate_short_term(alloc, &message, policy, &user), out)
 }
 
 /// Authenticates a request by long-term credentials.
@@ -245,15 +227,13 @@ pub extern "C" fn stun_types_authenticate_long_term(
     policy: &CountedIntegrity,
     nonce_state: u32,
     algorithms: &[u16],
-    md5_key: &mut KeyHandle,
-    sha256_key: &mut KeyHandle,
+    md5_key: &SharedKey,
+    sha256_key: &SharedKey,
     out: &mut Authenticated,
 ) -> Answer
-    ensures md5 { held_key md5_key.new ≡ held_key md5_key.old }
-    ensures sha256 { held_key sha256_key.new ≡ held_key sha256_key.old }
-    ensures answer { let nonce = nonce_named nonce_state algorithms.now in
-        let decided = by_long_term policy.now nonce (held_key md5_key.old)
-        (held_key sha256_key.old) bytes.now in
+    ensures { let nonce = nonce_named nonce_state algorithms.now in
+        let decided = by_long_term policy.now nonce (shared_key md5_key.now)
+        (shared_key sha256_key.now) bytes.now in
         Authenticates decided bytes.now result out.old out.new }
 {
     let message = match Message::from_bytes(bytes) {
@@ -263,14 +243,10 @@ pub extern "C" fn stun_types_authenticate_long_term(
     let (Some(policy), Some(nonce)) = (policy_of(policy), nonce_of(nonce_state, algorithms)) else {
         return plain(codes::BAD_ARGUMENT);
     };
-    let md5 = take(md5_key, alloc);
-    let sha256 = take(sha256_key, alloc);
     let user = OneUser {
-        md5: key_in(&md5),
-        sha256: key_in(&sha256),
+        md5: key_in(md5_key),
+        sha256: key_in(sha256_key),
     };
     let answer = authenticate_long_term(alloc, &message, "", policy, &nonce, &user);
-    give_back(md5_key, md5);
-    give_back(sha256_key, sha256);
     tell(answer, out)
 }

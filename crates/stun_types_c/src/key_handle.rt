@@ -10,15 +10,16 @@ use stun_types::message::keys::IntegrityKey;
 /// A key on the heap, or none: in C `struct { void *at; uint64_t held; }`, 16 bytes, of which
 /// `{ NULL, 0 }` holds no key.
 ///
-/// A handle owns its key. A call takes it by `&mut`: in C by a pointer that isn't null, is aligned
-/// and that nothing else uses during the call. No proof sees what C does between two calls, so C
-/// has to keep this right:
+/// A handle owns its key. A call that makes or frees the key takes it by `&mut`: in C by a pointer
+/// that isn't null, is aligned and that nothing else uses during the call. One that only uses the
+/// key takes it as a [`SharedKey`](crate::SharedKey). No proof sees what C does between two calls,
+/// so C has to keep this right:
 ///
 /// - It begins a handle as `{ NULL, 0 }`, and from then on neither reads nor writes its fields.
 /// - It copies no handle: the key of two would be freed twice. (It may move one to another place,
 ///   if it uses the old one no more.)
 /// - It leaves a handle on its thread, or orders by a lock or a join what one thread does with it
-///   after another. Two calls never have one handle at a time.
+///   after another. While a call has the handle, no other call has it or shares its key.
 /// - It ends a handle that holds a key by the call that frees it, or the key leaks and its bytes
 ///   stay in memory.
 #[repr(C)]
@@ -53,7 +54,7 @@ impl KeyHandle {
     }
 
     /// The key that the handle holds, or `None`. Nothing is copied.
-    pub fn into_box(self) -> Option<Box<IntegrityKey>>
+    fn into_box(self) -> Option<Box<IntegrityKey>>
         ensures { option_map box_value result ≡ held_key self }
     {
         let KeyHandle { place, held } = self;

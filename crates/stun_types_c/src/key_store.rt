@@ -1,12 +1,12 @@
-//! Keys in handles: put in, used and taken out.
-ghost use Rattle.std.specs.Prelude.{◌≡◌, Some, None, IfOk, IfErr, option_map, box_value};
+//! Keys in handles: put in and freed.
+ghost use Rattle.std.specs.Prelude.{◌≡◌, Some, None, IfOk, IfErr};
 ghost use Rattle.stun_types_c.specs.KeyHandles.{held_key};
 ghost use Rattle.stun_types_c.specs.contracts.key_handle.KeyHandle.{the_row};
-ghost use denote.Param.Send.{IsSend};
+ghost use Rattle.stun_types_c.specs.contracts.shared_key.SharedKey.{the_row as shared_row};
+ghost use denote.Param.Send.{IsSend, IsSync};
 
 use crate::key_handle::KeyHandle;
 use std::alloc::{AllocError, Global};
-use std::mem::replace;
 use stun_types::message::keys::IntegrityKey;
 
 /// Puts a key into a handle, in memory that `alloc` gives, and frees what the handle held before.
@@ -20,7 +20,7 @@ pub fn hold(handle: &mut KeyHandle, alloc: Global, key: IntegrityKey) -> Result<
 {
     match Box::new(alloc, key) {
         Ok(boxed) => {
-            put_back(handle, boxed);
+            *handle = KeyHandle::of(boxed);
             Ok(())
         }
         Err(_) => Err(AllocError),
@@ -34,23 +34,13 @@ pub fn release(handle: &mut KeyHandle, alloc: Global)
     *handle = KeyHandle::none(alloc);
 }
 
-/// Takes the key out of the handle, or `None` where it holds none. Nothing is copied, and no memory
-/// is taken: who only reads the key puts it back.
-pub fn take(handle: &mut KeyHandle, alloc: Global) -> Option<Box<IntegrityKey>>
-    ensures taken { option_map box_value result ≡ held_key handle.old }
-    ensures left { held_key handle.new ≡ None }
-{
-    replace(handle, KeyHandle::none(alloc)).into_box()
-}
-
-/// Puts a key into the handle, and frees what it held before. No memory is taken.
-pub fn put_back(handle: &mut KeyHandle, key: Box<IntegrityKey>)
-    ensures { held_key handle.new ≡ Some (box_value key) }
-{
-    *handle = KeyHandle::of(key);
-}
-
 /// A law: a handle may go to another thread, where a lock or a join orders what the two do with it.
 pub fn handle_may_go_to_another_thread()
     ensures { IsSend the_row }
+{}
+
+/// A law: the key of a handle may be used by several threads at once, in calls that share it.
+pub fn handle_may_be_shared()
+    ensures sent { IsSend shared_row }
+    ensures shared { IsSync shared_row }
 {}

@@ -3,14 +3,15 @@
 ghost use Rattle.std.specs.Prelude.{◌≡◌, true, false, None, MatchOption, MatchResult};
 ghost use Rattle.std.specs.Str.{is_utf8};
 ghost use Rattle.std.specs.String.{string_bytes};
-ghost use Rattle.stun_types_c.specs.KeyHandles.{held_key};
+ghost use Rattle.stun_types_c.specs.KeyHandles.{held_key, shared_key};
 ghost use Rattle.stun_types_c.specs.Keys.{algorithm_named, number_of, Holds, HoldsNamed, HoldsMade, TellsVerdict, ValidatesWith};
 ghost use Rattle.stun_types_c.specs.Credentials.{RefusesText, IsLongTerm, RefusesLongTerm, HoldsLongTerm, ValidatesShortTerm, ValidatesLongTerm, TellsUserhash};
 
 use crate::answer::{Answer, parse_answer, plain, validate_answer, write_answer};
 use crate::codes;
 use crate::key_handle::KeyHandle;
-use crate::key_store::{hold, put_back, release, take};
+use crate::key_store::{hold, release};
+use crate::shared_key::SharedKey;
 use crate::values::text_in;
 use std::alloc::Global;
 use stun_types::attribute::Userhash;
@@ -40,7 +41,8 @@ pub(crate) fn number_of(algorithm: IntegrityAlgorithm) -> u32
     }
 }
 
-/// Puts a key that was made into a handle.
+/// Prepares a key that was made for the many calls that may use it, and puts it into a handle. With
+/// no memory left to prepare it in, it works as it is.
 fn hold_made(
     alloc: Global,
     key: &mut KeyHandle,
@@ -49,10 +51,13 @@ fn hold_made(
     ensures { HoldsMade made result (held_key key.old) (held_key key.new) }
 {
     match made {
-        Ok(made) => match hold(key, alloc, made) {
-            Ok(()) => plain(codes::OK),
-            Err(_) => plain(codes::OUT_OF_MEMORY),
-        },
+        Ok(mut made) => {
+            let _prepared = made.prepare(alloc);
+            match hold(key, alloc, made) {
+                Ok(()) => plain(codes::OK),
+                Err(_) => plain(codes::OUT_OF_MEMORY),
+            }
+        }
         Err(error) => write_answer(error),
     }
 }
@@ -100,25 +105,17 @@ pub extern "C" fn stun_types_key_free(alloc: Global, key: &mut KeyHandle)
 
 /// Whether a message is authentic under a key.
 #[unsafe(no_mangle)]
-pub extern "C" fn stun_types_validate(
-    alloc: Global,
-    bytes: &[u8],
-    key: &mut KeyHandle,
-    algorithm: &mut u32,
-) -> Answer
-    ensures key { held_key key.new ≡ held_key key.old }
-    ensures answer { ValidatesWith (held_key key.old) bytes.now result algorithm.old algorithm.new }
+pub extern "C" fn stun_types_validate(bytes: &[u8], key: &SharedKey, algorithm: &mut u32) -> Answer
+    ensures { ValidatesWith (shared_key key.now) bytes.now result algorithm.old algorithm.new }
 {
     let message = match Message::from_bytes(bytes) {
         Ok(message) => message,
         Err(error) => return parse_answer(error),
     };
-    let Some(taken) = take(key, alloc) else {
-        return plain(codes::NO_KEY);
-    };
-    let verdict = message.validate_integrity_with_key(&taken);
-    put_back(key, taken);
-    told(verdict, algorithm)
+    match key.key() {
+        Some(key) => told(message.validate_integrity_with_key(key), algorithm),
+        None => plain(codes::NO_KEY),
+    }
 }
 
 /// A text of C's bytes, in memory that `alloc` gives.

@@ -21,6 +21,8 @@ mod passwords;
 mod printing;
 mod reading;
 mod server;
+mod shared_key;
+mod shared_place;
 mod streams;
 mod transactions;
 mod type_list;
@@ -40,7 +42,7 @@ pub use channels::{
     stun_types_read_channel_data, stun_types_write_channel_data,
 };
 pub use key_handle::KeyHandle;
-pub use key_store::handle_may_go_to_another_thread;
+pub use key_store::{handle_may_be_shared, handle_may_go_to_another_thread};
 pub use keys::{
     Hash, stun_types_key_free, stun_types_key_from_bytes, stun_types_key_long_term,
     stun_types_key_short_term, stun_types_userhash, stun_types_validate,
@@ -53,6 +55,7 @@ pub use reading::{
     stun_types_read_header,
 };
 pub use server::stun_types_binding_reply;
+pub use shared_key::SharedKey;
 pub use streams::{KeptStream, stun_types_stream_push};
 pub use transactions::{
     KeptTransaction, Outcome, Waits, Wanted, numbers_keep_one_transaction,

@@ -9,14 +9,13 @@ ghost use Rattle.stun_transactions.specs.declared.guard.Protection.{Protection};
 ghost use Rattle.stun_transactions.specs.Parts.{course_in, at_course, mechanism_of, parts_of, whole_fault};
 ghost use Rattle.stun_transactions.specs.Terms.{begin_fault};
 ghost use Rattle.stun_transactions.specs.Transactions.{Begins};
-ghost use Rattle.stun_types_c.specs.KeyHandles.{held_key};
+ghost use Rattle.stun_types_c.specs.KeyHandles.{shared_key};
 ghost use Rattle.stun_types_c.specs.Transactions.{transport_numbered, mechanism_numbered, end_number, number_of_end, IsAt, millis_of, waits_fault, Schedules, Keeps, KeepsNone, AreSame, with_course, Ends, PollsKept, request_fault, request_answer, signed_in, begun_in_c, BeginsKept, outcome_in_c, IsCopyFor, Copies, IsOutcome, HearsKept};
 
 use crate::answer::{Answer, parse_answer, plain};
 use crate::codes;
-use crate::key_handle::KeyHandle;
-use crate::key_store::{put_back, take};
 use crate::reading::{Id, id_of};
+use crate::shared_key::SharedKey;
 use crate::type_list::types_of;
 use std::alloc::Global;
 use std::time::Duration;
@@ -209,20 +208,6 @@ fn store(kept: &mut KeptTransaction, parts: &TransactionParts)
     kept.end = parts.end.map_or(0, end_number);
 }
 
-/// Whether a handle holds a key.
-fn has_key(alloc: Global, key: &mut KeyHandle) -> bool
-    ensures key { held_key key.new ≡ held_key key.old }
-    ensures has { result ≡ is_some (held_key key.old) }
-{
-    match take(key, alloc) {
-        Some(held) => {
-            put_back(key, held);
-            true
-        }
-        None => false,
-    }
-}
-
 /// The number of the integrity attributes that a request shows, or why a message is no request, or
 /// is signed otherwise than it is to be protected.
 fn signed_request(message: &Message<'_>, protected: bool) -> Result<u8, Answer>
@@ -246,18 +231,16 @@ fn signed_request(message: &Message<'_>, protected: bool) -> Result<u8, Answer>
 #[tactic(auto, using(stun_grammar::proofs::HeadersLemmas::header_there, stun_grammar::proofs::ParsingLemmas::parsed_header))]
 #[unsafe(no_mangle)]
 pub extern "C" fn stun_types_transaction_begin(
-    alloc: Global,
     kept: &mut KeptTransaction,
     request: &[u8],
     schedule: &Waits,
     transport: u32,
     protection: u32,
-    key: &mut KeyHandle,
+    key: &SharedKey,
     now: u64,
 ) -> Answer
-    ensures key { held_key key.new ≡ held_key key.old }
-    ensures begins { BeginsKept request.now schedule.now transport protection now
-        (held_key key.old) result kept.old kept.new }
+    ensures { BeginsKept request.now schedule.now transport protection now
+        (shared_key key.now) result kept.old kept.new }
 {
     let message = match Message::from_bytes(request) {
         Ok(message) => message,
@@ -276,7 +259,7 @@ pub extern "C" fn stun_types_transaction_begin(
         Ok(signed_by) => signed_by,
         Err(answer) => return answer,
     };
-    if mechanism.is_some() && !has_key(alloc, key) {
+    if mechanism.is_some() && key.key().is_none() {
         return plain(codes::NO_KEY);
     }
     let mut id = [0; 12];
@@ -368,20 +351,17 @@ fn copy_for(alloc: Global, mechanism: Mechanism, key: &IntegrityKey) -> Option<I
 fn key_for(
     alloc: Global,
     mechanism: Option<Mechanism>,
-    key: &mut KeyHandle,
+    key: &SharedKey,
 ) -> Result<Option<IntegrityKey>, Answer>
-    ensures key { held_key key.new ≡ held_key key.old }
-    ensures copies { Copies mechanism (held_key key.old) result }
+    ensures { Copies mechanism (shared_key key.now) result }
 {
     let Some(mechanism) = mechanism else {
         return Ok(None);
     };
-    let Some(held) = take(key, alloc) else {
+    let Some(key) = key.key() else {
         return Err(plain(codes::NO_KEY));
     };
-    let copy = copy_for(alloc, mechanism, &held);
-    put_back(key, held);
-    match copy {
+    match copy_for(alloc, mechanism, key) {
         Some(copy) => Ok(Some(copy)),
         None => Err(plain(codes::OUT_OF_MEMORY)),
     }
@@ -411,13 +391,12 @@ fn hear(
 pub extern "C" fn stun_types_transaction_receive(
     alloc: Global,
     kept: &mut KeptTransaction,
-    key: &mut KeyHandle,
+    key: &SharedKey,
     bytes: &[u8],
     understood: &[u16],
     received: &mut Outcome,
 ) -> Answer
-    ensures key { held_key key.new ≡ held_key key.old }
-    ensures hears { HearsKept (held_key key.old) understood.now bytes.now result
+    ensures { HearsKept (shared_key key.now) understood.now bytes.now result
         (record { kept = kept.old; told = received.old })
         (record { kept = kept.new; told = received.new }) }
 {

@@ -7,20 +7,18 @@ ghost use Rattle.stun_grammar.specs.Steps.{finger};
 ghost use Rattle.stun_values.specs.Addresses.{address_value};
 ghost use Rattle.stun_write.specs.ResumePoints.{any_in, step_in};
 ghost use Rattle.stun_types_c.specs.Codes.{OK};
-ghost use Rattle.stun_types_c.specs.KeyHandles.{held_key};
+ghost use Rattle.stun_types_c.specs.KeyHandles.{shared_key};
 ghost use Rattle.stun_types_c.specs.Answers.{plain, write_answer};
 ghost use Rattle.stun_types_c.specs.Writing.{Begins, AppendsTo, AddsValue, AddsAddress, AddsXorAddress, AddsError, AddsTypes, Signs};
 
 use crate::address::{Address, socket_of};
 use crate::answer::{Answer, counted, plain, write_answer};
 use crate::codes;
-use crate::key_handle::KeyHandle;
-use crate::key_store::{put_back, take};
 use crate::keys::algorithm_of;
 use crate::new_values::{ErrorValue, TypeNumbers};
 use crate::reading::{Id, id_of};
+use crate::shared_key::SharedKey;
 use crate::values::text_in;
-use std::alloc::Global;
 use std::net::SocketAddr;
 use stun_base::MessageHeader;
 use stun_grammar::attribute_types::{ERROR_CODE, UNKNOWN_ATTRIBUTES};
@@ -212,14 +210,12 @@ pub extern "C" fn stun_types_add_unknown_types(
 /// Signs what is written.
 #[unsafe(no_mangle)]
 pub extern "C" fn stun_types_add_integrity(
-    alloc: Global,
     room: &mut [u8],
     written: &mut usize,
-    key: &mut KeyHandle,
+    key: &SharedKey,
     algorithm: u32,
 ) -> Answer
-    ensures key { held_key key.new ≡ held_key key.old }
-    ensures answer { Signs (held_key key.old) algorithm result
+    ensures { Signs (shared_key key.now) algorithm result
         (record { slice = room.old; count = written.old })
         (record { slice = room.new; count = written.new }) }
 {
@@ -227,12 +223,13 @@ pub extern "C" fn stun_types_add_integrity(
     else {
         return plain(codes::BAD_ARGUMENT);
     };
-    let Some(held) = take(key, alloc) else {
-        return plain(codes::NO_KEY);
-    };
-    let answer = point.add_message_integrity_with_key(room, &held, algorithm);
-    put_back(key, held);
-    told(answer, written)
+    match key.key() {
+        Some(key) => told(
+            point.add_message_integrity_with_key(room, key, algorithm),
+            written,
+        ),
+        None => plain(codes::NO_KEY),
+    }
 }
 
 /// Ends the message with a FINGERPRINT.

@@ -6,12 +6,12 @@ use Rattle.stun_types_c.specs.Transactions.{with_course, GoesOn}
 use Rattle.stun_types_c.proofs.KeptLemmas.{heard}
 use Rattle.stun_types_c.proofs.transactions.stun_types_transaction_receive.Goals as goal
 
-pub returns-in-Err-clause-hears : goal.returns-in-Err-clause-hears
-returns-in-Err-clause-hears c =
-    inr (c.in-Some.ensures.0, inr (c.in-Some-parts_of.parts, c.in-Some-parts_of.ensures, (Err c.in-Err.answer, c.in-Err.ensures.copies, (refl, refl))))
+pub returns-in-Err : goal.returns-in-Err
+returns-in-Err c =
+    inr (c.in-Some.ensures.0, inr (c.in-Some-parts_of.parts, c.in-Some-parts_of.ensures, (Err c.in-Err.answer, c.in-Err.ensures, (refl, refl))))
 
-pub returns-in-Ok-hear-clause-hears : goal.returns-in-Ok-hear-clause-hears
-returns-in-Ok-hear-clause-hears c =
+pub returns-in-Ok-hear : goal.returns-in-Ok-hear
+returns-in-Ok-hear c =
     let old = c.args.kept.now in
     let parts = c.in-Some-parts_of.parts in
     let course = after c.in-Ok-hear.ensures.0 (course_in parts) in
@@ -24,7 +24,7 @@ returns-in-Ok-hear-clause-hears c =
         c.in-Some-parts_of.ensures,
         (
           Ok c.in-Ok.copy,
-          c.in-Ok.ensures.copies,
+          c.in-Ok.ensures,
           (
             c.plain-in-Ok-hear.ensures,
             record {
