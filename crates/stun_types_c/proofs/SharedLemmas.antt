@@ -1,14 +1,11 @@
 -- What a shared key has can be had twice. Assumes `Logic`.
-use Rattle.std.proofs.Common.{◌≡◌, ℕ, List, [], ◌∷◌, ◌++◌, refl, sym}
+use Rattle.std.proofs.Common.{[], ◌∷◌}
 use seplogic.Ra.Ura.{Ura}
-use base.Logic.{SProp, ent, sep, emp, id⊢, upd_i}
+use base.Logic.{ent, sep, emp, id⊢}
 use base.Share
-use base.Fml.{Lft, Share, Fml, ftrue, fsep, fseps, fex, fwand, fupd, fdead, flft}
-use contract.BorrowLft.{meet_⊑_left}
+use base.Fml.{Lft, Share, ftrue, fsep, flft}
 use types.Logic.{Logic, sem}
-use types.Kit.{‵, ◌⊛◌, raw, ◌$◌, ◌∵◌, !, qed, by, move, keep, drop, use0, use1, split, assume, suffices, fsplit, fsplit3, fjoin, fpick, fpack, frame, done}
-use denote.Laws.{Copy}
-use denote.Moves.{moves_from}
+use types.Kit.{‵, ◌⊛◌, ◌$◌, ◌∵◌, !, qed, move, use0, use1, split, fsplit, fjoin, fpick, fpack, done}
 use denote.RattleType.{RattleType, RowLaws}
 use denote.RawPtr.{Ptr}
 use denote.SharingLaws.{contraction}

@@ -1,31 +1,29 @@
 -- `key` takes out of a `&` to the place that the key is shared, and for how long.
-use prog.Wp.{Calls, Loops}
-use Rattle.std.proofs.Common.{subst, ◌≡◌, ◌≢◌, ℕ, List, [], ◌∷◌, ◌++◌, refl, sym, ap, ◌∙◌}
+use Rattle.std.proofs.Common.{subst, ◌≡◌, ◌≢◌, ℕ, List, [], ◌∷◌, ◌++◌, refl, sym}
 use seplogic.Ra.Ura.{Ura}
 use mir.Raw.{raw as bare}
 use mir.Syntax.{Ty, Body, ty_ptr, ty_struct, tcons, tnil, place as place_at, copy, assign, rv_opd, seq, return}
 use mir.Val.{Val, vptr, vstruct, vcons, vnil, of_list}
-use base.Logic.{SProp, ent, sep, emp, id⊢, upd_i}
-use base.Share
-use base.Fml.{Lft, Share, Fml, ftrue, fsep, fseps, fex, fwand, fupd, fdead, fat, flft, fbor, fobor, fshr_bor}
+use base.Logic.{SProp, ent, sep, id⊢, upd_i}
+use base.Fml.{Lft, Share, Fml, ftrue, fsep, fseps, fwand, fupd, fdead, fat, flft, fbor}
 use contract.BorrowLft.{meet_⊑_left}
 use prog.Wp.{Env, WpFn}
 use types.Logic.{Logic, sem}
-use types.Kit.{‵, raw, ◌⊛◌, at_ret, ◌$◌, ◌∵◌, !, qed, by, move, keep, drop, split, join, fsplit, fsplit3, fjoin, fjoin3, fpick, fpack, feq_i, feq_l, suffices, assume, use0, use1, use2, rewrite, done}
-use types.Run.{stop, hop, fld, addr, load, of_opd, first, blocks, exec, returns, enter}
+use types.Kit.{‵, raw, ◌⊛◌, at_ret, ◌$◌, ◌∵◌, !, qed, move, keep, drop, split, join, fsplit, fsplit3, fjoin, fpick, fpack, feq_i, feq_l, suffices, assume, use1, use2, rewrite, done}
+use types.Run.{stop, fld, addr, load, of_opd, first, blocks, exec, returns, enter}
 use types.Part.{look_in, sub, whole}
 use types.ByLocal.{alloc_all, pass_all, free_all, look_at, get, through, sets, sets_last, env}
 use types.Tokens.{shr_bor-open, obor_alter, bor_fracture}
-use contract.Monad.{fact, fact_i}
+use contract.Monad.{fact}
 use contract.Running.{tables}
 use denote.Builtin.{RefOf}
 use denote.Copied.{told_Cuts}
 use denote.Exit.{yes}
 use denote.Laws.{Is, Tells, Copy}
-use denote.Memory.{part_of, part_at, hidden_shr, shared_of, cell_raw, raw_all}
+use denote.Memory.{part_of, part_at, shared_of, cell_raw, raw_all}
 use denote.Moves.{moves_from}
 use denote.Opens.{Cuts-Halves, unhide, hide}
-use denote.RattleType.{RattleType, RowLaws, Valss, owns}
+use denote.RattleType.{RattleType, Valss, owns}
 use denote.RawPtr.{Ptr, RawPtr, InBlock, block_of, count_of, at_block, ptr_val, rawptr_vals, rawptr_Tells, rawptr_copy}
 use denote.Signature.{types_at, plain}
 use denote.Steps.{nothing, heard}
