@@ -60,10 +60,10 @@ static void end_row(void) {
 /* Tells the row in which a page that may not be touched was touched. */
 static void touched(int number) {
     static const char text[] = ": a page that may not be touched was touched, or a slice written\n";
-    ssize_t told = write(1, row_group, strlen(row_group));
-    told += write(1, ", ", 2);
-    told += write(1, row_name, strlen(row_name));
-    told += write(1, text, sizeof text - 1);
+    ssize_t told = write(2, row_group, strlen(row_group));
+    told += write(2, ", ", 2);
+    told += write(2, row_name, strlen(row_name));
+    told += write(2, text, sizeof text - 1);
     _exit(told > 0 ? 128 + number : 1);
 }
 
@@ -93,12 +93,12 @@ void fail(const char *format, ...) {
     va_list arguments;
     if (row_failed) return;
     row_failed = true;
-    printf("%s, %s (%s): ", row_group, row_name, side == GUARD_BEFORE ? "before" : "behind");
+    fprintf(stderr, "%s, %s (%s): ", row_group, row_name,
+            side == GUARD_BEFORE ? "before" : "behind");
     va_start(arguments, format);
-    vprintf(format, arguments);
+    vfprintf(stderr, format, arguments);
     va_end(arguments);
-    printf("\n");
-    fflush(stdout);
+    fprintf(stderr, "\n");
 }
 
 stun_types_answer answer_of(uint32_t code, uint32_t type, uint64_t expected, uint64_t actual) {
