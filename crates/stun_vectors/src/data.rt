@@ -1,10 +1,11 @@
 //! Bytes that are borrowed or owned.
 
+use std::alloc::Global;
 use std::boxed::BoxedSlice;
 use std::test::Fail;
+use stun_types::attribute::{AttributeType, RawAttribute};
 use stun_types::data::{Data, DataOwned, DataSlice};
 use stun_types::message::Message;
-use test_messages::{USERNAME, message};
 
 #[test]
 fn tells_borrowed_from_owned(rt: HostRuntime) -> Result<(), Fail> {
@@ -37,6 +38,29 @@ fn takes_bytes_out(rt: HostRuntime) -> Result<(), Fail> {
     Ok(())
 }
 
+/// A raw attribute of two bytes that it owns.
+fn owned(alloc: Global) -> Result<RawAttribute<'static>, Fail> {
+    let raw = RawAttribute::new(AttributeType(0x0001), &[80, 160])?;
+    Ok(raw.clone(alloc)?.into_owned(alloc)?)
+}
+
+#[test]
+fn owns_raw_attributes(rt: HostRuntime) -> Result<(), Fail> {
+    let owned = owned(rt.alloc())?;
+    assert!(rt; matches!(owned.value(), Data::Owned(_)));
+    assert!(rt; owned.value().as_bytes() == [80, 160].as_slice());
+    assert!(rt; owned.clone(rt.alloc())? == owned);
+    assert!(rt; RawAttribute::new(AttributeType(0x0001), &[80, 160])? != owned);
+    Ok(())
+}
+
+/// A BINDING request with the USERNAME `abc`.
+#[rattlefmt::skip]
+static REQUEST: [u8; 28] = [
+    0x00, 0x01, 0x00, 0x08, 0x21, 0x12, 0xA4, 0x42, 0, 0, 0, 0, 0, 0, 0, 0, 0, 0, 0x03, 0xE8,
+    0x00, 0x06, 0x00, 0x03, 0x61, 0x62, 0x63, 0x00,
+];
+
 /// The value of the first attribute, taken out of it.
 fn first_value<'a>(bytes: &'a [u8]) -> Option<Data<'a>> {
     let message = Message::from_bytes(bytes).ok()?;
@@ -46,8 +70,7 @@ fn first_value<'a>(bytes: &'a [u8]) -> Option<Data<'a>> {
 
 #[test]
 fn values_outlive_the_message(rt: HostRuntime) -> Result<(), Fail> {
-    let bytes = message(rt.alloc(), 8, &[&USERNAME])?;
-    let value = first_value(&bytes).ok_or("no attribute is shown")?;
+    let value = first_value(&REQUEST).ok_or("no attribute is shown")?;
     let username: &[u8] = b"abc";
     assert!(rt; value.as_bytes() == username);
     assert!(rt; matches!(value, Data::Borrowed(_)));
