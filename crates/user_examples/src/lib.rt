@@ -1,5 +1,5 @@
 //! Attributes and functions as a user of `stun_types` writes them, and what is proved of the
-//! messages that they write and read. Their tests are in `writing_tests`.
+//! messages that they write and read. Their tests are in `stun_vectors`.
 #![tactic(auto)]
 
 mod behind;

@@ -1,11 +1,32 @@
 //! What a writer is once its bytes were borrowed and overwritten.
 
-use crate::vector::{add_software, request};
 use std::alloc::Global;
 use std::process::Abort;
 use stun_base::binding_request;
-use stun_types::message::{Message, MessageWriteMutSlice, StunWriteError, TransactionId};
+use stun_types::attribute::{AttributeType, Software};
+use stun_types::message::{
+    Message, MessageWriteMutSlice, MessageWriteVec, StunWriteError, TransactionId,
+};
 use stun_types::prelude::*;
+use test_messages::header;
+
+/// A BINDING request with the transaction ID 1000 and nothing behind its header.
+pub(crate) fn request(alloc: Global) -> Result<MessageWriteVec, StunWriteError> {
+    Message::builder(
+        binding_request(),
+        TransactionId::from(1000),
+        MessageWriteVec::new(alloc),
+    )
+}
+
+/// Adds the SOFTWARE `stun-types`.
+pub(crate) fn add_software<W: MessageWrite>(
+    alloc: Global,
+    message: &mut W,
+) -> Result<(), StunWriteError> {
+    let software = Software::new(alloc, "stun-types")?;
+    message.add_attribute(&software)
+}
 
 /// Adds a FINGERPRINT, and overwrites what is written: how long the message is before that.
 fn overwrite_data<W: MessageWrite>(message: &mut W) -> Result<usize, StunWriteError> {
@@ -54,5 +75,35 @@ fn slice_keeps_what_it_is(rt: HostRuntime) -> Result<(), StunWriteError> {
     let mut buf = [0xFF; 100];
     assert!(rt; overwrite_slice(&rt, rt.alloc(), &mut buf)? == 28);
     assert!(rt; buf == [0x55; 100]);
+    Ok(())
+}
+
+#[test]
+fn gives_the_slice_itself(rt: HostRuntime) -> Result<(), StunWriteError> {
+    let mut buf = [0xFF; 24];
+    let mut message = MessageWriteMutSlice::new(rt.alloc(), &mut buf);
+    message.push_data(&[0x11, 0x22])?;
+    message.mut_data().fill(0x44);
+    assert!(rt; message.data() == [0x44, 0x44].as_slice());
+    message.buffer_mut().fill(0x55);
+    assert!(rt; message.finish() == 2);
+    assert!(rt; buf == [0x55; 24]);
+    Ok(())
+}
+
+/// A header and an attribute behind it, pushed.
+fn pushed(alloc: Global) -> Result<MessageWriteVec, StunWriteError> {
+    let mut message = MessageWriteVec::with_capacity(alloc, 20)?;
+    message.push_data(&header(0))?;
+    message.push_value_unchecked(AttributeType(0x8028), &[0x11, 0x22, 0x33])?;
+    Ok(message)
+}
+
+#[test]
+fn pushes_bytes(rt: HostRuntime) -> Result<(), StunWriteError> {
+    let mut message = pushed(rt.alloc())?;
+    assert!(rt; message.has_attribute(AttributeType(0x8028)));
+    message.mut_data().fill(0x44);
+    assert!(rt; message.finish().as_slice() == [0x44; 28].as_slice());
     Ok(())
 }
