@@ -17,7 +17,7 @@ pub struct RawAttribute<'a> {
 }
 
 impl<'a> RawAttribute<'a> {
-    ghost use Rattle.std.specs.Prelude.{◌≡◌, ◌+◌, ◌<◌, ◌≤◌, true, false, IfOk, IfErr, IsOk, MatchResult, Result, Err, Some, None, length, slice_range};
+    ghost use Rattle.std.specs.Prelude.{◌≡◌, ◌+◌, ◌<◌, ◌≤◌, true, false, IfOk, IfErr, IsOk, MatchResult, Result, Ok, Err, Some, None, length, slice_range};
     ghost use Rattle.stun_base.specs.Data.{data_bytes, is_borrowed};
     ghost use Rattle.stun_grammar.specs.Numbers.{number};
     ghost use Rattle.stun_grammar.specs.Chains.{stated_length};
@@ -56,6 +56,7 @@ impl<'a> RawAttribute<'a> {
     /// state.
     pub fn new(atype: AttributeType, value: &'a [u8]) -> Result<Self, StunParseError>
         ensures ok { length value.now ≤ 65535 → IfOk result (Borrows atype.0 value.now) }
+        ensures atype { (raw : _) → result ≡ Ok raw → raw_type raw ≡ atype.0 }
         ensures fits { length value.now ≤ 65535 → IsOk result }
         ensures large { 65535 < length value.now
             → result ≡ Err (StunParseError.TooLarge 65535 (length value.now)) }
@@ -72,6 +73,7 @@ impl<'a> RawAttribute<'a> {
     /// state. The value is dropped then.
     pub fn new_owned(atype: AttributeType, value: BoxedSlice<u8>) -> Result<Self, StunParseError>
         ensures ok { IfOk result (IsRawOf atype.0 (boxed_slice_items value)) }
+        ensures atype { (raw : _) → result ≡ Ok raw → raw_type raw ≡ atype.0 }
         ensures owned { IfOk result (λ raw. is_borrowed (raw_data raw) ≡ false) }
         ensures fits { length (boxed_slice_items value) ≤ 65535 → IsOk result }
         ensures large { 65535 < length (boxed_slice_items value)

@@ -114,9 +114,10 @@ pub trait MessageWriteExt: MessageWrite {
     /// # Requires
     ///
     /// `attribute.get_type().is_ending()` is `false`. An attribute whose Rust type fixes the type
-    /// needs no test; one whose type is known only when the program runs is added by
-    /// [`MessageWriteExt::add_any_attribute`], which tests it, as is a raw attribute. A type and
-    /// bytes are added by [`MessageWriteExt::add_value`], without a raw attribute.
+    /// needs no test, and neither does a raw attribute that `RawAttribute::new` or `new_owned` makes
+    /// of a literal type. One whose type is known only when the program runs is added by
+    /// [`MessageWriteExt::add_any_attribute`], which tests it. A type and bytes are added by
+    /// [`MessageWriteExt::add_value`], without a raw attribute.
     ///
     /// # Errors
     ///
