@@ -1,6 +1,7 @@
 //! Attributes, each a type and a value, and the traits that read and write them.
 
 pub mod typed;
+mod understood;
 
 pub use stun_attrs::{
     Attribute, AttributeFromRaw, AttributeStaticType, AttributeWrite, BorrowValue, EncodeValue,
@@ -19,3 +20,4 @@ pub use typed::{
     PasswordAlgorithms, Realm, Software, TextAttribute, UnknownAttributes, Userhash, Username,
     XorMappedAddress, XorSocketAddr,
 };
+pub use understood::KNOWN;
