@@ -3,6 +3,7 @@
 pub mod typed;
 mod understood;
 
+pub use crate::show::AttributeDisplay;
 pub use stun_attrs::{
     Attribute, AttributeFromRaw, AttributeStaticType, AttributeWrite, BorrowValue, EncodeValue,
     RawAttribute, ReadValue, TypedAttribute, is_read_back,
@@ -12,7 +13,6 @@ pub use stun_kinds::{
     AddressAttribute, AttributeKind, BytesAttribute, EmptyAttribute, FieldsAttribute, FieldsKind,
     NumberAttribute, ShortBytes, XorAddressAttribute,
 };
-pub use stun_registry::AttributeDisplay;
 pub use stun_values::{check_length, read_error, read_text};
 pub use typed::{
     AlternateDomain, AlternateServer, ErrorCode, ErrorCodeBuilder, Fingerprint, MappedSocketAddr,

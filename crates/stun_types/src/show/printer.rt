@@ -16,7 +16,7 @@ pub(crate) struct Printer {
 impl Printer {
     ghost use Rattle.std.specs.Prelude.{◌≡◌, MatchResult};
     ghost use Rattle.std.specs.String.{string_bytes};
-    ghost use Rattle.stun_registry.specs.Shown.{Gives};
+    ghost use Rattle.stun_types.specs.Shown.{Gives};
 
     /// The printer that calls this function.
     pub(crate) fn new(imp: AttributeDisplay) -> Self

@@ -1,6 +1,6 @@
 use Rattle.std.proofs.Common.{rules, ◌≡◌, Err, refl}
 use Rattle.std.specs.Fmt.{fmt_error}
-use Rattle.stun_registry.proofs.printer.Printer.text.Goals as goal
+use Rattle.stun_types.proofs.show.printer.Printer.text.Goals as goal
 
 -- the call accepted, and left the text
 pub returns : goal.returns

@@ -1,4 +1,4 @@
-use crate::Registry;
+use super::registry::Registry;
 use std::fmt;
 use stun_attrs::RawAttribute;
 
@@ -12,7 +12,7 @@ pub struct Shown<'r, 'a> {
 }
 
 impl fmt::Display for Shown<'_, '_> {
-    ghost use Rattle.stun_registry.specs.Shown.{shown_text};
+    ghost use Rattle.stun_types.specs.Shown.{shown_text};
 
     ghost output = { λ shown. shown_text shown.registry.now shown.raw.now };
 

@@ -1,6 +1,6 @@
 use Rattle.std.proofs.Common.{rules, ◌≡◌, ◌∷◌, [], ◌++◌, sym, ◌∙◌}
-use Rattle.stun_registry.proofs.TableLemmas.{sets_in_place, sets_behind, no_value}
-use Rattle.stun_registry.proofs.table.Table.set.Goals as goal
+use Rattle.stun_types.proofs.TableLemmas.{sets_in_place, sets_behind, no_value}
+use Rattle.stun_types.proofs.show.table.Table.set.Goals as goal
 
 pub returns-in_err-map_err-in-None-clause-first : goal.returns-in_err-map_err-in-None-clause-first
 returns-in_err-map_err-in-None-clause-first g c = let none = no_value c.args.self.now.entries.items c.args.number (sym c.place.ensures ∙ c.in-None.is) in search (rules, none)

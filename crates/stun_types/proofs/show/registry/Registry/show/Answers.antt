@@ -1,8 +1,8 @@
 use Rattle.std.proofs.Common.{rules, ◌≡◌, Option, Some, MatchOption, inl, inr, refl, sym, ◌∙◌, ap}
 use Rattle.std.specs.Option.{option_map}
 use Rattle.stun_attrs.specs.Raw.{raw_type}
-use Rattle.stun_registry.specs.Shown.{display_of}
-use Rattle.stun_registry.proofs.registry.Registry.show.Goals as goal
+use Rattle.stun_types.specs.Shown.{display_of}
+use Rattle.stun_types.proofs.show.registry.Registry.show.Goals as goal
 
 at_some : {A : Type 0} (P : Type 0) (Q : A → Type 0) (o : Option A) (x : A) → o ≡ Some x → Q x → MatchOption o P Q
 at_some P Q o x is q = rw is q

@@ -2,7 +2,7 @@
 
 ghost use Rattle.std.specs.Prelude.{OnOk};
 ghost use Rattle.std.specs.String.{string_bytes};
-ghost use Rattle.stun_registry.specs.Shown.{AppendsRead};
+ghost use Rattle.stun_types.specs.Shown.{AppendsRead};
 
 use std::alloc::Global;
 use std::fmt;
@@ -16,7 +16,7 @@ struct Malformed<'r, 'a>(&'r RawAttribute<'a>);
 
 impl fmt::Display for Malformed<'_, '_> {
     ghost use Rattle.std.specs.Prelude.{Some};
-    ghost use Rattle.stun_registry.specs.Shown.{malformed};
+    ghost use Rattle.stun_types.specs.Shown.{malformed};
 
     ghost output = { λ shown. Some (malformed shown.0.now) };
 

@@ -7,7 +7,7 @@ use Rattle.std.proofs.lemmas.List.Folds.{find_at, find-set, find_past, find-appe
 use Rattle.std.proofs.lemmas.List.Quantifiers.{position-Some}
 use Rattle.std.proofs.lemmas.Option.{slice_get_past}
 use Rattle.std.proofs.lemmas.Bool.{ltb-false}
-use Rattle.stun_registry.specs.Table.{value_of, Sets}
+use Rattle.stun_types.specs.Table.{value_of, Sets}
 
 -- what a choice tells of its test
 test_at : (c : Bool) (n i : ℕ) → cond c (Some n) None ≡ Some i → i ≡ n

@@ -1,6 +1,6 @@
 ghost use Rattle.std.specs.Prelude.{◌≡◌, ℕ, ◌==◌, None, IfErr, OnOk, OnErr};
 ghost use Rattle.std.specs.List.{position};
-ghost use Rattle.stun_registry.specs.Table.{value_of, Sets};
+ghost use Rattle.stun_types.specs.Table.{value_of, Sets};
 
 use std::alloc::Global;
 use stun_base::StunWriteError;

@@ -3,8 +3,8 @@ use Rattle.std.specs.Prelude.{◌≡◌, ℕ, List, Option, codes, unwrap_or, if
 use Rattle.std.specs.Option.{option_map}
 use Rattle.std.specs.Str.{bytes_eq}
 use Rattle.stun_grammar.specs.Names.{attribute_name, method_name}
-use Rattle.stun_registry.specs.declared.registry.Registry.{Registry}
-use Rattle.stun_registry.specs.Table.{value_of, Sets}
+use Rattle.stun_types.specs.declared.show.registry.Registry.{Registry}
+use Rattle.stun_types.specs.Table.{value_of, Sets}
 
 -- the name that is registered for a type
 abbrev pub registered_name : {F : Type 0} {g : _} → Registry F g → ℕ → Option (List ℕ)

@@ -13,8 +13,8 @@ use Rattle.stun_base.specs.Data.{is_borrowed}
 use Rattle.stun_attrs.specs.declared.raw.RawAttribute.{RawAttribute}
 use Rattle.stun_attrs.specs.Raw.{raw_type, raw_data, raw_value}
 use Rattle.stun_attrs.specs.PrintedAttributes.{attribute_text, malformed_text}
-use Rattle.stun_registry.specs.declared.registry.Registry.{Registry}
-use Rattle.stun_registry.specs.Registered.{registered_display}
+use Rattle.stun_types.specs.declared.show.registry.Registry.{Registry}
+use Rattle.stun_types.specs.Registered.{registered_display}
 
 -- what plain `Display` prints of an attribute
 abbrev pub displayed : RawAttribute → Option (List ℕ)

@@ -1,7 +1,6 @@
-use crate::AttributeDisplay;
-use crate::own::own_or;
-use crate::printer::Printer;
-use crate::table::Table;
+use super::own::own_or;
+use super::printer::{AttributeDisplay, Printer};
+use super::table::Table;
 use std::alloc::Global;
 use std::fmt;
 use stun_attrs::{Attribute, RawAttribute};
@@ -29,8 +28,8 @@ impl Registry {
     ghost use Rattle.std.specs.Option.{option_map};
     ghost use Rattle.std.specs.Fmt.{DisplaysOnOk};
     ghost use Rattle.stun_attrs.specs.Raw.{raw_type};
-    ghost use Rattle.stun_registry.specs.Shown.{displayed, display_of, ShowsBy};
-    ghost use Rattle.stun_registry.specs.Registered.{registered_name, registered_method_name, registered_display, AddsName, AddsMethodName, AddsDisplay, IsUnchanged, name_of, method_name_of};
+    ghost use Rattle.stun_types.specs.Shown.{displayed, display_of, ShowsBy};
+    ghost use Rattle.stun_types.specs.Registered.{registered_name, registered_method_name, registered_display, AddsName, AddsMethodName, AddsDisplay, IsUnchanged, name_of, method_name_of};
 
     /// A registry with no entry, which grows in memory from `alloc`.
     pub fn new(alloc: Global) -> Self
