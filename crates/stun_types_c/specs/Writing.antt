@@ -1,8 +1,8 @@
 -- Writing into a slice of C's: what a call answers, and what the slice holds then (RFC 8489, sections
 -- 5 and 14).
-use Rattle.std.specs.Prelude.{◌≡◌, ℕ, ◌^◌, ◌||◌, ◌++◌, List, [], length, take, drop, Option, None, Some, MatchOption, nat_lt, if◌then◌else◌}
+use Rattle.std.specs.Prelude.{◌≡◌, ℕ, ◌^◌, ◌++◌, List, [], length, take, drop, Option, None, Some, MatchOption, nat_lt, if◌then◌else◌}
 use Rattle.std.specs.List.{flat_map}
-use Rattle.std.specs.Option.{option_or}
+use Rattle.std.specs.Option.{option_map, option_or}
 use Rattle.std.specs.Str.{is_utf8}
 use Rattle.std.specs.declared.net.socket_addr.SocketAddr.{SocketAddr}
 use Rattle.stun_grammar.specs.declared.error.StunWriteError.{StunWriteError}
@@ -16,14 +16,14 @@ use Rattle.stun_grammar.specs.Adding.{appended, grown_length}
 use Rattle.stun_keys.specs.declared.keys.integrity_key.IntegrityKey.{IntegrityKey}
 use Rattle.stun_keys.specs.Keys.{key_bytes}
 use Rattle.stun_values.specs.Addresses.{address_value, IsXored}
-use Rattle.stun_values.specs.ErrorValues.{error_value}
+use Rattle.stun_values.specs.ErrorValues.{error_value, making_fault}
 use Rattle.stun_write.specs.Resuming.{resume_fault}
 use Rattle.stun_write.specs.ResumePoints.{any_in, step_in}
 use Rattle.stun_types_c.specs.declared.call_result.CallResult.{CallResult}
 use Rattle.stun_types_c.specs.declared.address.Address.{Address}
 use Rattle.stun_types_c.specs.declared.reading.Id.{Id}
 use Rattle.stun_types_c.specs.Addresses.{ip_named, IsAt}
-use Rattle.stun_types_c.specs.Codes.{OK, TOO_LARGE, TOO_SMALL, OUT_OF_RANGE, INVALID_DATA, BAD_ARGUMENT, NO_KEY}
+use Rattle.stun_types_c.specs.Codes.{OK, TOO_LARGE, TOO_SMALL, INVALID_DATA, BAD_ARGUMENT, NO_KEY}
 use Rattle.stun_types_c.specs.CallResults.{plain, counted, write_result, Refuses}
 use Rattle.stun_types_c.specs.Keys.{algorithm_named}
 
@@ -107,8 +107,7 @@ AddsXorAddress address type result old new =
 -- why there is no such error: its code is none of 300 to 699, or its reason is too long or no text
 abbrev pub error_answer : ℕ → List ℕ → Option CallResult
 error_answer code reason =
-    if nat_lt code 300 || nat_lt 699 code then Some (counted OUT_OF_RANGE 699 code) else
-    option_or (long_answer 763 (length reason))
+    option_or (option_map write_result (making_fault code reason))
     (if is_utf8 reason then None else Some (plain INVALID_DATA))
 
 -- an ERROR-CODE is added (RFC 8489, section 14.8)

@@ -24,7 +24,7 @@ use stun_base::MessageHeader;
 use stun_grammar::attribute_types::{ERROR_CODE, UNKNOWN_ATTRIBUTES};
 use stun_types::attribute::AttributeType;
 use stun_types::message::{MessageType, StunWriteError};
-use stun_values::{address_length, write_address, xor_addr};
+use stun_values::{address_length, check_error, check_type_count, write_address, xor_addr};
 use stun_write::{ResumePoint, write_message_header};
 
 /// Begins a message: writes its header, with the length 0, at the start of a slice.
@@ -107,8 +107,6 @@ fn add_socket(room: &mut [u8], written: &mut usize, atype: u16, addr: SocketAddr
         (record { slice = room.old; count = written.old })
         (record { slice = room.new; count = written.new }) }
 {
-    // its contract says that an address has at most sixteen octets
-    let _xored = xor_addr(addr, 0.into());
     let mut value = [0; 20];
     let length = address_length(&addr) as usize;
     write_address(&addr, &mut value);
@@ -167,11 +165,8 @@ pub extern "C" fn stun_types_add_error(
     let Ok(point) = ResumePoint::check(room, *written) else {
         return plain(codes::BAD_ARGUMENT);
     };
-    if code < 300 || code > 699 {
-        return counted(codes::OUT_OF_RANGE, 699, code as usize);
-    }
-    if reason.len() > 763 {
-        return counted(codes::TOO_LARGE, 763, reason.len());
+    if let Err(error) = check_error(code, reason) {
+        return write_result(error);
     }
     if text_in(reason).is_none() {
         return plain(codes::INVALID_DATA);
@@ -197,8 +192,8 @@ pub extern "C" fn stun_types_add_unknown_types(
     let Ok(point) = ResumePoint::check(room, *written) else {
         return plain(codes::BAD_ARGUMENT);
     };
-    if types.len() > 32767 {
-        return counted(codes::TOO_LARGE, 32767, types.len());
+    if let Err(error) = check_type_count(types.len()) {
+        return write_result(error);
     }
     let value = TypeNumbers { types };
     store_length(
