@@ -2,6 +2,7 @@
 //! 14.1) and TRANSACTION_TRANSMIT_COUNTER (RFC 7982), over the public items of `stun_types` alone.
 #![tactic(auto)]
 
+pub mod attribute_types;
 mod change;
 mod kinds;
 mod laws;
@@ -22,11 +23,11 @@ pub use transmissions::Transmissions;
 
 /// The types of this crate, for `Message::check_attribute_types`.
 pub const KNOWN: [AttributeType; 7] = [
-    AttributeType(0x0001),
-    AttributeType(0x0003),
-    AttributeType(0x0026),
-    AttributeType(0x0027),
-    AttributeType(0x8025),
-    AttributeType(0x802B),
-    AttributeType(0x802C),
+    AttributeType(attribute_types::MAPPED_ADDRESS),
+    AttributeType(attribute_types::CHANGE_REQUEST),
+    AttributeType(attribute_types::PADDING),
+    AttributeType(attribute_types::RESPONSE_PORT),
+    AttributeType(attribute_types::TRANSACTION_TRANSMIT_COUNTER),
+    AttributeType(attribute_types::RESPONSE_ORIGIN),
+    AttributeType(attribute_types::OTHER_ADDRESS),
 ];

@@ -11,12 +11,12 @@
 #[macro_export]
 macro_rules! register {
     ($registry:ident) => {{
-        $registry.add_name(stun_types::attribute::AttributeType(0x0003), "CHANGE-REQUEST")?;
-        $registry.add_name(stun_types::attribute::AttributeType(0x0026), "PADDING")?;
-        $registry.add_name(stun_types::attribute::AttributeType(0x0027), "RESPONSE-PORT")?;
-        $registry.add_name(stun_types::attribute::AttributeType(0x8025), "TRANSACTION_TRANSMIT_COUNTER")?;
-        $registry.add_name(stun_types::attribute::AttributeType(0x802B), "RESPONSE-ORIGIN")?;
-        $registry.add_name(stun_types::attribute::AttributeType(0x802C), "OTHER-ADDRESS")?;
+        $registry.add_name(<$crate::ChangeRequest as stun_types::attribute::AttributeStaticType>::TYPE, "CHANGE-REQUEST")?;
+        $registry.add_name(<$crate::Padding as stun_types::attribute::AttributeStaticType>::TYPE, "PADDING")?;
+        $registry.add_name(<$crate::ResponsePort as stun_types::attribute::AttributeStaticType>::TYPE, "RESPONSE-PORT")?;
+        $registry.add_name(<$crate::TransactionTransmitCounter as stun_types::attribute::AttributeStaticType>::TYPE, "TRANSACTION_TRANSMIT_COUNTER")?;
+        $registry.add_name(<$crate::ResponseOrigin as stun_types::attribute::AttributeStaticType>::TYPE, "RESPONSE-ORIGIN")?;
+        $registry.add_name(<$crate::OtherAddress as stun_types::attribute::AttributeStaticType>::TYPE, "OTHER-ADDRESS")?;
         stun_types::attribute_display!($registry, $crate::MappedAddress)?;
         stun_types::attribute_display!($registry, $crate::ChangeRequest)?;
         stun_types::attribute_display!($registry, $crate::Padding)?;

@@ -3,6 +3,7 @@
 //! `stun_types` alone.
 #![tactic(auto)]
 
+pub mod attribute_types;
 mod formula;
 mod kinds;
 mod registering;
@@ -16,10 +17,10 @@ use stun_types::attribute::{AttributeType, ErrorCode};
 
 /// The types of this crate, for `Message::check_attribute_types`.
 pub const KNOWN: [AttributeType; 4] = [
-    AttributeType(0x0024),
-    AttributeType(0x0025),
-    AttributeType(0x8029),
-    AttributeType(0x802A),
+    AttributeType(attribute_types::PRIORITY),
+    AttributeType(attribute_types::USE_CANDIDATE),
+    AttributeType(attribute_types::ICE_CONTROLLED),
+    AttributeType(attribute_types::ICE_CONTROLLING),
 ];
 
 /// 487: both agents have the same role (RFC 8445, section 16.2). Its reason is `Role Conflict`.

@@ -11,10 +11,10 @@
 #[macro_export]
 macro_rules! register {
     ($registry:ident) => {{
-        $registry.add_name(stun_types::attribute::AttributeType(0x0024), "PRIORITY")?;
-        $registry.add_name(stun_types::attribute::AttributeType(0x0025), "USE-CANDIDATE")?;
-        $registry.add_name(stun_types::attribute::AttributeType(0x8029), "ICE-CONTROLLED")?;
-        $registry.add_name(stun_types::attribute::AttributeType(0x802A), "ICE-CONTROLLING")?;
+        $registry.add_name(<$crate::Priority as stun_types::attribute::AttributeStaticType>::TYPE, "PRIORITY")?;
+        $registry.add_name(<$crate::UseCandidate as stun_types::attribute::AttributeStaticType>::TYPE, "USE-CANDIDATE")?;
+        $registry.add_name(<$crate::IceControlled as stun_types::attribute::AttributeStaticType>::TYPE, "ICE-CONTROLLED")?;
+        $registry.add_name(<$crate::IceControlling as stun_types::attribute::AttributeStaticType>::TYPE, "ICE-CONTROLLING")?;
         stun_types::attribute_display!($registry, $crate::Priority)?;
         stun_types::attribute_display!($registry, $crate::UseCandidate)?;
         stun_types::attribute_display!($registry, $crate::IceControlled)?;

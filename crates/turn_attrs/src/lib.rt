@@ -6,6 +6,7 @@
 #![tactic(auto)]
 
 mod address_error_code;
+pub mod attribute_types;
 mod channel_data;
 mod channels;
 pub mod error_codes;
@@ -38,21 +39,21 @@ pub use turn_basics::{DataKind, Lifetime, PeerData, XorPeerAddress, XorPeerAddre
 
 /// The types of this crate, for `Message::check_attribute_types`.
 pub const KNOWN: [AttributeType; 17] = [
-    AttributeType(0x000C),
-    AttributeType(0x000D),
-    AttributeType(0x0012),
-    AttributeType(0x0013),
-    AttributeType(0x0016),
-    AttributeType(0x0017),
-    AttributeType(0x0018),
-    AttributeType(0x0019),
-    AttributeType(0x001A),
-    AttributeType(0x001B),
-    AttributeType(0x0022),
-    AttributeType(0x002A),
-    AttributeType(0x8000),
-    AttributeType(0x8001),
-    AttributeType(0x8004),
-    AttributeType(0x802E),
-    AttributeType(0x8030),
+    AttributeType(attribute_types::CHANNEL_NUMBER),
+    AttributeType(attribute_types::LIFETIME),
+    AttributeType(attribute_types::XOR_PEER_ADDRESS),
+    AttributeType(attribute_types::DATA),
+    AttributeType(attribute_types::XOR_RELAYED_ADDRESS),
+    AttributeType(attribute_types::REQUESTED_ADDRESS_FAMILY),
+    AttributeType(attribute_types::EVEN_PORT),
+    AttributeType(attribute_types::REQUESTED_TRANSPORT),
+    AttributeType(attribute_types::DONT_FRAGMENT),
+    AttributeType(attribute_types::ACCESS_TOKEN),
+    AttributeType(attribute_types::RESERVATION_TOKEN),
+    AttributeType(attribute_types::CONNECTION_ID),
+    AttributeType(attribute_types::ADDITIONAL_ADDRESS_FAMILY),
+    AttributeType(attribute_types::ADDRESS_ERROR_CODE),
+    AttributeType(attribute_types::ICMP),
+    AttributeType(attribute_types::THIRD_PARTY_AUTHORIZATION),
+    AttributeType(attribute_types::MOBILITY_TICKET),
 ];

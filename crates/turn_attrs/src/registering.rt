@@ -12,23 +12,23 @@
 #[macro_export]
 macro_rules! register {
     ($registry:ident) => {{
-        $registry.add_name(stun_types::attribute::AttributeType(0x000C), "CHANNEL-NUMBER")?;
-        $registry.add_name(stun_types::attribute::AttributeType(0x000D), "LIFETIME")?;
-        $registry.add_name(stun_types::attribute::AttributeType(0x0012), "XOR-PEER-ADDRESS")?;
-        $registry.add_name(stun_types::attribute::AttributeType(0x0013), "DATA")?;
-        $registry.add_name(stun_types::attribute::AttributeType(0x0016), "XOR-RELAYED-ADDRESS")?;
-        $registry.add_name(stun_types::attribute::AttributeType(0x0017), "REQUESTED-ADDRESS-FAMILY")?;
-        $registry.add_name(stun_types::attribute::AttributeType(0x0018), "EVEN-PORT")?;
-        $registry.add_name(stun_types::attribute::AttributeType(0x0019), "REQUESTED-TRANSPORT")?;
-        $registry.add_name(stun_types::attribute::AttributeType(0x001A), "DONT-FRAGMENT")?;
-        $registry.add_name(stun_types::attribute::AttributeType(0x001B), "ACCESS-TOKEN")?;
-        $registry.add_name(stun_types::attribute::AttributeType(0x0022), "RESERVATION-TOKEN")?;
-        $registry.add_name(stun_types::attribute::AttributeType(0x002A), "CONNECTION-ID")?;
-        $registry.add_name(stun_types::attribute::AttributeType(0x8000), "ADDITIONAL-ADDRESS-FAMILY")?;
-        $registry.add_name(stun_types::attribute::AttributeType(0x8001), "ADDRESS-ERROR-CODE")?;
-        $registry.add_name(stun_types::attribute::AttributeType(0x8004), "ICMP")?;
-        $registry.add_name(stun_types::attribute::AttributeType(0x802E), "THIRD-PARTY-AUTHORIZATION")?;
-        $registry.add_name(stun_types::attribute::AttributeType(0x8030), "MOBILITY-TICKET")?;
+        $registry.add_name(<$crate::ChannelNumber as stun_types::attribute::AttributeStaticType>::TYPE, "CHANNEL-NUMBER")?;
+        $registry.add_name(<$crate::Lifetime as stun_types::attribute::AttributeStaticType>::TYPE, "LIFETIME")?;
+        $registry.add_name(<$crate::XorPeerAddress as stun_types::attribute::AttributeStaticType>::TYPE, "XOR-PEER-ADDRESS")?;
+        $registry.add_name(<$crate::PeerData as stun_types::attribute::AttributeStaticType>::TYPE, "DATA")?;
+        $registry.add_name(<$crate::XorRelayedAddress as stun_types::attribute::AttributeStaticType>::TYPE, "XOR-RELAYED-ADDRESS")?;
+        $registry.add_name(<$crate::RequestedAddressFamily as stun_types::attribute::AttributeStaticType>::TYPE, "REQUESTED-ADDRESS-FAMILY")?;
+        $registry.add_name(<$crate::EvenPort as stun_types::attribute::AttributeStaticType>::TYPE, "EVEN-PORT")?;
+        $registry.add_name(<$crate::RequestedTransport as stun_types::attribute::AttributeStaticType>::TYPE, "REQUESTED-TRANSPORT")?;
+        $registry.add_name(<$crate::DontFragment as stun_types::attribute::AttributeStaticType>::TYPE, "DONT-FRAGMENT")?;
+        $registry.add_name(<$crate::AccessToken as stun_types::attribute::AttributeStaticType>::TYPE, "ACCESS-TOKEN")?;
+        $registry.add_name(<$crate::ReservationToken as stun_types::attribute::AttributeStaticType>::TYPE, "RESERVATION-TOKEN")?;
+        $registry.add_name(<$crate::ConnectionId as stun_types::attribute::AttributeStaticType>::TYPE, "CONNECTION-ID")?;
+        $registry.add_name(<$crate::AdditionalAddressFamily as stun_types::attribute::AttributeStaticType>::TYPE, "ADDITIONAL-ADDRESS-FAMILY")?;
+        $registry.add_name(<$crate::AddressErrorCode as stun_types::attribute::AttributeStaticType>::TYPE, "ADDRESS-ERROR-CODE")?;
+        $registry.add_name(<$crate::Icmp as stun_types::attribute::AttributeStaticType>::TYPE, "ICMP")?;
+        $registry.add_name(<$crate::ThirdPartyAuthorization as stun_types::attribute::AttributeStaticType>::TYPE, "THIRD-PARTY-AUTHORIZATION")?;
+        $registry.add_name(<$crate::MobilityTicket as stun_types::attribute::AttributeStaticType>::TYPE, "MOBILITY-TICKET")?;
         $registry.add_method_name($crate::methods::ALLOCATE, "ALLOCATE")?;
         $registry.add_method_name($crate::methods::REFRESH, "REFRESH")?;
         $registry.add_method_name($crate::methods::SEND, "SEND")?;
