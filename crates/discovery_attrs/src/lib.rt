@@ -6,10 +6,10 @@ pub mod attribute_types;
 mod change;
 mod kinds;
 mod laws;
-mod registering;
 mod response_port;
 mod transmissions;
 
+pub use attribute_types::KNOWN;
 pub use change::Change;
 pub use kinds::{
     ChangeRequest, ChangeRequestKind, MappedAddress, MappedAddressKind, OtherAddress,
@@ -18,16 +18,4 @@ pub use kinds::{
 };
 pub use laws::{fields_are_held, response_port_is_read_back};
 pub use response_port::ResponsePort;
-use stun_types::attribute::AttributeType;
 pub use transmissions::Transmissions;
-
-/// The types of this crate, for `Message::check_attribute_types`.
-pub const KNOWN: [AttributeType; 7] = [
-    AttributeType(attribute_types::MAPPED_ADDRESS),
-    AttributeType(attribute_types::CHANGE_REQUEST),
-    AttributeType(attribute_types::PADDING),
-    AttributeType(attribute_types::RESPONSE_PORT),
-    AttributeType(attribute_types::TRANSACTION_TRANSMIT_COUNTER),
-    AttributeType(attribute_types::RESPONSE_ORIGIN),
-    AttributeType(attribute_types::OTHER_ADDRESS),
-];
