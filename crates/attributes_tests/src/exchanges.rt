@@ -7,8 +7,7 @@ use std::alloc::Global;
 use std::net::{IpAddr, Ipv4Addr, SocketAddr};
 use std::test::Fail;
 use stun_types::attribute::{
-    AttributeType, ErrorCode, MessageIntegrity, Nonce, Realm, UnknownAttributes, Username,
-    XorMappedAddress,
+    AttributeType, ErrorCode, KNOWN, Nonce, Realm, UnknownAttributes, Username, XorMappedAddress,
 };
 use stun_types::message::{
     BINDING, IntegrityAlgorithm, Message, MessageClass, MessageType, MessageWriteVec, Method,
@@ -232,17 +231,11 @@ fn unknown(
 #[test]
 fn types_of_the_crates_are_understood(rt: HostRuntime) -> Result<(), Fail> {
     let alloc = rt.alloc();
-    let basic = [
-        Username::TYPE,
-        Realm::TYPE,
-        Nonce::TYPE,
-        MessageIntegrity::TYPE,
-    ];
-    let mut of_ice = Vec::from_array(alloc, basic)?;
+    let mut of_ice = Vec::from_array(alloc, KNOWN)?;
     of_ice.extend_from_slice(&ice_attrs::KNOWN)?;
     assert!(rt; unknown(alloc, &ICE_REQUEST, &of_ice)?.is_none());
     assert!(rt; unknown(alloc, &ALLOCATE, &of_ice)?.is_some());
-    let mut of_turn = Vec::from_array(alloc, basic)?;
+    let mut of_turn = Vec::from_array(alloc, KNOWN)?;
     of_turn.extend_from_slice(&turn_attrs::KNOWN)?;
     assert!(rt; unknown(alloc, &ALLOCATE_SIGNED, &of_turn)?.is_none());
     let Some(types) = unknown(alloc, &ICE_REQUEST, &of_turn)? else {

@@ -83,8 +83,9 @@ fn read_id(bytes: &[u8]) -> TransactionId
     requires { 20 ≤ length bytes.now }
     ensures { result ≡ id_field bytes.now }
 {
-    let (_, cookie_and_id) = bytes.split_at(4);
-    TransactionId::from(BigEndian::read_u128(cookie_and_id))
+    let mut id = [0; 12];
+    id.copy_from_slice(&bytes[8..20]);
+    TransactionId::from_bytes(&id)
 }
 
 /// Reads the header from bytes that are known to begin with one.

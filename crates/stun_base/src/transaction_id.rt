@@ -1,6 +1,8 @@
 ghost use Rattle.std.specs.Prelude.{◌≡◌};
+ghost use Rattle.stun_grammar.specs.Numbers.{be96, number};
 ghost use Rattle.stun_base.specs.Drawing.{drawn_id};
 
+use byteorder::{BigEndian, ByteOrder};
 use rand_core::Rng;
 use std::fmt;
 use std::marker::Model;
@@ -48,6 +50,25 @@ impl TransactionId {
         let low = u128::from(rng.next_u64());
         let high = u128::from(rng.next_u64());
         TransactionId::from((high << 64) + low)
+    }
+
+    /// The transaction ID that these bytes encode, the most significant first: network byte order,
+    /// as in the header of a message (RFC 8489, section 5).
+    pub fn from_bytes(bytes: &[u8; 12]) -> TransactionId
+        ensures { result ≡ number bytes.now }
+    {
+        let id = BigEndian::read_uint128(bytes, 12);
+        TransactionId { id }
+    }
+
+    /// The bytes of the transaction ID, the most significant first: network byte order, as in the
+    /// header of a message (RFC 8489, section 5).
+    pub fn to_bytes(&self) -> [u8; 12]
+        ensures { result ≡ be96 self.now }
+    {
+        let mut bytes = [0; 12];
+        BigEndian::write_uint128(&mut bytes, self.id, 12);
+        bytes
     }
 
     /// The number, of 96 bits.

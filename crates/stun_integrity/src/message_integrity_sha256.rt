@@ -46,7 +46,7 @@ impl MessageIntegritySha256 {
     ghost use Rattle.stun_integrity.specs.Integrity.{sha256_hmac, IsPrefixOf, MakesSha256};
 
     /// The attribute of these bytes, whose number is allowed.
-    fn kept(hmac: &[u8]) -> Self
+    fn from_checked(hmac: &[u8]) -> Self
         requires least { 16 ≤ length hmac.now }
         requires most { length hmac.now ≤ 32 }
         requires four { length hmac.now % 4 ≡ 0 }
@@ -69,7 +69,7 @@ impl MessageIntegritySha256 {
         ensures { MakesSha256 hmac.now result }
     {
         check_sha256_length(hmac.len())?;
-        Ok(Self::kept(hmac))
+        Ok(Self::from_checked(hmac))
     }
 
     /// The HMAC, or the prefix of it that the attribute holds.
@@ -198,7 +198,7 @@ impl ReadValue for MessageIntegritySha256 {
 
     fn read_value(_alloc: Global, value: &[u8]) -> Result<Self, StunParseError> {
         check_sha256_length(value.len())?;
-        Ok(Self::kept(value))
+        Ok(Self::from_checked(value))
     }
 }
 

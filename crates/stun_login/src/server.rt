@@ -15,8 +15,7 @@ use stun_authentication::{
     authenticate_long_term, authenticate_short_term, refuse, security_features,
 };
 use stun_types::attribute::{
-    MessageIntegrity, MessageIntegritySha256, Nonce, PasswordAlgorithm, PasswordAlgorithmValue,
-    PasswordAlgorithms, Realm, Userhash, Username, XorMappedAddress,
+    KNOWN, Nonce, PasswordAlgorithmValue, PasswordAlgorithms, Realm, XorMappedAddress,
 };
 use stun_types::message::{
     BINDING, LongTermCredentials, Message, MessageClass, MessageWriteVec, StunWriteError,
@@ -97,17 +96,8 @@ fn reply(
 ) -> Result<Vec<u8>, StunWriteError>
     requires { class_of (type_field (message_bytes request.now)) ≡ Request }
 {
-    let known = [
-        Username::TYPE,
-        Userhash::TYPE,
-        Realm::TYPE,
-        Nonce::TYPE,
-        PasswordAlgorithm::TYPE,
-        MessageIntegrity::TYPE,
-        MessageIntegritySha256::TYPE,
-    ];
     let vector = MessageWriteVec::new(alloc);
-    let unknown = Message::check_attribute_types(alloc, request, &known, &[], vector)?;
+    let unknown = Message::check_attribute_types(alloc, request, &KNOWN, &[], vector)?;
     let mut reply = match unknown {
         Some(reply) => reply,
         None => success(alloc, request, source)?,

@@ -107,10 +107,16 @@ there wanted d offset e = elim (none_or_some (last_shown wanted d)) [
     same : (p q : ℕ) → Some p ≡ Some q → p ≡ q
     same p q h = cc
 
--- of the attribute of an algorithm
-pub kept_there : (algorithm : IntegrityAlgorithm) (d : List ℕ) (offset : ℕ) (kept : Option ℕ) → kept ≡ offset_among (is_checked_type (Some algorithm)) (shown d) → kept ≡ Some offset → IsIntegrityAt (is_checked_type (Some algorithm)) d (type_of_algorithm algorithm) offset
-kept_there algorithm d offset kept e is =
-    let (a, passes, at) = there (is_checked_type (Some algorithm)) d offset (sym e ∙ is) in
+-- of the attribute of an algorithm, or there is none
+pub kept_shown : (algorithm : IntegrityAlgorithm) (d : List ℕ) (kept : Option ℕ) → kept ≡ offset_among (is_checked_type (Some algorithm)) (shown d)
+    → MatchOption kept (last_shown (is_checked_type (Some algorithm)) d ≡ None) (λ offset. IsIntegrityAt (is_checked_type (Some algorithm)) d (type_of_algorithm algorithm) offset)
+kept_shown algorithm d None e = elim (none_or_some (last_shown (is_checked_type (Some algorithm)) d)) [
+  | inl none ↦ none
+  | inr (x, some) ↦
+      let told : None ≡ Some x.offset = e ∙ ap (option_map (λ (y : Shown). y.offset)) some in absurd cc
+]
+kept_shown algorithm d (Some offset) e =
+    let (a, passes, at) = there (is_checked_type (Some algorithm)) d offset (sym e) in
     subst (λ (k : ℕ). IsIntegrityAt (is_checked_type (Some algorithm)) d k offset) (eqb-true a.type (type_of_algorithm algorithm) passes) at
 
 -- its bytes are all there
@@ -221,33 +227,11 @@ last_is_either d = elim (none_or_some (frame_fault d)) [
   | inr (told, refused) ↦ rw (nothing d told refused) refl
 ]
 
--- the same of what was kept
-pub either_kept : (d : List ℕ) (type offset : ℕ) → IsIntegrityAt (is_checked_type (Some Sha256)) d type offset → IsIntegrityAt (is_checked_type None) d type offset
-either_kept d type offset kept = record {
-  attribute = kept.attribute;
-  type_is = kept.type_is;
-  within = kept.within;
-  first_is = kept.first_is;
-  last_is = last_is_either d ∙ ap (λ (o : Option Shown). option_or o (last_shown (is_checked_type (Some Sha1)) d)) kept.last_is;
-}
+pub either_shown : (d : List ℕ) (x : Shown) → last_shown (is_checked_type (Some Sha256)) d ≡ Some x → last_shown (is_checked_type None) d ≡ Some x
+either_shown d x e = last_is_either d ∙ ap (λ (o : Option Shown). option_or o (last_shown (is_checked_type (Some Sha1)) d)) e
 
-other_kept : (d : List ℕ) (type offset : ℕ) → last_shown (is_checked_type (Some Sha256)) d ≡ None → IsIntegrityAt (is_checked_type (Some Sha1)) d type offset → IsIntegrityAt (is_checked_type None) d type offset
-other_kept d type offset none kept = record {
-  attribute = kept.attribute;
-  type_is = kept.type_is;
-  within = kept.within;
-  first_is = kept.first_is;
-  last_is = last_is_either d ∙ ap (λ (o : Option Shown). option_or o (last_shown (is_checked_type (Some Sha1)) d)) none ∙ kept.last_is;
-}
-
-neither_kept : (d : List ℕ) → last_shown (is_checked_type (Some Sha256)) d ≡ None → last_shown (is_checked_type (Some Sha1)) d ≡ None → last_shown (is_checked_type None) d ≡ None
-neither_kept d none other = last_is_either d ∙ ap (λ (o : Option Shown). option_or o (last_shown (is_checked_type (Some Sha1)) d)) none ∙ other
-
-pub other_found : (d : List ℕ) (kept : Option (IntegrityAlgorithm × ℕ)) → last_shown (is_checked_type (Some Sha256)) d ≡ None
-    → MatchOption kept (last_shown (is_checked_type (Some Sha1)) d ≡ None) (λ found. IsIntegrityAt (is_checked_type (Some Sha1)) d (type_of_algorithm found.0) found.1)
-    → MatchOption kept (last_shown (is_checked_type None) d ≡ None) (λ found. IsIntegrityAt (is_checked_type None) d (type_of_algorithm found.0) found.1)
-other_found d None none other = neither_kept d none other
-other_found d (Some found) none other = other_kept d (type_of_algorithm found.0) found.1 none other
+pub other_shown : (d : List ℕ) → last_shown (is_checked_type (Some Sha256)) d ≡ None → last_shown (is_checked_type None) d ≡ last_shown (is_checked_type (Some Sha1)) d
+other_shown d e = last_is_either d ∙ ap (λ (o : Option Shown). option_or o (last_shown (is_checked_type (Some Sha1)) d)) e
 
 -- ---- No more than one of each
 

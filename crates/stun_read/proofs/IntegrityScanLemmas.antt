@@ -22,7 +22,6 @@ use Rattle.stun_grammar.proofs.ShowingLemmas.{shown_as, at_type, none_last}
 use Rattle.stun_grammar.proofs.ShownOrderCutLemmas.{in_any_order-from}
 use Rattle.stun_grammar.proofs.ShownOrderLemmas.{in_order-cons, in_order-one, in_order-nil, in_order-ordinary, in_order_closed, pair-fingerprint}
 use Rattle.stun_read.specs.declared.offsets.IntegrityOffsets.{IntegrityOffsets}
-use Rattle.stun_read.specs.declared.offsets.IntegrityScan.{IntegrityScan}
 use Rattle.stun_read.specs.Offsets.{offset_among, AreOffsets, OffsetsOf, HasScanned}
 
 -- ---- One more type
@@ -118,57 +117,46 @@ no_offset algorithm taken all =
     ap (λ (xs : List Attribute). offset_among (is_checked_type (Some algorithm)) (placed 20 xs)) (shown_whole taken (in_order_all taken all))
     ∙ ap (option_map (λ (y : Shown). y.offset)) (none_last (is_checked_type (Some algorithm)) 20 taken (none_wanted algorithm taken all))
 
-pub starts : (scan : IntegrityScan) (taken : List Attribute) → scan.offsets.integrity ≡ None → scan.offsets.sha256 ≡ None → scan.last ≡ 0 → NoneEnds taken → HasScanned scan taken
-starts scan taken none-integrity none-sha256 last-is all = record {
-  offsets = record {
+pub starts : (offsets : IntegrityOffsets) (taken : List Attribute) → offsets.integrity ≡ None → offsets.sha256 ≡ None → NoneEnds taken → HasScanned offsets 0 taken
+starts offsets taken none-integrity none-sha256 all = record {
+  are = record {
     integrity = none-integrity ∙ sym (no_offset Sha1 taken all);
     sha256 = none-sha256 ∙ sym (no_offset Sha256 taken all);
   };
-  next = λ j. skip_ordinary taken (j ∷ []) all ∙ sym (ap (λ (l : ℕ). in_order (l ∷ (j ∷ []))) last-is ∙ in_order-ordinary 0 (j ∷ []) refl);
+  next = λ j. skip_ordinary taken (j ∷ []) all ∙ sym (in_order-ordinary 0 (j ∷ []) refl);
 }
 
 -- ---- One more attribute
 
--- it is shown, and its offset is kept where it is an integrity attribute
-pub met : (scan after : IntegrityScan) (type offset : ℕ) (taken : List Attribute) (a : Attribute) → HasScanned scan taken → type ≡ a.type → offset ≡ 20 + length (encodings taken)
-    → in_order (scan.last ∷ (type ∷ [])) ≡ true → after.last ≡ type
-    → after.offsets.integrity ≡ cond (eqb type 0x0008) (Some offset) scan.offsets.integrity
-    → after.offsets.sha256 ≡ cond (eqb type 0x001C) (Some offset) scan.offsets.sha256
-    → HasScanned after (taken ++ a ∷ [])
-met scan after type offset taken a keeps type-is offset-is goes last-is integrity-is sha256-is =
+-- it is shown, and its offset is kept if it is an integrity attribute
+pub met : (before after : IntegrityOffsets) (last type offset : ℕ) (taken : List Attribute) (a : Attribute) → HasScanned before last taken → type ≡ a.type → offset ≡ 20 + length (encodings taken)
+    → in_order (last ∷ (type ∷ [])) ≡ true
+    → after.integrity ≡ cond (eqb type 0x0008) (Some offset) before.integrity
+    → after.sha256 ≡ cond (eqb type 0x001C) (Some offset) before.sha256
+    → HasScanned after type (taken ++ a ∷ [])
+met before after last type offset taken a keeps type-is offset-is goes integrity-is sha256-is =
     let fits : in_order (types taken ++ a.type ∷ []) ≡ true = ap (λ (k : ℕ). in_order (types taken ++ k ∷ [])) (sym type-is) ∙ keeps.next type ∙ goes in
-    let made : (wanted : ℕ → Bool) (before : Option ℕ) → before ≡ offset_among wanted (placed 20 (shown_prefix taken))
-    → cond (wanted type) (Some offset) before ≡ offset_among wanted (placed 20 (shown_prefix (taken ++ a ∷ []))) =
-    λ wanted before e. rw (type-is, offset-is, e) (sym (offset_more wanted taken a fits)) in
+    let made : (wanted : ℕ → Bool) (old : Option ℕ) → old ≡ offset_among wanted (placed 20 (shown_prefix taken))
+    → cond (wanted type) (Some offset) old ≡ offset_among wanted (placed 20 (shown_prefix (taken ++ a ∷ []))) =
+    λ wanted old e. rw (type-is, offset-is, e) (sym (offset_more wanted taken a fits)) in
     record {
-      offsets = record {
-        integrity = integrity-is ∙ made (is_checked_type (Some Sha1)) scan.offsets.integrity keeps.offsets.integrity;
-        sha256 = sha256-is ∙ made (is_checked_type (Some Sha256)) scan.offsets.sha256 keeps.offsets.sha256;
+      are = record {
+        integrity = integrity-is ∙ made (is_checked_type (Some Sha1)) before.integrity keeps.are.integrity;
+        sha256 = sha256-is ∙ made (is_checked_type (Some Sha256)) before.sha256 keeps.are.sha256;
       };
-      next = λ j. next_more taken a j ∙ ap (λ (t : Bool). t && in_order (a.type ∷ (j ∷ []))) fits ∙ ap (λ (l : ℕ). in_order (l ∷ (j ∷ []))) (sym (last-is ∙ type-is));
+      next = λ j. next_more taken a j ∙ ap (λ (t : Bool). t && in_order (a.type ∷ (j ∷ []))) fits ∙ ap (λ (l : ℕ). in_order (l ∷ (j ∷ []))) (sym type-is);
     }
 
 -- it breaks the order, and nothing is shown after it
-pub met_broken : (scan after : IntegrityScan) (type : ℕ) (taken : List Attribute) (a : Attribute) → HasScanned scan taken → type ≡ a.type → in_order (scan.last ∷ (type ∷ [])) ≡ false
-    → after.offsets ≡ scan.offsets → after.last ≡ FINGERPRINT → HasScanned after (taken ++ a ∷ [])
-met_broken scan after type taken a keeps type-is stops offsets-is last-is =
+pub met_broken : (offsets : IntegrityOffsets) (last type : ℕ) (taken : List Attribute) (a : Attribute) → HasScanned offsets last taken → type ≡ a.type → in_order (last ∷ (type ∷ [])) ≡ false
+    → HasScanned offsets FINGERPRINT (taken ++ a ∷ [])
+met_broken offsets last type taken a keeps type-is stops =
     let broken : in_order (types taken ++ a.type ∷ []) ≡ false = ap (λ (k : ℕ). in_order (types taken ++ k ∷ [])) (sym type-is) ∙ keeps.next type ∙ stops in
     let same : shown_prefix (taken ++ a ∷ []) ≡ shown_prefix taken = shown_cut taken a [] broken in
     record {
-      offsets = rw (offsets-is, same) keeps.offsets;
-      next = λ j. next_more taken a j ∙ ap (λ (t : Bool). t && in_order (a.type ∷ (j ∷ []))) broken ∙ sym (ap (λ (l : ℕ). in_order (l ∷ (j ∷ []))) last-is ∙ pair-fingerprint j);
+      are = rw same keeps.are;
+      next = λ j. next_more taken a j ∙ ap (λ (t : Bool). t && in_order (a.type ∷ (j ∷ []))) broken ∙ sym (pair-fingerprint j);
     }
-
--- it is a FINGERPRINT, whether or not it is shown
-pub met_fingerprint : (scan after : IntegrityScan) (type offset : ℕ) (taken : List Attribute) (a : Attribute) → HasScanned scan taken → type ≡ a.type → offset ≡ 20 + length (encodings taken)
-    → type ≡ FINGERPRINT → after.offsets ≡ scan.offsets → after.last ≡ FINGERPRINT → HasScanned after (taken ++ a ∷ [])
-met_fingerprint scan after type offset taken a keeps type-is offset-is is offsets-is last-is = elim (cases_Bool (in_order (scan.last ∷ (type ∷ [])))) [
-  | inl goes ↦
-      met scan after type offset taken a keeps type-is offset-is goes (last-is ∙ sym is)
-      (ap (λ (o : IntegrityOffsets). o.integrity) offsets-is ∙ sym (rw is refl))
-      (ap (λ (o : IntegrityOffsets). o.sha256) offsets-is ∙ sym (rw is refl))
-  | inr stops ↦ met_broken scan after type taken a keeps type-is stops offsets-is last-is
-]
 
 -- ---- The end of the scan
 
@@ -176,19 +164,19 @@ shown_of : (d : List ℕ) (all taken : List Attribute) → frame_fault d ≡ Non
 unfolding shown
 shown_of d all taken frame e same = rw (frame, e, same) refl
 
-told : (scan : IntegrityScan) (d : List ℕ) (taken : List Attribute) → HasScanned scan taken → shown d ≡ placed 20 (shown_prefix taken) → OffsetsOf scan.offsets d
-told scan d taken keeps e = subst (AreOffsets scan.offsets) (sym e) keeps.offsets
+told : (offsets : IntegrityOffsets) (last : ℕ) (d : List ℕ) (taken : List Attribute) → HasScanned offsets last taken → shown d ≡ placed 20 (shown_prefix taken) → OffsetsOf offsets d
+told offsets last d taken keeps e = subst (AreOffsets offsets) (sym e) keeps.are
 
 -- all attributes were scanned
-pub kept_at_end : (scan : IntegrityScan) (d : List ℕ) (taken : List Attribute) → frame_fault d ≡ None → HasScanned scan taken → chain (drop 20 d) ≡ taken → OffsetsOf scan.offsets d
-kept_at_end scan d taken frame keeps e = told scan d taken keeps (shown_of d taken taken frame e refl)
+pub kept_at_end : (offsets : IntegrityOffsets) (last : ℕ) (d : List ℕ) (taken : List Attribute) → frame_fault d ≡ None → HasScanned offsets last taken → chain (drop 20 d) ≡ taken → OffsetsOf offsets d
+kept_at_end offsets last d taken frame keeps e = told offsets last d taken keeps (shown_of d taken taken frame e refl)
 
 -- the next one breaks the order of what is scanned, and so that of what is shown
-pub kept_at_stop : (scan : IntegrityScan) (d : List ℕ) (taken : List Attribute) (a : Attribute) (behind : List Attribute) → frame_fault d ≡ None → HasScanned scan taken
-    → chain (drop 20 d) ≡ taken ++ a ∷ behind → in_any_order (types taken ++ a.type ∷ []) ≡ false → OffsetsOf scan.offsets d
-kept_at_stop scan d taken a behind frame keeps e stops =
+pub kept_at_stop : (offsets : IntegrityOffsets) (last : ℕ) (d : List ℕ) (taken : List Attribute) (a : Attribute) (behind : List Attribute) → frame_fault d ≡ None → HasScanned offsets last taken
+    → chain (drop 20 d) ≡ taken ++ a ∷ behind → in_any_order (types taken ++ a.type ∷ []) ≡ false → OffsetsOf offsets d
+kept_at_stop offsets last d taken a behind frame keeps e stops =
     let broken : in_order (types taken ++ a.type ∷ []) ≡ false = elim (cases_Bool (in_order (types taken ++ a.type ∷ []))) [
       | inl passed ↦ absurd (cc (stops, in_any_order-from (types taken ++ a.type ∷ []) passed))
       | inr failed ↦ failed
     ] in
-    told scan d taken keeps (shown_of d (taken ++ a ∷ behind) taken frame e (shown_cut taken a behind broken))
+    told offsets last d taken keeps (shown_of d (taken ++ a ∷ behind) taken frame e (shown_cut taken a behind broken))

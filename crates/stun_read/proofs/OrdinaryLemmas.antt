@@ -20,9 +20,8 @@ use Rattle.stun_attrs.specs.declared.raw.RawAttribute.{RawAttribute}
 use Rattle.stun_attrs.specs.Raw.{Finds, raw_type}
 use Rattle.stun_read.specs.declared.endings.Seen.{Seen}
 use Rattle.stun_read.specs.declared.offsets.IntegrityOffsets.{IntegrityOffsets}
-use Rattle.stun_read.specs.declared.offsets.IntegrityScan.{IntegrityScan}
 use Rattle.stun_read.specs.Endings.{Tracks, IsOrdinaryTo}
-use Rattle.stun_read.specs.Offsets.{OffsetsOf, HasScanned}
+use Rattle.stun_read.specs.Offsets.{OffsetsOf}
 use Rattle.stun_read.proofs.IntegrityScanLemmas.{starts, kept_at_end}
 use Rattle.stun_read.proofs.ScanningLemmas.{Scanned}
 
@@ -90,8 +89,8 @@ ordinary_next x behind offset d type o found type-is ends within =
     }
 
 -- a scan that goes on behind ordinary attributes
-pub behind_ordinary : (seen : Seen) (scan : IntegrityScan) (d : List ℕ) (offset : ℕ) → Tracks seen [] → ((taken : List Attribute) → NoneEnds taken → HasScanned scan taken) → IsOrdinaryTo d offset → Scanned seen scan d offset
-behind_ordinary seen scan d offset tracks keeps o =
+pub behind_ordinary : (seen : Seen) (offsets : IntegrityOffsets) (d : List ℕ) (offset : ℕ) → Tracks seen [] → offsets.integrity ≡ None → offsets.sha256 ≡ None → IsOrdinaryTo d offset → Scanned seen offsets 0 d offset
+behind_ordinary seen offsets d offset tracks none-integrity none-sha256 o =
     let none = has_none (types o.taken) (no_endings o.taken o.none_ends) in
     record {
       taken = o.taken;
@@ -101,12 +100,11 @@ behind_ordinary seen scan d offset tracks keeps o =
         sha256 = tracks.sha256 ∙ sym none.1;
         fingerprint = tracks.fingerprint ∙ sym none.2;
       };
-      keeps = keeps o.taken o.none_ends;
+      keeps = starts offsets o.taken none-integrity none-sha256 o.none_ends;
     }
 
 -- where all attributes are ordinary, there is no offset to keep
 pub ordinary_kept : (offsets : IntegrityOffsets) (d : List ℕ) (offset : ℕ) → offsets.integrity ≡ None → offsets.sha256 ≡ None → frame_fault d ≡ None → IsOrdinaryTo d offset → first_attribute (drop offset d) ≡ None → OffsetsOf offsets d
 ordinary_kept offsets d offset none-integrity none-sha256 frame o none =
-    let scan : IntegrityScan = record { offsets = offsets; last = 0 } in
-    kept_at_end scan d o.taken frame (starts scan o.taken none-integrity none-sha256 refl o.none_ends)
+    kept_at_end offsets 0 d o.taken frame (starts offsets o.taken none-integrity none-sha256 o.none_ends)
     (o.chain_is ∙ ap (λ (xs : List Attribute). o.taken ++ xs) (chain-none (drop offset d) none) ∙ append-nil o.taken)

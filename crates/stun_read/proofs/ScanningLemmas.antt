@@ -16,34 +16,34 @@ use Rattle.stun_grammar.proofs.ParsingLemmas.{ScannedTo, ends_at, stops_at, goes
 use Rattle.stun_attrs.specs.declared.raw.RawAttribute.{RawAttribute}
 use Rattle.stun_attrs.specs.Raw.{Finds, raw_type, raw_value}
 use Rattle.stun_read.specs.declared.endings.Seen.{Seen}
-use Rattle.stun_read.specs.declared.offsets.IntegrityScan.{IntegrityScan}
+use Rattle.stun_read.specs.declared.offsets.IntegrityOffsets.{IntegrityOffsets}
 use Rattle.stun_read.specs.Endings.{Tracks}
 use Rattle.stun_read.specs.Offsets.{OffsetsOf, HasScanned}
 use Rattle.stun_read.proofs.IntegrityScanLemmas.{kept_at_end, kept_at_stop}
 
 -- the attributes before an offset were scanned, `seen` has the ending types among them, and
--- `scan` the offsets
-pub record Scanned (seen : Seen) (scan : IntegrityScan) (d : List ℕ) (offset : ℕ) : Type 0 where
+-- `offsets` and `last` are what the scan keeps
+pub record Scanned (seen : Seen) (offsets : IntegrityOffsets) (last : ℕ) (d : List ℕ) (offset : ℕ) : Type 0 where
   pub taken : List Attribute
   pub to : ScannedTo d offset taken
   pub tracks : Tracks seen (types taken)
-  pub keeps : HasScanned scan taken
+  pub keeps : HasScanned offsets last taken
 
 -- what `Seen::admits` ensures of one more type
 abbrev pub Admits : Seen → ℕ → Bool → Seen → Type 0
 Admits seen type answer after = (types : List ℕ) → Tracks seen types → in_any_order types ≡ true → (answer ≡ in_any_order (types ++ type ∷ [])) × Tracks after (types ++ type ∷ [])
 
--- what `IntegrityScan::meet` ensures of one more attribute
-abbrev pub Meets : IntegrityScan → ℕ → ℕ → IntegrityScan → Type 0
-Meets scan type offset after = (taken : List Attribute) (a : Attribute) → HasScanned scan taken → type ≡ a.type → offset ≡ 20 + length (encodings taken) → HasScanned after (taken ++ a ∷ [])
+-- what `IntegrityOffsets::scan` ensures of one more attribute
+abbrev pub Scans : IntegrityOffsets → ℕ → ℕ → ℕ → IntegrityOffsets → ℕ → Type 0
+Scans offsets last type offset after next = (taken : List Attribute) (a : Attribute) → HasScanned offsets last taken → type ≡ a.type → offset ≡ 20 + length (encodings taken) → HasScanned after next (taken ++ a ∷ [])
 
-module _ (seen : Seen) (scan : IntegrityScan) (d : List ℕ) (offset : ℕ) (scanned : Scanned seen scan d offset) where
+module _ (seen : Seen) (offsets : IntegrityOffsets) (last : ℕ) (d : List ℕ) (offset : ℕ) (scanned : Scanned seen offsets last d offset) where
   pub ends : (told : Option StunParseError) → first_attribute (drop offset d) ≡ None → fault offset (drop offset d) ≡ told → body_fault d ≡ told
   ends told = ends_at d offset scanned.taken told scanned.to
 
-  pub ends_kept : frame_fault d ≡ None → first_attribute (drop offset d) ≡ None → OffsetsOf scan.offsets d
+  pub ends_kept : frame_fault d ≡ None → first_attribute (drop offset d) ≡ None → OffsetsOf offsets d
   ends_kept frame none =
-      kept_at_end scan d scanned.taken frame scanned.keeps
+      kept_at_end offsets last d scanned.taken frame scanned.keeps
       (scanned.to.chain_is ∙ ap (λ (xs : List Attribute). scanned.taken ++ xs) (chain-none (drop offset d) none) ∙ append-nil scanned.taken)
 
   module _ (x : RawAttribute) (behind : ℕ) (found : Finds x behind offset d) (type : ℕ) (type-is : type ≡ raw_type x) (answer : Bool) (after : Seen) (admits : Admits seen type answer after) where
@@ -66,22 +66,22 @@ module _ (seen : Seen) (scan : IntegrityScan) (d : List ℕ) (offset : ℕ) (sca
     pub stops : answer ≡ false → body_fault d ≡ None
     stops e = stops_at d offset scanned.taken found.attribute scanned.to found.first_is (sym answer_is ∙ e)
 
-    pub stops_kept : frame_fault d ≡ None → answer ≡ false → OffsetsOf scan.offsets d
+    pub stops_kept : frame_fault d ≡ None → answer ≡ false → OffsetsOf offsets d
     stops_kept frame e =
-        kept_at_stop scan d scanned.taken found.attribute (chain (drop (length (encoding found.attribute)) (drop offset d))) frame scanned.keeps
+        kept_at_stop offsets last d scanned.taken found.attribute (chain (drop (length (encoding found.attribute)) (drop offset d))) frame scanned.keeps
         (scanned.to.chain_is ∙ ap (λ (xs : List Attribute). scanned.taken ++ xs) (chain-some (drop offset d) found.attribute found.first_is))
         (sym answer_is ∙ e)
 
     -- it keeps the order, is right if it is a FINGERPRINT, and the scan goes on
-    pub on : (met : IntegrityScan) → Meets scan type offset met → answer ≡ true → (raw_type x ≡ FINGERPRINT → fingerprint_fault d offset (raw_value x) ≡ None) → Scanned after met d behind
-    on met meets e right = record {
+    pub on : (kept : IntegrityOffsets) (next : ℕ) → Scans offsets last type offset kept next → answer ≡ true → (raw_type x ≡ FINGERPRINT → fingerprint_fault d offset (raw_value x) ≡ None) → Scanned after kept next d behind
+    on kept next scans e right = record {
       taken = scanned.taken ++ found.attribute ∷ [];
       to = subst (λ (o : ℕ). ScannedTo d o (scanned.taken ++ found.attribute ∷ [])) (sym found.behind_is) (elim (cases_eq (raw_type x) FINGERPRINT) [
         | inl is ↦ goes_on_checked d offset scanned.taken found.attribute scanned.to found.first_is (sym answer_is ∙ e) (sym found.raw_is.raw_is.type_is ∙ is) (fault_is ∙ right is)
         | inr differs ↦ goes_on d offset scanned.taken found.attribute scanned.to found.first_is (sym answer_is ∙ e) (λ is. differs (found.raw_is.raw_is.type_is ∙ is))
       ]);
       tracks = tracks_on;
-      keeps = meets scanned.taken found.attribute scanned.keeps same_type scanned.to.offset_is;
+      keeps = scans scanned.taken found.attribute scanned.keeps same_type scanned.to.offset_is;
     }
 
     -- it keeps the order, and is a FINGERPRINT that is wrong

@@ -8,7 +8,6 @@ use Rattle.stun_grammar.specs.ShownOrder.{in_order}
 use Rattle.stun_grammar.specs.Showing.{shown, shown_prefix}
 use Rattle.stun_grammar.specs.Verdicts.{is_checked_type, last_shown}
 use Rattle.stun_read.specs.declared.offsets.IntegrityOffsets.{IntegrityOffsets}
-use Rattle.stun_read.specs.declared.offsets.IntegrityScan.{IntegrityScan}
 
 -- the offset of the last attribute of a wanted type among these
 abbrev pub offset_among : (ℕ → Bool) → List Shown → Option ℕ
@@ -34,9 +33,9 @@ pub record IsIntegrityAt (wanted : ℕ → Bool) (d : List ℕ) (type offset : �
   pub last_is : last_shown wanted d
       ≡ Some (record { offset = offset; type = attribute.type; value = attribute.value })
 
--- a scan has met these attributes, and kept the offsets of those integrity attributes among them
--- that are shown; one more attribute is shown exactly where its type follows `last`
-pub record HasScanned (scan : IntegrityScan) (taken : List Attribute) : Type 0 where
-  pub offsets : AreOffsets scan.offsets (placed 20 (shown_prefix taken))
+-- a scan has taken these attributes, and the offsets are those of the integrity attributes among
+-- them that are shown; one more attribute is shown exactly if its type follows `last`
+pub record HasScanned (offsets : IntegrityOffsets) (last : ℕ) (taken : List Attribute) : Type 0 where
+  pub are : AreOffsets offsets (placed 20 (shown_prefix taken))
   pub next : (type : ℕ)
-      → in_order (types taken ++ type ∷ []) ≡ in_order (scan.last ∷ (type ∷ []))
+      → in_order (types taken ++ type ∷ []) ≡ in_order (last ∷ (type ∷ []))

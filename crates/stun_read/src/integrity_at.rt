@@ -37,9 +37,31 @@ impl<'a> IntegrityAt<'a> {
     ghost use Rattle.std.specs.Prelude.{◌≡◌, MatchOption, None, Some};
     ghost use Rattle.stun_read.specs.Validating.{shown_integrity};
 
+    /// The integrity attribute of an algorithm that is shown. It is read at its offset, and no other
+    /// attribute is.
+    pub(crate) fn of(
+        bytes: &'a [u8],
+        offsets: IntegrityOffsets,
+        algorithm: IntegrityAlgorithm,
+    ) -> Option<Self>
+        requires { OffsetsOf offsets bytes.now }
+        ensures { MatchOption result
+            (last_shown (is_checked_type (Some algorithm)) bytes.now ≡ None)
+            (λ found. last_shown (is_checked_type (Some algorithm)) bytes.now
+            ≡ Some (shown_integrity found)) }
+    {
+        let offset = offsets.of(algorithm)?;
+        let value = first_value(&bytes[offset..]);
+        Some(IntegrityAt {
+            offset,
+            algorithm,
+            value,
+        })
+    }
+
     /// The last integrity attribute that is shown or, with an algorithm, the one of that algorithm.
-    /// It is read at its offset, and no other attribute is.
-    pub(crate) fn last_integrity(
+    /// If both are shown, MESSAGE-INTEGRITY-SHA256 is the last.
+    pub(crate) fn last(
         bytes: &'a [u8],
         offsets: IntegrityOffsets,
         made_for: Option<IntegrityAlgorithm>,
@@ -49,13 +71,13 @@ impl<'a> IntegrityAt<'a> {
             (λ found. last_shown (is_checked_type made_for) bytes.now
             ≡ Some (shown_integrity found)) }
     {
-        let (algorithm, offset) = offsets.last(made_for)?;
-        let value = first_value(&bytes[offset..]);
-        Some(IntegrityAt {
-            offset,
-            algorithm,
-            value,
-        })
+        if let Some(algorithm) = made_for {
+            return Self::of(bytes, offsets, algorithm);
+        }
+        match Self::of(bytes, offsets, IntegrityAlgorithm::Sha256) {
+            Some(found) => Some(found),
+            None => Self::of(bytes, offsets, IntegrityAlgorithm::Sha1),
+        }
     }
 }
 
@@ -78,7 +100,7 @@ pub(crate) fn integrity_raw<'a>(
     requires { OffsetsOf offsets bytes.now }
     ensures { IsFound (last_shown (is_checked_type (Some algorithm)) bytes.now) result }
 {
-    let found = IntegrityAt::last_integrity(bytes, offsets, Some(algorithm))?;
+    let found = IntegrityAt::of(bytes, offsets, algorithm)?;
     let raw = borrowed_attribute(AttributeType::new(type_for(found.algorithm)), found.value);
     Some((found.offset, raw))
 }

@@ -9,7 +9,7 @@ ghost use Rattle.stun_read.specs.Offsets.{OffsetsOf};
 use crate::endings::{Seen, type_number};
 use crate::fingerprint::check_scanned;
 use crate::frame::check_frame;
-use crate::offsets::{IntegrityOffsets, IntegrityScan};
+use crate::offsets::IntegrityOffsets;
 use stun_attrs::attribute_at;
 use stun_base::{MessageHeader, StunParseError};
 use stun_grammar::attribute_types::is_ending;
@@ -27,18 +27,19 @@ fn check_endings(bytes: &[u8], start: usize) -> Result<IntegrityOffsets, StunPar
     ensures offsets { IfOk result (λ offsets. OffsetsOf offsets bytes.now) }
 {
     let mut seen = Seen::none();
-    let mut scan = IntegrityScan::none();
+    let mut offsets = IntegrityOffsets::none();
+    let mut last = 0;
     let mut offset = start;
     'walk: while let Some((attribute, behind)) = attribute_at(bytes, offset)? {
         let atype = type_number(&attribute);
         if !seen.admits(atype) {
-            return Ok(scan.offsets());
+            return Ok(offsets);
         }
         check_scanned(bytes, offset, &attribute)?;
-        scan.meet(atype, offset);
+        last = offsets.scan(last, atype, offset);
         offset = behind;
     }
-    Ok(scan.offsets())
+    Ok(offsets)
 }
 
 /// Checks that `bytes` are a message: a header, as many bytes after it as its length field states,

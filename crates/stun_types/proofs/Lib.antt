@@ -1,2 +1,3 @@
 mod RepliesLemmas
 pub mod ShownTypesLemmas
+pub mod TableLemmas

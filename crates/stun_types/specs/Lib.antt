@@ -1,2 +1,5 @@
 pub mod Message
+pub mod Registered
 pub mod Replies
+pub mod Shown
+pub mod Table

@@ -1,7 +1,9 @@
 //! Attributes, each a type and a value, and the traits that read and write them.
 
 pub mod typed;
+mod understood;
 
+pub use crate::show::AttributeDisplay;
 pub use stun_attrs::{
     Attribute, AttributeFromRaw, AttributeStaticType, AttributeWrite, BorrowValue, EncodeValue,
     RawAttribute, ReadValue, TypedAttribute, is_read_back,
@@ -11,7 +13,6 @@ pub use stun_kinds::{
     AddressAttribute, AttributeKind, BytesAttribute, EmptyAttribute, FieldsAttribute, FieldsKind,
     NumberAttribute, ShortBytes, XorAddressAttribute,
 };
-pub use stun_registry::AttributeDisplay;
 pub use stun_values::{check_length, read_error, read_text};
 pub use typed::{
     AlternateDomain, AlternateServer, ErrorCode, ErrorCodeBuilder, Fingerprint, MappedSocketAddr,
@@ -19,3 +20,4 @@ pub use typed::{
     PasswordAlgorithms, Realm, Software, TextAttribute, UnknownAttributes, Userhash, Username,
     XorMappedAddress, XorSocketAddr,
 };
+pub use understood::KNOWN;

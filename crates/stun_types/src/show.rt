@@ -1,7 +1,17 @@
 //! Names of attribute types and methods, and functions that print attributes, which a user adds to
 //! those of the library, and attributes printed by them.
 
-pub use stun_registry::{AttributeDisplay, Registry, Shown, print_read};
+mod own;
+mod printer;
+mod reading;
+mod registry;
+mod shown;
+mod table;
+
+pub use printer::AttributeDisplay;
+pub use reading::print_read;
+pub use registry::Registry;
+pub use shown::Shown;
 
 /// Registers a function that prints the attributes of a type of a user's own: it reads one, by
 /// [`AttributeFromRaw::from_raw_ref`](crate::attribute::AttributeFromRaw::from_raw_ref), and prints

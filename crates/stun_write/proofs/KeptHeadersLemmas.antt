@@ -1,10 +1,9 @@
 -- The header of a message: what is told of it at the beginning, and stays with each attribute.
-use Rattle.std.proofs.Common.{◌≡◌, ℕ, ◌/◌, ◌%◌, ◌<◌, ◌≤◌, ◌^◌, true, List, [], ◌∷◌, ◌++◌, length, refl, sym, ap, subst, arith, Result, Ok, Err}
+use Rattle.std.proofs.Common.{◌≡◌, ℕ, ◌<◌, ◌≤◌, ◌^◌, true, List, [], ◌∷◌, ◌++◌, length, refl, sym, ap, subst, arith, Result, Ok, Err}
 use Rattle.std.specs.Prelude.{OnOk, OnErr}
 use Rattle.std.proofs.lemmas.List.{take-append-le}
-use Rattle.std.specs.Int.{byte_at, bytes_high_first}
 use Rattle.stun_grammar.specs.declared.error.StunWriteError.{StunWriteError}
-use Rattle.stun_grammar.specs.Numbers.{number, be96}
+use Rattle.stun_grammar.specs.Numbers.{number}
 use Rattle.stun_grammar.specs.Attributes.{Attribute, attribute_encoding}
 use Rattle.stun_grammar.specs.Headers.{is_header, type_field, id_field}
 use Rattle.stun_grammar.specs.Writing.{message_encoding}
@@ -56,20 +55,3 @@ encoding_type = type-message
 
 pub encoding_id : (type id : ℕ) (attributes : List Attribute) → id < 2 ^ 96 → id_field (message_encoding type id attributes) ≡ id
 encoding_id = id-message
-
--- a transaction ID in twelve bytes is its high part in four and its low part in eight
-pub id_bytes : (id : ℕ) → bytes_high_first 4 (id / 2 ^ 64) ++ bytes_high_first 8 (id % 2 ^ 64) ≡ be96 id
-id_bytes id =
-    let a : byte_at 3 (id / 2 ^ 64) ≡ byte_at 11 id = omega arith in
-    let b : byte_at 2 (id / 2 ^ 64) ≡ byte_at 10 id = omega arith in
-    let c : byte_at 1 (id / 2 ^ 64) ≡ byte_at 9 id = omega arith in
-    let d : byte_at 0 (id / 2 ^ 64) ≡ byte_at 8 id = omega arith in
-    let e : byte_at 7 (id % 2 ^ 64) ≡ byte_at 7 id = omega arith in
-    let f : byte_at 6 (id % 2 ^ 64) ≡ byte_at 6 id = omega arith in
-    let g : byte_at 5 (id % 2 ^ 64) ≡ byte_at 5 id = omega arith in
-    let h : byte_at 4 (id % 2 ^ 64) ≡ byte_at 4 id = omega arith in
-    let i : byte_at 3 (id % 2 ^ 64) ≡ byte_at 3 id = omega arith in
-    let j : byte_at 2 (id % 2 ^ 64) ≡ byte_at 2 id = omega arith in
-    let k : byte_at 1 (id % 2 ^ 64) ≡ byte_at 1 id = omega arith in
-    let l : byte_at 0 (id % 2 ^ 64) ≡ byte_at 0 id = omega arith in
-    cc (a, b, c, d, e, f, g, h, i, j, k, l)

@@ -12,7 +12,7 @@ use stun_base::{MAGIC_COOKIE, MessageType, StunWriteError, TransactionId};
 
 /// The header of a message without attributes: the type in two bytes, the length 0 in two, the
 /// magic cookie in four and the transaction ID in twelve.
-#[tactic(auto, using(crate::proofs::KeptHeadersLemmas::id_bytes), unfolding(stun_grammar::specs::Writing::message_encoding))]
+#[tactic(auto, unfolding(stun_grammar::specs::Writing::message_encoding))]
 fn header_bytes(mtype: MessageType, transaction_id: TransactionId) -> [u8; 20]
     ensures encoding { result ≡ message_encoding mtype transaction_id [] }
     ensures type_fits { mtype < 2 ^ 14 }
@@ -21,9 +21,7 @@ fn header_bytes(mtype: MessageType, transaction_id: TransactionId) -> [u8; 20]
     let mut header = [0; 20];
     mtype.write_into(&mut header);
     BigEndian::write_u32(&mut header[4..], MAGIC_COOKIE);
-    let id = u128::from(transaction_id);
-    BigEndian::write_u32(&mut header[8..], (id >> 64) as u32);
-    BigEndian::write_u64(&mut header[12..], (id % (1 << 64)) as u64);
+    header[8..].copy_from_slice(&transaction_id.to_bytes());
     header
 }
 

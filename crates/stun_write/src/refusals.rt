@@ -56,18 +56,8 @@ fn found_before<W: MessageWrite>(write: &W, addition: Addition) -> Option<Attrib
     ensures { option_map (λ found. found.0) result
         ≡ first_of (barring_types (step_of addition)) (W.state write.now).types }
 {
-    let integrity = AttributeType(MESSAGE_INTEGRITY);
-    let sha256 = AttributeType(MESSAGE_INTEGRITY_SHA256);
-    let fingerprint = AttributeType(FINGERPRINT);
-    match addition {
-        Addition::Ordinary | Addition::Integrity(IntegrityAlgorithm::Sha1) => {
-            write.has_any_attribute(&[integrity, sha256, fingerprint])
-        }
-        Addition::Integrity(IntegrityAlgorithm::Sha256) => {
-            write.has_any_attribute(&[sha256, fingerprint])
-        }
-        Addition::Fingerprint => write.has_any_attribute(&[fingerprint]),
-    }
+    let ending = ending_types();
+    write.has_any_attribute(barring(addition, &ending))
 }
 
 /// The error that reports a written type which bars an addition.

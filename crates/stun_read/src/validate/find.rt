@@ -26,7 +26,7 @@ pub(super) fn find_checked(
         → verdict (is_checked_type made_for) key bytes.now ≡ Err e) }
     ensures memory { result ≢ Err (ValidateError.Parse StunParseError.OutOfMemory) }
 {
-    let Some(found) = IntegrityAt::last_integrity(bytes, offsets, made_for) else {
+    let Some(found) = IntegrityAt::last(bytes, offsets, made_for) else {
         return Err(ValidateError::Parse(StunParseError::MissingAttribute(AttributeType::new(
             MESSAGE_INTEGRITY,
         ))));

@@ -6,7 +6,7 @@ abbrev pub invariant-walk : goal.invariant-walk
 invariant-walk l = record {
   header : 20 ≤ l.offset;
   within : l.offset ≤ length l.bytes;
-  scanned : Scanned l.seen l.scan l.bytes l.offset;
+  scanned : Scanned l.seen l.offsets l.last l.bytes l.offset;
 }
 
 abbrev pub decreases-walk : goal.decreases-walk

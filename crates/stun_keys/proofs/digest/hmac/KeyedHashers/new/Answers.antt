@@ -1,4 +1,4 @@
-use Rattle.std.proofs.Common.{◌∙◌, subst, sym}
+use Rattle.std.proofs.Common.{◌∙◌, subst}
 use Rattle.stun_keys.proofs.BlocksLemmas.{inner_block, outer_block}
 use Rattle.stun_keys.proofs.digest.hmac.KeyedHashers.new.Goals as goal
 

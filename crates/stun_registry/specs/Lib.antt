@@ -1,3 +1,0 @@
-pub mod Registered
-pub mod Shown
-pub mod Table
