@@ -205,6 +205,12 @@ fn reads_an_allocation(rt: HostRuntime) -> Result<(), Fail> {
     Ok(())
 }
 
+/// A binding request with a CHANGE-REQUEST of both flags (RFC 5780, section 4.4).
+static DISCOVERY_REQUEST: [u8; 28] = [
+    0x00, 0x01, 0x00, 0x08, 0x21, 0x12, 0xA4, 0x42, 0x00, 0x00, 0x00, 0x00, 0x00, 0x00, 0x00, 0x00,
+    0x00, 0x00, 0x00, 0x09, 0x00, 0x03, 0x00, 0x04, 0x00, 0x00, 0x00, 0x06,
+];
+
 /// The types that must be understood, are shown by a request, and are none of these.
 fn unknown(
     alloc: Global,
@@ -236,5 +242,7 @@ fn types_of_the_crates_are_understood(rt: HostRuntime) -> Result<(), Fail> {
         return Err(Fail::new("no reply"));
     };
     assert!(rt; types.attributes() == [Priority::TYPE, UseCandidate::TYPE].as_slice());
+    assert!(rt; unknown(alloc, &DISCOVERY_REQUEST, &discovery_attrs::KNOWN)?.is_none());
+    assert!(rt; unknown(alloc, &DISCOVERY_REQUEST, &of_turn)?.is_some());
     Ok(())
 }

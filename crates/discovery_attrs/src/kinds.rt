@@ -1,6 +1,6 @@
 //! Attributes whose values have a form of the library, and their numbers and names.
 
-use crate::{Change, Transmissions};
+use crate::{Change, Transmissions, attribute_types};
 use stun_types::attribute::{
     AddressAttribute, AttributeKind, BytesAttribute, FieldsAttribute, ShortBytes,
 };
@@ -20,7 +20,7 @@ impl AttributeKind for MappedAddressKind {
 
     ghost NAME = { codes "MAPPED-ADDRESS" };
 
-    const NUMBER: u16 = 0x0001;
+    const NUMBER: u16 = attribute_types::MAPPED_ADDRESS;
 
     fn name() -> &'static str {
         "MAPPED-ADDRESS"
@@ -43,7 +43,7 @@ impl AttributeKind for ChangeRequestKind {
 
     ghost NAME = { codes "CHANGE-REQUEST" };
 
-    const NUMBER: u16 = 0x0003;
+    const NUMBER: u16 = attribute_types::CHANGE_REQUEST;
 
     fn name() -> &'static str {
         "CHANGE-REQUEST"
@@ -64,7 +64,7 @@ impl AttributeKind for PaddingKind {
 
     ghost NAME = { codes "PADDING" };
 
-    const NUMBER: u16 = 0x0026;
+    const NUMBER: u16 = attribute_types::PADDING;
 
     fn name() -> &'static str {
         "PADDING"
@@ -86,7 +86,7 @@ impl AttributeKind for ResponseOriginKind {
 
     ghost NAME = { codes "RESPONSE-ORIGIN" };
 
-    const NUMBER: u16 = 0x802B;
+    const NUMBER: u16 = attribute_types::RESPONSE_ORIGIN;
 
     fn name() -> &'static str {
         "RESPONSE-ORIGIN"
@@ -108,7 +108,7 @@ impl AttributeKind for OtherAddressKind {
 
     ghost NAME = { codes "OTHER-ADDRESS" };
 
-    const NUMBER: u16 = 0x802C;
+    const NUMBER: u16 = attribute_types::OTHER_ADDRESS;
 
     fn name() -> &'static str {
         "OTHER-ADDRESS"
@@ -133,7 +133,7 @@ impl AttributeKind for TransactionTransmitCounterKind {
 
     ghost NAME = { codes "TRANSACTION_TRANSMIT_COUNTER" };
 
-    const NUMBER: u16 = 0x8025;
+    const NUMBER: u16 = attribute_types::TRANSACTION_TRANSMIT_COUNTER;
 
     fn name() -> &'static str {
         "TRANSACTION_TRANSMIT_COUNTER"

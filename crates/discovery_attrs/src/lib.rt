@@ -2,13 +2,14 @@
 //! 14.1) and TRANSACTION_TRANSMIT_COUNTER (RFC 7982), over the public items of `stun_types` alone.
 #![tactic(auto)]
 
+pub mod attribute_types;
 mod change;
 mod kinds;
 mod laws;
-mod registering;
 mod response_port;
 mod transmissions;
 
+pub use attribute_types::KNOWN;
 pub use change::Change;
 pub use kinds::{
     ChangeRequest, ChangeRequestKind, MappedAddress, MappedAddressKind, OtherAddress,
@@ -17,16 +18,4 @@ pub use kinds::{
 };
 pub use laws::{fields_are_held, response_port_is_read_back};
 pub use response_port::ResponsePort;
-use stun_types::attribute::AttributeType;
 pub use transmissions::Transmissions;
-
-/// The types of this crate, for `Message::check_attribute_types`.
-pub const KNOWN: [AttributeType; 7] = [
-    AttributeType(0x0001),
-    AttributeType(0x0003),
-    AttributeType(0x0026),
-    AttributeType(0x0027),
-    AttributeType(0x8025),
-    AttributeType(0x802B),
-    AttributeType(0x802C),
-];

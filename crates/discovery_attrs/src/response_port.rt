@@ -1,3 +1,4 @@
+use crate::attribute_types;
 use byteorder::{BigEndian, ByteOrder};
 use std::alloc::Global;
 use std::fmt;
@@ -36,7 +37,7 @@ impl TypedAttribute for ResponsePort {
 
     ghost NUMBER = { RESPONSE_PORT };
 
-    const NUMBER: u16 = 0x0027;
+    const NUMBER: u16 = attribute_types::RESPONSE_PORT;
 }
 
 impl EncodeValue for ResponsePort {

@@ -1,5 +1,6 @@
 //! The four attributes (RFC 8445, section 16.1).
 
+use crate::attribute_types;
 use stun_types::attribute::{AttributeKind, EmptyAttribute, NumberAttribute};
 
 /// PRIORITY: the priority of the peer-reflexive candidate that this check may discover, as
@@ -17,7 +18,7 @@ impl AttributeKind for PriorityKind {
 
     ghost NAME = { codes "PRIORITY" };
 
-    const NUMBER: u16 = 0x0024;
+    const NUMBER: u16 = attribute_types::PRIORITY;
 
     fn name() -> &'static str {
         "PRIORITY"
@@ -38,7 +39,7 @@ impl AttributeKind for UseCandidateKind {
 
     ghost NAME = { codes "USE-CANDIDATE" };
 
-    const NUMBER: u16 = 0x0025;
+    const NUMBER: u16 = attribute_types::USE_CANDIDATE;
 
     fn name() -> &'static str {
         "USE-CANDIDATE"
@@ -60,7 +61,7 @@ impl AttributeKind for IceControlledKind {
 
     ghost NAME = { codes "ICE-CONTROLLED" };
 
-    const NUMBER: u16 = 0x8029;
+    const NUMBER: u16 = attribute_types::ICE_CONTROLLED;
 
     fn name() -> &'static str {
         "ICE-CONTROLLED"
@@ -82,7 +83,7 @@ impl AttributeKind for IceControllingKind {
 
     ghost NAME = { codes "ICE-CONTROLLING" };
 
-    const NUMBER: u16 = 0x802A;
+    const NUMBER: u16 = attribute_types::ICE_CONTROLLING;
 
     fn name() -> &'static str {
         "ICE-CONTROLLING"

@@ -3,24 +3,17 @@
 //! `stun_types` alone.
 #![tactic(auto)]
 
+pub mod attribute_types;
 mod formula;
 mod kinds;
-mod registering;
 
+pub use attribute_types::KNOWN;
 pub use formula::priority;
 pub use kinds::{
     IceControlled, IceControlledKind, IceControlling, IceControllingKind, Priority, PriorityKind,
     UseCandidate, UseCandidateKind,
 };
-use stun_types::attribute::{AttributeType, ErrorCode};
-
-/// The types of this crate, for `Message::check_attribute_types`.
-pub const KNOWN: [AttributeType; 4] = [
-    AttributeType(0x0024),
-    AttributeType(0x0025),
-    AttributeType(0x8029),
-    AttributeType(0x802A),
-];
+use stun_types::attribute::ErrorCode;
 
 /// 487: both agents have the same role (RFC 8445, section 16.2). Its reason is `Role Conflict`.
 pub const ROLE_CONFLICT: u16 = ErrorCode::ROLE_CONFLICT;

@@ -1,4 +1,3 @@
 pub mod AddressesLemmas
-mod MakingErrorsLemmas
 pub mod ReadBackLemmas
 mod TextsLemmas

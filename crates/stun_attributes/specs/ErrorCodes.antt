@@ -6,8 +6,8 @@ use Rattle.stun_grammar.specs.declared.error.StunParseError.{StunParseError}
 use Rattle.stun_grammar.specs.declared.error.StunWriteError.{StunWriteError}
 use Rattle.stun_grammar.specs.declared.error.StunWriteError.TheVariants.{OutOfMemory}
 use Rattle.stun_attrs.specs.Reading.{ReadsInMemory}
-use Rattle.stun_values.specs.ErrorValues.{told_code, error_fault}
-use Rattle.stun_attributes.specs.MakingErrors.{making_fault, default_reason}
+use Rattle.stun_values.specs.ErrorValues.{making_fault, told_code, error_fault}
+use Rattle.stun_attributes.specs.DefaultReasons.{default_reason}
 use Rattle.stun_attributes.specs.declared.error_code.ErrorCode.{ErrorCode}
 use Rattle.stun_attributes.specs.declared.error_code.ErrorCodeBuilder.{ErrorCodeBuilder}
 

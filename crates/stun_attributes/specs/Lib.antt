@@ -1,6 +1,6 @@
 pub mod AddressAttributes
 pub mod ErrorCodes
-pub mod MakingErrors
+pub mod DefaultReasons
 pub mod Passwords
 pub mod Texts
 pub mod Unknown

@@ -2,14 +2,13 @@ ghost use Rattle.std.specs.Prelude.{◌≡◌, ◌≤◌, length};
 ghost use Rattle.std.specs.String.{string_bytes};
 ghost use Rattle.stun_values.specs.TextValues.{text_max};
 
-use crate::error_value::check_making;
 use std::alloc::Global;
 use std::fmt;
-use stun_attrs::{EncodeValue, ReadValue, TypedAttribute, copy_to_start};
+use stun_attrs::{EncodeValue, ReadValue, TypedAttribute};
 use stun_base::{StunParseError, StunWriteError};
 use stun_grammar::attribute_types;
 use stun_text::{PrintText, TextSink};
-use stun_values::{print_error, read_error};
+use stun_values::{check_error, print_error, read_error, write_error};
 
 /// ERROR-CODE: why a request failed, as a code of 300 to 699 and a reason of at most 763 bytes of
 /// UTF-8 (RFC 8489, section 14.8).
@@ -67,7 +66,7 @@ impl<'reason> ErrorCodeBuilder<'reason> {
 
 impl ErrorCode {
     ghost use Rattle.std.specs.Prelude.{IfOk, IfErr};
-    ghost use Rattle.stun_attributes.specs.MakingErrors.{default_reason};
+    ghost use Rattle.stun_attributes.specs.DefaultReasons.{default_reason};
     ghost use Rattle.stun_attributes.specs.ErrorCodes.{error_code, error_reason, builder_code, builder_reason, IsError, MakesError};
 
     /// The client is to try another server.
@@ -123,7 +122,7 @@ impl ErrorCode {
     pub fn new(alloc: Global, code: u16, reason: &str) -> Result<Self, StunWriteError>
         ensures { MakesError code reason.now result }
     {
-        check_making(code, reason)?;
+        check_error(code, reason.as_bytes())?;
         let reason = String::from_str(alloc, reason).map_err(|_| StunWriteError::OutOfMemory)?;
         Ok(ErrorCode { code, reason })
     }
@@ -231,11 +230,7 @@ impl EncodeValue for ErrorCode {
     }
 
     fn write_value(&self, dest: &mut [u8]) {
-        dest[0] = 0;
-        dest[1] = 0;
-        dest[2] = (self.code() / 100) as u8;
-        dest[3] = (self.code() % 100) as u8;
-        copy_to_start(self.reason().as_bytes(), &mut dest[4..]);
+        write_error(self.code(), self.reason().as_bytes(), dest);
     }
 
     fn held_bytes(&self) -> Option<&[u8]> {

@@ -5,7 +5,6 @@
 mod alternate_domain;
 mod alternate_server;
 mod error_code;
-mod error_value;
 mod laws;
 mod mapped;
 mod nonce;

@@ -8,7 +8,7 @@ use stun_attrs::{EncodeValue, ReadValue, TypedAttribute};
 use stun_base::{AttributeType, StunParseError, StunWriteError, number_at};
 use stun_grammar::attribute_types;
 use stun_text::{PrintText, TextSink};
-use stun_values::{check_types, print_types};
+use stun_values::{check_type_count, check_types, print_types};
 
 /// Writes two bytes for each type at the start of `dest`, which has room for them, in order.
 fn write_types(types: &[AttributeType], dest: &mut [u8])
@@ -46,12 +46,7 @@ impl UnknownAttributes {
         ensures err { length attrs.now ≤ 32767
             → IfErr result (λ e. e ≡ StunWriteError.OutOfMemory) }
     {
-        if attrs.len() > 32767 {
-            return Err(StunWriteError::TooLarge {
-                expected: 32767,
-                actual: attrs.len(),
-            });
-        }
+        check_type_count(attrs.len())?;
         let types = Vec::from_slice(alloc, attrs).map_err(|_| StunWriteError::OutOfMemory)?;
         Ok(UnknownAttributes { types })
     }
@@ -107,12 +102,7 @@ impl UnknownAttributes {
         if self.has_attribute(attr) {
             return Ok(());
         }
-        if self.types.len() >= 32767 {
-            return Err(StunWriteError::TooLarge {
-                expected: 32767,
-                actual: 32768,
-            });
-        }
+        check_type_count(self.types.len() + 1)?;
         self.types
             .push(attr)
             .map_err(|_| StunWriteError::OutOfMemory)

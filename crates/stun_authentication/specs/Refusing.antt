@@ -10,7 +10,7 @@ use Rattle.stun_grammar.specs.AttributeTypes.{REALM, NONCE, PASSWORD_ALGORITHMS}
 use Rattle.stun_grammar.specs.Writing.{message_encoding}
 use Rattle.stun_write.specs.Writers.{Writer}
 use Rattle.stun_attributes.specs.declared.password_algorithms.PasswordAlgorithms.{PasswordAlgorithms}
-use Rattle.stun_attributes.specs.MakingErrors.{default_reason}
+use Rattle.stun_attributes.specs.DefaultReasons.{default_reason}
 use Rattle.stun_attributes.specs.Passwords.{held_algorithms}
 use Rattle.stun_attributes.specs.Texts.{text_bytes}
 use Rattle.stun_types.specs.Replies.{error_attribute}

@@ -37,7 +37,7 @@ use Rattle.stun_server.specs.Reply.{xored_value, success_reply, response, finish
 use Rattle.stun_server.proofs.SizesLemmas.{reply_for, request_is}
 use Rattle.stun_exchanges.specs.Learning.{IsBindingRequest, Learns, LearnsError}
 use Rattle.stun_exchanges.proofs.AddressLemmas.{tells_only}
-use Rattle.stun_exchanges.proofs.HeardLemmas.{heard_as}
+use Rattle.stun_exchanges.proofs.ReceivedLemmas.{received_as}
 use Rattle.stun_exchanges.proofs.WritableLemmas.{id_small, success_unfinished, error_unfinished, mapped_to, finish}
 
 -- what the laws say that this rests on: of a class in a type, of the bits of a type, of what answers
@@ -73,7 +73,7 @@ class_there : (class : MessageClass) (r : List ℕ) (attributes : List Attribute
     → class_of (type_field (message_encoding (response_type class r) (id_field r) attributes)) ≡ class
 class_there class r attributes classes so = ap class_of (type-message (response_type class r) (id_field r) attributes so.type_fits) ∙ classes class (method_of (type_field r))
 
--- ---- What the client hears
+-- ---- What the client receives
 
 abbrev type_of_shown : Shown → AttributeType
 type_of_shown a = record { 0 = a.type }
@@ -121,7 +121,7 @@ learns classes bits answering found source r bytes range request none =
     record {
       text = text;
       replied = replied_as source r text request (sym (ap (finished r) plain ∙ done.text_is));
-      taken = heard_as Outcome.Success r text parses answers (content_of Success text Outcome.Success (within text all (shown-message kind id all done.writable) (success_within source r done.more done.last)) class refl);
+      taken = received_as Outcome.Success r text parses answers (content_of Success text Outcome.Success (within text all (shown-message kind id all done.writable) (success_within source r done.more done.last)) class refl);
       address = tells_only source r text (record { offset = length (message_encoding kind id []); type = mapped.type; value = mapped.value }) range parses
           (record { answers = answers; succeeds = class }) there (ap (λ (n : ℕ). xored_value n source) (sym (id-message kind id all id_fits)));
     }
@@ -176,7 +176,7 @@ learns_error classes bits answering found source r (x ∷ xs) bytes request is s
     record {
       text = text;
       replied = replied_as source r text request (sym (ap (finished r) plain ∙ done.text_is));
-      taken = heard_as (Outcome.Error 420) r text parses answers (content_of ErrorClass text (Outcome.Error 420) (within text all (shown-message kind id all done.writable) (error_within (x ∷ xs) done.more done.last)) class
+      taken = received_as (Outcome.Error 420) r text parses answers (content_of ErrorClass text (Outcome.Error 420) (within text all (shown-message kind id all done.writable) (error_within (x ∷ xs) done.more done.last)) class
           (ap (λ (o : Option ℕ). option_map_or (λ (n : ℕ). Outcome.Error n) o (Outcome.Failed Failure.NoErrorCode)) code));
       types = subst (λ (o : Option Shown). IsSomeAnd o (λ (s : Shown). s.value ≡ types_encoding (unknown_types [] r))) (sym types_there) (ap types_encoding (sym is));
     }

@@ -1,5 +1,5 @@
 mod WritableLemmas
-mod HeardLemmas
+mod ReceivedLemmas
 mod AddressLemmas
 mod LearningLemmas
 mod ForgingLemmas

@@ -13,14 +13,14 @@ use Rattle.stun_read.specs.LookingUp.{nth}
 use Rattle.stun_types.specs.Replies.{Answers, unknown_types}
 use Rattle.stun_values.specs.Addresses.{IsInRange, plain_socket}
 use Rattle.stun_values.specs.TypeLists.{types_encoding}
-use Rattle.stun_transactions.specs.declared.course.Course.{Course}
+use Rattle.stun_transactions.specs.declared.retransmission.RetransmissionState.{RetransmissionState}
 use Rattle.stun_transactions.specs.declared.guard.Protection.TheVariants.{Unprotected}
 use Rattle.stun_transactions.specs.declared.received.Outcome.{Outcome}
 use Rattle.stun_transactions.specs.declared.received.Outcome.TheVariants.{Success, Error}
 use Rattle.stun_transactions.specs.declared.terms.Terms.{Terms}
 use Rattle.stun_transactions.specs.Mapped.{ReadsAnswer}
 use Rattle.stun_transactions.specs.Outcomes.{is_open}
-use Rattle.stun_transactions.specs.Receiving.{heard}
+use Rattle.stun_transactions.specs.Receiving.{received_outcome}
 use Rattle.stun_server.specs.Reply.{reply}
 
 -- r is a message, and a binding request
@@ -34,19 +34,19 @@ abbrev pub without_flow : SocketAddr → SocketAddr
 without_flow a = plain_socket (socket_ip a) (socket_port a)
 
 -- a transaction of the unsigned request r waits for its response
-pub record Awaits (r : List ℕ) (terms : Terms) (course : Course) : Type 0 where
+pub record Awaits (r : List ℕ) (terms : Terms) (state : RetransmissionState) : Type 0 where
   pub method_is : terms.method ≡ method_of (type_field r)
   pub id_is : terms.id ≡ id_field r
   pub unprotected : terms.protection ≡ Unprotected
-  pub ongoing : is_open course ≡ true
+  pub ongoing : is_open state ≡ true
 
 -- d is a message, a response to the request r, and each transaction that waits for one is told this
 -- of it
-pub record IsHeardAs (told : Outcome) (r d : List ℕ) : Type 0 where
+pub record IsReceivedAs (told : Outcome) (r d : List ℕ) : Type 0 where
   pub parses : parse_fault d ≡ None
   pub answers : Answers d r
-  pub heard_is : (terms : Terms) (course : Course) → Awaits r terms course
-      → heard terms course [] d ≡ told
+  pub received_is : (terms : Terms) (state : RetransmissionState) → Awaits r terms state
+      → received_outcome terms state [] d ≡ told
 
 -- whatever is read of d, as an answer to r, is this address
 abbrev pub TellsOnly : SocketAddr → (r d : List ℕ) → Type 0
@@ -58,13 +58,13 @@ TellsOnly a r d =
 pub record Learns (source : SocketAddr) (r : List ℕ) : Type 0 where
   pub text : List ℕ
   pub replied : reply source r ≡ Some text
-  pub taken : IsHeardAs Success r text
+  pub taken : IsReceivedAs Success r text
   pub address : TellsOnly (without_flow source) r text
 
 -- the reply to r tells the client which types it may not show
 pub record LearnsError (source : SocketAddr) (r : List ℕ) : Type 0 where
   pub text : List ℕ
   pub replied : reply source r ≡ Some text
-  pub taken : IsHeardAs (Error 420) r text
+  pub taken : IsReceivedAs (Error 420) r text
   pub types : IsSomeAnd (nth text UNKNOWN_ATTRIBUTES 0)
       (λ shown. shown.value ≡ types_encoding (unknown_types [] r))

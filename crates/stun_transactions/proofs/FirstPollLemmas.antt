@@ -7,11 +7,11 @@ use Rattle.stun_base.specs.declared.transport.TransportType.{TransportType}
 use Rattle.stun_base.specs.declared.transport.TransportType.TheVariants.{Udp, Tcp}
 use Rattle.stun_transactions.specs.declared.schedule.Schedule.{Schedule}
 use Rattle.stun_transactions.specs.declared.plan.Plan.{Plan}
-use Rattle.stun_transactions.specs.declared.course.Course.{Course}
-use Rattle.stun_transactions.specs.declared.course.Action.{Action}
-use Rattle.stun_transactions.specs.declared.course.Action.TheVariants.{Send, WaitUntil, Ended}
+use Rattle.stun_transactions.specs.declared.retransmission.RetransmissionState.{RetransmissionState}
+use Rattle.stun_transactions.specs.declared.retransmission.Action.{Action}
+use Rattle.stun_transactions.specs.declared.retransmission.Action.TheVariants.{Send, WaitUntil, Ended}
 use Rattle.stun_transactions.specs.Schedules.{requests_over, wait_over}
-use Rattle.stun_transactions.specs.Courses.{begun, later, Polls}
+use Rattle.stun_transactions.specs.Retransmissions.{begun, later, Polls}
 
 -- nothing is waited for before the first request
 no_wait : (schedule : Schedule) (transport : TransportType) → wait_over schedule transport 0 ≡ 0
@@ -31,12 +31,12 @@ either false n = refl
 same_moment : (now : Duration) → later now now ≡ now
 same_moment now = either (nat_lt (as_nanos now) (as_nanos now)) now
 
-pub first_sends : (plan : Plan) (now : Duration) (action : Action) (course : Course) → Polls plan (begun now) now action course → action ≡ Send
-first_sends plan now Send course sends = refl
-first_sends plan now (WaitUntil until) course waits =
+pub first_sends : (plan : Plan) (now : Duration) (action : Action) (state : RetransmissionState) → Polls plan (begun now) now action state → action ≡ Send
+first_sends plan now Send state sends = refl
+first_sends plan now (WaitUntil until) state waits =
     let none = no_wait plan.schedule plan.transport in
     let early : as_nanos now < as_nanos now + wait_over plan.schedule plan.transport 0 * 1_000_000 =
     subst (λ (at : Duration). as_nanos at < as_nanos now + wait_over plan.schedule plan.transport 0 * 1_000_000) (same_moment now) waits.early in
     absurd (omega arith)
-first_sends plan now (Ended end) course over =
+first_sends plan now (Ended end) state over =
     elim over [ inl is ↦ absurd (let e = is.end_is in cc e) | inr times ↦ absurd (let some = some_request plan.schedule plan.transport in omega (arith, times.all)) ]

@@ -8,10 +8,10 @@ use Rattle.stun_grammar.specs.Headers.{type_field}
 use Rattle.stun_base.specs.declared.transport.TransportType.{TransportType}
 use Rattle.stun_base.specs.MessageTypes.{class_of}
 use Rattle.stun_transactions.specs.declared.schedule.Schedule.{Schedule}
-use Rattle.stun_transactions.specs.declared.course.Course.{Course}
-use Rattle.stun_transactions.specs.declared.course.Action.{Action}
-use Rattle.stun_transactions.specs.declared.course.Action.TheVariants.{Send, WaitUntil, Ended}
-use Rattle.stun_transactions.specs.declared.course.End.{End}
+use Rattle.stun_transactions.specs.declared.retransmission.RetransmissionState.{RetransmissionState}
+use Rattle.stun_transactions.specs.declared.retransmission.Action.{Action}
+use Rattle.stun_transactions.specs.declared.retransmission.Action.TheVariants.{Send, WaitUntil, Ended}
+use Rattle.stun_transactions.specs.declared.retransmission.TransactionEnd.{TransactionEnd}
 use Rattle.stun_transactions.specs.declared.guard.Protection.{Protection}
 use Rattle.stun_transactions.specs.declared.guard.Protection.TheVariants.{Unprotected, ShortTerm, LongTerm}
 use Rattle.stun_transactions.specs.declared.received.Discard.TheVariants.{NotAuthentic, BidDown, UnsignedBadRequest}
@@ -23,12 +23,12 @@ use Rattle.stun_transactions.specs.declared.parts.TransactionParts.{TransactionP
 use Rattle.stun_transactions.specs.declared.terms.BeginError.{BeginError}
 use Rattle.stun_transactions.specs.declared.transaction.Transaction.{Transaction}
 use Rattle.stun_transactions.specs.Schedules.{requests_in}
-use Rattle.stun_transactions.specs.Courses.{later, ended_by, Polls}
+use Rattle.stun_transactions.specs.Retransmissions.{later, ended_by, Polls}
 use Rattle.stun_transactions.specs.Guards.{signed_by, is_signed, protects, IsKeptAs}
 use Rattle.stun_transactions.specs.Outcomes.{after}
 use Rattle.stun_transactions.specs.Terms.{is_request, mismatch, begin_fault}
-use Rattle.stun_transactions.specs.Transactions.{terms_of, course_of, Begins}
-use Rattle.stun_transactions.specs.Parts.{plan_in, course_in, at_course, mechanism_of, key_in, parts_of, key_of, is_signed_otherwise, parts_fault, key_fault, whole_fault}
+use Rattle.stun_transactions.specs.Transactions.{terms_of, state_of, Begins}
+use Rattle.stun_transactions.specs.Parts.{plan_in, state_in, at_state, mechanism_of, key_in, parts_of, key_of, is_signed_otherwise, parts_fault, key_fault, whole_fault}
 
 -- ---- The parts and the key are all of a transaction
 
@@ -43,7 +43,7 @@ same_protection (LongTerm k) Unprotected mechanism key = absurd cc
 same_protection (LongTerm k) (ShortTerm l) mechanism key = absurd cc
 same_protection (LongTerm k) (LongTerm l) mechanism key = cc
 
-pub all_of_it : (one other : Transaction) → parts_of one ≡ parts_of other → key_of one ≡ key_of other → (terms_of one ≡ terms_of other) × (course_of one ≡ course_of other)
+pub all_of_it : (one other : Transaction) → parts_of one ≡ parts_of other → key_of one ≡ key_of other → (terms_of one ≡ terms_of other) × (state_of one ≡ state_of other)
 all_of_it one other parts key =
     let protection = same_protection (terms_of one).protection (terms_of other).protection (ap (λ (p : TransactionParts). p.mechanism) parts) key in (
       λ i. record {
@@ -90,34 +90,34 @@ grows clock now = elim (cases_Bool (nat_lt (as_nanos clock) (as_nanos now))) [
   | inr not_less ↦ rw not_less (omega arith)
 ]
 
-at : (parts : TransactionParts) (one other : Course) → one ≡ other → Sound (at_course parts other) → parts_fault (at_course parts one) ≡ None
-at parts one other e sound = ap (λ (c : Course). parts_fault (at_course parts c)) e ∙ sound_none (at_course parts other) sound
+at : (parts : TransactionParts) (one other : RetransmissionState) → one ≡ other → Sound (at_state parts other) → parts_fault (at_state parts one) ≡ None
+at parts one other e sound = ap (λ (c : RetransmissionState). parts_fault (at_state parts c)) e ∙ sound_none (at_state parts other) sound
 
-pub polled : (parts : TransactionParts) (now : Duration) (action : Action) (course : Course) → parts_fault parts ≡ None → Polls (plan_in parts) (course_in parts) now action course → parts_fault (at_course parts course) ≡ None
-polled parts now Send course none polls =
+pub polled : (parts : TransactionParts) (now : Duration) (action : Action) (state : RetransmissionState) → parts_fault parts ≡ None → Polls (plan_in parts) (state_in parts) now action state → parts_fault (at_state parts state) ≡ None
+polled parts now Send state none polls =
     let sound = sound_if parts none in
-    at parts course (record (course_in parts) { sent = parts.sent + 1; last = later parts.clock now; clock = later parts.clock now }) polls.new_is
+    at parts state (record (state_in parts) { sent = parts.sent + 1; last = later parts.clock now; clock = later parts.clock now }) polls.new_is
     (record { signed = sound.signed; often = omega (arith, polls.more); late = omega arith })
-polled parts now (WaitUntil until) course none polls =
+polled parts now (WaitUntil until) state none polls =
     let sound = sound_if parts none in
-    at parts course (record (course_in parts) { clock = later parts.clock now }) polls.new_is
+    at parts state (record (state_in parts) { clock = later parts.clock now }) polls.new_is
     (record { signed = sound.signed; often = sound.often; late = omega (arith, sound.late, grows parts.clock now) })
-polled parts now (Ended end) course none (inl over) = ap (λ (c : Course). parts_fault (at_course parts c)) over.same ∙ none
-polled parts now (Ended end) course none (inr out) =
+polled parts now (Ended end) state none (inl over) = ap (λ (c : RetransmissionState). parts_fault (at_state parts c)) over.same ∙ none
+polled parts now (Ended end) state none (inr out) =
     let sound = sound_if parts none in
-    at parts course (record (course_in parts) { clock = later parts.clock now; end = Some end }) out.new_is
+    at parts state (record (state_in parts) { clock = later parts.clock now; end = Some end }) out.new_is
     (record { signed = sound.signed; often = sound.often; late = omega (arith, sound.late, grows parts.clock now) })
 
-pub heard : (parts : TransactionParts) (outcome : Outcome) → parts_fault parts ≡ None → parts_fault (at_course parts (after outcome (course_in parts))) ≡ None
-heard parts NotForThis none = none
-heard parts (Discarded NotAuthentic) none = none
-heard parts (Discarded BidDown) none = none
-heard parts (Discarded UnsignedBadRequest) none = none
-heard parts (Failed failure) none = none
-heard parts Success none = none
-heard parts (Error code) none = none
+pub received : (parts : TransactionParts) (outcome : Outcome) → parts_fault parts ≡ None → parts_fault (at_state parts (after outcome (state_in parts))) ≡ None
+received parts NotForThis none = none
+received parts (Discarded NotAuthentic) none = none
+received parts (Discarded BidDown) none = none
+received parts (Discarded UnsignedBadRequest) none = none
+received parts (Failed failure) none = none
+received parts Success none = none
+received parts (Error code) none = none
 
-pub ended : (parts : TransactionParts) (end : End) → parts_fault parts ≡ None → parts_fault (at_course parts (ended_by end (course_in parts))) ≡ None
+pub ended : (parts : TransactionParts) (end : TransactionEnd) → parts_fault parts ≡ None → parts_fault (at_state parts (ended_by end (state_in parts))) ≡ None
 ended parts end none = elim (cases_Bool (is_some parts.end)) [ inl there ↦ rw there none | inr away ↦ rw away none ]
 
 -- what is kept of a protection
@@ -156,7 +156,7 @@ begins r schedule transport protection now transaction free so =
     let shown : is_signed terms.signed ≡ is_signed (signed_by r) = ap is_signed so.terms.signed_is in
     let mechanism : is_some parts.mechanism ≡ is_signed terms.signed = kept.mechanism ∙ same ∙ sym shown in
     let signed : is_signed_otherwise parts ≡ false = ap (λ (b : Bool). if b then not (is_signed terms.signed) else is_signed terms.signed) mechanism ∙ agree (is_signed terms.signed) in
-    let sent : parts.sent ≡ 0 = ap (λ (c : Course). c.sent) so.course in
-    let moment : as_nanos parts.last ≡ as_nanos parts.clock = ap (λ (c : Course). as_nanos c.last) so.course ∙ sym (ap (λ (c : Course). as_nanos c.clock) so.course) in
+    let sent : parts.sent ≡ 0 = ap (λ (c : RetransmissionState). c.sent) so.state in
+    let moment : as_nanos parts.last ≡ as_nanos parts.clock = ap (λ (c : RetransmissionState). as_nanos c.last) so.state ∙ sym (ap (λ (c : RetransmissionState). as_nanos c.clock) so.state) in
     let sound : parts_fault parts ≡ None = sound_none parts (record { signed = signed; often = omega (arith, sent); late = omega (arith, moment) }) in
     rw sound kept.key

@@ -15,7 +15,7 @@ use Rattle.stun_keys.specs.declared.keys.integrity_key.IntegrityKey.{IntegrityKe
 use Rattle.stun_keys.specs.Keys.{key_bytes, key_algorithm}
 use Rattle.stun_authentication.specs.Challenges.{is_bid_down}
 use Rattle.stun_authentication.specs.Codes.{is_challenge}
-use Rattle.stun_transactions.specs.declared.course.Course.{Course}
+use Rattle.stun_transactions.specs.declared.retransmission.RetransmissionState.{RetransmissionState}
 use Rattle.stun_transactions.specs.declared.guard.Protection.{Protection}
 use Rattle.stun_transactions.specs.declared.guard.Protection.TheVariants.{Unprotected, ShortTerm, LongTerm}
 use Rattle.stun_transactions.specs.declared.guard.Signed.{Signed}
@@ -26,7 +26,7 @@ use Rattle.stun_transactions.specs.declared.received.Outcome.TheVariants.{NotFor
 use Rattle.stun_transactions.specs.declared.terms.Terms.{Terms}
 use Rattle.stun_transactions.specs.Guards.{guard_fault, validated, accepts, is_unsigned_bad_request}
 use Rattle.stun_transactions.specs.Outcomes.{is_open}
-use Rattle.stun_transactions.specs.Receiving.{heard, discarded, content}
+use Rattle.stun_transactions.specs.Receiving.{received_outcome, discarded, content}
 use Rattle.stun_transactions.specs.Taking.{is_taken, IsAuthenticBy, IsProved, IsRightResponse}
 use Rattle.stun_transactions.specs.Terms.{is_answer}
 
@@ -73,7 +73,7 @@ passed true None false kept transport told taken = absurd cc
 passed true (Some e) answers kept transport told taken = absurd cc
 passed false fault answers kept transport told taken = absurd cc
 
-pub right : (terms : Terms) (course : Course) (understood : List AttributeType) (d : List ℕ) → IsBytes d → is_taken (heard terms course understood d) ≡ true → IsRightResponse terms d
-right terms course understood d bytes taken =
-    let p = passed (is_open course) (parse_fault d) (is_answer terms d) (guard_fault terms.protection terms.signed d) terms.plan.transport (content understood d) taken in
+pub right : (terms : Terms) (state : RetransmissionState) (understood : List AttributeType) (d : List ℕ) → IsBytes d → is_taken (received_outcome terms state understood d) ≡ true → IsRightResponse terms d
+right terms state understood d bytes taken =
+    let p = passed (is_open state) (parse_fault d) (is_answer terms d) (guard_fault terms.protection terms.signed d) terms.plan.transport (content understood d) taken in
     record { parses = p.parses; answers = p.right; proved = guarded terms.protection terms.signed d bytes p.parses p.kept_in }

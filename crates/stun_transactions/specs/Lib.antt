@@ -1,6 +1,6 @@
 pub mod Rows
 pub mod Schedules
-pub mod Courses
+pub mod Retransmissions
 pub mod Responses
 pub mod Guards
 pub mod Mapped

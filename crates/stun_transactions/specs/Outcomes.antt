@@ -1,13 +1,13 @@
--- What is told of a received message, and what it does to the course of the transaction.
+-- What is told of a received message, and what it does to the state of the transaction.
 use Rattle.std.specs.Prelude.{◌≡◌, ℕ, List, Bool, true, not, ◌&&◌, Some, is_some, nat_lt}
 use Rattle.stun_types.specs.Message.{message_bytes}
 use Rattle.stun_transactions.specs.declared.received.Discard.TheVariants.{NotAuthentic, BidDown, UnsignedBadRequest}
 use Rattle.stun_transactions.specs.declared.received.Failure.{Failure}
 use Rattle.stun_transactions.specs.declared.received.Outcome.{Outcome}
 use Rattle.stun_transactions.specs.declared.received.Received.{Received}
-use Rattle.stun_transactions.specs.declared.course.Course.{Course}
-use Rattle.stun_transactions.specs.declared.course.End.{End}
-use Rattle.stun_transactions.specs.declared.course.End.TheVariants.{Answered, IntegrityViolated, Refused}
+use Rattle.stun_transactions.specs.declared.retransmission.RetransmissionState.{RetransmissionState}
+use Rattle.stun_transactions.specs.declared.retransmission.TransactionEnd.{TransactionEnd}
+use Rattle.stun_transactions.specs.declared.retransmission.TransactionEnd.TheVariants.{Answered, IntegrityViolated, Refused}
 
 -- what is told, without the message
 abbrev pub outcome_of : Received → Outcome
@@ -24,21 +24,21 @@ Holds (Received.Error message code) d = message_bytes message ≡ d
 Holds _ d = Unit {0}
 
 -- how a failure ends the transaction
-abbrev pub end_of_failure : Failure → End
+abbrev pub end_of_failure : Failure → TransactionEnd
 end_of_failure Failure.IntegrityViolated = IntegrityViolated
 end_of_failure _ = Refused
 
--- the course after a received message: what was discarded changes nothing, but that it wasn't
+-- the state after a received message: what was discarded changes nothing, but that it wasn't
 -- authentic is remembered
-abbrev pub after : Outcome → Course → Course
-after Outcome.NotForThis course = course
-after (Outcome.Discarded NotAuthentic) course = record course { violated = true }
-after (Outcome.Discarded BidDown) course = course
-after (Outcome.Discarded UnsignedBadRequest) course = course
-after (Outcome.Failed failure) course = record course { end = Some (end_of_failure failure) }
-after Outcome.Success course = record course { end = Some Answered }
-after (Outcome.Error code) course = record course { end = Some Answered }
+abbrev pub after : Outcome → RetransmissionState → RetransmissionState
+after Outcome.NotForThis state = state
+after (Outcome.Discarded NotAuthentic) state = record state { violated = true }
+after (Outcome.Discarded BidDown) state = state
+after (Outcome.Discarded UnsignedBadRequest) state = state
+after (Outcome.Failed failure) state = record state { end = Some (end_of_failure failure) }
+after Outcome.Success state = record state { end = Some Answered }
+after (Outcome.Error code) state = record state { end = Some Answered }
 
 -- whether a transaction is in progress: its request was sent, and it has not ended
-abbrev pub is_open : Course → Bool
-is_open course = nat_lt 0 course.sent && not (is_some course.end)
+abbrev pub is_open : RetransmissionState → Bool
+is_open state = nat_lt 0 state.sent && not (is_some state.end)

@@ -5,7 +5,7 @@ use Rattle.std.specs.Option.{option_or}
 use Rattle.stun_keys.specs.declared.keys.integrity_key.IntegrityKey.{IntegrityKey}
 use Rattle.stun_keys.specs.Keys.{key_algorithm}
 use Rattle.stun_transactions.specs.declared.plan.Plan.{Plan}
-use Rattle.stun_transactions.specs.declared.course.Course.{Course}
+use Rattle.stun_transactions.specs.declared.retransmission.RetransmissionState.{RetransmissionState}
 use Rattle.stun_transactions.specs.declared.guard.Protection.{Protection}
 use Rattle.stun_transactions.specs.declared.guard.Protection.TheVariants.{Unprotected, ShortTerm as ByShortTerm, LongTerm as ByLongTerm}
 use Rattle.stun_transactions.specs.declared.parts.Mechanism.{Mechanism}
@@ -15,7 +15,7 @@ use Rattle.stun_transactions.specs.declared.parts.PartsError.TheVariants.{Signed
 use Rattle.stun_transactions.specs.declared.parts.TransactionParts.{TransactionParts}
 use Rattle.stun_transactions.specs.declared.transaction.Transaction.{Transaction}
 use Rattle.stun_transactions.specs.Schedules.{requests_in}
-use Rattle.stun_transactions.specs.Transactions.{terms_of, course_of}
+use Rattle.stun_transactions.specs.Transactions.{terms_of, state_of}
 
 -- ---- The parts
 
@@ -23,8 +23,8 @@ use Rattle.stun_transactions.specs.Transactions.{terms_of, course_of}
 abbrev pub plan_in : TransactionParts → Plan
 plan_in parts = record { schedule = parts.schedule; transport = parts.transport }
 
-abbrev pub course_in : TransactionParts → Course
-course_in parts = record {
+abbrev pub state_in : TransactionParts → RetransmissionState
+state_in parts = record {
   sent = parts.sent;
   last = parts.last;
   clock = parts.clock;
@@ -33,13 +33,13 @@ course_in parts = record {
 }
 
 -- the same parts, but that it has come so far
-abbrev pub at_course : TransactionParts → Course → TransactionParts
-at_course parts course = record parts {
-  sent = course.sent;
-  last = course.last;
-  clock = course.clock;
-  violated = course.violated;
-  end = course.end;
+abbrev pub at_state : TransactionParts → RetransmissionState → TransactionParts
+at_state parts state = record parts {
+  sent = state.sent;
+  last = state.last;
+  clock = state.clock;
+  violated = state.violated;
+  end = state.end;
 }
 
 -- by which mechanism a request is protected, and with which key
@@ -63,11 +63,11 @@ parts_of transaction = record {
   sha1 = (terms_of transaction).signed.sha1;
   sha256 = (terms_of transaction).signed.sha256;
   mechanism = mechanism_of (terms_of transaction).protection;
-  sent = (course_of transaction).sent;
-  last = (course_of transaction).last;
-  clock = (course_of transaction).clock;
-  violated = (course_of transaction).violated;
-  end = (course_of transaction).end;
+  sent = (state_of transaction).sent;
+  last = (state_of transaction).last;
+  clock = (state_of transaction).clock;
+  violated = (state_of transaction).violated;
+  end = (state_of transaction).end;
 }
 
 abbrev pub key_of : Transaction → Option IntegrityKey

@@ -16,7 +16,7 @@ use Rattle.stun_transactions.specs.declared.received.Discard.TheVariants.{NotAut
 use Rattle.stun_transactions.specs.declared.received.Failure.TheVariants.{IntegrityViolated, UnknownAttribute, NoErrorCode}
 use Rattle.stun_transactions.specs.declared.received.Outcome.{Outcome}
 use Rattle.stun_transactions.specs.declared.received.Outcome.TheVariants.{NotForThis, Discarded, Failed, Success, Error}
-use Rattle.stun_transactions.specs.declared.course.Course.{Course}
+use Rattle.stun_transactions.specs.declared.retransmission.RetransmissionState.{RetransmissionState}
 use Rattle.stun_transactions.specs.declared.terms.Terms.{Terms}
 use Rattle.stun_transactions.specs.Responses.{first_beyond}
 use Rattle.stun_transactions.specs.Guards.{guard_fault}
@@ -53,7 +53,7 @@ outcome terms understood d =
 
 -- what received bytes are for a transaction: nothing where it isn't in progress, or they are no
 -- message; what has a wrong FINGERPRINT is none
-abbrev pub heard : Terms → Course → List AttributeType → List ℕ → Outcome
-heard terms course understood d =
-    if is_open course && not (is_some (parse_fault d)) then outcome terms understood d
+abbrev pub received_outcome : Terms → RetransmissionState → List AttributeType → List ℕ → Outcome
+received_outcome terms state understood d =
+    if is_open state && not (is_some (parse_fault d)) then outcome terms understood d
     else NotForThis

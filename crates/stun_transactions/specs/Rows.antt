@@ -13,12 +13,12 @@ abbrev pub moments : (rto requests : ℕ) → List ℕ
 moments rto requests = map (moment rto) (range_with_len 0 requests)
 
 -- when the transaction ends: Rm times RTO after the last request
-abbrev pub row_end : (rto requests last_wait : ℕ) → ℕ
-row_end rto requests last_wait = moment rto (requests - 1) + rto * last_wait
+abbrev pub row_end : (rto requests last_wait_factor : ℕ) → ℕ
+row_end rto requests last_wait_factor = moment rto (requests - 1) + rto * last_wait_factor
 
 -- how long nothing is done once so many requests were sent: before the first one not at all, after
 -- it RTO, after each further one twice as long, and after the last one Rm times RTO
-abbrev pub row_wait : (rto requests last_wait sent : ℕ) → ℕ
-row_wait rto requests last_wait sent =
+abbrev pub row_wait : (rto requests last_wait_factor sent : ℕ) → ℕ
+row_wait rto requests last_wait_factor sent =
     if sent == 0 then 0
-    else (if nat_lt sent requests then rto * 2 ^ (sent - 1) else rto * last_wait)
+    else (if nat_lt sent requests then rto * 2 ^ (sent - 1) else rto * last_wait_factor)

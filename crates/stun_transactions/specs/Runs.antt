@@ -3,30 +3,30 @@ use Rattle.std.specs.Prelude.{◌≡◌, ℕ, ◌+◌, ◌*◌, ◌<◌, ◌≤�
 use Rattle.std.specs.Duration.{as_nanos}
 use Rattle.std.specs.declared.time.Duration.{Duration}
 use Rattle.stun_transactions.specs.declared.plan.Plan.{Plan}
-use Rattle.stun_transactions.specs.declared.course.Course.{Course}
-use Rattle.stun_transactions.specs.declared.course.Action.{Action}
-use Rattle.stun_transactions.specs.declared.course.Action.TheVariants.{Send, WaitUntil, Ended}
+use Rattle.stun_transactions.specs.declared.retransmission.RetransmissionState.{RetransmissionState}
+use Rattle.stun_transactions.specs.declared.retransmission.Action.{Action}
+use Rattle.stun_transactions.specs.declared.retransmission.Action.TheVariants.{Send, WaitUntil, Ended}
 use Rattle.stun_transactions.specs.Schedules.{requests_in, wait_in}
-use Rattle.stun_transactions.specs.Courses.{Polls}
+use Rattle.stun_transactions.specs.Retransmissions.{Polls}
 
 -- what any call but a poll leaves: what was sent stays so, and an end stays
-pub record Stays (old new : Course) : Type 0 where
+pub record Stays (old new : RetransmissionState) : Type 0 where
   pub sent : new.sent ≡ old.sent
   pub last : new.last ≡ old.last
   pub ended : is_some old.end ≡ true → new ≡ old
 
--- a call: of a poll its moment and its answer, and of each call the course that it leaves
+-- a call: of a poll its moment and its answer, and of each call the state that it leaves
 pub record Call : Type 0 where
   pub poll : Option (Duration × Action)
-  pub left : Course
+  pub left : RetransmissionState
 
 -- a call on a transaction that has come so far
-abbrev pub IsCall : Plan → Course → Call → Type 0
+abbrev pub IsCall : Plan → RetransmissionState → Call → Type 0
 IsCall plan old call =
     MatchOption call.poll (Stays old call.left) (λ p. Polls plan old p.0 p.1 call.left)
 
 -- calls, one after the other
-abbrev pub IsRun : Plan → Course → List Call → Type 0
+abbrev pub IsRun : Plan → RetransmissionState → List Call → Type 0
 IsRun plan old [] = Unit {0}
 IsRun plan old (call ∷ calls) = IsCall plan old call × IsRun plan call.left calls
 
@@ -54,7 +54,7 @@ IsSpaced plan sent last (moment ∷ moments) =
     (sent < requests_in plan) × (last + wait_in plan sent * 1_000_000 ≤ moment)
     × IsSpaced plan (sent + 1) moment moments
 
--- the course after calls
-abbrev pub left_by : Course → List Call → Course
-left_by course [] = course
-left_by course (call ∷ calls) = left_by call.left calls
+-- the state after calls
+abbrev pub left_by : RetransmissionState → List Call → RetransmissionState
+left_by state [] = state
+left_by state (call ∷ calls) = left_by call.left calls

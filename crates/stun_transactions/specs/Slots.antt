@@ -8,9 +8,9 @@ use Rattle.stun_grammar.specs.declared.attribute_type.AttributeType.{AttributeTy
 use Rattle.stun_grammar.specs.Headers.{id_field}
 use Rattle.stun_grammar.specs.Parsing.{parse_fault}
 use Rattle.stun_base.specs.declared.transport.TransportType.{TransportType}
-use Rattle.stun_transactions.specs.declared.course.Action.{Action}
-use Rattle.stun_transactions.specs.declared.course.Course.{Course}
-use Rattle.stun_transactions.specs.declared.course.End.{End}
+use Rattle.stun_transactions.specs.declared.retransmission.Action.{Action}
+use Rattle.stun_transactions.specs.declared.retransmission.RetransmissionState.{RetransmissionState}
+use Rattle.stun_transactions.specs.declared.retransmission.TransactionEnd.{TransactionEnd}
 use Rattle.stun_transactions.specs.declared.guard.Protection.{Protection}
 use Rattle.stun_transactions.specs.declared.received.Received.{Received}
 use Rattle.stun_transactions.specs.declared.schedule.Schedule.{Schedule}
@@ -19,11 +19,11 @@ use Rattle.stun_transactions.specs.declared.slots.Task.TheVariants.{Send, Ended,
 use Rattle.stun_transactions.specs.declared.slots.AddError.{AddError}
 use Rattle.stun_transactions.specs.declared.slots.AddError.TheVariants.{Begin, InUse, Full}
 use Rattle.stun_transactions.specs.declared.transaction.Transaction.{Transaction}
-use Rattle.stun_transactions.specs.Courses.{Polls, is_ready, due, ended_by}
+use Rattle.stun_transactions.specs.Retransmissions.{Polls, is_ready, due, ended_by}
 use Rattle.stun_transactions.specs.Outcomes.{outcome_of, Holds, after}
-use Rattle.stun_transactions.specs.Receiving.{heard}
+use Rattle.stun_transactions.specs.Receiving.{received_outcome}
 use Rattle.stun_transactions.specs.Terms.{begin_fault}
-use Rattle.stun_transactions.specs.Transactions.{terms_of, course_of, Begins}
+use Rattle.stun_transactions.specs.Transactions.{terms_of, state_of, Begins}
 
 -- the transaction ID of a transaction
 abbrev pub id_of : Transaction → ℕ
@@ -90,14 +90,14 @@ pub record Adds (r : List ℕ) (schedule : Schedule) (transport : TransportType)
 -- whether a poll of the transaction in a slot hands out its request, or tells an end
 abbrev pub has_turn : Duration → Option Transaction → Bool
 has_turn now None = false
-has_turn now (Some t) = is_ready (terms_of t).plan (course_of t) now
+has_turn now (Some t) = is_ready (terms_of t).plan (state_of t) now
 
 -- when the transaction in a slot is to be polled next: at once where an end is yet to be told
 abbrev pub wake : Option Transaction → Option ℕ
 wake None = None
 wake (Some t) =
-    Some (if is_some (course_of t).end then 0
-    else min (due (terms_of t).plan (course_of t)) max_nanos)
+    Some (if is_some (state_of t).end then 0
+    else min (due (terms_of t).plan (state_of t)) max_nanos)
 
 -- the sooner of two moments
 abbrev pub sooner : Option ℕ → Option ℕ → Option ℕ
@@ -121,10 +121,11 @@ IsWait slots task = ⊥
 abbrev pub PollsSlot : Option Transaction → Duration → Task → Option Transaction → Type 0
 PollsSlot (Some t) now (Send id) (Some u) =
     (id ≡ id_of t) × (terms_of u ≡ terms_of t)
-    × Polls (terms_of t).plan (course_of t) now Action.Send (course_of u)
+    × Polls (terms_of t).plan (state_of t) now Action.Send (state_of u)
 PollsSlot (Some t) now (Ended id end) None =
     (id ≡ id_of t)
-    × ((last : Course) × Polls (terms_of t).plan (course_of t) now (Action.Ended end) last)
+    × ((last : RetransmissionState) × Polls (terms_of t).plan (state_of t) now
+    (Action.Ended end) last)
 PollsSlot _ now task _ = ⊥
 
 -- what a poll of all of them tells and leaves: the first that has something to do is polled, and
@@ -137,19 +138,22 @@ PollsSlots old now task new =
     × (new ≡ slice_set old place (in_slot new place)))
 
 -- a transaction after the message d
-abbrev pub hearing : List AttributeType → List ℕ → Transaction → Transaction
-hearing understood d t =
-    record t { course = after (heard (terms_of t) (course_of t) understood d) (course_of t) }
+abbrev pub after_receiving : List AttributeType → List ℕ → Transaction → Transaction
+after_receiving understood d t =
+    record t {
+      state = after (received_outcome (terms_of t) (state_of t) understood d)
+          (state_of t);
+    }
 
 -- a transaction that is ended so, unless it has ended
-abbrev pub ending : End → Transaction → Transaction
-ending end t = record t { course = ended_by end (course_of t) }
+abbrev pub ending : TransactionEnd → Transaction → Transaction
+ending end t = record t { state = ended_by end (state_of t) }
 
 -- what is told of d for a transaction: its ID, and what d is for it alone
 pub record IsFor (t : Transaction) (understood : List AttributeType) (d : List ℕ)
     (told : ℕ × Received) : Type 0 where
   pub id : told.0 ≡ id_of t
-  pub outcome : outcome_of told.1 ≡ heard (terms_of t) (course_of t) understood d
+  pub outcome : outcome_of told.1 ≡ received_outcome (terms_of t) (state_of t) understood d
   pub message : Holds told.1 d
 
 -- the same, where there is a transaction, and else nothing

@@ -5,10 +5,10 @@ use Rattle.std.specs.declared.time.Duration.{Duration}
 use Rattle.stun_base.specs.declared.transport.TransportType.{TransportType}
 use Rattle.stun_transactions.specs.declared.schedule.Schedule.{Schedule}
 use Rattle.stun_transactions.specs.declared.guard.Protection.{Protection}
-use Rattle.stun_transactions.specs.declared.course.Course.{Course}
+use Rattle.stun_transactions.specs.declared.retransmission.RetransmissionState.{RetransmissionState}
 use Rattle.stun_transactions.specs.declared.terms.Terms.{Terms}
 use Rattle.stun_transactions.specs.declared.transaction.Transaction.{Transaction}
-use Rattle.stun_transactions.specs.Courses.{begun, due}
+use Rattle.stun_transactions.specs.Retransmissions.{begun, due}
 use Rattle.stun_transactions.specs.Terms.{AreTerms}
 
 -- what it was begun with
@@ -16,19 +16,19 @@ abbrev pub terms_of : Transaction → Terms
 terms_of transaction = transaction.terms
 
 -- how far it has come
-abbrev pub course_of : Transaction → Course
-course_of transaction = transaction.course
+abbrev pub state_of : Transaction → RetransmissionState
+state_of transaction = transaction.state
 
 -- a transaction of the request r begins
 pub record Begins (r : List ℕ) (schedule : Schedule) (transport : TransportType)
     (protection : Protection) (now : Duration) (transaction : Transaction) : Type 0 where
   pub terms : AreTerms r (record { schedule = schedule; transport = transport }) protection
       (terms_of transaction)
-  pub course : course_of transaction ≡ begun now
+  pub state : state_of transaction ≡ begun now
 
 -- the moment at which it is to be polled next, where it goes on
 abbrev pub Wakes : Transaction → Option Duration → Type 0
 Wakes transaction moment =
-    MatchOption moment (is_some (course_of transaction).end ≡ true)
-    (λ at. ((course_of transaction).end ≡ None)
-    × (as_nanos at ≡ min (due (terms_of transaction).plan (course_of transaction)) max_nanos))
+    MatchOption moment (is_some (state_of transaction).end ≡ true)
+    (λ at. ((state_of transaction).end ≡ None)
+    × (as_nanos at ≡ min (due (terms_of transaction).plan (state_of transaction)) max_nanos))

@@ -6,7 +6,6 @@
 //! comes in as a `Duration` since a beginning of the caller's. It allocates nothing.
 #![tactic(auto)]
 
-mod course;
 mod guard;
 mod judge;
 mod laws;
@@ -15,6 +14,7 @@ mod parting;
 mod parts;
 mod plan;
 mod received;
+mod retransmission;
 mod schedule;
 mod slots;
 mod terms;
@@ -23,7 +23,6 @@ mod tests;
 mod transaction;
 mod transactions;
 
-pub use course::{Action, End};
 pub use guard::Protection;
 pub use laws::{
     ends_are_final, first_poll_sends, no_parts_are_refused, other_calls_stay, parts_are_the_whole,
@@ -32,6 +31,7 @@ pub use laws::{
 pub use mapped::{mapped_address, response_address};
 pub use parts::{Mechanism, PartsError, TransactionParts};
 pub use received::{Discard, Failure, Received};
+pub use retransmission::{Action, TransactionEnd};
 pub use schedule::{Schedule, ScheduleError};
 pub use slots::{AddError, Task};
 pub use terms::BeginError;

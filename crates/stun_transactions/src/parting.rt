@@ -3,17 +3,17 @@
 ghost use Rattle.std.specs.Prelude.{◌≡◌, None, Some, MatchResult};
 ghost use Rattle.stun_transactions.specs.Parts.{key_fault};
 
-use crate::course::{Action, Course, End};
 use crate::parts::{Mechanism, PartsError, TransactionParts};
 use crate::plan::Plan;
+use crate::retransmission::{Action, RetransmissionState, TransactionEnd};
 use std::time::Duration;
 use stun_types::message::IntegrityKey;
 
 impl TransactionParts {
     ghost use Rattle.std.specs.Prelude.{◌≡◌, None, Some, MatchResult, MatchOption, true, is_some, min};
     ghost use Rattle.std.specs.Duration.{as_nanos, max_nanos};
-    ghost use Rattle.stun_transactions.specs.Courses.{due, ended_by, Polls};
-    ghost use Rattle.stun_transactions.specs.Parts.{plan_in, course_in, at_course, is_signed_otherwise, parts_fault};
+    ghost use Rattle.stun_transactions.specs.Retransmissions.{due, ended_by, Polls};
+    ghost use Rattle.stun_transactions.specs.Parts.{plan_in, state_in, at_state, is_signed_otherwise, parts_fault};
 
     /// How long the transaction waits.
     pub(crate) fn plan(&self) -> Plan
@@ -26,10 +26,10 @@ impl TransactionParts {
     }
 
     /// How far it has come.
-    pub(crate) fn course(&self) -> Course
-        ensures { result ≡ course_in self.now }
+    pub(crate) fn state(&self) -> RetransmissionState
+        ensures { result ≡ state_in self.now }
     {
-        Course {
+        RetransmissionState {
             sent: self.sent,
             last: self.last,
             clock: self.clock,
@@ -39,16 +39,16 @@ impl TransactionParts {
     }
 
     /// Goes on to where it has come.
-    fn go_on(&mut self, course: Course)
-        ensures { self.new ≡ at_course self.old course }
+    fn go_on(&mut self, state: RetransmissionState)
+        ensures { self.new ≡ at_state self.old state }
     {
-        let Course {
+        let RetransmissionState {
             sent,
             last,
             clock,
             violated,
             end,
-        } = course;
+        } = state;
         self.sent = sent;
         self.last = last;
         self.clock = clock;
@@ -96,51 +96,52 @@ impl TransactionParts {
     pub fn next_wake(&self) -> Option<Duration>
         ensures { MatchOption result (is_some self.now.end ≡ true)
             (λ at. (self.now.end ≡ None)
-            × (as_nanos at ≡ min (due (plan_in self.now) (course_in self.now)) max_nanos)) }
+            × (as_nanos at ≡ min (due (plan_in self.now) (state_in self.now)) max_nanos)) }
     {
         match self.end {
             Some(_) => None,
-            None => Some(self.course().due(&self.plan())),
+            None => Some(self.state().due(&self.plan())),
         }
     }
 
     /// What is to be done now, as [`Transaction::poll`](crate::Transaction::poll) answers of the
     /// transaction: this takes no key.
     pub fn poll(&mut self, now: Duration) -> Action
-        ensures polls { Polls (plan_in self.old) (course_in self.old) now result
-            (course_in self.new) }
-        ensures others { self.new ≡ at_course self.old (course_in self.new) }
+        ensures polls { Polls (plan_in self.old) (state_in self.old) now result
+            (state_in self.new) }
+        ensures others { self.new ≡ at_state self.old (state_in self.new) }
     {
-        let mut course = self.course();
-        let action = course.poll(&self.plan(), now);
-        self.go_on(course);
+        let mut state = self.state();
+        let action = state.poll(&self.plan(), now);
+        self.go_on(state);
         action
     }
 
     /// Ends the transaction, unless it has ended.
-    fn end_by(&mut self, end: End)
-        ensures { self.new ≡ at_course self.old (ended_by end (course_in self.old)) }
+    fn end_by(&mut self, end: TransactionEnd)
+        ensures { self.new ≡ at_state self.old (ended_by end (state_in self.old)) }
     {
-        let mut course = self.course();
-        course.end_by(end);
-        self.go_on(course);
+        let mut state = self.state();
+        state.end_by(end);
+        self.go_on(state);
     }
 
     /// Ends the transaction, unless it has ended, as
     /// [`Transaction::cancel`](crate::Transaction::cancel) does.
     pub fn cancel(&mut self)
-        ensures { self.new ≡ at_course self.old (ended_by End.Cancelled (course_in self.old)) }
+        ensures { self.new ≡ at_state self.old (ended_by TransactionEnd.Cancelled
+            (state_in self.old)) }
     {
-        self.end_by(End::Cancelled);
+        self.end_by(TransactionEnd::Cancelled);
     }
 
     /// Ends the transaction, unless it has ended, as
     /// [`Transaction::fail`](crate::Transaction::fail) does.
     pub fn fail(&mut self)
         ensures { self.new
-            ≡ at_course self.old (ended_by End.TransportFailed (course_in self.old)) }
+            ≡ at_state self.old (ended_by TransactionEnd.TransportFailed (state_in self.old)) }
     {
-        self.end_by(End::TransportFailed);
+        self.end_by(TransactionEnd::TransportFailed);
     }
 }
 

@@ -1,6 +1,6 @@
 //! The parts of a transaction.
 
-use crate::course::End;
+use crate::retransmission::TransactionEnd;
 use crate::schedule::Schedule;
 use std::time::Duration;
 use stun_types::TransportType;
@@ -68,5 +68,5 @@ pub struct TransactionParts {
     /// Whether a response was discarded that wasn't authentic.
     pub violated: bool,
     /// How the transaction ended, if it has.
-    pub end: Option<End>,
+    pub end: Option<TransactionEnd>,
 }

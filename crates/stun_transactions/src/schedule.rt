@@ -10,20 +10,23 @@ use thiserror::Error;
 /// When a request is sent again, and when its transaction is given up (RFC 8489, section 6.2).
 ///
 /// Over an unreliable transport (UDP, or DTLS over it) the request is sent again after RTO, and
-/// then after twice the interval before, until `requests` requests were sent; after `last_wait`
-/// times RTO more the transaction ends. By the default numbers these moments are 0, 500, 1500,
-/// 3500, 7500, 15500 and 31500 ms, and the end 39500 ms. Over a reliable transport (TCP, or TLS
-/// over it) it is sent once, and the transaction ends after `reliable_wait`.
+/// then after twice the interval before, until `max_requests` requests were sent; after
+/// `last_wait_factor` times RTO more the transaction ends. By the default numbers these moments are
+/// 0, 500, 1500, 3500, 7500, 15500 and 31500 ms, and the end 39500 ms. Over a reliable transport
+/// (TCP, or TLS over it) it is sent once, and the transaction ends after `reliable_timeout`.
+///
+/// RFC 8489 calls `max_requests` Rc and `last_wait_factor` Rm (section 6.2.1), and
+/// `reliable_timeout` Ti (section 6.2.2).
 #[derive(Clone, Copy, Debug, PartialEq, Eq)]
 pub struct Schedule {
     rto: u64,
-    requests: u32,
-    last_wait: u32,
-    reliable_wait: u64,
+    max_requests: u32,
+    last_wait_factor: u32,
+    reliable_timeout: u64,
     ghost starts: { 1 ≤ rto },
-    ghost sends: { 1 ≤ requests },
-    ghost few: { requests ≤ 64 },
-    ghost fits: { row_end rto requests last_wait < 2 ^ 64 },
+    ghost sends: { 1 ≤ max_requests },
+    ghost few: { max_requests ≤ 64 },
+    ghost fits: { row_end rto max_requests last_wait_factor < 2 ^ 64 },
 }
 
 /// Why no schedule has certain numbers.
@@ -39,19 +42,19 @@ pub enum ScheduleError {
 
 /// When a transaction ends by these numbers, if that fits 64 bits.
 #[tactic(auto, using(crate::proofs::RowsLemmas::too_many, crate::proofs::RowsLemmas::pow_fits))]
-fn end_of_row(rto: u64, requests: u32, last_wait: u32) -> Option<u64>
+fn end_of_row(rto: u64, max_requests: u32, last_wait_factor: u32) -> Option<u64>
     requires starts { 1 ≤ rto }
-    requires sends { 1 ≤ requests }
-    requires waits { 1 ≤ last_wait }
+    requires sends { 1 ≤ max_requests }
+    requires waits { 1 ≤ last_wait_factor }
     ensures { MatchOption result
-        (2 ^ 64 ≤ row_end rto requests last_wait)
-        (λ end. (end ≡ row_end rto requests last_wait) × (requests ≤ 64)) }
+        (2 ^ 64 ≤ row_end rto max_requests last_wait_factor)
+        (λ end. (end ≡ row_end rto max_requests last_wait_factor) × (max_requests ≤ 64)) }
 {
-    if requests > 64 {
+    if max_requests > 64 {
         return None;
     }
-    let last = rto.checked_mul(2u64.pow(requests - 1) - 1)?;
-    let wait = rto.checked_mul(u64::from(last_wait))?;
+    let last = rto.checked_mul(2u64.pow(max_requests - 1) - 1)?;
+    let wait = rto.checked_mul(u64::from(last_wait_factor))?;
     last.checked_add(wait)
 }
 
@@ -67,55 +70,61 @@ impl Schedule {
     {
         Schedule {
             rto: 500,
-            requests: 7,
-            last_wait: 16,
-            reliable_wait: 39500,
+            max_requests: 7,
+            last_wait_factor: 16,
+            reliable_timeout: 39500,
         }
     }
 
-    /// The schedule of an RTO in milliseconds, the greatest number of requests (Rc), and how many
-    /// times RTO to wait after the last one (Rm). Over a reliable transport it waits for 39500 ms.
+    /// The schedule of an RTO in milliseconds, of at most `max_requests` requests (Rc of RFC 8489,
+    /// section 6.2.1), and of a wait of `last_wait_factor` times RTO after the last one (Rm). Over a
+    /// reliable transport it waits for 39500 ms.
     ///
     /// # Errors
     ///
-    /// `Zero` where one of the numbers is 0, and else `TooLong` where the end of the transaction,
-    /// `rto * (2 ^ (requests - 1) - 1 + last_wait)` milliseconds after the first request, needs
-    /// more than 64 bits.
-    pub fn new(rto: u64, requests: u32, last_wait: u32) -> Result<Schedule, ScheduleError>
+    /// `Zero` if one of the numbers is 0, and else `TooLong` if the end of the transaction needs more
+    /// than 64 bits: it is `rto * (2 ^ (max_requests - 1) - 1 + last_wait_factor)` milliseconds after
+    /// the first request.
+    pub fn new(
+        rto: u64,
+        max_requests: u32,
+        last_wait_factor: u32,
+    ) -> Result<Schedule, ScheduleError>
         ensures { MatchResult result
-            (λ schedule. (schedule_fault rto requests last_wait ≡ None)
-            × IsSchedule rto requests last_wait 39500 schedule)
-            (λ e. schedule_fault rto requests last_wait ≡ Some e) }
+            (λ schedule. (schedule_fault rto max_requests last_wait_factor ≡ None)
+            × IsSchedule rto max_requests last_wait_factor 39500 schedule)
+            (λ e. schedule_fault rto max_requests last_wait_factor ≡ Some e) }
     {
-        if rto == 0 || requests == 0 || last_wait == 0 {
+        if rto == 0 || max_requests == 0 || last_wait_factor == 0 {
             return Err(ScheduleError::Zero);
         }
-        match end_of_row(rto, requests, last_wait) {
+        match end_of_row(rto, max_requests, last_wait_factor) {
             Some(_) => Ok(Schedule {
                 rto,
-                requests,
-                last_wait,
-                reliable_wait: 39500,
+                max_requests,
+                last_wait_factor,
+                reliable_timeout: 39500,
             }),
             None => Err(ScheduleError::TooLong),
         }
     }
 
-    /// The same schedule, but with another wait over a reliable transport (Ti), in milliseconds.
-    pub fn with_reliable_wait(self, reliable_wait: u64) -> Schedule
-        ensures { IsSchedule self.rto self.requests self.last_wait reliable_wait result }
+    /// The same schedule, but with another timeout over a reliable transport, in milliseconds (Ti of
+    /// RFC 8489, section 6.2.2).
+    pub fn with_reliable_timeout(self, reliable_timeout: u64) -> Schedule
+        ensures { IsSchedule self.rto self.max_requests self.last_wait_factor reliable_timeout result }
     {
         let Schedule {
             rto,
-            requests,
-            last_wait,
-            reliable_wait: _,
+            max_requests,
+            last_wait_factor,
+            reliable_timeout: _,
         } = self;
         Schedule {
             rto,
-            requests,
-            last_wait,
-            reliable_wait,
+            max_requests,
+            last_wait_factor,
+            reliable_timeout,
         }
     }
 
@@ -126,25 +135,26 @@ impl Schedule {
         self.rto
     }
 
-    /// The greatest number of requests over an unreliable transport (Rc).
-    pub fn requests(&self) -> u32
-        ensures { result ≡ self.now.requests }
+    /// The greatest number of requests over an unreliable transport (Rc of RFC 8489, section 6.2.1).
+    pub fn max_requests(&self) -> u32
+        ensures { result ≡ self.now.max_requests }
     {
-        self.requests
+        self.max_requests
     }
 
-    /// How many times RTO to wait after the last one (Rm).
-    pub fn last_wait(&self) -> u32
-        ensures { result ≡ self.now.last_wait }
+    /// How many times RTO to wait after the last request over an unreliable transport (Rm of RFC
+    /// 8489, section 6.2.1).
+    pub fn last_wait_factor(&self) -> u32
+        ensures { result ≡ self.now.last_wait_factor }
     {
-        self.last_wait
+        self.last_wait_factor
     }
 
-    /// The wait over a reliable transport (Ti), in milliseconds.
-    pub fn reliable_wait(&self) -> u64
-        ensures { result ≡ self.now.reliable_wait }
+    /// The timeout over a reliable transport, in milliseconds (Ti of RFC 8489, section 6.2.2).
+    pub fn reliable_timeout(&self) -> u64
+        ensures { result ≡ self.now.reliable_timeout }
     {
-        self.reliable_wait
+        self.reliable_timeout
     }
 
     /// When request number `n`, counted from 0, is sent over an unreliable transport if every poll
@@ -152,11 +162,11 @@ impl Schedule {
     #[tactic(auto, using(crate::proofs::RowsLemmas::moment_fits, crate::proofs::RowsLemmas::pow_fits, crate::proofs::RowsLemmas::moment_at))]
     pub fn moment(&self, n: u32) -> Option<u64>
         ensures { MatchOption result
-            (self.now.requests ≤ n)
-            (λ at. (n < self.now.requests)
-            × (at ≡ slice_index (moments self.now.rto self.now.requests) n)) }
+            (self.now.max_requests ≤ n)
+            (λ at. (n < self.now.max_requests)
+            × (at ≡ slice_index (moments self.now.rto self.now.max_requests) n)) }
     {
-        if n < self.requests {
+        if n < self.max_requests {
             Some(self.rto * (2u64.pow(n) - 1))
         } else {
             None
@@ -167,9 +177,10 @@ impl Schedule {
     /// milliseconds from the first request.
     #[tactic(auto, using(crate::proofs::RowsLemmas::pow_fits))]
     pub fn end(&self) -> u64
-        ensures { result ≡ row_end self.now.rto self.now.requests self.now.last_wait }
+        ensures { result ≡ row_end self.now.rto self.now.max_requests self.now.last_wait_factor }
     {
-        self.rto * (2u64.pow(self.requests - 1) - 1) + self.rto * u64::from(self.last_wait)
+        self.rto * (2u64.pow(self.max_requests - 1) - 1)
+            + self.rto * u64::from(self.last_wait_factor)
     }
 
     /// How many requests are sent over a transport at most.
@@ -177,7 +188,7 @@ impl Schedule {
         ensures { result ≡ requests_over self.now transport }
     {
         match transport {
-            TransportType::Udp => self.requests,
+            TransportType::Udp => self.max_requests,
             TransportType::Tcp => 1,
         }
     }
@@ -191,9 +202,9 @@ impl Schedule {
             return 0;
         }
         match transport {
-            TransportType::Tcp => self.reliable_wait,
-            TransportType::Udp if sent < self.requests => self.rto * 2u64.pow(sent - 1),
-            TransportType::Udp => self.rto * u64::from(self.last_wait),
+            TransportType::Tcp => self.reliable_timeout,
+            TransportType::Udp if sent < self.max_requests => self.rto * 2u64.pow(sent - 1),
+            TransportType::Udp => self.rto * u64::from(self.last_wait_factor),
         }
     }
 }

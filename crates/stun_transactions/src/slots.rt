@@ -4,10 +4,10 @@ ghost use Rattle.std.specs.Prelude.{◌≡◌, None, Some, true, is_some, option
 ghost use Rattle.std.specs.List.{position};
 ghost use Rattle.std.specs.Duration.{as_nanos};
 ghost use Rattle.stun_types.specs.Message.{message_bytes};
-ghost use Rattle.stun_transactions.specs.Slots.{id_of, has_id, is_free, place_of, held, changed, room_fault, IsAdded, has_turn, wake, sooner, soonest, PollsSlot, PollsSlots, hearing, ending, addressee, Tells};
+ghost use Rattle.stun_transactions.specs.Slots.{id_of, has_id, is_free, place_of, held, changed, room_fault, IsAdded, has_turn, wake, sooner, soonest, PollsSlot, PollsSlots, after_receiving, ending, addressee, Tells};
 
-use crate::course::{Action, End};
 use crate::received::Received;
+use crate::retransmission::{Action, TransactionEnd};
 use crate::terms::BeginError;
 use crate::transaction::Transaction;
 use std::time::Duration;
@@ -21,7 +21,7 @@ pub enum Task {
     /// Send the request with this ID now.
     Send(TransactionId),
     /// The transaction with this ID has ended, and is gone.
-    Ended(TransactionId, End),
+    Ended(TransactionId, TransactionEnd),
     /// Do nothing before this moment, unless a message is received.
     WaitUntil(Duration),
     /// Do nothing: there is no transaction.
@@ -183,7 +183,7 @@ fn receive_at<'m>(
 ) -> Option<(TransactionId, Received<'m>)>
     ensures told { Tells slot.old understood.now (message_bytes message.entry) result }
     ensures slot { slot.new
-        ≡ option_map (hearing understood.now (message_bytes message.entry)) slot.old }
+        ≡ option_map (after_receiving understood.now (message_bytes message.entry)) slot.old }
 {
     match slot {
         Some(transaction) => {
@@ -203,7 +203,8 @@ fn receive_for<'m>(
 ) -> Option<(TransactionId, Received<'m>)>
     ensures told { Tells (held slots.old (place_of id slots.old)) understood.now
         (message_bytes message.entry) result }
-    ensures slots { slots.new ≡ changed (hearing understood.now (message_bytes message.entry))
+    ensures slots { slots.new ≡ changed (after_receiving understood.now
+        (message_bytes message.entry))
         (place_of id slots.old) slots.old }
 {
     let Some(place) = place_of(slots, id) else {
@@ -221,7 +222,8 @@ pub(crate) fn receive<'m>(
     ensures told { Tells (held slots.old (addressee bytes.now slots.old)) understood.now bytes.now
         result }
     ensures slots { slots.new
-        ≡ changed (hearing understood.now bytes.now) (addressee bytes.now slots.old) slots.old }
+        ≡ changed (after_receiving understood.now bytes.now)
+        (addressee bytes.now slots.old) slots.old }
 {
     match Message::from_bytes(bytes) {
         Ok(message) => receive_for(slots, message.transaction_id(), message, understood),
@@ -230,7 +232,11 @@ pub(crate) fn receive<'m>(
 }
 
 /// Ends the transaction with this ID, unless it has ended, and tells whether there is one.
-pub(crate) fn end_by(slots: &mut [Option<Transaction>], id: TransactionId, end: End) -> bool
+pub(crate) fn end_by(
+    slots: &mut [Option<Transaction>],
+    id: TransactionId,
+    end: TransactionEnd,
+) -> bool
     ensures found { result ≡ is_some (place_of id slots.old) }
     ensures slots { slots.new ≡ changed (ending end) (place_of id slots.old) slots.old }
 {

@@ -1,11 +1,11 @@
 //! A client's transaction.
 
-use crate::course::{Action, Course, End};
 use crate::guard::{Protection, Signed};
 use crate::judge::outcome;
 use crate::parts::{PartsError, TransactionParts};
 use crate::plan::Plan;
 use crate::received::{Received, with_message};
+use crate::retransmission::{Action, RetransmissionState, TransactionEnd};
 use crate::schedule::Schedule;
 use crate::terms::{BeginError, Terms};
 use std::alloc::Global;
@@ -24,17 +24,17 @@ use stun_types::message::{IntegrityKey, Message, StunWriteError, TransactionId};
 #[derive(Debug, Drop)]
 pub struct Transaction {
     terms: Terms,
-    course: Course,
+    state: RetransmissionState,
 }
 
 impl Transaction {
     ghost use Rattle.std.specs.Prelude.{◌≡◌, None, Some, IfErr, MatchResult};
     ghost use Rattle.stun_types.specs.Message.{message_bytes};
-    ghost use Rattle.stun_transactions.specs.Courses.{Polls, is_ready, ended_by, TellsTime};
+    ghost use Rattle.stun_transactions.specs.Retransmissions.{Polls, is_ready, ended_by, TellsTime};
     ghost use Rattle.stun_transactions.specs.Outcomes.{outcome_of, Holds, after};
     ghost use Rattle.stun_transactions.specs.Terms.{begin_fault, AreSameTerms};
-    ghost use Rattle.stun_transactions.specs.Receiving.{heard};
-    ghost use Rattle.stun_transactions.specs.Transactions.{terms_of, course_of, Begins, Wakes};
+    ghost use Rattle.stun_transactions.specs.Receiving.{received_outcome};
+    ghost use Rattle.stun_transactions.specs.Transactions.{terms_of, state_of, Begins, Wakes};
     ghost use Rattle.stun_transactions.specs.Parts.{parts_of, key_of, whole_fault};
 
     /// A transaction of a request, which is to be sent over a transport, by a schedule. Its first
@@ -61,8 +61,8 @@ impl Transaction {
             transport,
         };
         let terms = Terms::new(request, plan, protection)?;
-        let course = Course::new(now);
-        Ok(Transaction { terms, course })
+        let state = RetransmissionState::new(now);
+        Ok(Transaction { terms, state })
     }
 
     /// Prepares the key with which responses are validated, if there is one, with memory from
@@ -74,7 +74,7 @@ impl Transaction {
     /// `OutOfMemory` alone. The transaction works as before.
     pub fn prepare(&mut self, alloc: Global) -> Result<(), StunWriteError>
         ensures terms { AreSameTerms (terms_of self.old) (terms_of self.new) }
-        ensures course { course_of self.new ≡ course_of self.old }
+        ensures state { state_of self.new ≡ state_of self.old }
         ensures err { IfErr result (λ e. e ≡ StunWriteError.OutOfMemory) }
     {
         self.terms.protection.prepare(alloc)
@@ -92,7 +92,7 @@ impl Transaction {
         ensures parts { result.0 ≡ parts_of self }
         ensures key { result.1 ≡ key_of self }
     {
-        let Transaction { terms, course } = self;
+        let Transaction { terms, state } = self;
         let Terms {
             plan,
             method,
@@ -109,11 +109,11 @@ impl Transaction {
             sha1: signed.sha1,
             sha256: signed.sha256,
             mechanism,
-            sent: course.sent,
-            last: course.last,
-            clock: course.clock,
-            violated: course.violated,
-            end: course.end,
+            sent: state.sent,
+            last: state.last,
+            clock: state.clock,
+            violated: state.violated,
+            end: state.end,
         };
         (parts, key)
     }
@@ -149,8 +149,8 @@ impl Transaction {
             },
             protection,
         };
-        let course = parts.course();
-        Ok(Transaction { terms, course })
+        let state = parts.state();
+        Ok(Transaction { terms, state })
     }
 
     /// The transaction ID of the request and of its response.
@@ -165,17 +165,17 @@ impl Transaction {
     pub fn next_wake(&self) -> Option<Duration>
         ensures { Wakes self.now result }
     {
-        match self.course.end {
+        match self.state.end {
             Some(_) => None,
-            None => Some(self.course.due(&self.terms.plan)),
+            None => Some(self.state.due(&self.terms.plan)),
         }
     }
 
     /// Whether a poll now answers something else than `WaitUntil`.
     pub fn is_ready(&self, now: Duration) -> bool
-        ensures { result ≡ is_ready (terms_of self.now).plan (course_of self.now) now }
+        ensures { result ≡ is_ready (terms_of self.now).plan (state_of self.now) now }
     {
-        self.course.is_ready(&self.terms.plan, now)
+        self.state.is_ready(&self.terms.plan, now)
     }
 
     /// What is to be done now.
@@ -186,11 +186,11 @@ impl Transaction {
     /// - `Ended(end)`: the transaction has ended, or ends now since its time is up. From then on
     ///   nothing changes.
     pub fn poll(&mut self, now: Duration) -> Action
-        ensures polls { Polls (terms_of self.old).plan (course_of self.old) now result
-            (course_of self.new) }
+        ensures polls { Polls (terms_of self.old).plan (state_of self.old) now result
+            (state_of self.new) }
         ensures terms { terms_of self.new ≡ terms_of self.old }
     {
-        self.course.poll(&self.terms.plan, now)
+        self.state.poll(&self.terms.plan, now)
     }
 
     /// What the bytes of a received message are for the transaction.
@@ -201,14 +201,15 @@ impl Transaction {
     /// transaction has ended.
     pub fn receive<'m>(&mut self, bytes: &'m [u8], understood: &[AttributeType]) -> Received<'m>
         ensures outcome { outcome_of result
-            ≡ heard (terms_of self.old) (course_of self.old) understood.now bytes.now }
+            ≡ received_outcome (terms_of self.old) (state_of self.old) understood.now bytes.now }
         ensures message { Holds result bytes.now }
-        ensures course { course_of self.new
-            ≡ after (heard (terms_of self.old) (course_of self.old) understood.now bytes.now)
-            (course_of self.old) }
+        ensures state { state_of self.new
+            ≡ after (received_outcome (terms_of self.old)
+            (state_of self.old) understood.now bytes.now)
+            (state_of self.old) }
         ensures terms { terms_of self.new ≡ terms_of self.old }
     {
-        if !self.course.is_open() {
+        if !self.state.is_open() {
             return Received::NotForThis;
         }
         match Message::from_bytes(bytes) {
@@ -223,18 +224,20 @@ impl Transaction {
         message: Message<'m>,
         understood: &[AttributeType],
     ) -> Received<'m>
-        ensures outcome { outcome_of result ≡ heard (terms_of self.old) (course_of self.old)
+        ensures outcome { outcome_of result ≡ received_outcome (terms_of self.old)
+            (state_of self.old)
             understood.now (message_bytes message.entry) }
         ensures message { Holds result (message_bytes message.entry) }
-        ensures course { course_of self.new ≡ after (heard (terms_of self.old) (course_of self.old)
-            understood.now (message_bytes message.entry)) (course_of self.old) }
+        ensures state { state_of self.new ≡ after (received_outcome (terms_of self.old)
+            (state_of self.old)
+            understood.now (message_bytes message.entry)) (state_of self.old) }
         ensures terms { terms_of self.new ≡ terms_of self.old }
     {
-        if !self.course.is_open() {
+        if !self.state.is_open() {
             return Received::NotForThis;
         }
         let outcome = outcome(&self.terms, understood, &message);
-        self.course.hear(outcome);
+        self.state.receive(outcome);
         with_message(outcome, message)
     }
 
@@ -243,33 +246,34 @@ impl Transaction {
     /// response was taken, and where the request was sent more than once, since then it isn't known
     /// which request was answered (RFC 8489, section 6.2.1).
     pub fn round_trip(&self, now: Duration) -> Option<Duration>
-        ensures { TellsTime (course_of self.now) now result }
+        ensures { TellsTime (state_of self.now) now result }
     {
-        self.course.round_trip(now)
+        self.state.round_trip(now)
     }
 
     /// Ends the transaction, unless it has ended.
-    pub(crate) fn end_by(&mut self, end: End)
-        ensures course { course_of self.new ≡ ended_by end (course_of self.old) }
+    pub(crate) fn end_by(&mut self, end: TransactionEnd)
+        ensures state { state_of self.new ≡ ended_by end (state_of self.old) }
         ensures terms { terms_of self.new ≡ terms_of self.old }
     {
-        self.course.end_by(end);
+        self.state.end_by(end);
     }
 
     /// Ends the transaction, unless it has ended: the caller wants no response any more.
     pub fn cancel(&mut self)
-        ensures course { course_of self.new ≡ ended_by End.Cancelled (course_of self.old) }
+        ensures state { state_of self.new ≡ ended_by TransactionEnd.Cancelled (state_of self.old) }
         ensures terms { terms_of self.new ≡ terms_of self.old }
     {
-        self.end_by(End::Cancelled);
+        self.end_by(TransactionEnd::Cancelled);
     }
 
     /// Ends the transaction, unless it has ended: the transport failed, as by a hard ICMP error or
     /// a connection that was closed (RFC 8489, sections 6.2.1 and 6.2.2).
     pub fn fail(&mut self)
-        ensures course { course_of self.new ≡ ended_by End.TransportFailed (course_of self.old) }
+        ensures state { state_of self.new ≡ ended_by TransactionEnd.TransportFailed
+            (state_of self.old) }
         ensures terms { terms_of self.new ≡ terms_of self.old }
     {
-        self.end_by(End::TransportFailed);
+        self.end_by(TransactionEnd::TransportFailed);
     }
 }

@@ -1,8 +1,8 @@
 //! Many transactions of a client.
 
-use crate::course::End;
 use crate::guard::Protection;
 use crate::received::Received;
+use crate::retransmission::TransactionEnd;
 use crate::schedule::Schedule;
 use crate::slots;
 use crate::slots::{AddError, Task};
@@ -43,7 +43,7 @@ impl<const N: usize> Transactions<N> {
     ghost use Rattle.std.specs.List.{All};
     ghost use Rattle.std.specs.Duration.{as_nanos};
     ghost use Rattle.stun_types.specs.Message.{message_bytes};
-    ghost use Rattle.stun_transactions.specs.Slots.{HasDistinctIds, place_of, held, changed, add_fault, Adds, soonest, PollsSlots, hearing, ending, addressee, Tells};
+    ghost use Rattle.stun_transactions.specs.Slots.{HasDistinctIds, place_of, held, changed, add_fault, Adds, soonest, PollsSlots, after_receiving, ending, addressee, Tells};
 
     /// No transactions.
     pub fn new() -> Transactions<N>
@@ -130,7 +130,8 @@ impl<const N: usize> Transactions<N> {
         ensures told { Tells (held self.old (addressee bytes.now self.old)) understood.now bytes.now
             result }
         ensures slots { self.new
-            ≡ changed (hearing understood.now bytes.now) (addressee bytes.now self.old) self.old }
+            ≡ changed (after_receiving understood.now bytes.now)
+            (addressee bytes.now self.old) self.old }
     {
         slots::receive(&mut self.slots, bytes, understood)
     }
@@ -139,9 +140,10 @@ impl<const N: usize> Transactions<N> {
     /// is one.
     pub fn cancel(&mut self, id: TransactionId) -> bool
         ensures found { result ≡ is_some (place_of id self.old) }
-        ensures slots { self.new ≡ changed (ending End.Cancelled) (place_of id self.old) self.old }
+        ensures slots { self.new ≡ changed (ending TransactionEnd.Cancelled)
+            (place_of id self.old) self.old }
     {
-        slots::end_by(&mut self.slots, id, End::Cancelled)
+        slots::end_by(&mut self.slots, id, TransactionEnd::Cancelled)
     }
 
     /// Ends the transaction with this ID, as [`Transaction::fail`] does, and tells whether there is
@@ -149,8 +151,8 @@ impl<const N: usize> Transactions<N> {
     pub fn fail(&mut self, id: TransactionId) -> bool
         ensures found { result ≡ is_some (place_of id self.old) }
         ensures slots { self.new
-            ≡ changed (ending End.TransportFailed) (place_of id self.old) self.old }
+            ≡ changed (ending TransactionEnd.TransportFailed) (place_of id self.old) self.old }
     {
-        slots::end_by(&mut self.slots, id, End::TransportFailed)
+        slots::end_by(&mut self.slots, id, TransactionEnd::TransportFailed)
     }
 }

@@ -24,8 +24,7 @@ use Rattle.stun_base.specs.declared.message_type.MessageClass.{MessageClass}
 use Rattle.stun_base.specs.declared.message_type.MessageClass.TheVariants.{Request, Indication, Success, Error as ErrorClass}
 use Rattle.stun_base.specs.MessageTypes.{type_of, class_of, method_of, is_response}
 use Rattle.stun_attributes.specs.declared.error_code.ErrorCode.{ErrorCode}
-use Rattle.stun_values.specs.ErrorValues.{error_value}
-use Rattle.stun_attributes.specs.MakingErrors.{making_fault}
+use Rattle.stun_values.specs.ErrorValues.{error_value, making_fault}
 use Rattle.stun_attributes.specs.ErrorCodes.{error_code, error_reason, IsError, MakesError}
 use Rattle.stun_values.specs.TypeLists.{type_encoding, types_encoding}
 use Rattle.std.specs.Prelude.{codes}

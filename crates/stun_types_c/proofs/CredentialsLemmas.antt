@@ -12,7 +12,7 @@ use Rattle.stun_keys.specs.declared.keys.credentials.MessageIntegrityCredentials
 use Rattle.stun_keys.specs.declared.keys.credentials.MessageIntegrityCredentials.TheVariants.{LongTerm}
 use Rattle.stun_keys.specs.declared.keys.long_term_key.LongTermKeyCredentials.{LongTermKeyCredentials}
 use Rattle.stun_keys.specs.Keys.{long_term_key, credentials_key}
-use Rattle.stun_types_c.specs.declared.answer.Answer.{Answer}
+use Rattle.stun_types_c.specs.declared.call_result.CallResult.{CallResult}
 use Rattle.stun_types_c.specs.Keys.{TellsVerdict}
 use Rattle.stun_types_c.specs.Credentials.{texts_refusal, IsLongTerm, WithTexts}
 
@@ -43,7 +43,7 @@ memory_or_not (Err (Parse OutOfMemory)) = inl refl
 memory_or_not (Err (Parse _)) = inr (λ e. cc)
 
 -- a verdict with credentials of three texts
-pub long_term_validates : (user realm password d : List ℕ) (long : LongTermKeyCredentials) (credentials : MessageIntegrityCredentials) (r : Result IntegrityAlgorithm ValidateError) (result : Answer) (old new : ℕ)
+pub long_term_validates : (user realm password d : List ℕ) (long : LongTermKeyCredentials) (credentials : MessageIntegrityCredentials) (r : Result IntegrityAlgorithm ValidateError) (result : CallResult) (old new : ℕ)
     → IsLongTerm user realm password long → credentials ≡ LongTerm long → (r ≢ Err (Parse OutOfMemory) → r ≡ verdict (is_checked_type None) (credentials_key credentials) d) → TellsVerdict r result old new
     → WithTexts user realm password (TellsVerdict (verdict (is_checked_type None) (λ algorithm. long_term_key algorithm user realm password) d) result old new) result old new
 long_term_validates user realm password d long credentials r result old new made is verdict-is told =

@@ -9,11 +9,11 @@ use Rattle.std.proofs.lemmas.Bool.{cases_Bool, ltb-true, ltb-false, le-ltb}
 use Rattle.stun_grammar.specs.Headers.{type_field}
 use Rattle.stun_base.specs.declared.transport.TransportType.{TransportType}
 use Rattle.stun_base.specs.MessageTypes.{class_of}
-use Rattle.stun_transactions.specs.declared.course.Action.{Action}
-use Rattle.stun_transactions.specs.declared.course.Action.TheVariants.{Send, WaitUntil, Ended}
-use Rattle.stun_transactions.specs.declared.course.Course.{Course}
-use Rattle.stun_transactions.specs.declared.course.End.{End}
-use Rattle.stun_transactions.specs.declared.course.End.TheVariants.{Answered, TimedOut, IntegrityViolated, Refused, Cancelled, TransportFailed}
+use Rattle.stun_transactions.specs.declared.retransmission.Action.{Action}
+use Rattle.stun_transactions.specs.declared.retransmission.Action.TheVariants.{Send, WaitUntil, Ended}
+use Rattle.stun_transactions.specs.declared.retransmission.RetransmissionState.{RetransmissionState}
+use Rattle.stun_transactions.specs.declared.retransmission.TransactionEnd.{TransactionEnd}
+use Rattle.stun_transactions.specs.declared.retransmission.TransactionEnd.TheVariants.{Answered, TimedOut, IntegrityViolated, Refused, Cancelled, TransportFailed}
 use Rattle.stun_transactions.specs.declared.guard.Protection.{Protection}
 use Rattle.stun_transactions.specs.declared.guard.Protection.TheVariants.{Unprotected, ShortTerm, LongTerm}
 use Rattle.stun_transactions.specs.declared.guard.Signed.{Signed}
@@ -27,24 +27,24 @@ use Rattle.stun_transactions.specs.declared.received.Outcome.{Outcome}
 use Rattle.stun_transactions.specs.declared.received.Outcome.TheVariants.{NotForThis, Discarded, Failed, Success, Error}
 use Rattle.stun_transactions.specs.declared.schedule.Schedule.{Schedule}
 use Rattle.stun_transactions.specs.declared.transaction.Transaction.{Transaction}
-use Rattle.stun_transactions.specs.Courses.{later, ended_by, Polls}
+use Rattle.stun_transactions.specs.Retransmissions.{later, ended_by, Polls}
 use Rattle.stun_transactions.specs.Outcomes.{after}
-use Rattle.stun_transactions.specs.Parts.{plan_in, course_in, at_course, mechanism_of, parts_of, is_signed_otherwise, parts_fault}
+use Rattle.stun_transactions.specs.Parts.{plan_in, state_in, at_state, mechanism_of, parts_of, is_signed_otherwise, parts_fault}
 use Rattle.stun_transactions.specs.Schedules.{requests_in}
 use Rattle.stun_transactions.specs.Guards.{signed_by, is_signed, protects, IsKeptAs}
 use Rattle.stun_transactions.specs.Terms.{is_request, mismatch, begin_fault}
-use Rattle.stun_transactions.specs.Transactions.{terms_of, course_of, Begins}
-use Rattle.stun_types_c.specs.declared.answer.Answer.{Answer}
+use Rattle.stun_transactions.specs.Transactions.{terms_of, state_of, Begins}
+use Rattle.stun_types_c.specs.declared.call_result.CallResult.{CallResult}
 use Rattle.stun_types_c.specs.declared.transactions.KeptTransaction.{KeptTransaction}
 use Rattle.stun_types_c.specs.declared.transactions.Waits.{Waits}
 use Rattle.stun_types_c.specs.declared.transactions.Wanted.{Wanted}
-use Rattle.stun_types_c.specs.Answers.{plain}
+use Rattle.stun_types_c.specs.CallResults.{plain}
 use Rattle.stun_types_c.specs.Codes.{OK}
-use Rattle.stun_types_c.specs.Transactions.{transport_numbered, mechanism_numbered, number_of_end, signed_number, IsAt, millis_of, Schedules, Keeps, AreSame, with_course, GoesOn, Ends, PollsKept, wanted_of, begun_in_c}
+use Rattle.stun_types_c.specs.Transactions.{transport_numbered, mechanism_numbered, number_of_end, signed_number, IsAt, millis_of, Schedules, Keeps, AreSame, with_state, GoesOn, Ends, PollsKept, wanted_of, begun_in_c}
 
 -- ---- Numbers
 
-abbrev end_numbered : ℕ → Option End
+abbrev end_numbered : ℕ → Option TransactionEnd
 end_numbered n = if n == 0 then None else (
     if n == 1 then Some Answered else (
     if n == 2 then Some TimedOut else (
@@ -80,7 +80,7 @@ whole n moment at =
     ap (λ (k : ℕ). min k (2 ^ 64 - 1)) quotient ∙ min-eq_left below
 
 -- the end of a number
-end_back : (end : Option End) → end_numbered (number_of_end end) ≡ end
+end_back : (end : Option TransactionEnd) → end_numbered (number_of_end end) ≡ end
 end_back None = refl
 end_back (Some Answered) = refl
 end_back (Some TimedOut) = refl
@@ -104,9 +104,9 @@ same_parts kept one other of_one of_other =
     record {
       schedule = record {
         rto_is = a.schedule.numbers.rto_is ∙ sym b.schedule.numbers.rto_is;
-        requests_is = a.schedule.numbers.requests_is ∙ sym b.schedule.numbers.requests_is;
-        last_wait_is = a.schedule.numbers.last_wait_is ∙ sym b.schedule.numbers.last_wait_is;
-        reliable_wait_is = a.schedule.numbers.reliable_wait_is ∙ sym b.schedule.numbers.reliable_wait_is;
+        max_requests_is = a.schedule.numbers.max_requests_is ∙ sym b.schedule.numbers.max_requests_is;
+        last_wait_factor_is = a.schedule.numbers.last_wait_factor_is ∙ sym b.schedule.numbers.last_wait_factor_is;
+        reliable_timeout_is = a.schedule.numbers.reliable_timeout_is ∙ sym b.schedule.numbers.reliable_timeout_is;
       };
       transport = cc (a.transport, b.transport);
       method = a.method ∙ sym b.method;
@@ -114,11 +114,11 @@ same_parts kept one other of_one of_other =
       sha1 = shown.0 ∙ sym told.0;
       sha256 = shown.1 ∙ sym told.1;
       mechanism = cc (a.mechanism, b.mechanism);
-      sent = a.course.sent ∙ sym b.course.sent;
-      last = a.course.last.nanos ∙ sym b.course.last.nanos;
-      clock = a.course.clock.nanos ∙ sym b.course.clock.nanos;
-      violated = sym (bit_back one.violated) ∙ ap (λ (n : ℕ). n == 1) (sym a.course.violated ∙ b.course.violated) ∙ bit_back other.violated;
-      end = sym (end_back one.end) ∙ ap end_numbered (sym a.course.end ∙ b.course.end) ∙ end_back other.end;
+      sent = a.state.sent ∙ sym b.state.sent;
+      last = a.state.last.nanos ∙ sym b.state.last.nanos;
+      clock = a.state.clock.nanos ∙ sym b.state.clock.nanos;
+      violated = sym (bit_back one.violated) ∙ ap (λ (n : ℕ). n == 1) (sym a.state.violated ∙ b.state.violated) ∙ bit_back other.violated;
+      end = sym (end_back one.end) ∙ ap end_numbered (sym a.state.end ∙ b.state.end) ∙ end_back other.end;
     }
 
 -- ---- A transaction that goes on
@@ -146,33 +146,33 @@ module _ (parts : TransactionParts) (none : parts_fault parts ≡ None) where
   late : as_nanos parts.last ≤ as_nanos parts.clock
   late = ltb-false (as_nanos parts.clock) (as_nanos parts.last) passes.2
 
-  sound_at : (course : Course) → course.sent ≤ requests_in (plan_in parts) → as_nanos course.last ≤ as_nanos course.clock → parts_fault (at_course parts course) ≡ None
-  sound_at course few early =
-      rw (passes.0, le-ltb (requests_in (plan_in parts)) course.sent few, le-ltb (as_nanos course.clock) (as_nanos course.last) early) refl
+  sound_at : (state : RetransmissionState) → state.sent ≤ requests_in (plan_in parts) → as_nanos state.last ≤ as_nanos state.clock → parts_fault (at_state parts state) ≡ None
+  sound_at state few early =
+      rw (passes.0, le-ltb (requests_in (plan_in parts)) state.sent few, le-ltb (as_nanos state.clock) (as_nanos state.last) early) refl
 
-  sound_polled : (now : Duration) (action : Action) (course : Course) → Polls (plan_in parts) (course_in parts) now action course → parts_fault (at_course parts course) ≡ None
-  sound_polled now Send course polls =
-      let new = record (course_in parts) { sent = parts.sent + 1; last = later parts.clock now; clock = later parts.clock now } in
-      ap (λ (c : Course). parts_fault (at_course parts c)) polls.new_is ∙ sound_at new (omega (arith, polls.more)) (omega arith)
-  sound_polled now (WaitUntil until) course polls =
-      let new = record (course_in parts) { clock = later parts.clock now } in
-      ap (λ (c : Course). parts_fault (at_course parts c)) polls.new_is ∙ sound_at new often (omega (arith, late, grows parts.clock now))
-  sound_polled now (Ended end) course (inl over) = ap (λ (c : Course). parts_fault (at_course parts c)) over.same ∙ none
-  sound_polled now (Ended end) course (inr out) =
-      let new = record (course_in parts) { clock = later parts.clock now; end = Some end } in
-      ap (λ (c : Course). parts_fault (at_course parts c)) out.new_is ∙ sound_at new often (omega (arith, late, grows parts.clock now))
+  sound_polled : (now : Duration) (action : Action) (state : RetransmissionState) → Polls (plan_in parts) (state_in parts) now action state → parts_fault (at_state parts state) ≡ None
+  sound_polled now Send state polls =
+      let new = record (state_in parts) { sent = parts.sent + 1; last = later parts.clock now; clock = later parts.clock now } in
+      ap (λ (c : RetransmissionState). parts_fault (at_state parts c)) polls.new_is ∙ sound_at new (omega (arith, polls.more)) (omega arith)
+  sound_polled now (WaitUntil until) state polls =
+      let new = record (state_in parts) { clock = later parts.clock now } in
+      ap (λ (c : RetransmissionState). parts_fault (at_state parts c)) polls.new_is ∙ sound_at new often (omega (arith, late, grows parts.clock now))
+  sound_polled now (Ended end) state (inl over) = ap (λ (c : RetransmissionState). parts_fault (at_state parts c)) over.same ∙ none
+  sound_polled now (Ended end) state (inr out) =
+      let new = record (state_in parts) { clock = later parts.clock now; end = Some end } in
+      ap (λ (c : RetransmissionState). parts_fault (at_state parts c)) out.new_is ∙ sound_at new often (omega (arith, late, grows parts.clock now))
 
-  sound_ended : (end : End) → parts_fault (at_course parts (ended_by end (course_in parts))) ≡ None
+  sound_ended : (end : TransactionEnd) → parts_fault (at_state parts (ended_by end (state_in parts))) ≡ None
   sound_ended end = elim (cases_Bool (is_some parts.end)) [ inl there ↦ rw there none | inr away ↦ rw away none ]
 
-  sound_heard : (outcome : Outcome) → parts_fault (at_course parts (after outcome (course_in parts))) ≡ None
-  sound_heard NotForThis = none
-  sound_heard (Discarded NotAuthentic) = none
-  sound_heard (Discarded BidDown) = none
-  sound_heard (Discarded UnsignedBadRequest) = none
-  sound_heard (Failed failure) = none
-  sound_heard Success = none
-  sound_heard (Error code) = none
+  sound_received : (outcome : Outcome) → parts_fault (at_state parts (after outcome (state_in parts))) ≡ None
+  sound_received NotForThis = none
+  sound_received (Discarded NotAuthentic) = none
+  sound_received (Discarded BidDown) = none
+  sound_received (Discarded UnsignedBadRequest) = none
+  sound_received (Failed failure) = none
+  sound_received Success = none
+  sound_received (Error code) = none
 
 abbrev IsWhole : Duration → Type 0
 IsWhole moment = IsAt (millis_of moment) moment
@@ -186,44 +186,44 @@ later_whole clock now old new = elim (cases_Bool (nat_lt (as_nanos clock) (as_na
   | inr not_less ↦ rw not_less old
 ]
 
-record IsWholeCourse (course : Course) : Type 0 where
-  last : IsWhole course.last
-  clock : IsWhole course.clock
+record IsWholeState (state : RetransmissionState) : Type 0 where
+  last : IsWhole state.last
+  clock : IsWhole state.clock
 
-polled_whole : (plan : Plan) (old new : Course) (now : Duration) (action : Action) → IsWholeCourse old → IsWhole now → Polls plan old now action new → IsWholeCourse new
+polled_whole : (plan : Plan) (old new : RetransmissionState) (now : Duration) (action : Action) → IsWholeState old → IsWhole now → Polls plan old now action new → IsWholeState new
 polled_whole plan old new now Send from at polls =
     let moment = later_whole old.clock now from.clock at in
-    subst IsWholeCourse (sym polls.new_is) (record { last = moment; clock = moment })
+    subst IsWholeState (sym polls.new_is) (record { last = moment; clock = moment })
 polled_whole plan old new now (WaitUntil until) from at polls =
-    subst IsWholeCourse (sym polls.new_is) (record { last = from.last; clock = later_whole old.clock now from.clock at })
-polled_whole plan old new now (Ended end) from at (inl over) = subst IsWholeCourse (sym over.same) from
+    subst IsWholeState (sym polls.new_is) (record { last = from.last; clock = later_whole old.clock now from.clock at })
+polled_whole plan old new now (Ended end) from at (inl over) = subst IsWholeState (sym over.same) from
 polled_whole plan old new now (Ended end) from at (inr out) =
-    subst IsWholeCourse (sym out.new_is) (record { last = from.last; clock = later_whole old.clock now from.clock at })
+    subst IsWholeState (sym out.new_is) (record { last = from.last; clock = later_whole old.clock now from.clock at })
 
-ended_whole : (end : End) (course : Course) → IsWholeCourse course → IsWholeCourse (ended_by end course)
-ended_whole end course from = elim (cases_Bool (is_some course.end)) [
+ended_whole : (end : TransactionEnd) (state : RetransmissionState) → IsWholeState state → IsWholeState (ended_by end state)
+ended_whole end state from = elim (cases_Bool (is_some state.end)) [
   | inl there ↦ rw there from
   | inr away ↦ rw away (record { last = from.last; clock = from.clock })
 ]
 
-heard_whole : (outcome : Outcome) (course : Course) → IsWholeCourse course → IsWholeCourse (after outcome course)
-heard_whole NotForThis course from = from
-heard_whole (Discarded NotAuthentic) course from = record { last = from.last; clock = from.clock }
-heard_whole (Discarded BidDown) course from = from
-heard_whole (Discarded UnsignedBadRequest) course from = from
-heard_whole (Failed failure) course from = record { last = from.last; clock = from.clock }
-heard_whole Success course from = record { last = from.last; clock = from.clock }
-heard_whole (Error code) course from = record { last = from.last; clock = from.clock }
+received_whole : (outcome : Outcome) (state : RetransmissionState) → IsWholeState state → IsWholeState (after outcome state)
+received_whole NotForThis state from = from
+received_whole (Discarded NotAuthentic) state from = record { last = from.last; clock = from.clock }
+received_whole (Discarded BidDown) state from = from
+received_whole (Discarded UnsignedBadRequest) state from = from
+received_whole (Failed failure) state from = record { last = from.last; clock = from.clock }
+received_whole Success state from = record { last = from.last; clock = from.clock }
+received_whole (Error code) state from = record { last = from.last; clock = from.clock }
 
 module _ (kept : KeptTransaction) (parts : TransactionParts) (keeps : Keeps kept parts) where
-  kept_whole : IsWholeCourse (course_in parts)
+  kept_whole : IsWholeState (state_in parts)
   kept_whole = record {
-    last = is_whole kept.last parts.last keeps.tells.course.last;
-    clock = is_whole kept.clock parts.clock keeps.tells.course.clock;
+    last = is_whole kept.last parts.last keeps.tells.state.last;
+    clock = is_whole kept.clock parts.clock keeps.tells.state.clock;
   }
 
-  goes_on : (course : Course) → IsWholeCourse course → parts_fault (at_course parts course) ≡ None → GoesOn parts course kept (with_course kept course)
-  goes_on course is sound = record {
+  goes_on : (state : RetransmissionState) → IsWholeState state → parts_fault (at_state parts state) ≡ None → GoesOn parts state kept (with_state kept state)
+  goes_on state is sound = record {
     numbers = refl;
     keeps = record {
       tells = record {
@@ -234,36 +234,36 @@ module _ (kept : KeptTransaction) (parts : TransactionParts) (keeps : Keeps kept
         id = keeps.tells.id;
         signed = keeps.tells.signed;
         mechanism = keeps.tells.mechanism;
-        course = record { sent = refl; last = is.last; clock = is.clock; violated = refl; end = refl };
+        state = record { sent = refl; last = is.last; clock = is.clock; violated = refl; end = refl };
       };
       sound = sound;
     };
   }
 
-  pub polled : (now : ℕ) (moment : Duration) (action : Action) (course : Course) → IsAt now moment → Polls (plan_in parts) (course_in parts) moment action course → GoesOn parts course kept (with_course kept course)
-  polled now moment action course at polls =
-      goes_on course (polled_whole (plan_in parts) (course_in parts) course moment action kept_whole (is_whole now moment at) polls)
-      (sound_polled parts keeps.sound moment action course polls)
+  pub polled : (now : ℕ) (moment : Duration) (action : Action) (state : RetransmissionState) → IsAt now moment → Polls (plan_in parts) (state_in parts) moment action state → GoesOn parts state kept (with_state kept state)
+  polled now moment action state at polls =
+      goes_on state (polled_whole (plan_in parts) (state_in parts) state moment action kept_whole (is_whole now moment at) polls)
+      (sound_polled parts keeps.sound moment action state polls)
 
-  pub ended : (end : End) → GoesOn parts (ended_by end (course_in parts)) kept (with_course kept (ended_by end (course_in parts)))
-  ended end = goes_on (ended_by end (course_in parts)) (ended_whole end (course_in parts) kept_whole) (sound_ended parts keeps.sound end)
+  pub ended : (end : TransactionEnd) → GoesOn parts (ended_by end (state_in parts)) kept (with_state kept (ended_by end (state_in parts)))
+  ended end = goes_on (ended_by end (state_in parts)) (ended_whole end (state_in parts) kept_whole) (sound_ended parts keeps.sound end)
 
-  pub heard : (outcome : Outcome) → GoesOn parts (after outcome (course_in parts)) kept (with_course kept (after outcome (course_in parts)))
-  heard outcome = goes_on (after outcome (course_in parts)) (heard_whole outcome (course_in parts) kept_whole) (sound_heard parts keeps.sound outcome)
+  pub received : (outcome : Outcome) → GoesOn parts (after outcome (state_in parts)) kept (with_state kept (after outcome (state_in parts)))
+  received outcome = goes_on (after outcome (state_in parts)) (received_whole outcome (state_in parts) kept_whole) (sound_received parts keeps.sound outcome)
 
 -- ---- The calls
 
-pub ends : (old new : KeptTransaction) (parts ended_parts : TransactionParts) (end : End) (result : Answer) → Keeps old parts → ended_parts ≡ at_course parts (ended_by end (course_in parts)) → new ≡ with_course old (course_in ended_parts) → result ≡ plain OK
+pub ends : (old new : KeptTransaction) (parts ended_parts : TransactionParts) (end : TransactionEnd) (result : CallResult) → Keeps old parts → ended_parts ≡ at_state parts (ended_by end (state_in parts)) → new ≡ with_state old (state_in ended_parts) → result ≡ plain OK
     → Ends end result old new
 ends old new parts ended_parts end result keeps parts-is new-is ok =
-    let new-as = new-is ∙ ap (λ (p : TransactionParts). with_course old (course_in p)) parts-is in
-    inr (parts, keeps, (ok, subst (GoesOn parts (ended_by end (course_in parts)) old) (sym new-as) (ended old parts keeps end)))
+    let new-as = new-is ∙ ap (λ (p : TransactionParts). with_state old (state_in p)) parts-is in
+    inr (parts, keeps, (ok, subst (GoesOn parts (ended_by end (state_in parts)) old) (sym new-as) (ended old parts keeps end)))
 
-pub polls : (now : ℕ) (moment : Duration) (old new : KeptTransaction) (before wanted : Wanted) (parts polled_parts : TransactionParts) (action : Action) (result : Answer) → IsAt now moment → Keeps old parts
-    → Polls (plan_in parts) (course_in parts) moment action (course_in polled_parts) → new ≡ with_course old (course_in polled_parts) → wanted ≡ wanted_of action → result ≡ plain OK
+pub polls : (now : ℕ) (moment : Duration) (old new : KeptTransaction) (before wanted : Wanted) (parts polled_parts : TransactionParts) (action : Action) (result : CallResult) → IsAt now moment → Keeps old parts
+    → Polls (plan_in parts) (state_in parts) moment action (state_in polled_parts) → new ≡ with_state old (state_in polled_parts) → wanted ≡ wanted_of action → result ≡ plain OK
     → PollsKept now result (record { kept = old; wanted = before }) (record { kept = new; wanted = wanted })
 polls now moment old new before wanted parts polled_parts action result at keeps does new-is told ok =
-    let course = course_in polled_parts in
+    let state = state_in polled_parts in
     inr (
       parts,
       keeps,
@@ -273,9 +273,9 @@ polls now moment old new before wanted parts polled_parts action result at keeps
           moment = moment;
           at = at;
           action = action;
-          course = course;
+          state = state;
           polls = does;
-          goes_on = subst (GoesOn parts course old) (sym new-is) (polled old parts keeps now moment action course at does);
+          goes_on = subst (GoesOn parts state old) (sym new-is) (polled old parts keeps now moment action state at does);
           told = told;
         },
       ),
@@ -283,8 +283,8 @@ polls now moment old new before wanted parts polled_parts action result at keeps
 
 -- ---- What is received
 
--- a transaction whose course changes has the same parts but for that
-pub gone_on : (old new : Transaction) → terms_of new ≡ terms_of old → parts_of new ≡ at_course (parts_of old) (course_of new)
+-- a transaction whose state changes has the same parts but for that
+pub gone_on : (old new : Transaction) → terms_of new ≡ terms_of old → parts_of new ≡ at_state (parts_of old) (state_of new)
 gone_on old new same = rw same refl
 
 -- ---- A transaction that begins
@@ -311,12 +311,12 @@ pub begun_keeps : (d : List ℕ) (waits : Waits) (transport protection now : ℕ
     → Keeps (begun_in_c d waits transport protection now) (parts_of transaction)
 begun_keeps d waits transport protection now schedule over by moment transaction scheduled moves protected at free begins =
     let parts = parts_of transaction in
-    let course = course_of transaction in
+    let state = state_of transaction in
     let mechanism = same_mechanism by (terms_of transaction).protection begins.terms.protection_is in
     let signed : is_signed_otherwise parts ≡ false =
     rw (mechanism, begins.terms.signed_is) (as_signed (is_request (class_of (type_field d))) (is_signed (signed_by d)) by free) in
-    let sent : parts.sent ≡ 0 = ap (λ (c : Course). c.sent) begins.course in
-    let same : as_nanos parts.last ≡ as_nanos parts.clock = ap (λ (c : Course). as_nanos c.last) begins.course ∙ sym (ap (λ (c : Course). as_nanos c.clock) begins.course) in
+    let sent : parts.sent ≡ 0 = ap (λ (c : RetransmissionState). c.sent) begins.state in
+    let same : as_nanos parts.last ≡ as_nanos parts.clock = ap (λ (c : RetransmissionState). as_nanos c.last) begins.state ∙ sym (ap (λ (c : RetransmissionState). as_nanos c.clock) begins.state) in
     record {
       tells = record {
         schedule = subst (Schedules waits) (sym (ap (λ (p : Plan). p.schedule) begins.terms.plan_is)) scheduled;
@@ -326,12 +326,12 @@ begun_keeps d waits transport protection now schedule over by moment transaction
         id = begins.terms.id_is;
         signed = ap (λ (s : Signed). signed_number s.sha1 s.sha256) (sym begins.terms.signed_is);
         mechanism = protected ∙ ap Some (sym mechanism);
-        course = record {
+        state = record {
           sent = sent;
-          last = subst (IsAt now) (sym (ap (λ (c : Course). c.last) begins.course)) at;
-          clock = subst (IsAt now) (sym (ap (λ (c : Course). c.clock) begins.course)) at;
-          violated = ap (λ (c : Course). from_bool c.violated) (sym begins.course);
-          end = ap (λ (c : Course). number_of_end c.end) (sym begins.course);
+          last = subst (IsAt now) (sym (ap (λ (c : RetransmissionState). c.last) begins.state)) at;
+          clock = subst (IsAt now) (sym (ap (λ (c : RetransmissionState). c.clock) begins.state)) at;
+          violated = ap (λ (c : RetransmissionState). from_bool c.violated) (sym begins.state);
+          end = ap (λ (c : RetransmissionState). number_of_end c.end) (sym begins.state);
         };
       };
       sound = rw (signed, le-ltb (requests_in (plan_in parts)) parts.sent (omega (arith, sent)), le-ltb (as_nanos parts.clock) (as_nanos parts.last) (omega (arith, same))) refl;

@@ -6,14 +6,14 @@ use Rattle.std.specs.Prelude.{IsSomeAnd}
 use Rattle.stun_grammar.specs.Headers.{header_fault, id_field}
 use Rattle.stun_values.specs.Addresses.{address_value, IsXored}
 use Rattle.stun_write.specs.ResumePoints.{any_in}
-use Rattle.stun_types_c.specs.declared.answer.Answer.{Answer}
+use Rattle.stun_types_c.specs.declared.call_result.CallResult.{CallResult}
 use Rattle.stun_types_c.specs.declared.address.Address.{Address}
 use Rattle.stun_types_c.specs.Addresses.{ip_named, IsAt, Names}
-use Rattle.stun_types_c.specs.Answers.{plain, Refuses}
+use Rattle.stun_types_c.specs.CallResults.{plain, Refuses}
 use Rattle.stun_types_c.specs.Codes.{BAD_ARGUMENT}
 use Rattle.stun_types_c.specs.Writing.{Written, AppendsTo, AddsXorAddress}
 
-pub xored_added : (address : Address) (a xored : SocketAddr) (type id : ℕ) (result : Answer) (old new : Written) → Names address (Some a) → header_fault old.slice ≡ None → id ≡ id_field old.slice → IsXored id a xored
+pub xored_added : (address : Address) (a xored : SocketAddr) (type id : ℕ) (result : CallResult) (old new : Written) → Names address (Some a) → header_fault old.slice ≡ None → id ≡ id_field old.slice → IsXored id a xored
     → AppendsTo (any_in (length old.slice) type (address_value xored)) type (λ _. address_value xored) result old new → AddsXorAddress address type result old new
 xored_added address a xored type id result old new named there its is adds = go (ip_named address) named
   where

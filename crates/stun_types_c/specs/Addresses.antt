@@ -8,10 +8,10 @@ use Rattle.std.specs.declared.net.socket_addr.SocketAddr.{SocketAddr}
 use Rattle.stun_grammar.specs.Headers.{header_fault, id_field}
 use Rattle.stun_values.specs.Addresses.{octets, address_fault, address_in, IsPlain, IsXored}
 use Rattle.stun_types_c.specs.declared.address.Address.{Address}
-use Rattle.stun_types_c.specs.declared.answer.Answer.{Answer}
+use Rattle.stun_types_c.specs.declared.call_result.CallResult.{CallResult}
 use Rattle.stun_types_c.specs.declared.attribute.ShownAttribute.{ShownAttribute}
 use Rattle.stun_types_c.specs.Codes.{OK, BAD_ARGUMENT}
-use Rattle.stun_types_c.specs.Answers.{plain, parse_answer}
+use Rattle.stun_types_c.specs.CallResults.{plain, parse_result}
 use Rattle.stun_types_c.specs.Values.{value_of}
 
 -- the number of a family
@@ -54,14 +54,15 @@ Names address named =
     (λ ip. IsSomeAnd named (IsAt ip address.port))
 
 -- what reading the address in a value answers
-abbrev pub ReadsFrom : (SocketAddr → Address → Type 0) → List ℕ → Answer → Address → Address → Type 0
+abbrev pub ReadsFrom : (SocketAddr → Address → Type 0) → List ℕ → CallResult → Address → Address
+    → Type 0
 ReadsFrom Told value result old new =
     MatchOption (address_fault value)
     ((result ≡ plain OK) × Told (address_in value) new)
-    (λ e. (result ≡ parse_answer e) × (new ≡ old))
+    (λ e. (result ≡ parse_result e) × (new ≡ old))
 
 -- what reading the address in an attribute of the message d answers
-abbrev pub ReadsAddress : ShownAttribute → List ℕ → Answer → Address → Address → Type 0
+abbrev pub ReadsAddress : ShownAttribute → List ℕ → CallResult → Address → Address → Type 0
 ReadsAddress attribute d result old new =
     MatchOption (value_of attribute d)
     ((result ≡ plain BAD_ARGUMENT) × (new ≡ old))
@@ -72,10 +73,10 @@ abbrev pub HoldsXored : ℕ → SocketAddr → Address → Type 0
 HoldsXored id written address = (a : SocketAddr) × (IsXored id written a × Holds a address)
 
 -- the same for an address that is XORed with the transaction ID of d
-abbrev pub ReadsXorAddress : ShownAttribute → List ℕ → Answer → Address → Address → Type 0
+abbrev pub ReadsXorAddress : ShownAttribute → List ℕ → CallResult → Address → Address → Type 0
 ReadsXorAddress attribute d result old new =
     MatchOption (value_of attribute d)
     ((result ≡ plain BAD_ARGUMENT) × (new ≡ old))
     (λ value. MatchOption (header_fault d)
     (ReadsFrom (HoldsXored (id_field d)) value result old new)
-    (λ e. (result ≡ parse_answer e) × (new ≡ old)))
+    (λ e. (result ≡ parse_result e) × (new ≡ old)))

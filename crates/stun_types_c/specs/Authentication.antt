@@ -10,13 +10,13 @@ use Rattle.stun_authentication.specs.Answers.{Decision, accept, refuse, discard,
 use Rattle.stun_authentication.specs.Lookups.{Known}
 use Rattle.stun_authentication.specs.LongTerm.{long_term}
 use Rattle.stun_authentication.specs.ShortTerm.{short_term}
-use Rattle.stun_types_c.specs.declared.answer.Answer.{Answer}
+use Rattle.stun_types_c.specs.declared.call_result.CallResult.{CallResult}
 use Rattle.stun_types_c.specs.declared.authentication.Authenticated.{Authenticated}
 use Rattle.stun_types_c.specs.declared.authentication.CountedIntegrity.{CountedIntegrity}
 use Rattle.stun_types_c.specs.Codes.{OK, OUT_OF_MEMORY, BAD_ARGUMENT}
-use Rattle.stun_types_c.specs.Answers.{plain, parse_answer}
+use Rattle.stun_types_c.specs.CallResults.{plain, parse_result}
 use Rattle.stun_types_c.specs.Keys.{algorithm_named, number_of}
-use Rattle.stun_types_c.specs.Passwords.{passwords_named}
+use Rattle.stun_types_c.specs.PasswordAlgorithms.{password_algorithms_named}
 use Rattle.stun_types_c.specs.Users.{bytes_of, long_term_key_of, nonce_in}
 
 -- ---- What C hands in
@@ -35,7 +35,7 @@ policy_named counted =
 -- what C knows of a nonce, by the number of its state, and the numbers of the algorithms that it
 -- was sent with
 abbrev pub nonce_named : ℕ → List ℕ → Option Known
-nonce_named state numbers = option_and_then (nonce_in state) (passwords_named numbers)
+nonce_named state numbers = option_and_then (nonce_in state) (password_algorithms_named numbers)
 
 -- what becomes of d, by the one key that C holds; none where it hands in no policy
 abbrev pub by_short_term : CountedIntegrity → Option IntegrityKey → List ℕ → Option Decision
@@ -71,16 +71,17 @@ in_c (refuse refusal) = record {
 in_c discard = record { kind = 2; error_code = 0; algorithm = 0; reply_algorithm = 0 }
 
 -- a decision is told; or an allocation failed, and nothing is told
-abbrev pub TellsDecision : Decision → Answer → (old new : Authenticated) → Type 0
+abbrev pub TellsDecision : Decision → CallResult → (old new : Authenticated) → Type 0
 TellsDecision decision result old new =
     ((result ≡ plain OK) × (new ≡ in_c decision))
     ⊎ ((result ≡ plain OUT_OF_MEMORY) × (new ≡ old))
 
 -- authenticating d: why it is no message, or that C handed in what is none, or the decision
-abbrev pub Authenticates : Option Decision → List ℕ → Answer → (old new : Authenticated) → Type 0
+abbrev pub Authenticates : Option Decision → List ℕ → CallResult → (old new : Authenticated)
+    → Type 0
 Authenticates decided d result old new =
     MatchOption (parse_fault d)
     (MatchOption decided
     ((result ≡ plain BAD_ARGUMENT) × (new ≡ old))
     (λ decision. TellsDecision decision result old new))
-    (λ e. (result ≡ parse_answer e) × (new ≡ old))
+    (λ e. (result ≡ parse_result e) × (new ≡ old))

@@ -10,16 +10,16 @@ use Rattle.stun_values.specs.Algorithms.{algorithm_number}
 use Rattle.stun_authentication.specs.declared.challenge.NoRetry.{NoRetry}
 use Rattle.stun_authentication.specs.declared.challenge.NoRetry.TheVariants.{NotAChallenge, BidDown, Incomplete, NoAlgorithm, SameCredentials}
 use Rattle.stun_authentication.specs.Challenges.{Asked, challenge_of, signing_algorithm}
-use Rattle.stun_types_c.specs.declared.answer.Answer.{Answer}
+use Rattle.stun_types_c.specs.declared.call_result.CallResult.{CallResult}
 use Rattle.stun_types_c.specs.declared.challenges.Asked.{Asked as AskedInC}
 use Rattle.stun_types_c.specs.Codes.{OK, BAD_ARGUMENT, NOT_A_CHALLENGE, BID_DOWN, INCOMPLETE, NO_ALGORITHM, SAME_CREDENTIALS}
-use Rattle.stun_types_c.specs.Answers.{plain, parse_answer}
+use Rattle.stun_types_c.specs.CallResults.{plain, parse_result}
 use Rattle.stun_types_c.specs.Attributes.{in_c as attribute_in_c}
 use Rattle.stun_types_c.specs.Keys.{number_of}
-use Rattle.stun_types_c.specs.Passwords.{passwords_named}
+use Rattle.stun_types_c.specs.PasswordAlgorithms.{password_algorithms_named}
 
 -- why a request isn't sent again
-abbrev pub retry_answer : NoRetry → Answer
+abbrev pub retry_answer : NoRetry → CallResult
 retry_answer NotAChallenge = plain NOT_A_CHALLENGE
 retry_answer BidDown = plain BID_DOWN
 retry_answer Incomplete = plain INCOMPLETE
@@ -60,7 +60,8 @@ challenge_before supported before =
     else option_map (λ asked. Some asked) (result_ok (challenge_of supported None before)))
 
 -- what d asks for is told, or why the request isn't sent again
-abbrev pub TellsChallenge : List ℕ → Result Asked NoRetry → Answer → (old new : AskedInC) → Type 0
+abbrev pub TellsChallenge : List ℕ → Result Asked NoRetry → CallResult → (old new : AskedInC)
+    → Type 0
 TellsChallenge d told result old new =
     MatchResult told
     (λ asked. (result ≡ plain OK) × (new ≡ in_c d asked))
@@ -68,12 +69,13 @@ TellsChallenge d told result old new =
 
 -- reading the challenge in d: why it is no message, or what a client is told that supports these
 -- algorithms, after the challenge before, if there was one
-abbrev pub ReadsFor : List PasswordAlgorithmValue → (before : Option Asked) → (d : List ℕ) → Answer
+abbrev pub ReadsFor : List PasswordAlgorithmValue → (before : Option Asked) → (d : List ℕ)
+    → CallResult
     → (old new : AskedInC) → Type 0
 ReadsFor supported before d result old new =
     MatchOption (parse_fault d)
     (TellsChallenge d (challenge_of supported before d) result old new)
-    (λ e. (result ≡ parse_answer e) × (new ≡ old))
+    (λ e. (result ≡ parse_result e) × (new ≡ old))
 
 -- the algorithms that a client supports and the challenge before, by what C hands in
 abbrev pub handed_in : (numbers before : List ℕ)
@@ -81,10 +83,10 @@ abbrev pub handed_in : (numbers before : List ℕ)
 handed_in numbers before =
     option_and_then (λ supported.
     option_map (λ earlier. (supported, earlier)) (challenge_before supported before))
-    (passwords_named numbers)
+    (password_algorithms_named numbers)
 
 -- the same by these
-abbrev pub ReadsChallenge : (numbers before d : List ℕ) → Answer → (old new : AskedInC) → Type 0
+abbrev pub ReadsChallenge : (numbers before d : List ℕ) → CallResult → (old new : AskedInC) → Type 0
 ReadsChallenge numbers before d result old new =
     MatchOption (handed_in numbers before)
     ((result ≡ plain BAD_ARGUMENT) × (new ≡ old))

@@ -9,16 +9,16 @@ use Rattle.stun_integrity.specs.Userhash.{user_hash}
 use Rattle.stun_keys.specs.declared.keys.integrity_key.IntegrityKey.{IntegrityKey}
 use Rattle.stun_keys.specs.declared.keys.long_term_key.LongTermKeyCredentials.{LongTermKeyCredentials}
 use Rattle.stun_keys.specs.Keys.{IsKey, long_term_key, long_term_username, long_term_realm, long_term_password}
-use Rattle.stun_types_c.specs.declared.answer.Answer.{Answer}
+use Rattle.stun_types_c.specs.declared.call_result.CallResult.{CallResult}
 use Rattle.stun_types_c.specs.declared.keys.Hash.{Hash}
 use Rattle.stun_types_c.specs.Codes.{OK, INVALID_DATA, OUT_OF_MEMORY, BAD_ARGUMENT}
-use Rattle.stun_types_c.specs.Answers.{plain, parse_answer, Refuses}
+use Rattle.stun_types_c.specs.CallResults.{plain, parse_result, Refuses}
 use Rattle.stun_types_c.specs.Keys.{algorithm_named, TellsVerdict}
 
 -- ---- Texts
 
 -- why texts are refused: one of them isn't UTF-8
-abbrev pub texts_refusal : List (List ℕ) → Option Answer
+abbrev pub texts_refusal : List (List ℕ) → Option CallResult
 texts_refusal texts = if list_all is_utf8 texts then None else Some (plain INVALID_DATA)
 
 -- the texts of a long-term credential, in the order in which they are tested and copied
@@ -27,7 +27,7 @@ credential_texts user realm password = user ∷ realm ∷ password ∷ []
 
 -- something is done with the texts of a long-term credential, or one of them isn't UTF-8; or an
 -- allocation failed, and then the first is a text at least: it is tested before any allocation
-abbrev pub WithTexts : {T : Type 0} → (user realm password : List ℕ) → (Done : Type 0) → Answer
+abbrev pub WithTexts : {T : Type 0} → (user realm password : List ℕ) → (Done : Type 0) → CallResult
     → (old new : T) → Type 0
 WithTexts user realm password Done result old new =
     MatchOption (texts_refusal (credential_texts user realm password))
@@ -35,7 +35,7 @@ WithTexts user realm password Done result old new =
     ⊎ ((is_utf8 user ≡ true) × Refuses (plain OUT_OF_MEMORY) result old new)
 
 -- why bytes give no text: they aren't UTF-8, or an allocation failed
-abbrev pub RefusesText : List ℕ → Answer → Type 0
+abbrev pub RefusesText : List ℕ → CallResult → Type 0
 RefusesText bytes answer =
     ((is_utf8 bytes ≡ false) × (answer ≡ plain INVALID_DATA))
     ⊎ ((is_utf8 bytes ≡ true) × (answer ≡ plain OUT_OF_MEMORY))
@@ -49,7 +49,7 @@ pub record IsLongTerm (user realm password : List ℕ)
   pub password_is : long_term_password credentials ≡ password
 
 -- why there are none
-abbrev pub RefusesLongTerm : (user realm password : List ℕ) → Answer → Type 0
+abbrev pub RefusesLongTerm : (user realm password : List ℕ) → CallResult → Type 0
 RefusesLongTerm user realm password answer =
     (texts_refusal (credential_texts user realm password) ≡ Some answer)
     ⊎ ((is_utf8 user ≡ true) × (answer ≡ plain OUT_OF_MEMORY))
@@ -57,7 +57,7 @@ RefusesLongTerm user realm password answer =
 -- ---- What the calls answer
 
 -- a handle holds the long-term key for the algorithm of a number
-abbrev pub HoldsLongTerm : ℕ → (user realm password : List ℕ) → Answer
+abbrev pub HoldsLongTerm : ℕ → (user realm password : List ℕ) → CallResult
     → (old new : Option IntegrityKey) → Type 0
 HoldsLongTerm number user realm password result old new =
     MatchOption (algorithm_named number)
@@ -69,15 +69,16 @@ HoldsLongTerm number user realm password result old new =
 
 -- validating d under a password: why it is no message, or the verdict where the password is the key
 -- for both algorithms, or an allocation failed
-abbrev pub ValidatesShortTerm : (password d : List ℕ) → Answer → (old new : ℕ) → Type 0
+abbrev pub ValidatesShortTerm : (password d : List ℕ) → CallResult → (old new : ℕ) → Type 0
 ValidatesShortTerm password d result old new =
     MatchOption (parse_fault d)
     (TellsVerdict (verdict (is_checked_type None) (λ _. password) d) result old new
     ⊎ Refuses (plain OUT_OF_MEMORY) result old new)
-    (λ e. Refuses (parse_answer e) result old new)
+    (λ e. Refuses (parse_result e) result old new)
 
 -- the same with a long-term credential, which gives each algorithm its key
-abbrev pub ValidatesLongTerm : (user realm password d : List ℕ) → Answer → (old new : ℕ) → Type 0
+abbrev pub ValidatesLongTerm : (user realm password d : List ℕ) → CallResult → (old new : ℕ)
+    → Type 0
 ValidatesLongTerm user realm password d result old new =
     MatchOption (parse_fault d)
     (WithTexts user realm password
@@ -85,10 +86,10 @@ ValidatesLongTerm user realm password d result old new =
     (verdict (is_checked_type None) (λ algorithm. long_term_key algorithm user realm password) d)
     result old new)
     result old new)
-    (λ e. Refuses (parse_answer e) result old new)
+    (λ e. Refuses (parse_result e) result old new)
 
 -- the hash of a user in a realm is told, or one of the two isn't UTF-8
-abbrev pub TellsUserhash : (user realm : List ℕ) → Answer → (old new : Hash) → Type 0
+abbrev pub TellsUserhash : (user realm : List ℕ) → CallResult → (old new : Hash) → Type 0
 TellsUserhash user realm result old new =
     MatchOption (texts_refusal (user ∷ realm ∷ []))
     ((result ≡ plain OK) × (new ≡ record { bytes = user_hash user realm }))

@@ -10,9 +10,9 @@ use Rattle.stun_grammar.specs.Parsing.{parse_fault}
 use Rattle.stun_grammar.specs.Verdicts.{is_checked_type, verdict}
 use Rattle.stun_keys.specs.declared.keys.integrity_key.IntegrityKey.{IntegrityKey}
 use Rattle.stun_keys.specs.Keys.{IsKey, key_bytes, key_algorithm}
-use Rattle.stun_types_c.specs.declared.answer.Answer.{Answer}
+use Rattle.stun_types_c.specs.declared.call_result.CallResult.{CallResult}
 use Rattle.stun_types_c.specs.Codes.{OK, OUT_OF_MEMORY, BAD_ARGUMENT, NO_KEY}
-use Rattle.stun_types_c.specs.Answers.{plain, parse_answer, validate_answer, write_answer}
+use Rattle.stun_types_c.specs.CallResults.{plain, parse_result, validate_result, write_result}
 
 -- the algorithm of a number, and the number of an algorithm
 abbrev pub algorithm_named : ℕ → Option IntegrityAlgorithm
@@ -25,16 +25,16 @@ number_of Sha256 = 2
 
 -- a handle holds the key that was made, prepared or not; or an allocation failed, and it holds what it
 -- held
-abbrev pub HoldsMade : Result IntegrityKey StunWriteError → Answer
+abbrev pub HoldsMade : Result IntegrityKey StunWriteError → CallResult
     → (old new : Option IntegrityKey) → Type 0
 HoldsMade (Ok key) result old new =
     ((result ≡ plain OK) × IsSomeAnd new (IsKey (key_algorithm key) (key_bytes key)))
     ⊎ ((result ≡ plain OUT_OF_MEMORY) × (new ≡ old))
-HoldsMade (Err e) result old new = (result ≡ write_answer e) × (new ≡ old)
+HoldsMade (Err e) result old new = (result ≡ write_result e) × (new ≡ old)
 
 -- a handle holds a key with these bytes for an algorithm, or an allocation failed and it holds what
 -- it held
-abbrev pub Holds : Option IntegrityAlgorithm → List ℕ → Answer → (old new : Option IntegrityKey)
+abbrev pub Holds : Option IntegrityAlgorithm → List ℕ → CallResult → (old new : Option IntegrityKey)
     → Type 0
 Holds made_for bytes result old new =
     ((result ≡ plain OK) × IsSomeAnd new (IsKey made_for bytes))
@@ -48,7 +48,7 @@ made_for_named number =
 
 -- a handle holds a key with these bytes for the algorithm of a number, or no algorithm has that
 -- number
-abbrev pub HoldsNamed : ℕ → List ℕ → Answer → (old new : Option IntegrityKey) → Type 0
+abbrev pub HoldsNamed : ℕ → List ℕ → CallResult → (old new : Option IntegrityKey) → Type 0
 HoldsNamed number bytes result old new =
     MatchOption (made_for_named number)
     ((result ≡ plain BAD_ARGUMENT) × (new ≡ old))
@@ -57,19 +57,19 @@ HoldsNamed number bytes result old new =
 -- a verdict as C sees it: the number of the algorithm that was checked, or why the message isn't
 -- valid
 abbrev pub TellsVerdict :
-    Result IntegrityAlgorithm ValidateError → Answer → (old new : ℕ) → Type 0
+    Result IntegrityAlgorithm ValidateError → CallResult → (old new : ℕ) → Type 0
 TellsVerdict told result old new =
     MatchResult told
     (λ algorithm. (result ≡ plain OK) × (new ≡ number_of algorithm))
-    (λ e. (result ≡ validate_answer e) × (new ≡ old))
+    (λ e. (result ≡ validate_result e) × (new ≡ old))
 
 -- validating d with the key of a handle: why it is no message, or that there is no key, or the
 -- verdict
-abbrev pub ValidatesWith : Option IntegrityKey → List ℕ → Answer → (old new : ℕ) → Type 0
+abbrev pub ValidatesWith : Option IntegrityKey → List ℕ → CallResult → (old new : ℕ) → Type 0
 ValidatesWith held d result old new =
     MatchOption (parse_fault d)
     (MatchOption held
     ((result ≡ plain NO_KEY) × (new ≡ old))
     (λ key. TellsVerdict (verdict (is_checked_type (key_algorithm key)) (λ _. key_bytes key) d)
     result old new))
-    (λ e. (result ≡ parse_answer e) × (new ≡ old))
+    (λ e. (result ≡ parse_result e) × (new ≡ old))

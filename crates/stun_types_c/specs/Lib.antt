@@ -1,5 +1,5 @@
 pub mod Codes
-pub mod Answers
+pub mod CallResults
 pub mod Attributes
 pub mod Reading
 pub mod Values
@@ -16,6 +16,6 @@ pub mod Users
 pub mod TypeLists
 pub mod Transactions
 pub mod Credentials
-pub mod Passwords
+pub mod PasswordAlgorithms
 pub mod Authentication
 pub mod Challenges

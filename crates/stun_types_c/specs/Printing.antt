@@ -3,12 +3,12 @@ use Rattle.std.specs.Prelude.{◌≡◌, ℕ, List, length, MatchOption, nat_le,
 use Rattle.stun_grammar.specs.Parsing.{parse_fault}
 use Rattle.stun_read.specs.PrintedMessages.{message_text}
 use Rattle.stun_text.specs.Slices.{laid_over, counted as count_of}
-use Rattle.stun_types_c.specs.declared.answer.Answer.{Answer}
+use Rattle.stun_types_c.specs.declared.call_result.CallResult.{CallResult}
 use Rattle.stun_types_c.specs.Codes.{OK, TOO_SMALL}
-use Rattle.stun_types_c.specs.Answers.{plain, counted, parse_answer}
+use Rattle.stun_types_c.specs.CallResults.{plain, counted, parse_result}
 
 -- whether a text has room
-abbrev pub room_answer : ℕ → ℕ → Answer
+abbrev pub room_answer : ℕ → ℕ → CallResult
 room_answer length room =
     if nat_le length room then plain OK else counted TOO_SMALL (count_of length) room
 
@@ -17,10 +17,10 @@ abbrev pub written_of : ℕ → ℕ → ℕ
 written_of length room = if nat_le length room then count_of length else room
 
 -- a text is laid over the slice, as far as it reaches; where the bytes are no message, nothing is
-abbrev pub Prints : List ℕ → Answer → List ℕ → List ℕ → ℕ → ℕ → Type 0
+abbrev pub Prints : List ℕ → CallResult → List ℕ → List ℕ → ℕ → ℕ → Type 0
 Prints d result old new written_before written =
     MatchOption (parse_fault d)
     ((result ≡ room_answer (length (message_text d)) (length old))
     × (new ≡ laid_over (message_text d) old)
     × (written ≡ written_of (length (message_text d)) (length old)))
-    (λ e. (result ≡ parse_answer e) × (new ≡ old) × (written ≡ written_before))
+    (λ e. (result ≡ parse_result e) × (new ≡ old) × (written ≡ written_before))

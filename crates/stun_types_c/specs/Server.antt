@@ -4,10 +4,10 @@ use Rattle.std.specs.declared.net.socket_addr.SocketAddr.{SocketAddr}
 use Rattle.stun_server.specs.Reply.{reply}
 use Rattle.stun_server.specs.InSlice.{answer_in, slice_after}
 use Rattle.stun_types_c.specs.declared.address.Address.{Address}
-use Rattle.stun_types_c.specs.declared.answer.Answer.{Answer}
+use Rattle.stun_types_c.specs.declared.call_result.CallResult.{CallResult}
 use Rattle.stun_types_c.specs.Codes.{OK, BAD_ARGUMENT}
 use Rattle.stun_types_c.specs.Addresses.{ip_named, IsAt}
-use Rattle.stun_types_c.specs.Answers.{plain, write_answer}
+use Rattle.stun_types_c.specs.CallResults.{plain, write_result}
 
 -- how many bytes are written, and 0 where no reply is owed
 abbrev pub length_told : Option ℕ → ℕ
@@ -16,16 +16,17 @@ length_told (Some length) = length
 
 -- the reply to a datagram is written at the start of the slice, or there is none, or it has no room
 -- and the slice stays
-abbrev pub RepliesTo : SocketAddr → List ℕ → Answer → (old new : List ℕ) → (before after : ℕ)
+abbrev pub RepliesTo : SocketAddr → List ℕ → CallResult → (old new : List ℕ) → (before after : ℕ)
     → Type 0
 RepliesTo source datagram result old new before after =
     (new ≡ slice_after (reply source datagram) old)
     × MatchResult (answer_in (reply source datagram) (length old))
     (λ told. (result ≡ plain OK) × (after ≡ length_told told))
-    (λ e. (result ≡ write_answer e) × (after ≡ before))
+    (λ e. (result ≡ write_result e) × (after ≡ before))
 
 -- the same for a datagram that came from the address that C's form names, if it names one
-abbrev pub RepliesAt : Address → List ℕ → Answer → (old new : List ℕ) → (before after : ℕ) → Type 0
+abbrev pub RepliesAt : Address → List ℕ → CallResult → (old new : List ℕ) → (before after : ℕ)
+    → Type 0
 RepliesAt address datagram result old new before after =
     MatchOption (ip_named address)
     ((result ≡ plain BAD_ARGUMENT) × (new ≡ old) × (after ≡ before))

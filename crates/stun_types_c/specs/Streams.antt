@@ -5,16 +5,16 @@ use Rattle.stun_framing.specs.declared.error.StreamError.{StreamError}
 use Rattle.stun_framing.specs.declared.error.StreamFault.{StreamFault}
 use Rattle.stun_framing.specs.declared.error.StreamFault.TheVariants.{NotStun, NotPadded, TooLong}
 use Rattle.stun_framing.specs.Streams.{Stream, resumed, can_resume, refusal, answer, left, StandsIn}
-use Rattle.stun_types_c.specs.declared.answer.Answer.{Answer}
+use Rattle.stun_types_c.specs.declared.call_result.CallResult.{CallResult}
 use Rattle.stun_types_c.specs.declared.streams.KeptStream.{KeptStream}
 use Rattle.stun_types_c.specs.Codes.{OK, NOT_STUN, TOO_LARGE, BAD_ARGUMENT, NOT_PADDED}
-use Rattle.stun_types_c.specs.Answers.{plain, counted}
+use Rattle.stun_types_c.specs.CallResults.{plain, counted}
 
 -- why no message begins where one had to, in a buffer of so many bytes
-abbrev pub fault_answer : (room : ℕ) → StreamFault → Answer
-fault_answer room NotStun = plain NOT_STUN
-fault_answer room (NotPadded field) = counted NOT_PADDED 0 field
-fault_answer room (TooLong stated) = counted TOO_LARGE room stated
+abbrev pub fault_result : (room : ℕ) → StreamFault → CallResult
+fault_result room NotStun = plain NOT_STUN
+fault_result room (NotPadded field) = counted NOT_PADDED 0 field
+fault_result room (TooLong stated) = counted TOO_LARGE room stated
 
 -- the stream that goes on with what C keeps: an offset, and as many bytes at the start of its buffer
 -- as are pending
@@ -30,9 +30,9 @@ kept_of stream = record {
 }
 
 -- what a piece is answered by: OK, or why no message begins where one has to
-abbrev pub piece_answer : (room : ℕ) → Option StreamError → Answer
+abbrev pub piece_answer : (room : ℕ) → Option StreamError → CallResult
 piece_answer room None = plain OK
-piece_answer room (Some error) = fault_answer room error.fault
+piece_answer room (Some error) = fault_result room error.fault
 
 -- how many bytes are taken: with a refusal C's count stays
 abbrev pub taken_after : ℕ → Result ℕ StreamError → ℕ
@@ -42,7 +42,7 @@ taken_after before (Err error) = before
 -- the bytes at the start of a piece that belong to the message that is coming are taken, or no
 -- message begins so: C keeps the stream that the piece leaves, whose bytes stand in the buffer; or
 -- what C keeps is no stream's, and all stays
-abbrev pub PushesPiece : (piece buffer filled : List ℕ) → Answer → (old new : KeptStream)
+abbrev pub PushesPiece : (piece buffer filled : List ℕ) → CallResult → (old new : KeptStream)
     → (before after : ℕ) → Type 0
 PushesPiece piece buffer filled result old new before after =
     let stream = stream_kept old buffer in

@@ -14,11 +14,11 @@ use Rattle.stun_base.specs.declared.transport.TransportType.TheVariants.{Udp, Tc
 use Rattle.stun_base.specs.MessageTypes.{class_of, method_of}
 use Rattle.stun_keys.specs.declared.keys.integrity_key.IntegrityKey.{IntegrityKey}
 use Rattle.stun_keys.specs.Keys.{IsKey, key_bytes, key_algorithm}
-use Rattle.stun_transactions.specs.declared.course.Action.{Action}
-use Rattle.stun_transactions.specs.declared.course.Action.TheVariants.{Send, WaitUntil, Ended}
-use Rattle.stun_transactions.specs.declared.course.Course.{Course}
-use Rattle.stun_transactions.specs.declared.course.End.{End}
-use Rattle.stun_transactions.specs.declared.course.End.TheVariants.{Answered, TimedOut, IntegrityViolated, Refused, Cancelled, TransportFailed}
+use Rattle.stun_transactions.specs.declared.retransmission.Action.{Action}
+use Rattle.stun_transactions.specs.declared.retransmission.Action.TheVariants.{Send, WaitUntil, Ended}
+use Rattle.stun_transactions.specs.declared.retransmission.RetransmissionState.{RetransmissionState}
+use Rattle.stun_transactions.specs.declared.retransmission.TransactionEnd.{TransactionEnd}
+use Rattle.stun_transactions.specs.declared.retransmission.TransactionEnd.TheVariants.{Answered, TimedOut, IntegrityViolated, Refused, Cancelled, TransportFailed}
 use Rattle.stun_transactions.specs.declared.parts.Mechanism.{Mechanism}
 use Rattle.stun_transactions.specs.declared.parts.Mechanism.TheVariants.{ShortTerm, LongTerm}
 use Rattle.stun_transactions.specs.declared.parts.TransactionParts.{TransactionParts}
@@ -31,20 +31,20 @@ use Rattle.stun_transactions.specs.declared.schedule.ScheduleError.{ScheduleErro
 use Rattle.stun_transactions.specs.declared.terms.BeginError.{BeginError}
 use Rattle.stun_transactions.specs.declared.terms.BeginError.TheVariants.{NotARequest, NotSigned, Signed}
 use Rattle.stun_transactions.specs.declared.transaction.Transaction.{Transaction}
-use Rattle.stun_transactions.specs.Courses.{Polls, ended_by}
+use Rattle.stun_transactions.specs.Retransmissions.{Polls, ended_by}
 use Rattle.stun_transactions.specs.Guards.{signed_by, is_signed}
 use Rattle.stun_transactions.specs.Outcomes.{after}
-use Rattle.stun_transactions.specs.Parts.{plan_in, course_in, at_course, parts_of, key_of, parts_fault}
-use Rattle.stun_transactions.specs.Receiving.{heard}
+use Rattle.stun_transactions.specs.Parts.{plan_in, state_in, at_state, parts_of, key_of, parts_fault}
+use Rattle.stun_transactions.specs.Receiving.{received_outcome}
 use Rattle.stun_transactions.specs.Schedules.{schedule_fault, IsSchedule}
 use Rattle.stun_transactions.specs.Terms.{is_request, mismatch}
-use Rattle.stun_transactions.specs.Transactions.{terms_of, course_of}
-use Rattle.stun_types_c.specs.declared.answer.Answer.{Answer}
+use Rattle.stun_transactions.specs.Transactions.{terms_of, state_of}
+use Rattle.stun_types_c.specs.declared.call_result.CallResult.{CallResult}
 use Rattle.stun_types_c.specs.declared.transactions.KeptTransaction.{KeptTransaction}
-use Rattle.stun_types_c.specs.declared.transactions.Outcome.{Outcome as OutcomeOut}
+use Rattle.stun_types_c.specs.declared.transactions.ReceivedOutcome.{ReceivedOutcome}
 use Rattle.stun_types_c.specs.declared.transactions.Waits.{Waits}
 use Rattle.stun_types_c.specs.declared.transactions.Wanted.{Wanted}
-use Rattle.stun_types_c.specs.Answers.{plain, parse_answer}
+use Rattle.stun_types_c.specs.CallResults.{plain, parse_result}
 use Rattle.stun_types_c.specs.TypeLists.{types_numbered}
 use Rattle.stun_types_c.specs.Codes.{OK, OUT_OF_MEMORY, OUT_OF_RANGE, BAD_ARGUMENT, NO_KEY, NOT_A_REQUEST, NOT_SIGNED, SIGNED}
 
@@ -63,7 +63,7 @@ mechanism_numbered number =
     if number == 2 then Some (Some LongTerm) else None))
 
 -- the number of an end, and of no end
-abbrev pub end_number : End → ℕ
+abbrev pub end_number : TransactionEnd → ℕ
 end_number Answered = 1
 end_number TimedOut = 2
 end_number IntegrityViolated = 3
@@ -71,7 +71,7 @@ end_number Refused = 4
 end_number Cancelled = 5
 end_number TransportFailed = 6
 
-abbrev pub number_of_end : Option End → ℕ
+abbrev pub number_of_end : Option TransactionEnd → ℕ
 number_of_end end = option_map_or end_number end 0
 
 -- the number of the integrity attributes that a request shows
@@ -100,12 +100,12 @@ pub record Schedules (waits : Waits) (schedule : Schedule) : Type 0 where
 -- ---- Which transaction C keeps
 
 -- how far it has come
-pub record TellsCourse (kept : KeptTransaction) (course : Course) : Type 0 where
-  pub sent : course.sent ≡ kept.sent
-  pub last : IsAt kept.last course.last
-  pub clock : IsAt kept.clock course.clock
-  pub violated : kept.violated ≡ from_bool course.violated
-  pub end : kept.end ≡ number_of_end course.end
+pub record TellsState (kept : KeptTransaction) (state : RetransmissionState) : Type 0 where
+  pub sent : state.sent ≡ kept.sent
+  pub last : IsAt kept.last state.last
+  pub clock : IsAt kept.clock state.clock
+  pub violated : kept.violated ≡ from_bool state.violated
+  pub end : kept.end ≡ number_of_end state.end
 
 -- its parts
 pub record TellsParts (kept : KeptTransaction) (parts : TransactionParts) : Type 0 where
@@ -116,7 +116,7 @@ pub record TellsParts (kept : KeptTransaction) (parts : TransactionParts) : Type
   pub id : parts.id ≡ number kept.id.bytes
   pub signed : kept.signed_by ≡ signed_number parts.sha1 parts.sha256
   pub mechanism : mechanism_numbered kept.protection ≡ Some parts.mechanism
-  pub course : TellsCourse kept (course_in parts)
+  pub state : TellsState kept (state_in parts)
 
 -- the numbers keep a transaction of these parts
 pub record Keeps (kept : KeptTransaction) (parts : TransactionParts) : Type 0 where
@@ -134,8 +134,8 @@ MatchKept kept P Q =
 
 -- two transactions are the same: moments are compared by how long they are
 pub record AreSame (one other : TransactionParts) : Type 0 where
-  pub schedule : IsSchedule other.schedule.rto other.schedule.requests other.schedule.last_wait
-      other.schedule.reliable_wait one.schedule
+  pub schedule : IsSchedule other.schedule.rto other.schedule.max_requests other.schedule.last_wait_factor
+      other.schedule.reliable_timeout one.schedule
   pub transport : one.transport ≡ other.transport
   pub method : one.method ≡ other.method
   pub id : one.id ≡ other.id
@@ -151,26 +151,26 @@ pub record AreSame (one other : TransactionParts) : Type 0 where
 -- ---- What calls leave
 
 -- the numbers of the same transaction that has come so far
-abbrev pub with_course : KeptTransaction → Course → KeptTransaction
-with_course kept course = record kept {
-  sent = course.sent;
-  last = millis_of course.last;
-  clock = millis_of course.clock;
-  violated = from_bool course.violated;
-  end = number_of_end course.end;
+abbrev pub with_state : KeptTransaction → RetransmissionState → KeptTransaction
+with_state kept state = record kept {
+  sent = state.sent;
+  last = millis_of state.last;
+  clock = millis_of state.clock;
+  violated = from_bool state.violated;
+  end = number_of_end state.end;
 }
 
 -- a transaction goes on, and nothing of it is lost
-pub record GoesOn (parts : TransactionParts) (course : Course)
+pub record GoesOn (parts : TransactionParts) (state : RetransmissionState)
     (old new : KeptTransaction) : Type 0 where
-  pub numbers : new ≡ with_course old course
-  pub keeps : Keeps new (at_course parts course)
+  pub numbers : new ≡ with_state old state
+  pub keeps : Keeps new (at_state parts state)
 
 -- the transaction that C keeps ends, unless it has ended
-abbrev pub Ends : End → Answer → KeptTransaction → KeptTransaction → Type 0
+abbrev pub Ends : TransactionEnd → CallResult → KeptTransaction → KeptTransaction → Type 0
 Ends end result old new =
     MatchKept old ((result ≡ plain BAD_ARGUMENT) × (new ≡ old))
-    (λ parts. (result ≡ plain OK) × GoesOn parts (ended_by end (course_in parts)) old new)
+    (λ parts. (result ≡ plain OK) × GoesOn parts (ended_by end (state_in parts)) old new)
 
 -- what is wanted, in C's numbers
 abbrev pub wanted_of : Action → Wanted
@@ -188,13 +188,13 @@ pub record PollsParts (parts : TransactionParts) (now : ℕ) (old new : Polled) 
   pub moment : Duration
   pub at : IsAt now moment
   pub action : Action
-  pub course : Course
-  pub polls : Polls (plan_in parts) (course_in parts) moment action course
-  pub goes_on : GoesOn parts course old.kept new.kept
+  pub state : RetransmissionState
+  pub polls : Polls (plan_in parts) (state_in parts) moment action state
+  pub goes_on : GoesOn parts state old.kept new.kept
   pub told : new.wanted ≡ wanted_of action
 
 -- the transaction that C keeps is polled, unless it keeps none
-abbrev pub PollsKept : ℕ → Answer → Polled → Polled → Type 0
+abbrev pub PollsKept : ℕ → CallResult → Polled → Polled → Type 0
 PollsKept now result old new =
     MatchKept old.kept ((result ≡ plain BAD_ARGUMENT) × (new ≡ old))
     (λ parts. (result ≡ plain OK) × PollsParts parts now old new)
@@ -211,13 +211,14 @@ request_fault protected d =
     if is_request (class_of (type_field d)) then mismatch protected (is_signed (signed_by d))
     else Some NotARequest
 
-abbrev pub request_answer : BeginError → Answer
+abbrev pub request_answer : BeginError → CallResult
 request_answer NotARequest = plain NOT_A_REQUEST
 request_answer NotSigned = plain NOT_SIGNED
 request_answer Signed = plain SIGNED
 
 -- why no transaction begins by a mechanism, or by none: by the schedule, the request or the key
-abbrev pub terms_answer : Waits → Option Mechanism → Option IntegrityKey → List ℕ → Option Answer
+abbrev pub terms_answer : Waits → Option Mechanism → Option IntegrityKey → List ℕ
+    → Option CallResult
 terms_answer waits mechanism held d =
     if is_some (waits_fault waits) then Some (plain OUT_OF_RANGE)
     else option_or (option_map request_answer (request_fault (is_some mechanism) d))
@@ -225,9 +226,9 @@ terms_answer waits mechanism held d =
 
 -- why none begins with the bytes d: they are no message, or a number has no meaning, or by the terms
 abbrev pub begin_answer : Waits → (transport protection : ℕ) → Option IntegrityKey → List ℕ
-    → Option Answer
+    → Option CallResult
 begin_answer waits transport protection held d =
-    option_or (option_map parse_answer (parse_fault d))
+    option_or (option_map parse_result (parse_fault d))
     (if is_some (transport_numbered transport) then
     option_map_or (λ mechanism. terms_answer waits mechanism held d) (mechanism_numbered protection)
     (Some (plain BAD_ARGUMENT))
@@ -252,7 +253,7 @@ begun_in_c d waits transport protection now = record {
 
 -- a transaction of the request d begins, or it is told why none does, and nothing changes
 abbrev pub BeginsKept : List ℕ → Waits → (transport protection now : ℕ) → Option IntegrityKey
-    → Answer → KeptTransaction → KeptTransaction → Type 0
+    → CallResult → KeptTransaction → KeptTransaction → Type 0
 BeginsKept d waits transport protection now held result old new =
     MatchOption (begin_answer waits transport protection held d)
     ((result ≡ plain OK) × (new ≡ begun_in_c d waits transport protection now))
@@ -261,7 +262,7 @@ BeginsKept d waits transport protection now held result old new =
 -- ---- What is received
 
 -- what a message is for a transaction, in C's numbers
-abbrev pub outcome_in_c : Outcome → OutcomeOut
+abbrev pub outcome_in_c : Outcome → ReceivedOutcome
 outcome_in_c NotForThis = record { kind = 0; number = 0 }
 outcome_in_c (Discarded NotAuthentic) = record { kind = 1; number = 0 }
 outcome_in_c (Discarded BidDown) = record { kind = 2; number = 0 }
@@ -272,10 +273,10 @@ outcome_in_c (Failed NoErrorCode) = record { kind = 6; number = 0 }
 outcome_in_c Success = record { kind = 7; number = 0 }
 outcome_in_c (Error code) = record { kind = 8; number = code }
 
--- what C keeps, and what it is told of received bytes
-pub record Heard : Type 0 where
+-- what C keeps, and what received bytes are
+pub record ReceivedState : Type 0 where
   pub kept : KeptTransaction
-  pub told : OutcomeOut
+  pub reported : ReceivedOutcome
 
 -- a copy of a key with which responses are validated: by a long-term credential it works with both
 -- algorithms (RFC 8489, section 9.2.5)
@@ -285,7 +286,7 @@ IsCopyFor LongTerm held copy = IsKey None (key_bytes held) copy
 
 -- the key of a transaction: none where nothing protects its request, and else a copy of the one that a
 -- handle holds; or the handle holds none, or an allocation failed
-abbrev pub Copies : Option Mechanism → Option IntegrityKey → Result (Option IntegrityKey) Answer
+abbrev pub Copies : Option Mechanism → Option IntegrityKey → Result (Option IntegrityKey) CallResult
     → Type 0
 Copies None held made = made ≡ Ok None
 Copies (Some mechanism) None made = made ≡ Err (plain NO_KEY)
@@ -299,30 +300,32 @@ pub record IsOutcome (parts : TransactionParts) (key : Option IntegrityKey)
   pub transaction : Transaction
   pub parts_are : parts_of transaction ≡ parts
   pub key_is : key_of transaction ≡ key
-  pub is : outcome ≡ heard (terms_of transaction) (course_of transaction) understood d
+  pub is : outcome ≡ received_outcome (terms_of transaction) (state_of transaction) understood d
 
--- the transaction hears of them, and goes on
-pub record HearsParts (parts : TransactionParts) (key : Option IntegrityKey)
-    (understood : List AttributeType) (d : List ℕ) (old new : Heard) : Type 0 where
+-- the transaction receives them, and goes on
+pub record ReceivesParts (parts : TransactionParts) (key : Option IntegrityKey)
+    (understood : List AttributeType) (d : List ℕ) (old new : ReceivedState) : Type 0 where
   pub outcome : Outcome
   pub is_outcome : IsOutcome parts key understood d outcome
-  pub goes_on : GoesOn parts (after outcome (course_in parts)) old.kept new.kept
-  pub told : new.told ≡ outcome_in_c outcome
+  pub goes_on : GoesOn parts (after outcome (state_in parts)) old.kept new.kept
+  pub reported : new.reported ≡ outcome_in_c outcome
 
 -- the same with the key of a handle, if there is one
-abbrev pub HearsWith : Option IntegrityKey → (understood d : List ℕ) → TransactionParts → Answer
-    → Heard → Heard → Type 0
-HearsWith held understood d parts result old new =
-    (made : Result (Option IntegrityKey) Answer) × Copies parts.mechanism held made
+abbrev pub ReceivesWith : Option IntegrityKey → (understood d : List ℕ) → TransactionParts
+    → CallResult
+    → ReceivedState → ReceivedState → Type 0
+ReceivesWith held understood d parts result old new =
+    (made : Result (Option IntegrityKey) CallResult) × Copies parts.mechanism held made
     × MatchResult made
-    (λ key. (result ≡ plain OK) × HearsParts parts key (types_numbered understood) d old new)
+    (λ key. (result ≡ plain OK) × ReceivesParts parts key (types_numbered understood) d old new)
     (λ answer. (result ≡ answer) × (new ≡ old))
 
 -- the same for the transaction that C keeps, by a client that understands at most 64 types
-abbrev pub HearsKept : Option IntegrityKey → (understood d : List ℕ) → Answer → Heard → Heard
+abbrev pub ReceivesKept : Option IntegrityKey → (understood d : List ℕ) → CallResult → ReceivedState
+    → ReceivedState
     → Type 0
-HearsKept held understood d result old new =
+ReceivesKept held understood d result old new =
     ((64 < length understood) × (result ≡ plain BAD_ARGUMENT) × (new ≡ old))
     ⊎ ((length understood ≤ 64)
     × MatchKept old.kept ((result ≡ plain BAD_ARGUMENT) × (new ≡ old))
-    (λ parts. HearsWith held understood d parts result old new))
+    (λ parts. ReceivesWith held understood d parts result old new))

@@ -1,10 +1,10 @@
 -- Values of attributes of a message, and what reading an error answers (RFC 8489, section 14.8).
 use Rattle.std.specs.Prelude.{◌≡◌, ℕ, ◌+◌, ◌-◌, List, length, slice_range, Option, None, Some, nat_lt, if◌then◌else◌, MatchOption}
 use Rattle.stun_values.specs.ErrorValues.{error_fault, told_code}
-use Rattle.stun_types_c.specs.declared.answer.Answer.{Answer}
+use Rattle.stun_types_c.specs.declared.call_result.CallResult.{CallResult}
 use Rattle.stun_types_c.specs.declared.attribute.ShownAttribute.{ShownAttribute}
 use Rattle.stun_types_c.specs.Codes.{OK, BAD_ARGUMENT}
-use Rattle.stun_types_c.specs.Answers.{plain, parse_answer}
+use Rattle.stun_types_c.specs.CallResults.{plain, parse_result}
 
 -- the value of an attribute of the message d, as far as that is within d
 abbrev pub value_of : ShownAttribute → List ℕ → Option (List ℕ)
@@ -27,10 +27,10 @@ error_told at value = record {
 }
 
 -- what reading the error in an attribute of d answers
-abbrev pub ReadsError : ShownAttribute → List ℕ → Answer → ErrorOut → ErrorOut → Type 0
+abbrev pub ReadsError : ShownAttribute → List ℕ → CallResult → ErrorOut → ErrorOut → Type 0
 ReadsError attribute d result old new =
     MatchOption (value_of attribute d)
     ((result ≡ plain BAD_ARGUMENT) × (new ≡ old))
     (λ value. MatchOption (error_fault value)
     ((result ≡ plain OK) × (new ≡ error_told attribute.value_at value))
-    (λ e. (result ≡ parse_answer e) × (new ≡ old)))
+    (λ e. (result ≡ parse_result e) × (new ≡ old)))

@@ -1,8 +1,8 @@
 -- Writing into a slice of C's: what a call answers, and what the slice holds then (RFC 8489, sections
 -- 5 and 14).
-use Rattle.std.specs.Prelude.{◌≡◌, ℕ, ◌^◌, ◌||◌, ◌++◌, List, [], length, take, drop, Option, None, Some, MatchOption, nat_lt, if◌then◌else◌}
+use Rattle.std.specs.Prelude.{◌≡◌, ℕ, ◌^◌, ◌++◌, List, [], length, take, drop, Option, None, Some, MatchOption, nat_lt, if◌then◌else◌}
 use Rattle.std.specs.List.{flat_map}
-use Rattle.std.specs.Option.{option_or}
+use Rattle.std.specs.Option.{option_map, option_or}
 use Rattle.std.specs.Str.{is_utf8}
 use Rattle.std.specs.declared.net.socket_addr.SocketAddr.{SocketAddr}
 use Rattle.stun_grammar.specs.declared.error.StunWriteError.{StunWriteError}
@@ -16,15 +16,15 @@ use Rattle.stun_grammar.specs.Adding.{appended, grown_length}
 use Rattle.stun_keys.specs.declared.keys.integrity_key.IntegrityKey.{IntegrityKey}
 use Rattle.stun_keys.specs.Keys.{key_bytes}
 use Rattle.stun_values.specs.Addresses.{address_value, IsXored}
-use Rattle.stun_values.specs.ErrorValues.{error_value}
+use Rattle.stun_values.specs.ErrorValues.{error_value, making_fault}
 use Rattle.stun_write.specs.Resuming.{resume_fault}
 use Rattle.stun_write.specs.ResumePoints.{any_in, step_in}
-use Rattle.stun_types_c.specs.declared.answer.Answer.{Answer}
+use Rattle.stun_types_c.specs.declared.call_result.CallResult.{CallResult}
 use Rattle.stun_types_c.specs.declared.address.Address.{Address}
 use Rattle.stun_types_c.specs.declared.reading.Id.{Id}
 use Rattle.stun_types_c.specs.Addresses.{ip_named, IsAt}
-use Rattle.stun_types_c.specs.Codes.{OK, TOO_LARGE, TOO_SMALL, OUT_OF_RANGE, INVALID_DATA, BAD_ARGUMENT, NO_KEY}
-use Rattle.stun_types_c.specs.Answers.{plain, counted, write_answer, Refuses}
+use Rattle.stun_types_c.specs.Codes.{OK, TOO_LARGE, TOO_SMALL, INVALID_DATA, BAD_ARGUMENT, NO_KEY}
+use Rattle.stun_types_c.specs.CallResults.{plain, counted, write_result, Refuses}
 use Rattle.stun_types_c.specs.Keys.{algorithm_named}
 
 -- a slice, and how many bytes of it are a message
@@ -33,14 +33,14 @@ pub record Written : Type 0 where
   pub count : ℕ
 
 -- why no message begins: the type isn't one, or the slice has no room for a header
-abbrev pub begin_answer : ℕ → List ℕ → Option Answer
+abbrev pub begin_answer : ℕ → List ℕ → Option CallResult
 begin_answer type slice =
     if nat_lt type (2 ^ 14) then (
     if nat_lt (length slice) 20 then Some (counted TOO_SMALL 20 (length slice)) else None)
     else Some (plain BAD_ARGUMENT)
 
 -- a message begins: its header, with no attributes, and what the slice held behind it
-abbrev pub Begins : ℕ → Id → Answer → Written → Written → Type 0
+abbrev pub Begins : ℕ → Id → CallResult → Written → Written → Type 0
 Begins type id result old new =
     MatchOption (begin_answer type old.slice)
     ((result ≡ plain OK) × (new ≡ record {
@@ -51,7 +51,7 @@ Begins type id result old new =
 
 -- an attribute of a type and a value is appended to the message, or it is refused; what stands
 -- behind the message stays
-abbrev pub Appends : Option StunWriteError → ℕ → List ℕ → Answer → Written → Written → Type 0
+abbrev pub Appends : Option StunWriteError → ℕ → List ℕ → CallResult → Written → Written → Type 0
 Appends refusal type value result old new =
     MatchOption refusal
     ((result ≡ plain OK) × (new ≡ record {
@@ -59,11 +59,11 @@ Appends refusal type value result old new =
           ++ drop (grown_length old.count (length value)) old.slice;
       count = grown_length old.count (length value);
     }))
-    (λ e. Refuses (write_answer e) result old new)
+    (λ e. Refuses (write_result e) result old new)
 
 -- the same where what is written is tested first, and then the value, whatever the message
-abbrev pub AppendsUnless : Option Answer → (List ℕ → Option StunWriteError) → ℕ
-    → (List ℕ → List ℕ) → Answer → Written → Written → Type 0
+abbrev pub AppendsUnless : Option CallResult → (List ℕ → Option StunWriteError) → ℕ
+    → (List ℕ → List ℕ) → CallResult → Written → Written → Type 0
 AppendsUnless fault refusal type value result old new =
     let message = take old.count old.slice in
     MatchOption (resume_fault old.slice old.count)
@@ -72,22 +72,22 @@ AppendsUnless fault refusal type value result old new =
     (λ answer. Refuses answer result old new))
     (λ _. Refuses (plain BAD_ARGUMENT) result old new)
 
-abbrev pub AppendsTo : (List ℕ → Option StunWriteError) → ℕ → (List ℕ → List ℕ) → Answer
+abbrev pub AppendsTo : (List ℕ → Option StunWriteError) → ℕ → (List ℕ → List ℕ) → CallResult
     → Written → Written → Type 0
 AppendsTo = AppendsUnless None
 
 -- why there can be no value of n bytes or numbers
-abbrev pub long_answer : ℕ → ℕ → Option Answer
+abbrev pub long_answer : ℕ → ℕ → Option CallResult
 long_answer most n = if nat_lt most n then Some (counted TOO_LARGE most n) else None
 
 -- an attribute of a type and a value is added
-abbrev pub AddsValue : ℕ → List ℕ → Answer → Written → Written → Type 0
+abbrev pub AddsValue : ℕ → List ℕ → CallResult → Written → Written → Type 0
 AddsValue type value result old new =
     AppendsUnless (long_answer 65535 (length value)) (any_in (length old.slice) type value) type
     (λ _. value) result old new
 
 -- an address of C's form is added as it is
-abbrev pub AddsAddress : Address → ℕ → Answer → Written → Written → Type 0
+abbrev pub AddsAddress : Address → ℕ → CallResult → Written → Written → Type 0
 AddsAddress address type result old new =
     MatchOption (ip_named address) (Refuses (plain BAD_ARGUMENT) result old new)
     (λ ip. (a : SocketAddr) × IsAt ip address.port a
@@ -95,7 +95,7 @@ AddsAddress address type result old new =
     result old new)
 
 -- an address of C's form is added XORed with the transaction ID in the slice
-abbrev pub AddsXorAddress : Address → ℕ → Answer → Written → Written → Type 0
+abbrev pub AddsXorAddress : Address → ℕ → CallResult → Written → Written → Type 0
 AddsXorAddress address type result old new =
     MatchOption (ip_named address) (Refuses (plain BAD_ARGUMENT) result old new)
     (λ ip. MatchOption (header_fault old.slice)
@@ -105,21 +105,20 @@ AddsXorAddress address type result old new =
     (λ _. Refuses (plain BAD_ARGUMENT) result old new))
 
 -- why there is no such error: its code is none of 300 to 699, or its reason is too long or no text
-abbrev pub error_answer : ℕ → List ℕ → Option Answer
+abbrev pub error_answer : ℕ → List ℕ → Option CallResult
 error_answer code reason =
-    if nat_lt code 300 || nat_lt 699 code then Some (counted OUT_OF_RANGE 699 code) else
-    option_or (long_answer 763 (length reason))
+    option_or (option_map write_result (making_fault code reason))
     (if is_utf8 reason then None else Some (plain INVALID_DATA))
 
 -- an ERROR-CODE is added (RFC 8489, section 14.8)
-abbrev pub AddsError : ℕ → List ℕ → Answer → Written → Written → Type 0
+abbrev pub AddsError : ℕ → List ℕ → CallResult → Written → Written → Type 0
 AddsError code reason result old new =
     let value = error_value code reason in
     AppendsUnless (error_answer code reason) (any_in (length old.slice) ERROR_CODE value) ERROR_CODE
     (λ _. value) result old new
 
 -- an UNKNOWN-ATTRIBUTES is added (RFC 8489, section 14.13)
-abbrev pub AddsTypes : List ℕ → Answer → Written → Written → Type 0
+abbrev pub AddsTypes : List ℕ → CallResult → Written → Written → Type 0
 AddsTypes types result old new =
     let value = flat_map be16 types in
     AppendsUnless (long_answer 32767 (length types))
@@ -127,7 +126,7 @@ AddsTypes types result old new =
     result old new
 
 -- the integrity attribute of an algorithm is added (RFC 8489, sections 14.5 and 14.6)
-abbrev pub Signs : Option IntegrityKey → ℕ → Answer → Written → Written → Type 0
+abbrev pub Signs : Option IntegrityKey → ℕ → CallResult → Written → Written → Type 0
 Signs held number result old new =
     MatchOption (resume_fault old.slice old.count)
     (MatchOption (algorithm_named number) (Refuses (plain BAD_ARGUMENT) result old new)

@@ -3,8 +3,8 @@
 ghost use Rattle.std.specs.Prelude.{◌≡◌};
 ghost use Rattle.stun_types_c.specs.Addresses.{ipv4_named, ipv6_named, Holds, HoldsXored, Names, ReadsFrom, ReadsAddress, ReadsXorAddress};
 
-use crate::answer::{Answer, parse_answer, plain};
 use crate::attribute::ShownAttribute;
+use crate::call_result::{CallResult, parse_result, plain};
 use crate::codes;
 use crate::values::value_in;
 use std::net::{IpAddr, Ipv4Addr, Ipv6Addr, SocketAddr};
@@ -78,7 +78,7 @@ pub extern "C" fn stun_types_read_address(
     bytes: &[u8],
     attribute: &ShownAttribute,
     address: &mut Address,
-) -> Answer
+) -> CallResult
     ensures { ReadsAddress attribute.now bytes.now result address.old address.new }
 {
     let Some(value) = value_in(bytes, attribute) else {
@@ -89,12 +89,12 @@ pub extern "C" fn stun_types_read_address(
             *address = in_c(addr);
             plain(codes::OK)
         }
-        Err(error) => parse_answer(error),
+        Err(error) => parse_result(error),
     }
 }
 
 /// Reads the address in a value that is XORed with this transaction ID.
-fn read_xored(value: &[u8], transaction: TransactionId, address: &mut Address) -> Answer
+fn read_xored(value: &[u8], transaction: TransactionId, address: &mut Address) -> CallResult
     ensures { ReadsFrom (HoldsXored transaction) value.now result address.old address.new }
 {
     match read_address(value) {
@@ -102,7 +102,7 @@ fn read_xored(value: &[u8], transaction: TransactionId, address: &mut Address) -
             *address = in_c(xor_addr(addr, transaction));
             plain(codes::OK)
         }
-        Err(error) => parse_answer(error),
+        Err(error) => parse_result(error),
     }
 }
 
@@ -112,7 +112,7 @@ pub extern "C" fn stun_types_read_xor_address(
     bytes: &[u8],
     attribute: &ShownAttribute,
     address: &mut Address,
-) -> Answer
+) -> CallResult
     ensures { ReadsXorAddress attribute.now bytes.now result address.old address.new }
 {
     let Some(value) = value_in(bytes, attribute) else {
@@ -120,6 +120,6 @@ pub extern "C" fn stun_types_read_xor_address(
     };
     match MessageHeader::from_bytes(bytes) {
         Ok(header) => read_xored(value, header.transaction_id(), address),
-        Err(error) => parse_answer(error),
+        Err(error) => parse_result(error),
     }
 }

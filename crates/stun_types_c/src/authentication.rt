@@ -8,10 +8,10 @@ ghost use Rattle.stun_types_c.specs.KeyHandles.{shared_key};
 ghost use Rattle.stun_types_c.specs.Users.{bytes_of, borrowed_bytes, known_of};
 ghost use Rattle.stun_types_c.specs.Authentication.{policy_named, nonce_named, in_c, by_short_term, by_long_term, TellsDecision, Authenticates};
 
-use crate::answer::{Answer, parse_answer, plain};
+use crate::call_result::{CallResult, parse_result, plain};
 use crate::codes;
 use crate::keys::{algorithm_of, number_of};
-use crate::passwords::{Listed, algorithms_of};
+use crate::password_algorithms::{FewAlgorithms, algorithms_of};
 use crate::shared_key::SharedKey;
 use std::alloc::{AllocError, Global};
 use stun_authentication::{
@@ -100,7 +100,7 @@ impl LongTermKeys for OneUser<'_> {
 #[derive(Drop)]
 struct OneNonce {
     is_valid: bool,
-    sent: Listed,
+    sent: FewAlgorithms,
 }
 
 impl Nonces for OneNonce {
@@ -173,7 +173,7 @@ fn in_c(answer: &Authentication) -> Authenticated
 }
 
 /// Tells C an answer, or that an allocation failed.
-fn tell(answer: Result<Authentication, AllocError>, out: &mut Authenticated) -> Answer
+fn tell(answer: Result<Authentication, AllocError>, out: &mut Authenticated) -> CallResult
     ensures { (decision : Decision) → IfOk answer (Tells decision)
         → TellsDecision decision result out.old out.new }
 {
@@ -201,13 +201,13 @@ pub extern "C" fn stun_types_authenticate_short_term(
     policy: &CountedIntegrity,
     key: &SharedKey,
     out: &mut Authenticated,
-) -> Answer
+) -> CallResult
     ensures { let decided = by_short_term policy.now (shared_key key.now) bytes.now in
         Authenticates decided bytes.now result out.old out.new }
 {
     let message = match Message::from_bytes(bytes) {
         Ok(message) => message,
-        Err(error) => return parse_answer(error),
+        Err(error) => return parse_result(error),
     };
     let Some(policy) = policy_of(policy) else {
         return plain(codes::BAD_ARGUMENT);
@@ -230,7 +230,7 @@ pub extern "C" fn stun_types_authenticate_long_term(
     md5_key: &SharedKey,
     sha256_key: &SharedKey,
     out: &mut Authenticated,
-) -> Answer
+) -> CallResult
     ensures { let nonce = nonce_named nonce_state algorithms.now in
         let decided = by_long_term policy.now nonce (shared_key md5_key.now)
         (shared_key sha256_key.now) bytes.now in
@@ -238,7 +238,7 @@ pub extern "C" fn stun_types_authenticate_long_term(
 {
     let message = match Message::from_bytes(bytes) {
         Ok(message) => message,
-        Err(error) => return parse_answer(error),
+        Err(error) => return parse_result(error),
     };
     let (Some(policy), Some(nonce)) = (policy_of(policy), nonce_of(nonce_state, algorithms)) else {
         return plain(codes::BAD_ARGUMENT);

@@ -5,11 +5,11 @@ ghost use Rattle.std.specs.Option.{option_map};
 ghost use Rattle.stun_authentication.specs.Challenges.{asked_by};
 ghost use Rattle.stun_types_c.specs.Challenges.{retry_answer, value_at, in_c, challenge_before, ReadsFor, ReadsChallenge};
 
-use crate::answer::{Answer, parse_answer, plain};
 use crate::attribute::first_shown;
+use crate::call_result::{CallResult, parse_result, plain};
 use crate::codes;
 use crate::keys::number_of;
-use crate::passwords::{Listed, algorithms_of};
+use crate::password_algorithms::{FewAlgorithms, algorithms_of};
 use stun_authentication::{Challenge, NoRetry, challenge_of};
 use stun_grammar::attribute_types::{NONCE, PASSWORD_ALGORITHMS, REALM};
 use stun_types::attribute::PasswordAlgorithmValue;
@@ -40,7 +40,7 @@ pub struct Asked {
 }
 
 /// Why a request isn't sent again.
-fn no_retry(reason: NoRetry) -> Answer
+fn no_retry(reason: NoRetry) -> CallResult
     ensures { result ≡ retry_answer reason }
 {
     match reason {
@@ -84,7 +84,10 @@ fn in_c(response: &[u8], challenge: &Challenge<'_>) -> Asked
 
 /// The challenge in the response before, if C hands one in; `None` where the bytes are no message,
 /// or no challenge that a client with these algorithms can have answered.
-fn challenge_before<'a>(supported: &Listed, before: &'a [u8]) -> Option<Option<Challenge<'a>>>
+fn challenge_before<'a>(
+    supported: &FewAlgorithms,
+    before: &'a [u8],
+) -> Option<Option<Challenge<'a>>>
     ensures { option_map (λ earlier. option_map asked_by earlier) result
         ≡ challenge_before (take supported.now.count supported.now.all) before.now }
 {
@@ -101,16 +104,16 @@ fn challenge_before<'a>(supported: &Listed, before: &'a [u8]) -> Option<Option<C
 /// What a response asks for, after the challenge before it, if there was one.
 fn asked_by(
     response: &[u8],
-    supported: &Listed,
+    supported: &FewAlgorithms,
     before: Option<Challenge<'_>>,
     asked: &mut Asked,
-) -> Answer
+) -> CallResult
     ensures { ReadsFor (take supported.now.count supported.now.all) (option_map asked_by before.entry)
         response.now result asked.old asked.new }
 {
     let message = match Message::from_bytes(response) {
         Ok(message) => message,
-        Err(error) => return parse_answer(error),
+        Err(error) => return parse_result(error),
     };
     match challenge_of(&message, supported.as_slice(), before) {
         Ok(challenge) => {
@@ -128,7 +131,7 @@ pub extern "C" fn stun_types_challenge_of(
     supported: &[u16],
     before: &[u8],
     asked: &mut Asked,
-) -> Answer
+) -> CallResult
     ensures { ReadsChallenge supported.now before.now response.now result asked.old asked.new }
 {
     let Some(supported) = algorithms_of(supported) else {

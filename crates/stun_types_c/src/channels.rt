@@ -4,7 +4,7 @@ ghost use Rattle.std.specs.Prelude.{◌≡◌};
 ghost use Rattle.turn_attrs.specs.Protocols.{protocol};
 ghost use Rattle.stun_types_c.specs.Channels.{protocol_number, channel_answer, FramesChannel, ReadsChannel, WritesChannel};
 
-use crate::answer::{Answer, counted, plain, write_answer};
+use crate::call_result::{CallResult, counted, plain, write_result};
 use crate::codes;
 use turn_attrs::{
     Channel, ChannelData, ChannelDataError, Protocol, channel_data_length, protocol_of,
@@ -39,7 +39,7 @@ pub extern "C" fn stun_types_protocol_of(first: u8) -> u32
 }
 
 /// Why bytes are no ChannelData message.
-fn channel_answer(error: ChannelDataError) -> Answer
+fn channel_answer(error: ChannelDataError) -> CallResult
     ensures { result ≡ channel_answer error }
 {
     match error {
@@ -56,7 +56,7 @@ fn channel_answer(error: ChannelDataError) -> Answer
 /// How many bytes the ChannelData message has that begins here on a stream; 0 where more bytes are
 /// needed to tell.
 #[unsafe(no_mangle)]
-pub extern "C" fn stun_types_channel_data_length(bytes: &[u8], whole: &mut usize) -> Answer
+pub extern "C" fn stun_types_channel_data_length(bytes: &[u8], whole: &mut usize) -> CallResult
     ensures { FramesChannel bytes.now result whole.old whole.new }
 {
     match channel_data_length(bytes) {
@@ -74,7 +74,10 @@ pub extern "C" fn stun_types_channel_data_length(bytes: &[u8], whole: &mut usize
 
 /// Reads a ChannelData message.
 #[unsafe(no_mangle)]
-pub extern "C" fn stun_types_read_channel_data(bytes: &[u8], message: &mut ChannelMessage) -> Answer
+pub extern "C" fn stun_types_read_channel_data(
+    bytes: &[u8],
+    message: &mut ChannelMessage,
+) -> CallResult
     ensures { ReadsChannel bytes.now result message.old message.new }
 {
     match ChannelData::from_bytes(bytes) {
@@ -99,7 +102,7 @@ pub extern "C" fn stun_types_write_channel_data(
     padded: bool,
     room: &mut [u8],
     written: &mut usize,
-) -> Answer
+) -> CallResult
     ensures { WritesChannel padded channel «data».now result
         (record { slice = room.old; count = written.old })
         (record { slice = room.new; count = written.new }) }
@@ -109,7 +112,7 @@ pub extern "C" fn stun_types_write_channel_data(
     };
     let message = match ChannelData::new(channel, data) {
         Ok(message) => message,
-        Err(error) => return write_answer(error),
+        Err(error) => return write_result(error),
     };
     let answer = if padded {
         message.write_padded_into(room)
@@ -121,6 +124,6 @@ pub extern "C" fn stun_types_write_channel_data(
             *written = length;
             plain(codes::OK)
         }
-        Err(error) => write_answer(error),
+        Err(error) => write_result(error),
     }
 }

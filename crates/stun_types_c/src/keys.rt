@@ -7,7 +7,7 @@ ghost use Rattle.stun_types_c.specs.KeyHandles.{held_key, shared_key};
 ghost use Rattle.stun_types_c.specs.Keys.{algorithm_named, number_of, Holds, HoldsNamed, HoldsMade, TellsVerdict, ValidatesWith};
 ghost use Rattle.stun_types_c.specs.Credentials.{RefusesText, IsLongTerm, RefusesLongTerm, HoldsLongTerm, ValidatesShortTerm, ValidatesLongTerm, TellsUserhash};
 
-use crate::answer::{Answer, parse_answer, plain, validate_answer, write_answer};
+use crate::call_result::{CallResult, parse_result, plain, validate_result, write_result};
 use crate::codes;
 use crate::key_handle::KeyHandle;
 use crate::key_store::{hold, release};
@@ -47,7 +47,7 @@ fn hold_made(
     alloc: Global,
     key: &mut KeyHandle,
     made: Result<IntegrityKey, StunWriteError>,
-) -> Answer
+) -> CallResult
     ensures { HoldsMade made result (held_key key.old) (held_key key.new) }
 {
     match made {
@@ -58,7 +58,7 @@ fn hold_made(
                 Err(_) => plain(codes::OUT_OF_MEMORY),
             }
         }
-        Err(error) => write_answer(error),
+        Err(error) => write_result(error),
     }
 }
 
@@ -68,7 +68,7 @@ pub extern "C" fn stun_types_key_short_term(
     alloc: Global,
     key: &mut KeyHandle,
     password: &[u8],
-) -> Answer
+) -> CallResult
     ensures { Holds None password.now result (held_key key.old) (held_key key.new) }
 {
     hold_made(alloc, key, IntegrityKey::new(alloc, password, None))
@@ -81,7 +81,7 @@ pub extern "C" fn stun_types_key_from_bytes(
     key: &mut KeyHandle,
     bytes: &[u8],
     algorithm: u32,
-) -> Answer
+) -> CallResult
     ensures { HoldsNamed algorithm bytes.now result (held_key key.old) (held_key key.new) }
 {
     let algorithm = match algorithm {
@@ -105,21 +105,25 @@ pub extern "C" fn stun_types_key_free(alloc: Global, key: &mut KeyHandle)
 
 /// Whether a message is authentic under a key.
 #[unsafe(no_mangle)]
-pub extern "C" fn stun_types_validate(bytes: &[u8], key: &SharedKey, algorithm: &mut u32) -> Answer
+pub extern "C" fn stun_types_validate(
+    bytes: &[u8],
+    key: &SharedKey,
+    algorithm: &mut u32,
+) -> CallResult
     ensures { ValidatesWith (shared_key key.now) bytes.now result algorithm.old algorithm.new }
 {
     let message = match Message::from_bytes(bytes) {
         Ok(message) => message,
-        Err(error) => return parse_answer(error),
+        Err(error) => return parse_result(error),
     };
     match key.key() {
-        Some(key) => told(message.validate_integrity_with_key(key), algorithm),
+        Some(key) => store_algorithm(message.validate_integrity_with_key(key), algorithm),
         None => plain(codes::NO_KEY),
     }
 }
 
 /// A text of C's bytes, in memory that `alloc` gives.
-fn text_of(alloc: Global, bytes: &[u8]) -> Result<String, Answer>
+fn text_of(alloc: Global, bytes: &[u8]) -> Result<String, CallResult>
     ensures { MatchResult result
         (λ text. (is_utf8 bytes.now ≡ true) × (string_bytes text ≡ bytes.now))
         (RefusesText bytes.now) }
@@ -139,7 +143,7 @@ fn long_term_of(
     user: &[u8],
     realm: &[u8],
     password: &[u8],
-) -> Result<LongTermKeyCredentials, Answer>
+) -> Result<LongTermKeyCredentials, CallResult>
     ensures { MatchResult result (IsLongTerm user.now realm.now password.now)
         (RefusesLongTerm user.now realm.now password.now) }
 {
@@ -158,7 +162,7 @@ pub extern "C" fn stun_types_key_long_term(
     realm: &[u8],
     password: &[u8],
     algorithm: u32,
-) -> Answer
+) -> CallResult
     ensures { HoldsLongTerm algorithm user.now realm.now password.now result
         (held_key key.old) (held_key key.new) }
 {
@@ -171,8 +175,11 @@ pub extern "C" fn stun_types_key_long_term(
     }
 }
 
-/// What a validation answers.
-fn told(verdict: Result<IntegrityAlgorithm, ValidateError>, algorithm: &mut u32) -> Answer
+/// Stores the algorithm by which a message is valid; what the call returns.
+fn store_algorithm(
+    verdict: Result<IntegrityAlgorithm, ValidateError>,
+    algorithm: &mut u32,
+) -> CallResult
     ensures { TellsVerdict verdict result algorithm.old algorithm.new }
 {
     match verdict {
@@ -180,7 +187,7 @@ fn told(verdict: Result<IntegrityAlgorithm, ValidateError>, algorithm: &mut u32)
             *algorithm = number_of(checked);
             plain(codes::OK)
         }
-        Err(error) => validate_answer(error),
+        Err(error) => validate_result(error),
     }
 }
 
@@ -191,16 +198,16 @@ pub extern "C" fn stun_types_validate_short_term(
     bytes: &[u8],
     password: &[u8],
     algorithm: &mut u32,
-) -> Answer
+) -> CallResult
     ensures { ValidatesShortTerm password.now bytes.now result algorithm.old algorithm.new }
 {
     let message = match Message::from_bytes(bytes) {
         Ok(message) => message,
-        Err(error) => return parse_answer(error),
+        Err(error) => return parse_result(error),
     };
     match IntegrityKey::new(alloc, password, None) {
-        Ok(key) => told(message.validate_integrity_with_key(&key), algorithm),
-        Err(error) => write_answer(error),
+        Ok(key) => store_algorithm(message.validate_integrity_with_key(&key), algorithm),
+        Err(error) => write_result(error),
     }
 }
 
@@ -213,18 +220,18 @@ pub extern "C" fn stun_types_validate_long_term(
     realm: &[u8],
     password: &[u8],
     algorithm: &mut u32,
-) -> Answer
+) -> CallResult
     ensures { ValidatesLongTerm user.now realm.now password.now bytes.now result
         algorithm.old algorithm.new }
 {
     let message = match Message::from_bytes(bytes) {
         Ok(message) => message,
-        Err(error) => return parse_answer(error),
+        Err(error) => return parse_result(error),
     };
     match long_term_of(alloc, user, realm, password) {
         Ok(long) => {
             let credentials = MessageIntegrityCredentials::from(long);
-            told(message.validate_integrity(alloc, &credentials), algorithm)
+            store_algorithm(message.validate_integrity(alloc, &credentials), algorithm)
         }
         Err(answer) => answer,
     }
@@ -240,7 +247,7 @@ pub struct Hash {
 
 /// The hash by which a request names its user.
 #[unsafe(no_mangle)]
-pub extern "C" fn stun_types_userhash(user: &[u8], realm: &[u8], hash: &mut Hash) -> Answer
+pub extern "C" fn stun_types_userhash(user: &[u8], realm: &[u8], hash: &mut Hash) -> CallResult
     ensures { TellsUserhash user.now realm.now result hash.old hash.new }
 {
     let (Some(user), Some(realm)) = (text_in(user), text_in(realm)) else {

@@ -4,10 +4,10 @@
 #![tactic(auto)]
 
 mod address;
-mod answer;
 mod attribute;
 mod authentication;
 mod box_parts;
+mod call_result;
 mod challenges;
 mod channels;
 pub mod codes;
@@ -17,7 +17,7 @@ mod key_store;
 mod keys;
 mod laws;
 mod new_values;
-mod passwords;
+mod password_algorithms;
 mod printing;
 mod reading;
 mod server;
@@ -30,12 +30,12 @@ mod values;
 mod writing;
 
 pub use address::{Address, stun_types_read_address, stun_types_read_xor_address};
-pub use answer::Answer;
 pub use attribute::{Cursor, ShownAttribute, stun_types_find, stun_types_next};
 pub use authentication::{
     Authenticated, CountedIntegrity, stun_types_authenticate_long_term,
     stun_types_authenticate_short_term,
 };
+pub use call_result::CallResult;
 pub use challenges::{Asked, stun_types_challenge_of};
 pub use channels::{
     ChannelMessage, stun_types_channel_data_length, stun_types_protocol_of,
@@ -58,7 +58,7 @@ pub use server::stun_types_binding_reply;
 pub use shared_key::SharedKey;
 pub use streams::{KeptStream, stun_types_stream_push};
 pub use transactions::{
-    KeptTransaction, Outcome, Waits, Wanted, numbers_keep_one_transaction,
+    KeptTransaction, ReceivedOutcome, Waits, Wanted, numbers_keep_one_transaction,
     stun_types_transaction_begin, stun_types_transaction_cancel, stun_types_transaction_fail,
     stun_types_transaction_poll, stun_types_transaction_receive, what_begins_is_kept,
 };

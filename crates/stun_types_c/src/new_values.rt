@@ -6,6 +6,7 @@ ghost use Rattle.stun_grammar.specs.Numbers.{be16};
 
 use byteorder::{BigEndian, ByteOrder};
 use stun_attrs::EncodeValue;
+use stun_values::write_error;
 
 /// A code and a reason of an error (RFC 8489, section 14.8).
 #[derive(Drop)]
@@ -26,9 +27,7 @@ impl EncodeValue for ErrorValue<'_> {
     }
 
     fn write_value(&self, dest: &mut [u8]) {
-        let (start, reason) = dest.split_at_mut(4);
-        start.copy_from_slice(&[0, 0, (self.code / 100) as u8, (self.code % 100) as u8]);
-        reason[..self.reason.len()].copy_from_slice(self.reason);
+        write_error(self.code, self.reason, dest);
     }
 
     fn held_bytes(&self) -> Option<&[u8]> {

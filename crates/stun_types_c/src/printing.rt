@@ -3,18 +3,18 @@
 ghost use Rattle.std.specs.Prelude.{◌≡◌};
 ghost use Rattle.stun_types_c.specs.Printing.{Prints};
 
-use crate::answer::{Answer, counted, parse_answer, plain};
+use crate::call_result::{CallResult, counted, parse_result, plain};
 use crate::codes;
 use stun_types::message::Message;
 
 /// Writes the text of a message at the start of a slice.
 #[unsafe(no_mangle)]
-pub extern "C" fn stun_types_print(bytes: &[u8], text: &mut [u8], written: &mut usize) -> Answer
+pub extern "C" fn stun_types_print(bytes: &[u8], text: &mut [u8], written: &mut usize) -> CallResult
     ensures { Prints bytes.now result text.old text.new written.old written.new }
 {
     let message = match Message::from_bytes(bytes) {
         Ok(message) => message,
-        Err(error) => return parse_answer(error),
+        Err(error) => return parse_result(error),
     };
     let room = text.len();
     match message.write_text(text) {

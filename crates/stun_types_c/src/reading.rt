@@ -4,11 +4,11 @@ ghost use Rattle.std.specs.Prelude.{◌≡◌, ◌%◌, ◌^◌, MatchOption};
 ghost use Rattle.stun_grammar.specs.Headers.{header_fault};
 ghost use Rattle.stun_grammar.specs.Numbers.{number};
 ghost use Rattle.stun_grammar.specs.Parsing.{parse_fault};
-ghost use Rattle.stun_types_c.specs.Answers.{fault_answer};
+ghost use Rattle.stun_types_c.specs.CallResults.{fault_result};
 ghost use Rattle.stun_base.specs.MessageTypes.{type_of};
 ghost use Rattle.stun_types_c.specs.Reading.{Frames, header_in_c, class_number, class_numbered};
 
-use crate::answer::{Answer, parse_answer, plain};
+use crate::call_result::{CallResult, parse_result, plain};
 use crate::codes;
 use stun_base::{number_at, read_header};
 use stun_types::message::{
@@ -50,7 +50,7 @@ pub(crate) fn id_of(id: &Id) -> TransactionId
 
 /// How many bytes the message has that begins here; 0 where more bytes are needed to tell.
 #[unsafe(no_mangle)]
-pub extern "C" fn stun_types_framed_length(bytes: &[u8], whole: &mut usize) -> Answer
+pub extern "C" fn stun_types_framed_length(bytes: &[u8], whole: &mut usize) -> CallResult
     ensures { Frames bytes.now result whole.old whole.new }
 {
     match message_length(bytes) {
@@ -62,18 +62,18 @@ pub extern "C" fn stun_types_framed_length(bytes: &[u8], whole: &mut usize) -> A
             *whole = 0;
             plain(codes::OK)
         }
-        Err(error) => parse_answer(error),
+        Err(error) => parse_result(error),
     }
 }
 
 /// Whether the bytes are a message.
 #[unsafe(no_mangle)]
-pub extern "C" fn stun_types_parse(bytes: &[u8]) -> Answer
-    ensures { result ≡ fault_answer (parse_fault bytes.now) }
+pub extern "C" fn stun_types_parse(bytes: &[u8]) -> CallResult
+    ensures { result ≡ fault_result (parse_fault bytes.now) }
 {
     match Message::from_bytes(bytes) {
         Ok(_) => plain(codes::OK),
-        Err(error) => parse_answer(error),
+        Err(error) => parse_result(error),
     }
 }
 
@@ -92,14 +92,14 @@ fn class_number(class: MessageClass) -> u16
 /// Reads the header, the first twenty bytes.
 #[tactic(auto, using(stun_grammar::proofs::HeadersLemmas::header_there))]
 #[unsafe(no_mangle)]
-pub extern "C" fn stun_types_read_header(bytes: &[u8], header: &mut Header) -> Answer
-    ensures answer { result ≡ fault_answer (header_fault bytes.now) }
+pub extern "C" fn stun_types_read_header(bytes: &[u8], header: &mut Header) -> CallResult
+    ensures answer { result ≡ fault_result (header_fault bytes.now) }
     ensures header { MatchOption (header_fault bytes.now) (header.new ≡ header_in_c bytes.now)
         (λ _. header.new ≡ header.old) }
 {
     let read = match MessageHeader::from_bytes(bytes) {
         Ok(read) => read,
-        Err(error) => return parse_answer(error),
+        Err(error) => return parse_result(error),
     };
     let mtype = read.get_type();
     let mut id = [0; 12];

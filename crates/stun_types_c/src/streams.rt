@@ -1,9 +1,9 @@
 //! The messages of a stream that comes in pieces.
 
 ghost use Rattle.std.specs.Prelude.{◌≡◌};
-ghost use Rattle.stun_types_c.specs.Streams.{fault_answer, PushesPiece};
+ghost use Rattle.stun_types_c.specs.Streams.{fault_result, PushesPiece};
 
-use crate::answer::{Answer, counted, plain};
+use crate::call_result::{CallResult, counted, plain};
 use crate::codes;
 use stun_framing::{StreamFault, push_kept};
 
@@ -20,8 +20,8 @@ pub struct KeptStream {
 }
 
 /// Why no message begins where one had to.
-fn fault_answer(fault: StreamFault, size: usize) -> Answer
-    ensures { result ≡ fault_answer size fault }
+fn fault_result(fault: StreamFault, size: usize) -> CallResult
+    ensures { result ≡ fault_result size fault }
 {
     match fault {
         StreamFault::NotStun => plain(codes::NOT_STUN),
@@ -37,7 +37,7 @@ pub extern "C" fn stun_types_stream_push(
     buffer: &mut [u8],
     piece: &[u8],
     taken: &mut usize,
-) -> Answer
+) -> CallResult
     ensures { PushesPiece piece.now buffer.old buffer.new result kept.old kept.new
         taken.old taken.new }
 {
@@ -57,7 +57,7 @@ pub extern "C" fn stun_types_stream_push(
         }
         Err(error) => {
             kept.message = 0;
-            fault_answer(error.fault, size)
+            fault_result(error.fault, size)
         }
     }
 }

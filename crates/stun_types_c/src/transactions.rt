@@ -3,16 +3,16 @@
 
 ghost use Rattle.std.specs.Prelude.{◌≡◌, ℕ, List, Option, true, is_some, IfSome, MatchOption, MatchResult, option_map};
 ghost use Rattle.stun_types.specs.Message.{message_bytes};
-ghost use Rattle.stun_transactions.specs.declared.received.Outcome.{Outcome as ToldOutcome};
+ghost use Rattle.stun_transactions.specs.declared.received.Outcome.{Outcome};
 ghost use Rattle.stun_transactions.specs.Outcomes.{outcome_of, after};
 ghost use Rattle.stun_transactions.specs.declared.guard.Protection.{Protection};
-ghost use Rattle.stun_transactions.specs.Parts.{course_in, at_course, mechanism_of, parts_of, whole_fault};
+ghost use Rattle.stun_transactions.specs.Parts.{state_in, at_state, mechanism_of, parts_of, whole_fault};
 ghost use Rattle.stun_transactions.specs.Terms.{begin_fault};
 ghost use Rattle.stun_transactions.specs.Transactions.{Begins};
 ghost use Rattle.stun_types_c.specs.KeyHandles.{shared_key};
-ghost use Rattle.stun_types_c.specs.Transactions.{transport_numbered, mechanism_numbered, end_number, number_of_end, IsAt, millis_of, waits_fault, Schedules, Keeps, KeepsNone, AreSame, with_course, Ends, PollsKept, request_fault, request_answer, signed_in, begun_in_c, BeginsKept, outcome_in_c, IsCopyFor, Copies, IsOutcome, HearsKept};
+ghost use Rattle.stun_types_c.specs.Transactions.{transport_numbered, mechanism_numbered, end_number, number_of_end, IsAt, millis_of, waits_fault, Schedules, Keeps, KeepsNone, AreSame, with_state, Ends, PollsKept, request_fault, request_answer, signed_in, begun_in_c, BeginsKept, outcome_in_c, IsCopyFor, Copies, IsOutcome, ReceivesKept};
 
-use crate::answer::{Answer, parse_answer, plain};
+use crate::call_result::{CallResult, parse_result, plain};
 use crate::codes;
 use crate::reading::{Id, id_of};
 use crate::shared_key::SharedKey;
@@ -20,8 +20,8 @@ use crate::type_list::types_of;
 use std::alloc::Global;
 use std::time::Duration;
 use stun_transactions::{
-    Action, Discard, End, Failure, Mechanism, PartsError, Received, Schedule, Transaction,
-    TransactionParts,
+    Action, Discard, Failure, Mechanism, PartsError, Received, Schedule, Transaction,
+    TransactionEnd, TransactionParts,
 };
 use stun_types::TransportType;
 use stun_types::attribute::{
@@ -36,11 +36,12 @@ use stun_types::message::{Message, MessageClass, Method};
 pub struct Waits {
     /// The first interval.
     pub rto: u64,
-    /// The whole time over a reliable transport.
+    /// The timeout over a reliable transport (Ti of RFC 8489, section 6.2.2).
     pub reliable_wait: u64,
-    /// How many requests are sent at most.
+    /// How many requests are sent at most (Rc of RFC 8489, section 6.2.1).
     pub requests: u32,
-    /// How many times the first interval is waited after the last one.
+    /// How many times the first interval to wait after the last request (Rm of RFC 8489, section
+    /// 6.2.1).
     pub last_wait: u32,
 }
 
@@ -89,7 +90,7 @@ pub struct Wanted {
 /// What received bytes are for a transaction.
 #[repr(C)]
 #[derive(Clone, Copy, Drop)]
-pub struct Outcome {
+pub struct ReceivedOutcome {
     /// 0 to 8, as `c/stun_types.h` lists them.
     pub kind: u32,
     /// The type of an attribute, or the code of an error.
@@ -120,33 +121,33 @@ fn mechanism_of(number: u32) -> Option<Option<Mechanism>>
 }
 
 /// The end of a number, if it is the number of one or of none.
-fn end_of(number: u8) -> Option<Option<End>>
-    ensures { MatchOption result ((end : Option End) → ¬ (number ≡ number_of_end end))
+fn end_of(number: u8) -> Option<Option<TransactionEnd>>
+    ensures { MatchOption result ((end : Option TransactionEnd) → ¬ (number ≡ number_of_end end))
         (λ end. number ≡ number_of_end end) }
 {
     match number {
         0 => Some(None),
-        1 => Some(Some(End::Answered)),
-        2 => Some(Some(End::TimedOut)),
-        3 => Some(Some(End::IntegrityViolated)),
-        4 => Some(Some(End::Refused)),
-        5 => Some(Some(End::Cancelled)),
-        6 => Some(Some(End::TransportFailed)),
+        1 => Some(Some(TransactionEnd::Answered)),
+        2 => Some(Some(TransactionEnd::TimedOut)),
+        3 => Some(Some(TransactionEnd::IntegrityViolated)),
+        4 => Some(Some(TransactionEnd::Refused)),
+        5 => Some(Some(TransactionEnd::Cancelled)),
+        6 => Some(Some(TransactionEnd::TransportFailed)),
         _ => None,
     }
 }
 
 /// The number of an end.
-fn end_number(end: End) -> u8
+fn end_number(end: TransactionEnd) -> u8
     ensures { result ≡ end_number end }
 {
     match end {
-        End::Answered => 1,
-        End::TimedOut => 2,
-        End::IntegrityViolated => 3,
-        End::Refused => 4,
-        End::Cancelled => 5,
-        End::TransportFailed => 6,
+        TransactionEnd::Answered => 1,
+        TransactionEnd::TimedOut => 2,
+        TransactionEnd::IntegrityViolated => 3,
+        TransactionEnd::Refused => 4,
+        TransactionEnd::Cancelled => 5,
+        TransactionEnd::TransportFailed => 6,
     }
 }
 
@@ -155,7 +156,7 @@ fn schedule_of(waits: &Waits) -> Option<Schedule>
     ensures { MatchOption result (is_some (waits_fault waits.now) ≡ true) (Schedules waits.now) }
 {
     let schedule = Schedule::new(waits.rto, waits.requests, waits.last_wait).ok()?;
-    Some(schedule.with_reliable_wait(waits.reliable_wait))
+    Some(schedule.with_reliable_timeout(waits.reliable_wait))
 }
 
 /// The moment that is so many milliseconds.
@@ -199,7 +200,7 @@ fn parts_of(kept: &KeptTransaction) -> Option<TransactionParts>
 
 /// Stores how far a transaction has come.
 fn store(kept: &mut KeptTransaction, parts: &TransactionParts)
-    ensures { kept.new ≡ with_course kept.old (course_in parts.now) }
+    ensures { kept.new ≡ with_state kept.old (state_in parts.now) }
 {
     kept.sent = parts.sent;
     kept.last = millis(parts.last);
@@ -210,7 +211,7 @@ fn store(kept: &mut KeptTransaction, parts: &TransactionParts)
 
 /// The number of the integrity attributes that a request shows, or why a message is no request, or
 /// is signed otherwise than it is to be protected.
-fn signed_request(message: &Message<'_>, protected: bool) -> Result<u8, Answer>
+fn signed_request(message: &Message<'_>, protected: bool) -> Result<u8, CallResult>
     ensures { let d = message_bytes message.now in MatchResult result
         (λ signed. (request_fault protected d ≡ None) × (signed ≡ signed_in d))
         (λ answer. option_map request_answer (request_fault protected d) ≡ Some answer) }
@@ -238,13 +239,13 @@ pub extern "C" fn stun_types_transaction_begin(
     protection: u32,
     key: &SharedKey,
     now: u64,
-) -> Answer
+) -> CallResult
     ensures { BeginsKept request.now schedule.now transport protection now
         (shared_key key.now) result kept.old kept.new }
 {
     let message = match Message::from_bytes(request) {
         Ok(message) => message,
-        Err(error) => return parse_answer(error),
+        Err(error) => return parse_result(error),
     };
     if transport_of(transport).is_none() {
         return plain(codes::BAD_ARGUMENT);
@@ -287,7 +288,7 @@ pub extern "C" fn stun_types_transaction_poll(
     kept: &mut KeptTransaction,
     now: u64,
     wanted: &mut Wanted,
-) -> Answer
+) -> CallResult
     ensures { PollsKept now result
         (record { kept = kept.old; wanted = wanted.old })
         (record { kept = kept.new; wanted = wanted.new }) }
@@ -318,7 +319,7 @@ pub extern "C" fn stun_types_transaction_poll(
 }
 
 /// What received bytes are, as C's numbers.
-fn outcome_of(received: &Received<'_>) -> Outcome
+fn outcome_of(received: &Received<'_>) -> ReceivedOutcome
     ensures { result ≡ outcome_in_c (outcome_of received.now) }
 {
     let (kind, number) = match received {
@@ -332,7 +333,7 @@ fn outcome_of(received: &Received<'_>) -> Outcome
         Received::Success(_) => (7, 0),
         Received::Error(_, code) => (8, u32::from(*code)),
     };
-    Outcome { kind, number }
+    ReceivedOutcome { kind, number }
 }
 
 /// A copy of the key that a transaction of this mechanism validates with: a long-term key works with
@@ -352,7 +353,7 @@ fn key_for(
     alloc: Global,
     mechanism: Option<Mechanism>,
     key: &SharedKey,
-) -> Result<Option<IntegrityKey>, Answer>
+) -> Result<Option<IntegrityKey>, CallResult>
     ensures { Copies mechanism (shared_key key.now) result }
 {
     let Some(mechanism) = mechanism else {
@@ -367,17 +368,17 @@ fn key_for(
     }
 }
 
-/// Hands received bytes to a transaction.
-fn hear(
+/// Receives bytes for a transaction: how far it has come then, and what they are.
+fn receive(
     parts: TransactionParts,
     key: Option<IntegrityKey>,
     bytes: &[u8],
     understood: &[AttributeType],
-) -> Result<(TransactionParts, Outcome), PartsError>
+) -> Result<(TransactionParts, ReceivedOutcome), PartsError>
     ensures { MatchResult result
-        (λ told. (outcome : ToldOutcome) × IsOutcome parts key understood.now bytes.now outcome
-        × (told.0 ≡ at_course parts (after outcome (course_in parts)))
-        × (told.1 ≡ outcome_in_c outcome))
+        (λ reported. (outcome : Outcome) × IsOutcome parts key understood.now bytes.now outcome
+        × (reported.0 ≡ at_state parts (after outcome (state_in parts)))
+        × (reported.1 ≡ outcome_in_c outcome))
         (λ e. whole_fault parts key ≡ Some e) }
 {
     let mut transaction = Transaction::from_parts(parts, key)?;
@@ -394,11 +395,11 @@ pub extern "C" fn stun_types_transaction_receive(
     key: &SharedKey,
     bytes: &[u8],
     understood: &[u16],
-    received: &mut Outcome,
-) -> Answer
-    ensures { HearsKept (shared_key key.now) understood.now bytes.now result
-        (record { kept = kept.old; told = received.old })
-        (record { kept = kept.new; told = received.new }) }
+    received: &mut ReceivedOutcome,
+) -> CallResult
+    ensures { ReceivesKept (shared_key key.now) understood.now bytes.now result
+        (record { kept = kept.old; reported = received.old })
+        (record { kept = kept.new; reported = received.new }) }
 {
     let Some(understood) = types_of(understood) else {
         return plain(codes::BAD_ARGUMENT);
@@ -410,7 +411,7 @@ pub extern "C" fn stun_types_transaction_receive(
         Ok(copy) => copy,
         Err(answer) => return answer,
     };
-    match hear(parts, copy, bytes, understood.as_slice()) {
+    match receive(parts, copy, bytes, understood.as_slice()) {
         Ok((parts, outcome)) => {
             store(kept, &parts);
             *received = outcome;
@@ -422,8 +423,8 @@ pub extern "C" fn stun_types_transaction_receive(
 
 /// Ends a transaction, unless it has ended: the caller wants no response.
 #[unsafe(no_mangle)]
-pub extern "C" fn stun_types_transaction_cancel(kept: &mut KeptTransaction) -> Answer
-    ensures { Ends End.Cancelled result kept.old kept.new }
+pub extern "C" fn stun_types_transaction_cancel(kept: &mut KeptTransaction) -> CallResult
+    ensures { Ends TransactionEnd.Cancelled result kept.old kept.new }
 {
     let Some(mut parts) = parts_of(kept) else {
         return plain(codes::BAD_ARGUMENT);
@@ -435,8 +436,8 @@ pub extern "C" fn stun_types_transaction_cancel(kept: &mut KeptTransaction) -> A
 
 /// Ends a transaction, unless it has ended: the transport failed.
 #[unsafe(no_mangle)]
-pub extern "C" fn stun_types_transaction_fail(kept: &mut KeptTransaction) -> Answer
-    ensures { Ends End.TransportFailed result kept.old kept.new }
+pub extern "C" fn stun_types_transaction_fail(kept: &mut KeptTransaction) -> CallResult
+    ensures { Ends TransactionEnd.TransportFailed result kept.old kept.new }
 {
     let Some(mut parts) = parts_of(kept) else {
         return plain(codes::BAD_ARGUMENT);

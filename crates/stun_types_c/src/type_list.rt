@@ -6,8 +6,8 @@ ghost use Rattle.stun_values.specs.TypeLists.{types_in};
 ghost use Rattle.stun_types.specs.Replies.{is_unknown};
 ghost use Rattle.stun_types_c.specs.TypeLists.{types_numbered, unknown_numbers, ReadsTypes};
 
-use crate::answer::{Answer, plain};
 use crate::attribute::ShownAttribute;
+use crate::call_result::{CallResult, plain};
 use crate::codes;
 use crate::values::value_in;
 use stun_base::number_at;
@@ -69,7 +69,7 @@ pub extern "C" fn stun_types_read_types(
     attribute: &ShownAttribute,
     types: &mut [u16],
     count: &mut usize,
-) -> Answer
+) -> CallResult
     ensures { ReadsTypes attribute.now bytes.now result types.old types.new count.old count.new }
 {
     let Some(value) = value_in(bytes, attribute) else {

@@ -5,8 +5,8 @@ ghost use Rattle.std.specs.Str.{is_utf8};
 ghost use Rattle.std.specs.Option.{option_map};
 ghost use Rattle.stun_types_c.specs.Values.{value_of, ErrorOut, ReadsError};
 
-use crate::answer::{Answer, parse_answer, plain};
 use crate::attribute::ShownAttribute;
+use crate::call_result::{CallResult, parse_result, plain};
 use crate::codes;
 use stun_values::read_error;
 
@@ -38,7 +38,7 @@ pub extern "C" fn stun_types_read_error(
     code: &mut u16,
     reason_at: &mut usize,
     reason_length: &mut usize,
-) -> Answer
+) -> CallResult
     ensures { ReadsError attribute.now bytes.now result
         (record { code = code.old; reason_at = reason_at.old; reason_length = reason_length.old })
         (record { code = code.new; reason_at = reason_at.new; reason_length = reason_length.new }) }
@@ -53,6 +53,6 @@ pub extern "C" fn stun_types_read_error(
             *reason_length = reason.len();
             plain(codes::OK)
         }
-        Err(error) => parse_answer(error),
+        Err(error) => parse_result(error),
     }
 }

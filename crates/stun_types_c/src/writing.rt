@@ -8,11 +8,11 @@ ghost use Rattle.stun_values.specs.Addresses.{address_value};
 ghost use Rattle.stun_write.specs.ResumePoints.{any_in, step_in};
 ghost use Rattle.stun_types_c.specs.Codes.{OK};
 ghost use Rattle.stun_types_c.specs.KeyHandles.{shared_key};
-ghost use Rattle.stun_types_c.specs.Answers.{plain, write_answer};
+ghost use Rattle.stun_types_c.specs.CallResults.{plain, write_result};
 ghost use Rattle.stun_types_c.specs.Writing.{Begins, AppendsTo, AddsValue, AddsAddress, AddsXorAddress, AddsError, AddsTypes, Signs};
 
 use crate::address::{Address, socket_of};
-use crate::answer::{Answer, counted, plain, write_answer};
+use crate::call_result::{CallResult, counted, plain, write_result};
 use crate::codes;
 use crate::keys::algorithm_of;
 use crate::new_values::{ErrorValue, TypeNumbers};
@@ -24,7 +24,7 @@ use stun_base::MessageHeader;
 use stun_grammar::attribute_types::{ERROR_CODE, UNKNOWN_ATTRIBUTES};
 use stun_types::attribute::AttributeType;
 use stun_types::message::{MessageType, StunWriteError};
-use stun_values::{address_length, write_address, xor_addr};
+use stun_values::{address_length, check_error, check_type_count, write_address, xor_addr};
 use stun_write::{ResumePoint, write_message_header};
 
 /// Begins a message: writes its header, with the length 0, at the start of a slice.
@@ -34,7 +34,7 @@ pub extern "C" fn stun_types_begin(
     mtype: u16,
     id: &Id,
     written: &mut usize,
-) -> Answer
+) -> CallResult
     ensures { Begins mtype id.now result
         (record { slice = room.old; count = written.old })
         (record { slice = room.new; count = written.new }) }
@@ -50,31 +50,31 @@ pub extern "C" fn stun_types_begin(
     plain(codes::OK)
 }
 
-/// What an add answers.
-fn told(answer: Result<usize, StunWriteError>, written: &mut usize) -> Answer
+/// Stores how long the message is after an add; what the call returns.
+fn store_length(answer: Result<usize, StunWriteError>, written: &mut usize) -> CallResult
     ensures { MatchResult answer
         (λ length. (result ≡ plain OK) × (written.new ≡ length))
-        (λ e. (result ≡ write_answer e) × (written.new ≡ written.old)) }
+        (λ e. (result ≡ write_result e) × (written.new ≡ written.old)) }
 {
     match answer {
         Ok(length) => {
             *written = length;
             plain(codes::OK)
         }
-        Err(error) => write_answer(error),
+        Err(error) => write_result(error),
     }
 }
 
 /// Adds an attribute with a value that isn't too long.
 #[inline(always)]
-fn add_short(room: &mut [u8], written: &mut usize, atype: u16, value: &[u8]) -> Answer
+fn add_short(room: &mut [u8], written: &mut usize, atype: u16, value: &[u8]) -> CallResult
     requires { length value.now ≤ 65535 }
     ensures { AppendsTo (any_in (length room.old) atype value.now) atype (λ _. value.now) result
         (record { slice = room.old; count = written.old })
         (record { slice = room.new; count = written.new }) }
 {
     match ResumePoint::check(room, *written) {
-        Ok(point) => told(point.add_value(room, AttributeType(atype), value), written),
+        Ok(point) => store_length(point.add_value(room, AttributeType(atype), value), written),
         Err(_) => plain(codes::BAD_ARGUMENT),
     }
 }
@@ -86,7 +86,7 @@ pub extern "C" fn stun_types_add(
     written: &mut usize,
     atype: u16,
     value: &[u8],
-) -> Answer
+) -> CallResult
     ensures { AddsValue atype value.now result
         (record { slice = room.old; count = written.old })
         (record { slice = room.new; count = written.new }) }
@@ -97,18 +97,16 @@ pub extern "C" fn stun_types_add(
     if value.len() > 65535 {
         return counted(codes::TOO_LARGE, 65535, value.len());
     }
-    told(point.add_value(room, AttributeType(atype), value), written)
+    store_length(point.add_value(room, AttributeType(atype), value), written)
 }
 
 /// Adds an attribute with this address for its value.
-fn add_socket(room: &mut [u8], written: &mut usize, atype: u16, addr: SocketAddr) -> Answer
+fn add_socket(room: &mut [u8], written: &mut usize, atype: u16, addr: SocketAddr) -> CallResult
     ensures { AppendsTo (any_in (length room.old) atype (address_value addr)) atype
         (λ _. address_value addr) result
         (record { slice = room.old; count = written.old })
         (record { slice = room.new; count = written.new }) }
 {
-    // its contract says that an address has at most sixteen octets
-    let _xored = xor_addr(addr, 0.into());
     let mut value = [0; 20];
     let length = address_length(&addr) as usize;
     write_address(&addr, &mut value);
@@ -122,7 +120,7 @@ pub extern "C" fn stun_types_add_address(
     written: &mut usize,
     atype: u16,
     address: &Address,
-) -> Answer
+) -> CallResult
     ensures { AddsAddress address.now atype result
         (record { slice = room.old; count = written.old })
         (record { slice = room.new; count = written.new }) }
@@ -140,7 +138,7 @@ pub extern "C" fn stun_types_add_xor_address(
     written: &mut usize,
     atype: u16,
     address: &Address,
-) -> Answer
+) -> CallResult
     ensures { AddsXorAddress address.now atype result
         (record { slice = room.old; count = written.old })
         (record { slice = room.new; count = written.new }) }
@@ -159,7 +157,7 @@ pub extern "C" fn stun_types_add_error(
     written: &mut usize,
     code: u16,
     reason: &[u8],
-) -> Answer
+) -> CallResult
     ensures { AddsError code reason.now result
         (record { slice = room.old; count = written.old })
         (record { slice = room.new; count = written.new }) }
@@ -167,17 +165,14 @@ pub extern "C" fn stun_types_add_error(
     let Ok(point) = ResumePoint::check(room, *written) else {
         return plain(codes::BAD_ARGUMENT);
     };
-    if code < 300 || code > 699 {
-        return counted(codes::OUT_OF_RANGE, 699, code as usize);
-    }
-    if reason.len() > 763 {
-        return counted(codes::TOO_LARGE, 763, reason.len());
+    if let Err(error) = check_error(code, reason) {
+        return write_result(error);
     }
     if text_in(reason).is_none() {
         return plain(codes::INVALID_DATA);
     }
     let value = ErrorValue { code, reason };
-    told(
+    store_length(
         point.add_encoded(room, AttributeType(ERROR_CODE), &value),
         written,
     )
@@ -189,7 +184,7 @@ pub extern "C" fn stun_types_add_unknown_types(
     room: &mut [u8],
     written: &mut usize,
     types: &[u16],
-) -> Answer
+) -> CallResult
     ensures { AddsTypes types.now result
         (record { slice = room.old; count = written.old })
         (record { slice = room.new; count = written.new }) }
@@ -197,11 +192,11 @@ pub extern "C" fn stun_types_add_unknown_types(
     let Ok(point) = ResumePoint::check(room, *written) else {
         return plain(codes::BAD_ARGUMENT);
     };
-    if types.len() > 32767 {
-        return counted(codes::TOO_LARGE, 32767, types.len());
+    if let Err(error) = check_type_count(types.len()) {
+        return write_result(error);
     }
     let value = TypeNumbers { types };
-    told(
+    store_length(
         point.add_encoded(room, AttributeType(UNKNOWN_ATTRIBUTES), &value),
         written,
     )
@@ -214,7 +209,7 @@ pub extern "C" fn stun_types_add_integrity(
     written: &mut usize,
     key: &SharedKey,
     algorithm: u32,
-) -> Answer
+) -> CallResult
     ensures { Signs (shared_key key.now) algorithm result
         (record { slice = room.old; count = written.old })
         (record { slice = room.new; count = written.new }) }
@@ -224,7 +219,7 @@ pub extern "C" fn stun_types_add_integrity(
         return plain(codes::BAD_ARGUMENT);
     };
     match key.key() {
-        Some(key) => told(
+        Some(key) => store_length(
             point.add_message_integrity_with_key(room, key, algorithm),
             written,
         ),
@@ -234,14 +229,14 @@ pub extern "C" fn stun_types_add_integrity(
 
 /// Ends the message with a FINGERPRINT.
 #[unsafe(no_mangle)]
-pub extern "C" fn stun_types_add_fingerprint(room: &mut [u8], written: &mut usize) -> Answer
+pub extern "C" fn stun_types_add_fingerprint(room: &mut [u8], written: &mut usize) -> CallResult
     ensures { AppendsTo (step_in (length room.old) finger) FINGERPRINT
         (λ message. fingerprint_value message (length message)) result
         (record { slice = room.old; count = written.old })
         (record { slice = room.new; count = written.new }) }
 {
     match ResumePoint::check(room, *written) {
-        Ok(point) => told(point.add_fingerprint(room), written),
+        Ok(point) => store_length(point.add_fingerprint(room), written),
         Err(_) => plain(codes::BAD_ARGUMENT),
     }
 }

@@ -1,10 +1,12 @@
 -- Error codes and their reasons as values (RFC 8489, section 14.8).
-use Rattle.std.specs.Prelude.{ℕ, ◌+◌, ◌*◌, ◌/◌, ◌%◌, Bool, ◌&&◌, List, ◌∷◌, ◌++◌, length, drop, codes, slice_index, Option, Some, None, nat_le, if◌then◌else◌}
+use Rattle.std.specs.Prelude.{ℕ, ◌+◌, ◌*◌, ◌/◌, ◌%◌, Bool, ◌&&◌, List, ◌∷◌, ◌++◌, length, drop, codes, slice_index, Option, Some, None, nat_lt, nat_le, if◌then◌else◌}
 use Rattle.std.specs.Str.{is_utf8}
 use Rattle.std.specs.Fmt.{decimal}
 use Rattle.std.specs.Option.{option_or}
 use Rattle.stun_grammar.specs.declared.error.StunParseError.{StunParseError}
 use Rattle.stun_grammar.specs.declared.error.StunParseError.TheVariants.{InvalidAttributeData}
+use Rattle.stun_grammar.specs.declared.error.StunWriteError.{StunWriteError}
+use Rattle.stun_grammar.specs.declared.error.StunWriteError.TheVariants as Write
 use Rattle.stun_grammar.specs.AttributeTypes.{ERROR_CODE}
 use Rattle.stun_grammar.specs.Names.{plain_text}
 use Rattle.stun_grammar.specs.Lengths.{range_fault}
@@ -14,6 +16,14 @@ use Rattle.stun_values.specs.TextValues.{text_max}
 -- reason
 abbrev pub error_value : ℕ → List ℕ → List ℕ
 error_value code reason = 0 ∷ 0 ∷ (code / 100) ∷ (code % 100) ∷ reason
+
+-- why no value is made of a code and a reason
+abbrev pub making_fault : ℕ → List ℕ → Option StunWriteError
+making_fault code reason =
+    if nat_le 300 code && nat_le code 699 then (
+    if nat_lt text_max (length reason) then Some (Write.TooLarge text_max (length reason))
+    else None)
+    else Some (Write.OutOfRange code 300 699)
 
 -- the class in a value; the bits above its low three are ignored, and so are its first two bytes
 abbrev pub code_class : List ℕ → ℕ

@@ -1,14 +1,61 @@
-//! A code and a reason as the bytes of a value, read and printed (RFC 8489, section 14.8).
+//! A code and a reason as the bytes of a value, written, read and printed (RFC 8489, section 14.8).
 
-ghost use Rattle.std.specs.Prelude.{◌≡◌, ◌≤◌, true, false, Some, None, MatchOption, MatchResult, OnOk, length, drop};
+ghost use Rattle.std.specs.Prelude.{◌≡◌, ◌≤◌, ◌++◌, true, false, Some, None, MatchOption, MatchResult, OnOk, length, drop};
 ghost use Rattle.stun_values.specs.TextValues.{text_max};
-ghost use Rattle.stun_values.specs.ErrorValues.{told_code, tells_code, error_fault, error_text};
+ghost use Rattle.stun_values.specs.ErrorValues.{error_value, making_fault, told_code, tells_code, error_fault, error_text};
 
 use crate::printed::put_type;
 use crate::{TEXT_MAX, check_range};
-use stun_base::{AttributeType, StunParseError};
+use stun_base::{AttributeType, StunParseError, StunWriteError};
 use stun_grammar::attribute_types;
 use stun_text::{TextSink, put_decimal};
+
+/// Tests that a value may be made of a code and a reason: the code is one of 300 to 699, and the
+/// reason has at most 763 bytes.
+///
+/// # Errors
+///
+/// `OutOfRange { value, min: 300, max: 699 }` if the code is below 300 or above 699, and else
+/// `TooLarge { expected: 763, actual }` if the reason has more than 763 bytes.
+#[tactic(auto, using(crate::proofs::ErrorValuesLemmas::below_range, crate::proofs::ErrorValuesLemmas::above_range, crate::proofs::ErrorValuesLemmas::long_reason, crate::proofs::ErrorValuesLemmas::can_be_made))]
+pub fn check_error(code: u16, reason: &[u8]) -> Result<(), StunWriteError>
+    ensures { MatchResult result
+        (λ _. (making_fault code reason.now ≡ None) × (300 ≤ code) × (code ≤ 699)
+        × (length reason.now ≤ text_max))
+        (λ e. making_fault code reason.now ≡ Some e) }
+{
+    if !(300..=699).contains(&code) {
+        return Err(StunWriteError::OutOfRange {
+            value: code as usize,
+            min: 300,
+            max: 699,
+        });
+    }
+    if reason.len() > TEXT_MAX as usize {
+        return Err(StunWriteError::TooLarge {
+            expected: TEXT_MAX as usize,
+            actual: reason.len(),
+        });
+    }
+    Ok(())
+}
+
+/// Writes the value of a code and a reason at the start of `dest`: two zeros, the class of the code
+/// (its hundreds) in a byte, its number (0 to 99) in a byte, and the reason.
+///
+/// # Requires
+///
+/// `code` is at most 699, and `dest.len()` at least `4 + reason.len()`.
+pub fn write_error(code: u16, reason: &[u8], dest: &mut [u8])
+    requires code { code ≤ 699 }
+    requires room { length (error_value code reason.now) ≤ length dest.old }
+    ensures { dest.new
+        ≡ error_value code reason.now ++ drop (length (error_value code reason.now)) dest.old }
+{
+    let (start, rest) = dest.split_at_mut(4);
+    start.copy_from_slice(&[0, 0, (code / 100) as u8, (code % 100) as u8]);
+    rest[..reason.len()].copy_from_slice(reason);
+}
 
 /// The code in a value of four bytes or more, if its class is 3 to 6 and its number at most 99.
 #[tactic(auto, using(crate::proofs::ErrorValuesLemmas::tells, crate::proofs::ErrorValuesLemmas::low_class, crate::proofs::ErrorValuesLemmas::high_class, crate::proofs::ErrorValuesLemmas::high_number))]

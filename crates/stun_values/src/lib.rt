@@ -1,5 +1,5 @@
 //! The values of the fifteen attribute types that this library knows: what each has to be, read
-//! from its bytes, and how it is printed. It takes no memory.
+//! from its bytes, and how it is written and printed. It takes no memory.
 #![tactic(auto)]
 
 mod algorithm;
@@ -23,7 +23,7 @@ pub use algorithm::{
 pub use algorithm_list::AlgorithmList;
 pub use check::{check_length, check_range};
 pub use checksum::{masked, read_checksum};
-pub use error_value::{print_error, read_error};
+pub use error_value::{check_error, print_error, read_error, write_error};
 pub use lengths::{
     check_hash_length, check_hmac_length, check_sha1_length, check_sha256_length, hmac_length,
 };
@@ -35,5 +35,5 @@ pub use rule::{
 pub use socket_value::{address_length, read_address, write_address};
 pub use text::read_text;
 pub use typed::{TypedValue, read_value};
-pub use types::{check_types, print_types, print_types_in};
+pub use types::{TYPES_MAX, check_type_count, check_types, print_types, print_types_in};
 pub use xored::{write_xored, xor_addr};

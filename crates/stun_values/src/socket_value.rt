@@ -12,7 +12,8 @@ use stun_base::StunParseError;
 
 /// The length of the value of this address: 8 or 20.
 pub fn address_length(addr: &SocketAddr) -> u16
-    ensures { result ≡ length (address_value addr.now) }
+    ensures value { result ≡ length (address_value addr.now) }
+    ensures bound { result ≤ 20 }
 {
     match addr.ip() {
         IpAddr::V4(ip) => 4 + ip.octets().len() as u16,

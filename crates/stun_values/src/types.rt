@@ -1,13 +1,35 @@
 //! A list of attribute types in two bytes each, tested and printed (RFC 8489, section 14.13).
 
-ghost use Rattle.std.specs.Prelude.{◌≡◌, ◌%◌, ◌++◌, Some, None, MatchResult, OnOk, length};
+ghost use Rattle.std.specs.Prelude.{◌≡◌, ◌<◌, ◌≤◌, ◌%◌, ◌++◌, Some, None, MatchResult, OnOk, length};
 ghost use Rattle.stun_grammar.specs.Names.{attribute_type_debug};
 ghost use Rattle.stun_text.specs.Lists.{with_commas, comma_before};
 ghost use Rattle.stun_values.specs.TypeLists.{types_fault, types_in, types_text, listed_text};
 
-use stun_base::{AttributeType, StunParseError, number_at};
+use stun_base::{AttributeType, StunParseError, StunWriteError, number_at};
 use stun_grammar::{attribute_types, put_type_debug};
 use stun_text::{PrintText, TextSink, put_comma};
+
+/// The most types in a list: those of 65534 bytes, since a value has at most 65535.
+pub const TYPES_MAX: usize = 32767;
+
+/// Tests that a list of so many types may be made.
+///
+/// # Errors
+///
+/// `TooLarge { expected: 32767, actual: count }`, which counts types and not bytes, if there are
+/// more than 32767.
+pub fn check_type_count(count: usize) -> Result<(), StunWriteError>
+    ensures { MatchResult result (λ _. count ≤ 32767)
+        (λ e. (32767 < count) × (e ≡ StunWriteError.TooLarge 32767 count)) }
+{
+    if count > TYPES_MAX {
+        return Err(StunWriteError::TooLarge {
+            expected: TYPES_MAX,
+            actual: count,
+        });
+    }
+    Ok(())
+}
 
 /// Tests that a value is a list of types: it has an even number of bytes.
 ///

@@ -1,3 +1,4 @@
+use crate::attribute_types;
 use crate::family::{family_from_byte, family_to_byte};
 use std::alloc::Global;
 use std::fmt;
@@ -46,7 +47,7 @@ impl TypedAttribute for AddressErrorCode {
 
     ghost NUMBER = { ADDRESS_ERROR_CODE };
 
-    const NUMBER: u16 = 0x8001;
+    const NUMBER: u16 = attribute_types::ADDRESS_ERROR_CODE;
 }
 
 impl EncodeValue for AddressErrorCode {

@@ -1,6 +1,6 @@
 //! Attributes whose values have a form of the library, and their numbers and names.
 
-use crate::{Channel, IcmpError, OnlyIpv6};
+use crate::{Channel, IcmpError, OnlyIpv6, attribute_types};
 use stun_types::AddressFamily;
 use stun_types::attribute::{
     AttributeKind, BytesAttribute, EmptyAttribute, FieldsAttribute, NumberAttribute, ShortBytes,
@@ -22,7 +22,7 @@ impl AttributeKind for ChannelNumberKind {
 
     ghost NAME = { codes "CHANNEL-NUMBER" };
 
-    const NUMBER: u16 = 0x000C;
+    const NUMBER: u16 = attribute_types::CHANNEL_NUMBER;
 
     fn name() -> &'static str {
         "CHANNEL-NUMBER"
@@ -44,7 +44,7 @@ impl AttributeKind for XorRelayedAddressKind {
 
     ghost NAME = { codes "XOR-RELAYED-ADDRESS" };
 
-    const NUMBER: u16 = 0x0016;
+    const NUMBER: u16 = attribute_types::XOR_RELAYED_ADDRESS;
 
     fn name() -> &'static str {
         "XOR-RELAYED-ADDRESS"
@@ -70,7 +70,7 @@ impl AttributeKind for RequestedAddressFamilyKind {
 
     ghost NAME = { codes "REQUESTED-ADDRESS-FAMILY" };
 
-    const NUMBER: u16 = 0x0017;
+    const NUMBER: u16 = attribute_types::REQUESTED_ADDRESS_FAMILY;
 
     fn name() -> &'static str {
         "REQUESTED-ADDRESS-FAMILY"
@@ -93,7 +93,7 @@ impl AttributeKind for EvenPortKind {
 
     ghost NAME = { codes "EVEN-PORT" };
 
-    const NUMBER: u16 = 0x0018;
+    const NUMBER: u16 = attribute_types::EVEN_PORT;
 
     fn name() -> &'static str {
         "EVEN-PORT"
@@ -116,7 +116,7 @@ impl AttributeKind for RequestedTransportKind {
 
     ghost NAME = { codes "REQUESTED-TRANSPORT" };
 
-    const NUMBER: u16 = 0x0019;
+    const NUMBER: u16 = attribute_types::REQUESTED_TRANSPORT;
 
     fn name() -> &'static str {
         "REQUESTED-TRANSPORT"
@@ -138,7 +138,7 @@ impl AttributeKind for DontFragmentKind {
 
     ghost NAME = { codes "DONT-FRAGMENT" };
 
-    const NUMBER: u16 = 0x001A;
+    const NUMBER: u16 = attribute_types::DONT_FRAGMENT;
 
     fn name() -> &'static str {
         "DONT-FRAGMENT"
@@ -160,7 +160,7 @@ impl AttributeKind for AccessTokenKind {
 
     ghost NAME = { codes "ACCESS-TOKEN" };
 
-    const NUMBER: u16 = 0x001B;
+    const NUMBER: u16 = attribute_types::ACCESS_TOKEN;
 
     fn name() -> &'static str {
         "ACCESS-TOKEN"
@@ -182,7 +182,7 @@ impl AttributeKind for ReservationTokenKind {
 
     ghost NAME = { codes "RESERVATION-TOKEN" };
 
-    const NUMBER: u16 = 0x0022;
+    const NUMBER: u16 = attribute_types::RESERVATION_TOKEN;
 
     fn name() -> &'static str {
         "RESERVATION-TOKEN"
@@ -204,7 +204,7 @@ impl AttributeKind for ConnectionIdKind {
 
     ghost NAME = { codes "CONNECTION-ID" };
 
-    const NUMBER: u16 = 0x002A;
+    const NUMBER: u16 = attribute_types::CONNECTION_ID;
 
     fn name() -> &'static str {
         "CONNECTION-ID"
@@ -226,7 +226,7 @@ impl AttributeKind for AdditionalAddressFamilyKind {
 
     ghost NAME = { codes "ADDITIONAL-ADDRESS-FAMILY" };
 
-    const NUMBER: u16 = 0x8000;
+    const NUMBER: u16 = attribute_types::ADDITIONAL_ADDRESS_FAMILY;
 
     fn name() -> &'static str {
         "ADDITIONAL-ADDRESS-FAMILY"
@@ -249,7 +249,7 @@ impl AttributeKind for IcmpKind {
 
     ghost NAME = { codes "ICMP" };
 
-    const NUMBER: u16 = 0x8004;
+    const NUMBER: u16 = attribute_types::ICMP;
 
     fn name() -> &'static str {
         "ICMP"
@@ -271,7 +271,7 @@ impl AttributeKind for MobilityTicketKind {
 
     ghost NAME = { codes "MOBILITY-TICKET" };
 
-    const NUMBER: u16 = 0x8030;
+    const NUMBER: u16 = attribute_types::MOBILITY_TICKET;
 
     fn name() -> &'static str {
         "MOBILITY-TICKET"

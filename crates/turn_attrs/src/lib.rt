@@ -6,6 +6,7 @@
 #![tactic(auto)]
 
 mod address_error_code;
+pub mod attribute_types;
 mod channel_data;
 mod channels;
 pub mod error_codes;
@@ -15,10 +16,10 @@ mod kinds;
 mod laws;
 pub mod methods;
 mod protocols;
-mod registering;
 mod third_party;
 
 pub use address_error_code::AddressErrorCode;
+pub use attribute_types::KNOWN;
 pub use channel_data::{ChannelData, ChannelDataError, channel_data_length};
 pub use channels::Channel;
 pub use family::OnlyIpv6;
@@ -32,27 +33,5 @@ pub use kinds::{
 };
 pub use laws::{address_error_is_read_back, fields_are_held};
 pub use protocols::{Protocol, protocol_of, stun_begins_low};
-use stun_types::attribute::AttributeType;
 pub use third_party::ThirdPartyAuthorization;
 pub use turn_basics::{DataKind, Lifetime, PeerData, XorPeerAddress, XorPeerAddressKind};
-
-/// The types of this crate, for `Message::check_attribute_types`.
-pub const KNOWN: [AttributeType; 17] = [
-    AttributeType(0x000C),
-    AttributeType(0x000D),
-    AttributeType(0x0012),
-    AttributeType(0x0013),
-    AttributeType(0x0016),
-    AttributeType(0x0017),
-    AttributeType(0x0018),
-    AttributeType(0x0019),
-    AttributeType(0x001A),
-    AttributeType(0x001B),
-    AttributeType(0x0022),
-    AttributeType(0x002A),
-    AttributeType(0x8000),
-    AttributeType(0x8001),
-    AttributeType(0x8004),
-    AttributeType(0x802E),
-    AttributeType(0x8030),
-];

@@ -1,3 +1,4 @@
+use crate::attribute_types;
 use std::alloc::Global;
 use std::fmt;
 use stun_types::attribute::{BorrowValue, EncodeValue, ReadValue, TextAttribute, TypedAttribute};
@@ -8,7 +9,7 @@ use stun_types::{PrintText, TextSink};
 /// there (RFC 7635, section 6.1). The value is the name in UTF-8, at most 65535 bytes.
 #[derive(Debug, PartialEq, Eq, Drop)]
 pub struct ThirdPartyAuthorization {
-    name: TextAttribute<0x802E, 65535>,
+    name: TextAttribute<{ attribute_types::THIRD_PARTY_AUTHORIZATION }, 65535>,
 }
 
 impl ThirdPartyAuthorization {
@@ -44,7 +45,7 @@ impl TypedAttribute for ThirdPartyAuthorization {
 
     ghost NUMBER = { THIRD_PARTY_AUTHORIZATION };
 
-    const NUMBER: u16 = 0x802E;
+    const NUMBER: u16 = attribute_types::THIRD_PARTY_AUTHORIZATION;
 }
 
 impl EncodeValue for ThirdPartyAuthorization {

@@ -1,5 +1,6 @@
 //! XOR-PEER-ADDRESS and DATA, whose values have forms of the library.
 
+use crate::attribute_types;
 use stun_types::attribute::{AttributeKind, BytesAttribute, ShortBytes, XorAddressAttribute};
 
 /// XOR-PEER-ADDRESS: the address of a peer as the server sees it (RFC 8656, section 18.3). The
@@ -17,7 +18,7 @@ impl AttributeKind for XorPeerAddressKind {
 
     ghost NAME = { codes "XOR-PEER-ADDRESS" };
 
-    const NUMBER: u16 = 0x0012;
+    const NUMBER: u16 = attribute_types::XOR_PEER_ADDRESS;
 
     fn name() -> &'static str {
         "XOR-PEER-ADDRESS"
@@ -39,7 +40,7 @@ impl AttributeKind for DataKind {
 
     ghost NAME = { codes "DATA" };
 
-    const NUMBER: u16 = 0x0013;
+    const NUMBER: u16 = attribute_types::DATA;
 
     fn name() -> &'static str {
         "DATA"

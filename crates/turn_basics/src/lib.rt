@@ -7,6 +7,7 @@
 //! its own paths, with all others.
 #![tactic(auto)]
 
+pub mod attribute_types;
 mod kinds;
 mod lifetime;
 

@@ -1,3 +1,4 @@
+use crate::attribute_types;
 use byteorder::{BigEndian, ByteOrder};
 use std::alloc::Global;
 use std::fmt;
@@ -36,7 +37,7 @@ impl TypedAttribute for Lifetime {
 
     ghost NUMBER = { LIFETIME };
 
-    const NUMBER: u16 = 0x000D;
+    const NUMBER: u16 = attribute_types::LIFETIME;
 }
 
 impl EncodeValue for Lifetime {

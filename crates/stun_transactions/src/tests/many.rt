@@ -1,11 +1,11 @@
 //! Many transactions, call for call.
 
-use crate::course::End::{Answered, Cancelled, TimedOut, TransportFailed};
 use crate::received::Outcome;
 use crate::received::Outcome::{NotForThis, Success};
+use crate::retransmission::TransactionEnd::{Answered, Cancelled, TimedOut, TransportFailed};
 use crate::slots::Task::{Ended, Idle, Send, WaitUntil};
 use crate::tests::messages;
-use crate::tests::responses::told;
+use crate::tests::responses::reported;
 use crate::{AddError, BeginError, Protection, Schedule, Task, Transactions};
 use std::test::Fail;
 use std::time::Duration;
@@ -48,11 +48,11 @@ fn success(last: u8) -> [u8; 32] {
     bytes
 }
 
-/// What is told of the success response with this ID.
-fn heard(many: &mut Transactions<2>, last: u8) -> Option<(TransactionId, Outcome)> {
+/// What the success response with this ID is, and for which transaction.
+fn received(many: &mut Transactions<2>, last: u8) -> Option<(TransactionId, Outcome)> {
     let bytes = success(last);
     match many.receive(&bytes, &[]) {
-        Some((id, received)) => Some((id, told(received))),
+        Some((id, received)) => Some((id, reported(received))),
         None => None,
     }
 }
@@ -72,7 +72,7 @@ fn answers(many: &mut Transactions<2>, step: Step) -> Result<bool, Fail> {
         Poll(millis, task) => many.poll(Duration::from_millis(millis)) == task,
         Wake(millis) => many.next_wake() == millis.map(Duration::from_millis),
         Receive(last, outcome) => {
-            heard(many, last) == outcome.map(|outcome| (id(last), outcome))
+            received(many, last) == outcome.map(|outcome| (id(last), outcome))
         }
         Cancel(last, found) => many.cancel(id(last)) == found,
         Fails(last, found) => many.fail(id(last)) == found,

@@ -1,7 +1,7 @@
 //! What polls answer, moment for moment.
 
-use crate::course::Action::{Ended, Send, WaitUntil};
-use crate::course::End::TimedOut;
+use crate::retransmission::Action::{Ended, Send, WaitUntil};
+use crate::retransmission::TransactionEnd::TimedOut;
 use crate::tests::messages;
 use crate::{Action, Protection, Schedule, ScheduleError, Transaction};
 use std::test::Fail;
@@ -107,7 +107,7 @@ fn moments(rt: HostRuntime) -> Result<(), Fail> {
         ("a reliable transport", default, Tcp, reliable.as_slice()),
         (
             "its wait",
-            default.with_reliable_wait(300),
+            default.with_reliable_timeout(300),
             Tcp,
             once.as_slice(),
         ),
@@ -131,9 +131,9 @@ fn moments(rt: HostRuntime) -> Result<(), Fail> {
         ((1, 65, 1), Some(ScheduleError::TooLong)),
         ((1, u32::MAX, 1), Some(ScheduleError::TooLong)),
     ];
-    for ((rto, requests, last_wait), fault) in numbers {
+    for ((rto, requests, last_wait_factor), fault) in numbers {
         assert!(rt;
-            Schedule::new(rto, requests, last_wait).err() == fault,
+            Schedule::new(rto, requests, last_wait_factor).err() == fault,
             "{rto} {requests}"
         );
     }

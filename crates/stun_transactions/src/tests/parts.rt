@@ -5,7 +5,7 @@ use crate::parts::PartsError::{
 };
 use crate::tests::messages;
 use crate::{
-    Action, End, Mechanism, PartsError, Protection, Received, Schedule, Transaction,
+    Action, Mechanism, PartsError, Protection, Received, Schedule, Transaction, TransactionEnd,
     TransactionParts,
 };
 use std::alloc::Global;
@@ -42,8 +42,10 @@ fn parted(alloc: Global) -> Result<(TransactionParts, Option<IntegrityKey>), Fai
 #[test]
 fn goes_on(rt: HostRuntime) -> Result<(), Fail> {
     let (mut parts, key) = parted(rt.alloc())?;
-    assert!(rt; parts.schedule.rto() == 1000 && parts.schedule.requests() == 7);
-    assert!(rt; parts.schedule.last_wait() == 16 && parts.schedule.reliable_wait() == 39500);
+    assert!(rt; parts.schedule.rto() == 1000 && parts.schedule.max_requests() == 7);
+    assert!(rt;
+        parts.schedule.last_wait_factor() == 16 && parts.schedule.reliable_timeout() == 39500
+    );
     assert!(rt; parts.mechanism == Some(Mechanism::LongTerm) && parts.sha1 && !parts.sha256);
     assert!(rt; parts.sent == 2 && parts.last == Duration::from_secs(4) && parts.end == None);
     assert!(rt; parts.next_wake() == Some(Duration::from_secs(6)));
@@ -53,10 +55,10 @@ fn goes_on(rt: HostRuntime) -> Result<(), Fail> {
     let taken = transaction.receive(&messages::SUCCESS_SHA1, &[]);
     assert!(rt; matches!(taken, Received::Success(_)));
     let (mut parts, _key) = transaction.into_parts();
-    assert!(rt; parts.end == Some(End::Answered));
+    assert!(rt; parts.end == Some(TransactionEnd::Answered));
     parts.cancel();
     parts.fail();
-    assert!(rt; parts.poll(Duration::from_secs(7)) == Action::Ended(End::Answered));
+    assert!(rt; parts.poll(Duration::from_secs(7)) == Action::Ended(TransactionEnd::Answered));
     Ok(())
 }
 

@@ -1,9 +1,9 @@
 //! What received messages are for a transaction.
 
-use crate::course::Action::Ended;
-use crate::course::End;
 use crate::received::Outcome;
 use crate::received::Outcome::{Discarded, Error, Failed, NotForThis, Success};
+use crate::retransmission::Action::Ended;
+use crate::retransmission::TransactionEnd;
 use crate::tests::messages;
 use crate::{Action, Discard, Failure, Protection, Received, Schedule, Transaction};
 use std::alloc::Global;
@@ -41,8 +41,8 @@ fn protection(alloc: Global, guard: Guard) -> Result<Protection, StunWriteError>
 /// A request, its protection and its transport.
 type Asked<'a> = (Guard, &'a [u8], TransportType);
 
-/// What is told of a message that is received.
-pub fn told(received: Received<'_>) -> Outcome {
+/// What a received message is for its transaction.
+pub fn reported(received: Received<'_>) -> Outcome {
     match received {
         Received::NotForThis => NotForThis,
         Received::Discarded(reason) => Discarded(reason),
@@ -71,9 +71,9 @@ fn sent(alloc: Global, asked: Asked<'_>) -> Result<Transaction, Fail> {
 
 /// What a poll answers at 39500 ms after these messages were received, where all requests were
 /// sent.
-fn end_after(alloc: Global, asked: Asked<'_>, heard: &[&[u8]]) -> Result<Action, Fail> {
+fn end_after(alloc: Global, asked: Asked<'_>, received: &[&[u8]]) -> Result<Action, Fail> {
     let mut transaction = sent(alloc, asked)?;
-    for bytes in heard {
+    for bytes in received {
         let _outcome = transaction.receive(bytes, &[]);
     }
     for millis in [500, 1500, 3500, 7500, 15500, 31500] {
@@ -164,8 +164,8 @@ fn outcomes(rt: HostRuntime) -> Result<(), Fail> {
     ];
     for (place, (asked, bytes, outcome)) in rows.iter().enumerate() {
         let mut transaction = sent(alloc, *asked)?;
-        let first = told(transaction.receive(bytes, &[]));
-        let again = told(transaction.receive(bytes, &[]));
+        let first = reported(transaction.receive(bytes, &[]));
+        let again = reported(transaction.receive(bytes, &[]));
         let goes_on = matches!(outcome, NotForThis | Discarded(_));
         assert!(rt; first == *outcome, "row {place}");
         assert!(rt;
@@ -192,19 +192,31 @@ fn ends(rt: HostRuntime) -> Result<(), Fail> {
     let bid_down = [messages::SUCCESS_BID_DOWN.as_slice()];
     let then_unsigned = [messages::ERROR_400.as_slice(), messages::SUCCESS.as_slice()];
     let rows = [
-        (short, &unsigned[..0], End::TimedOut),
-        (short, unsigned.as_slice(), End::IntegrityViolated),
-        (short, then_signed.as_slice(), End::Answered),
-        (short_tcp, then_signed.as_slice(), End::IntegrityViolated),
-        (long, bad_request.as_slice(), End::TimedOut),
-        (long, then_unsigned.as_slice(), End::IntegrityViolated),
-        (long_tcp, bad_request.as_slice(), End::TimedOut),
-        (long, bid_down.as_slice(), End::TimedOut),
-        (long_tcp, bid_down.as_slice(), End::TimedOut),
+        (short, &unsigned[..0], TransactionEnd::TimedOut),
+        (
+            short,
+            unsigned.as_slice(),
+            TransactionEnd::IntegrityViolated,
+        ),
+        (short, then_signed.as_slice(), TransactionEnd::Answered),
+        (
+            short_tcp,
+            then_signed.as_slice(),
+            TransactionEnd::IntegrityViolated,
+        ),
+        (long, bad_request.as_slice(), TransactionEnd::TimedOut),
+        (
+            long,
+            then_unsigned.as_slice(),
+            TransactionEnd::IntegrityViolated,
+        ),
+        (long_tcp, bad_request.as_slice(), TransactionEnd::TimedOut),
+        (long, bid_down.as_slice(), TransactionEnd::TimedOut),
+        (long_tcp, bid_down.as_slice(), TransactionEnd::TimedOut),
     ];
-    for (place, (asked, heard, end)) in rows.iter().enumerate() {
+    for (place, (asked, received, end)) in rows.iter().enumerate() {
         assert!(rt;
-            end_after(alloc, *asked, heard)? == Ended(*end),
+            end_after(alloc, *asked, received)? == Ended(*end),
             "row {place}"
         );
     }
@@ -219,10 +231,10 @@ fn ends(rt: HostRuntime) -> Result<(), Fail> {
     let mut cancelled = sent(alloc, short)?;
     cancelled.cancel();
     cancelled.fail();
-    assert!(rt; told(cancelled.receive(&messages::SUCCESS_SHA1, &[])) == NotForThis);
-    assert!(rt; cancelled.poll(Duration::from_millis(500)) == Ended(End::Cancelled));
+    assert!(rt; reported(cancelled.receive(&messages::SUCCESS_SHA1, &[])) == NotForThis);
+    assert!(rt; cancelled.poll(Duration::from_millis(500)) == Ended(TransactionEnd::Cancelled));
     let mut failed = sent(alloc, short)?;
     failed.fail();
-    assert!(rt; failed.poll(Duration::ZERO) == Ended(End::TransportFailed));
+    assert!(rt; failed.poll(Duration::ZERO) == Ended(TransactionEnd::TransportFailed));
     Ok(())
 }

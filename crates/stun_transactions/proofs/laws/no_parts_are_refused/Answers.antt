@@ -1,4 +1,4 @@
-use Rattle.stun_transactions.proofs.PartsLemmas.{begins, polled, heard, ended}
+use Rattle.stun_transactions.proofs.PartsLemmas.{begins, polled, received, ended}
 use Rattle.stun_transactions.proofs.laws.no_parts_are_refused.Goals as goal
 
 pub returns-clause-begins : goal.returns-clause-begins
@@ -8,7 +8,7 @@ pub returns-clause-polls : goal.returns-clause-polls
 returns-clause-polls c = polled
 
 pub returns-clause-receives : goal.returns-clause-receives
-returns-clause-receives c = heard
+returns-clause-receives c = received
 
 pub returns-clause-ends : goal.returns-clause-ends
 returns-clause-ends c = ended

@@ -1,6 +1,6 @@
 use Rattle.std.proofs.Common.{◌≡◌, ℕ, List, Option, sym, ap, ◌∙◌, subst}
 use Rattle.stun_grammar.specs.Headers.{id_field}
-use Rattle.stun_transactions.specs.Slots.{place_of, held, changed, hearing, Tells}
+use Rattle.stun_transactions.specs.Slots.{place_of, held, changed, after_receiving, Tells}
 use Rattle.stun_transactions.proofs.SlotsLemmas.{addressed}
 use Rattle.stun_transactions.proofs.slots.receive.Goals as goal
 
@@ -17,5 +17,5 @@ returns-in-Ok-clause-slots c =
     let slots = c.args.slots.now in
     let id_is : c.transaction_id.result ≡ id_field c.args.bytes.now = c.transaction_id.ensures ∙ ap id_field c.in-Ok.ensures.1 in
     c.receive_for.ensures.slots
-    ∙ ap (λ d. changed (hearing c.args.understood.now d) (place_of c.transaction_id.result slots) slots) c.in-Ok.ensures.1
-    ∙ ap (λ place. changed (hearing c.args.understood.now c.args.bytes.now) place slots) (sym (addressed c.args.bytes.now c.transaction_id.result slots c.in-Ok.ensures.0 id_is))
+    ∙ ap (λ d. changed (after_receiving c.args.understood.now d) (place_of c.transaction_id.result slots) slots) c.in-Ok.ensures.1
+    ∙ ap (λ place. changed (after_receiving c.args.understood.now c.args.bytes.now) place slots) (sym (addressed c.args.bytes.now c.transaction_id.result slots c.in-Ok.ensures.0 id_is))

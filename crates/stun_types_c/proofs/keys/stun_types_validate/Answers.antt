@@ -6,4 +6,4 @@ pub returns-in-Some : goal.returns-in-Some
 returns-in-Some c =
     let held-is : shared_key c.args.key.now ≡ Some c.in-Some.key.now = sym c.in-Some.ensures in
     let told = rw c.in-Ok.ensures.1 at c.validate_integrity_with_key.ensures.verdict in
-    rw (c.in-Ok.ensures.0, held-is, ← told) c.told.ensures
+    rw (c.in-Ok.ensures.0, held-is, ← told) c.store_algorithm.ensures

@@ -1,5 +1,5 @@
 use Rattle.std.proofs.Common.{refl}
-use Rattle.stun_transactions.specs.declared.course.End.TheVariants.{TransportFailed}
+use Rattle.stun_transactions.specs.declared.retransmission.TransactionEnd.TheVariants.{TransportFailed}
 use Rattle.stun_transactions.specs.Slots.{ending, place_of}
 use Rattle.stun_transactions.proofs.SlotsLemmas.{changed_distinct}
 use Rattle.stun_transactions.proofs.transactions.Transactions.fail.Goals as goal

@@ -2,7 +2,7 @@
 
 ghost use Rattle.std.specs.Prelude.{◌≡◌, ◌≤◌, take, if◌then◌else◌};
 ghost use Rattle.std.specs.Option.{option_map};
-ghost use Rattle.stun_types_c.specs.Passwords.{names_password, password_named, passwords_named};
+ghost use Rattle.stun_types_c.specs.PasswordAlgorithms.{names_password_algorithm, password_algorithm_named, password_algorithms_named};
 
 use stun_types::attribute::PasswordAlgorithmValue;
 
@@ -11,13 +11,13 @@ const MOST: usize = 16;
 
 /// At most sixteen password algorithms.
 #[derive(Clone, Copy)]
-pub(crate) struct Listed {
+pub(crate) struct FewAlgorithms {
     all: [PasswordAlgorithmValue; 16],
     count: usize,
     ghost few: { count ≤ 16 },
 }
 
-impl Listed {
+impl FewAlgorithms {
     /// The algorithms.
     pub(crate) fn as_slice(&self) -> &[PasswordAlgorithmValue]
         ensures { result.now ≡ take self.now.count self.now.all }
@@ -28,7 +28,8 @@ impl Listed {
 
 /// The algorithm of a number.
 fn algorithm_of(number: u16) -> Option<PasswordAlgorithmValue>
-    ensures { result ≡ (if names_password number then Some (password_named number) else None) }
+    ensures { result ≡ (if names_password_algorithm number
+        then Some (password_algorithm_named number) else None) }
 {
     match number {
         1 => Some(PasswordAlgorithmValue::MD5),
@@ -39,8 +40,9 @@ fn algorithm_of(number: u16) -> Option<PasswordAlgorithmValue>
 
 /// The algorithms of these numbers; `None` where one has another number, or there are more than
 /// sixteen.
-pub(crate) fn algorithms_of(numbers: &[u16]) -> Option<Listed>
-    ensures { passwords_named numbers.now ≡ option_map (λ list. take list.count list.all) result }
+pub(crate) fn algorithms_of(numbers: &[u16]) -> Option<FewAlgorithms>
+    ensures { password_algorithms_named numbers.now
+        ≡ option_map (λ list. take list.count list.all) result }
 {
     if numbers.len() > MOST {
         return None;
@@ -49,7 +51,7 @@ pub(crate) fn algorithms_of(numbers: &[u16]) -> Option<Listed>
     for i in 0..numbers.len() {
         all[i] = algorithm_of(numbers[i])?;
     }
-    Some(Listed {
+    Some(FewAlgorithms {
         all,
         count: numbers.len(),
     })

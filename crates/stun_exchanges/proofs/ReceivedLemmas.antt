@@ -15,7 +15,7 @@ use Rattle.stun_transactions.specs.Guards.{guard_fault}
 use Rattle.stun_transactions.specs.Outcomes.{is_open}
 use Rattle.stun_transactions.specs.Receiving.{content, discarded}
 use Rattle.stun_transactions.specs.Terms.{is_answer}
-use Rattle.stun_exchanges.specs.Learning.{IsHeardAs}
+use Rattle.stun_exchanges.specs.Learning.{IsReceivedAs}
 
 told_of : (ongoing parses answers : Bool) (kept : Option Discard) (out : Discard → Outcome) (taken told : Outcome) → ongoing ≡ true → parses ≡ true → answers ≡ true → kept ≡ None → taken ≡ told
     → (if ongoing && parses then (if answers then option_map_or out kept taken else NotForThis) else NotForThis) ≡ told
@@ -32,12 +32,12 @@ both true false c x y z = absurd cc
 both false b c x y z = absurd cc
 
 -- a message that answers the request is told by what it has in it
-pub heard_as : (told : Outcome) (r d : List ℕ) → parse_fault d ≡ None → Answers d r → content [] d ≡ told → IsHeardAs told r d
-heard_as told r d parses answers has = record {
+pub received_as : (told : Outcome) (r d : List ℕ) → parse_fault d ≡ None → Answers d r → content [] d ≡ told → IsReceivedAs told r d
+received_as told r d parses answers has = record {
   parses = parses;
   answers = answers;
-  heard_is = λ terms course awaits.
-      told_of (is_open course) (not (is_some (parse_fault d))) (is_answer terms d) (guard_fault terms.protection terms.signed d) (discarded terms.plan.transport) (content [] d) told
+  received_is = λ terms state awaits.
+      told_of (is_open state) (not (is_some (parse_fault d))) (is_answer terms d) (guard_fault terms.protection terms.signed d) (discarded terms.plan.transport) (content [] d) told
       awaits.ongoing
       (ap (λ (o : Option _). not (is_some o)) parses)
       (both (is_response (class_of (type_field d))) (method_of (type_field d) == terms.method) (id_field d == terms.id) answers.response

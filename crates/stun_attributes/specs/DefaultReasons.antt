@@ -1,16 +1,5 @@
--- Making an error code, and the reasons that go with the codes (RFC 8489, section 14.8).
-use Rattle.std.specs.Prelude.{ℕ, ◌&&◌, List, length, codes, Option, Some, None, nat_lt, nat_le, ◌==◌, if◌then◌else◌}
-use Rattle.stun_grammar.specs.declared.error.StunWriteError.{StunWriteError}
-use Rattle.stun_grammar.specs.declared.error.StunWriteError.TheVariants as Write
-use Rattle.stun_values.specs.TextValues.{text_max}
-
--- why no attribute is made of a code and a reason
-abbrev pub making_fault : ℕ → List ℕ → Option StunWriteError
-making_fault code reason =
-    if nat_le 300 code && nat_le code 699 then (
-    if nat_lt text_max (length reason) then Some (Write.TooLarge text_max (length reason))
-    else None)
-    else Some (Write.OutOfRange code 300 699)
+-- The reasons that go with the codes of errors (RFC 8489, section 14.8).
+use Rattle.std.specs.Prelude.{ℕ, List, codes, ◌==◌, if◌then◌else◌}
 
 -- the reason that goes with a code where no other is given
 abbrev pub default_reason : ℕ → List ℕ

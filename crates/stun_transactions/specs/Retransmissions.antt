@@ -4,37 +4,38 @@ use Rattle.std.specs.Prelude.{◌≡◌, ℕ, ◌+◌, ◌*◌, ◌<◌, ◌≤�
 use Rattle.std.specs.Duration.{as_nanos, max_nanos}
 use Rattle.std.specs.declared.time.Duration.{Duration}
 use Rattle.stun_transactions.specs.declared.plan.Plan.{Plan}
-use Rattle.stun_transactions.specs.declared.course.Course.{Course}
-use Rattle.stun_transactions.specs.declared.course.Action.{Action}
-use Rattle.stun_transactions.specs.declared.course.Action.TheVariants.{Send, WaitUntil, Ended}
-use Rattle.stun_transactions.specs.declared.course.End.{End}
-use Rattle.stun_transactions.specs.declared.course.End.TheVariants.{Answered, TimedOut, IntegrityViolated}
+use Rattle.stun_transactions.specs.declared.retransmission.RetransmissionState.{RetransmissionState}
+use Rattle.stun_transactions.specs.declared.retransmission.Action.{Action}
+use Rattle.stun_transactions.specs.declared.retransmission.Action.TheVariants.{Send, WaitUntil, Ended}
+use Rattle.stun_transactions.specs.declared.retransmission.TransactionEnd.{TransactionEnd}
+use Rattle.stun_transactions.specs.declared.retransmission.TransactionEnd.TheVariants.{Answered, TimedOut, IntegrityViolated}
 use Rattle.stun_transactions.specs.Schedules.{requests_in, wait_in}
 
 -- the moment of a call: a clock that steps back stands still
 abbrev pub later : Duration → Duration → Duration
 later clock now = if nat_lt (as_nanos clock) (as_nanos now) then now else clock
 
--- a course that begins now
-abbrev pub begun : Duration → Course
+-- the state of a transaction that begins now
+abbrev pub begun : Duration → RetransmissionState
 begun now = record { sent = 0; last = now; clock = now; violated = false; end = None }
 
 -- when something is to be done: an interval after the last request was handed out
-abbrev pub due : Plan → Course → ℕ
-due plan course = as_nanos course.last + wait_in plan course.sent * 1_000_000
+abbrev pub due : Plan → RetransmissionState → ℕ
+due plan state = as_nanos state.last + wait_in plan state.sent * 1_000_000
 
 -- whether a poll hands out the request, or tells an end
-abbrev pub is_ready : Plan → Course → Duration → Bool
-is_ready plan course now =
-    is_some course.end || nat_le (due plan course) (as_nanos (later course.clock now))
+abbrev pub is_ready : Plan → RetransmissionState → Duration → Bool
+is_ready plan state now =
+    is_some state.end || nat_le (due plan state) (as_nanos (later state.clock now))
 
 -- how a transaction ends when its time is up: where responses were discarded since they weren't
 -- authentic, that is told instead (RFC 8489, sections 9.1.4 and 9.2.5)
-abbrev pub end_of : Course → End
-end_of course = if course.violated then IntegrityViolated else TimedOut
+abbrev pub end_of : RetransmissionState → TransactionEnd
+end_of state = if state.violated then IntegrityViolated else TimedOut
 
 -- a request is handed out: its moment has come, and not all were sent
-pub record Sends (plan : Plan) (old : Course) (at : Duration) (new : Course) : Type 0 where
+pub record Sends (plan : Plan) (old : RetransmissionState) (at : Duration)
+    (new : RetransmissionState) : Type 0 where
   pub ongoing : old.end ≡ None
   pub due_is : due plan old ≤ as_nanos at
   pub more : old.sent < requests_in plan
@@ -42,15 +43,16 @@ pub record Sends (plan : Plan) (old : Course) (at : Duration) (new : Course) : T
 
 -- nothing is done before a moment, which is still to come; no moment is told past the greatest
 -- that a `Duration` can hold
-pub record Waits (plan : Plan) (old : Course) (at until : Duration) (new : Course) : Type 0 where
+pub record Waits (plan : Plan) (old : RetransmissionState) (at until : Duration)
+    (new : RetransmissionState) : Type 0 where
   pub ongoing : old.end ≡ None
   pub early : as_nanos at < due plan old
   pub until_is : as_nanos until ≡ min (due plan old) max_nanos
   pub new_is : new ≡ record old { clock = at }
 
 -- time is up: all requests were sent, and the wait after the last one is over
-pub record TimesOut (plan : Plan) (old : Course) (at : Duration) (end : End)
-    (new : Course) : Type 0 where
+pub record TimesOut (plan : Plan) (old : RetransmissionState) (at : Duration) (end : TransactionEnd)
+    (new : RetransmissionState) : Type 0 where
   pub ongoing : old.end ≡ None
   pub due_is : due plan old ≤ as_nanos at
   pub all : requests_in plan ≤ old.sent
@@ -58,33 +60,34 @@ pub record TimesOut (plan : Plan) (old : Course) (at : Duration) (end : End)
   pub new_is : new ≡ record old { clock = at; end = Some end }
 
 -- it has ended before, and nothing changes
-pub record IsOver (old : Course) (end : End) (new : Course) : Type 0 where
+pub record IsOver (old : RetransmissionState) (end : TransactionEnd)
+    (new : RetransmissionState) : Type 0 where
   pub end_is : old.end ≡ Some end
   pub same : new ≡ old
 
 -- what a poll at a moment answers and leaves
-abbrev pub Polls : Plan → Course → Duration → Action → Course → Type 0
+abbrev pub Polls : Plan → RetransmissionState → Duration → Action → RetransmissionState → Type 0
 Polls plan old now Send new = Sends plan old (later old.clock now) new
 Polls plan old now (WaitUntil until) new = Waits plan old (later old.clock now) until new
 Polls plan old now (Ended end) new =
     IsOver old end new ⊎ TimesOut plan old (later old.clock now) end new
 
--- a course that is ended, unless it has ended before
-abbrev pub ended_by : End → Course → Course
-ended_by end course = if is_some course.end then course else record course { end = Some end }
+-- the state of a transaction that is ended, unless it has ended before
+abbrev pub ended_by : TransactionEnd → RetransmissionState → RetransmissionState
+ended_by end state = if is_some state.end then state else record state { end = Some end }
 
 -- whether a response was taken
-abbrev pub is_answered : Option End → Bool
+abbrev pub is_answered : Option TransactionEnd → Bool
 is_answered (Some Answered) = true
 is_answered _ = false
 
 -- whether the time of the round trip is known: a response was taken, and a single request was sent
 -- (RFC 8489, section 6.2.1)
-abbrev pub is_timed : Course → Bool
-is_timed course = is_answered course.end && (course.sent == 1)
+abbrev pub is_timed : RetransmissionState → Bool
+is_timed state = is_answered state.end && (state.sent == 1)
 
 -- the time is told from when the request was handed out to a moment, where it is known
-abbrev pub TellsTime : Course → Duration → Option Duration → Type 0
-TellsTime course now told =
-    MatchOption told (is_timed course ≡ false)
-    (λ time. (is_timed course ≡ true) × (as_nanos time ≡ as_nanos now - as_nanos course.last))
+abbrev pub TellsTime : RetransmissionState → Duration → Option Duration → Type 0
+TellsTime state now told =
+    MatchOption told (is_timed state ≡ false)
+    (λ time. (is_timed state ≡ true) × (as_nanos time ≡ as_nanos now - as_nanos state.last))

@@ -1,16 +1,16 @@
-//! What a call answers.
+//! What a call returns.
 
 ghost use Rattle.std.specs.Prelude.{◌≡◌};
-ghost use Rattle.stun_types_c.specs.Answers.{plain, about, counted, parse_answer, write_answer, validate_answer};
+ghost use Rattle.stun_types_c.specs.CallResults.{plain, about, counted, parse_result, write_result, validate_result};
 
 use crate::codes;
 use stun_grammar::attribute_types::{FINGERPRINT, MESSAGE_INTEGRITY};
 use stun_types::message::{StunParseError, StunWriteError, ValidateError};
 
-/// What a call answers: `codes::OK`, or why it did nothing.
+/// What a call returns: `codes::OK`, or why it did nothing.
 #[repr(C)]
 #[derive(Clone, Copy, Drop)]
-pub struct Answer {
+pub struct CallResult {
     /// One of `codes`.
     pub code: u32,
     /// The type of the attribute that the code is about, or 0.
@@ -22,10 +22,10 @@ pub struct Answer {
 }
 
 /// A code alone.
-pub(crate) fn plain(code: u32) -> Answer
+pub(crate) fn plain(code: u32) -> CallResult
     ensures { result ≡ plain code }
 {
-    Answer {
+    CallResult {
         code,
         atype: 0,
         expected: 0,
@@ -34,10 +34,10 @@ pub(crate) fn plain(code: u32) -> Answer
 }
 
 /// A code about an attribute of a type.
-pub(crate) fn about(code: u32, atype: u16) -> Answer
+pub(crate) fn about(code: u32, atype: u16) -> CallResult
     ensures { result ≡ about code atype }
 {
-    Answer {
+    CallResult {
         code,
         atype: u32::from(atype),
         expected: 0,
@@ -46,10 +46,10 @@ pub(crate) fn about(code: u32, atype: u16) -> Answer
 }
 
 /// A code with what is needed or allowed, and what there is.
-pub(crate) fn counted(code: u32, expected: usize, actual: usize) -> Answer
+pub(crate) fn counted(code: u32, expected: usize, actual: usize) -> CallResult
     ensures { result ≡ counted code expected actual }
 {
-    Answer {
+    CallResult {
         code,
         atype: 0,
         expected: expected as u64,
@@ -58,8 +58,8 @@ pub(crate) fn counted(code: u32, expected: usize, actual: usize) -> Answer
 }
 
 /// Why bytes aren't read.
-pub(crate) fn parse_answer(error: StunParseError) -> Answer
-    ensures { result ≡ parse_answer error }
+pub(crate) fn parse_result(error: StunParseError) -> CallResult
+    ensures { result ≡ parse_result error }
 {
     match error {
         StunParseError::NotStun => plain(codes::NOT_STUN),
@@ -81,8 +81,8 @@ pub(crate) fn parse_answer(error: StunParseError) -> Answer
 }
 
 /// Why an attribute isn't added.
-pub(crate) fn write_answer(error: StunWriteError) -> Answer
-    ensures { result ≡ write_answer error }
+pub(crate) fn write_result(error: StunWriteError) -> CallResult
+    ensures { result ≡ write_result error }
 {
     match error {
         StunWriteError::AttributeExists(atype) => about(codes::EXISTS, atype.0),
@@ -104,11 +104,11 @@ pub(crate) fn write_answer(error: StunWriteError) -> Answer
 }
 
 /// Why a message isn't valid.
-pub(crate) fn validate_answer(error: ValidateError) -> Answer
-    ensures { result ≡ validate_answer error }
+pub(crate) fn validate_result(error: ValidateError) -> CallResult
+    ensures { result ≡ validate_result error }
 {
     match error {
-        ValidateError::Parse(error) => parse_answer(error),
+        ValidateError::Parse(error) => parse_result(error),
         ValidateError::IntegrityFailed => plain(codes::INTEGRITY_FAILED),
     }
 }

@@ -5,15 +5,15 @@ use Rattle.stun_values.specs.declared.algorithm.PasswordAlgorithmValue.{Password
 use Rattle.stun_values.specs.declared.algorithm.PasswordAlgorithmValue.TheVariants.{MD5, SHA256}
 
 -- whether a number is that of a password algorithm, and of which: 1 of MD5, and 2 of SHA-256
-abbrev pub names_password : ℕ → Bool
-names_password number = number == 1 || number == 2
+abbrev pub names_password_algorithm : ℕ → Bool
+names_password_algorithm number = number == 1 || number == 2
 
-abbrev pub password_named : ℕ → PasswordAlgorithmValue
-password_named number = if number == 1 then MD5 else SHA256
+abbrev pub password_algorithm_named : ℕ → PasswordAlgorithmValue
+password_algorithm_named number = if number == 1 then MD5 else SHA256
 
 -- the algorithms of these numbers; none where another number is among them, or there are more than
 -- sixteen
-abbrev pub passwords_named : List ℕ → Option (List PasswordAlgorithmValue)
-passwords_named numbers =
-    if nat_le (length numbers) 16 && list_all names_password numbers
-    then Some (map password_named numbers) else None
+abbrev pub password_algorithms_named : List ℕ → Option (List PasswordAlgorithmValue)
+password_algorithms_named numbers =
+    if nat_le (length numbers) 16 && list_all names_password_algorithm numbers
+    then Some (map password_algorithm_named numbers) else None

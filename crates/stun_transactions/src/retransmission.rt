@@ -2,7 +2,7 @@
 
 ghost use Rattle.std.specs.Prelude.{◌≡◌, ◌↔◌, ◌+◌, ◌≤◌, IsTrue, min};
 ghost use Rattle.std.specs.Duration.{as_nanos, max_nanos};
-ghost use Rattle.stun_transactions.specs.Courses.{later, begun, due, is_ready, ended_by, Polls, TellsTime};
+ghost use Rattle.stun_transactions.specs.Retransmissions.{later, begun, due, is_ready, ended_by, Polls, TellsTime};
 ghost use Rattle.stun_transactions.specs.Outcomes.{after, is_open, end_of_failure};
 
 use crate::plan::Plan;
@@ -11,7 +11,7 @@ use std::time::Duration;
 
 /// How a transaction ended.
 #[derive(Clone, Copy, Debug, PartialEq, Eq)]
-pub enum End {
+pub enum TransactionEnd {
     /// A response was taken.
     Answered,
     /// Time ran out.
@@ -35,12 +35,12 @@ pub enum Action {
     /// Do nothing before this moment, unless a message is received.
     WaitUntil(Duration),
     /// The transaction has ended.
-    Ended(End),
+    Ended(TransactionEnd),
 }
 
-/// How far a transaction has come.
+/// The state of a request's retransmissions: how far its transaction has come.
 #[derive(Clone, Copy, Debug, PartialEq, Eq)]
-pub struct Course {
+pub struct RetransmissionState {
     /// How many requests were handed out.
     pub(crate) sent: u32,
     /// When the last of them was, and before the first the moment at which the transaction began.
@@ -50,16 +50,16 @@ pub struct Course {
     /// Whether a response was discarded that wasn't authentic.
     pub(crate) violated: bool,
     /// How it ended.
-    pub(crate) end: Option<End>,
+    pub(crate) end: Option<TransactionEnd>,
 }
 
 /// How a failure ends a transaction.
-fn end_of_failure(failure: Failure) -> End
+fn end_of_failure(failure: Failure) -> TransactionEnd
     ensures { result ≡ end_of_failure failure }
 {
     match failure {
-        Failure::IntegrityViolated => End::IntegrityViolated,
-        Failure::UnknownAttribute(_) | Failure::NoErrorCode => End::Refused,
+        Failure::IntegrityViolated => TransactionEnd::IntegrityViolated,
+        Failure::UnknownAttribute(_) | Failure::NoErrorCode => TransactionEnd::Refused,
     }
 }
 
@@ -84,12 +84,12 @@ fn has_passed(since: Duration, wait: Duration, now: Duration) -> bool
     }
 }
 
-impl Course {
-    /// A course that begins now.
-    pub(crate) fn new(now: Duration) -> Course
+impl RetransmissionState {
+    /// The state of a transaction that begins now.
+    pub(crate) fn new(now: Duration) -> RetransmissionState
         ensures { result ≡ begun now }
     {
-        Course {
+        RetransmissionState {
             sent: 0,
             last: now,
             clock: now,
@@ -139,9 +139,9 @@ impl Course {
             return Action::Send;
         }
         let end = if self.violated {
-            End::IntegrityViolated
+            TransactionEnd::IntegrityViolated
         } else {
-            End::TimedOut
+            TransactionEnd::TimedOut
         };
         self.end = Some(end);
         Action::Ended(end)
@@ -152,13 +152,13 @@ impl Course {
         ensures { TellsTime self.now now result }
     {
         match (self.end, self.sent) {
-            (Some(End::Answered), 1) => Some(now.saturating_sub(self.last)),
+            (Some(TransactionEnd::Answered), 1) => Some(now.saturating_sub(self.last)),
             _ => None,
         }
     }
 
     /// Ends it, unless it has ended.
-    pub(crate) fn end_by(&mut self, end: End)
+    pub(crate) fn end_by(&mut self, end: TransactionEnd)
         ensures { self.new ≡ ended_by end self.old }
     {
         if self.end.is_none() {
@@ -173,8 +173,8 @@ impl Course {
         self.sent > 0 && self.end.is_none()
     }
 
-    /// Goes on after a received message.
-    pub(crate) fn hear(&mut self, outcome: Outcome)
+    /// Takes in what a received message is for the transaction.
+    pub(crate) fn receive(&mut self, outcome: Outcome)
         ensures { self.new ≡ after outcome self.old }
     {
         match outcome {
@@ -182,7 +182,7 @@ impl Course {
             | Outcome::Discarded(Discard::BidDown | Discard::UnsignedBadRequest) => {}
             Outcome::Discarded(Discard::NotAuthentic) => self.violated = true,
             Outcome::Failed(failure) => self.end = Some(end_of_failure(failure)),
-            Outcome::Success | Outcome::Error(_) => self.end = Some(End::Answered),
+            Outcome::Success | Outcome::Error(_) => self.end = Some(TransactionEnd::Answered),
         }
     }
 }

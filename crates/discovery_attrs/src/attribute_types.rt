@@ -1,0 +1,63 @@
+//! The attribute types of this crate: their numbers (RFC 8489, section 18.3.1; RFC 5780, section
+//! 9.1; RFC 7982, section 4), a list of them, and their registration.
+
+use stun_types::attribute::AttributeType;
+
+/// MAPPED-ADDRESS.
+pub const MAPPED_ADDRESS: u16 = 0x0001;
+
+/// CHANGE-REQUEST.
+pub const CHANGE_REQUEST: u16 = 0x0003;
+
+/// PADDING.
+pub const PADDING: u16 = 0x0026;
+
+/// RESPONSE-PORT.
+pub const RESPONSE_PORT: u16 = 0x0027;
+
+/// TRANSACTION_TRANSMIT_COUNTER.
+pub const TRANSACTION_TRANSMIT_COUNTER: u16 = 0x8025;
+
+/// RESPONSE-ORIGIN.
+pub const RESPONSE_ORIGIN: u16 = 0x802B;
+
+/// OTHER-ADDRESS.
+pub const OTHER_ADDRESS: u16 = 0x802C;
+
+/// The types of this crate, for `Message::check_attribute_types`.
+pub const KNOWN: [AttributeType; 7] = [
+    AttributeType(MAPPED_ADDRESS),
+    AttributeType(CHANGE_REQUEST),
+    AttributeType(PADDING),
+    AttributeType(RESPONSE_PORT),
+    AttributeType(TRANSACTION_TRANSMIT_COUNTER),
+    AttributeType(RESPONSE_ORIGIN),
+    AttributeType(OTHER_ADDRESS),
+];
+
+/// Registers the names and the functions that print of this crate, so that a message shows its
+/// attributes as what they are. It stands in the body of a function that makes the registry itself
+/// and answers a `Result`, and returns from it with `OutOfMemory` where an allocation fails.
+///
+/// ```
+/// let mut registry = Registry::new(alloc);
+/// discovery_attrs::register!(registry);
+/// ```
+#[macro_export]
+macro_rules! register {
+    ($registry:ident) => {{
+        $registry.add_name(<$crate::ChangeRequest as stun_types::attribute::AttributeStaticType>::TYPE, "CHANGE-REQUEST")?;
+        $registry.add_name(<$crate::Padding as stun_types::attribute::AttributeStaticType>::TYPE, "PADDING")?;
+        $registry.add_name(<$crate::ResponsePort as stun_types::attribute::AttributeStaticType>::TYPE, "RESPONSE-PORT")?;
+        $registry.add_name(<$crate::TransactionTransmitCounter as stun_types::attribute::AttributeStaticType>::TYPE, "TRANSACTION_TRANSMIT_COUNTER")?;
+        $registry.add_name(<$crate::ResponseOrigin as stun_types::attribute::AttributeStaticType>::TYPE, "RESPONSE-ORIGIN")?;
+        $registry.add_name(<$crate::OtherAddress as stun_types::attribute::AttributeStaticType>::TYPE, "OTHER-ADDRESS")?;
+        stun_types::attribute_display!($registry, $crate::MappedAddress)?;
+        stun_types::attribute_display!($registry, $crate::ChangeRequest)?;
+        stun_types::attribute_display!($registry, $crate::Padding)?;
+        stun_types::attribute_display!($registry, $crate::ResponsePort)?;
+        stun_types::attribute_display!($registry, $crate::TransactionTransmitCounter)?;
+        stun_types::attribute_display!($registry, $crate::ResponseOrigin)?;
+        stun_types::attribute_display!($registry, $crate::OtherAddress)?;
+    }};
+}

@@ -1,0 +1,46 @@
+//! The attribute types of this crate: their numbers (RFC 8445, section 20.1), a list of them, and
+//! their registration.
+
+use stun_types::attribute::AttributeType;
+
+/// PRIORITY.
+pub const PRIORITY: u16 = 0x0024;
+
+/// USE-CANDIDATE.
+pub const USE_CANDIDATE: u16 = 0x0025;
+
+/// ICE-CONTROLLED.
+pub const ICE_CONTROLLED: u16 = 0x8029;
+
+/// ICE-CONTROLLING.
+pub const ICE_CONTROLLING: u16 = 0x802A;
+
+/// The types of this crate, for `Message::check_attribute_types`.
+pub const KNOWN: [AttributeType; 4] = [
+    AttributeType(PRIORITY),
+    AttributeType(USE_CANDIDATE),
+    AttributeType(ICE_CONTROLLED),
+    AttributeType(ICE_CONTROLLING),
+];
+
+/// Registers the names and the functions that print of this crate, so that a message shows its
+/// attributes as what they are. It stands in the body of a function that makes the registry itself
+/// and answers a `Result`, and returns from it with `OutOfMemory` where an allocation fails.
+///
+/// ```
+/// let mut registry = Registry::new(alloc);
+/// ice_attrs::register!(registry);
+/// ```
+#[macro_export]
+macro_rules! register {
+    ($registry:ident) => {{
+        $registry.add_name(<$crate::Priority as stun_types::attribute::AttributeStaticType>::TYPE, "PRIORITY")?;
+        $registry.add_name(<$crate::UseCandidate as stun_types::attribute::AttributeStaticType>::TYPE, "USE-CANDIDATE")?;
+        $registry.add_name(<$crate::IceControlled as stun_types::attribute::AttributeStaticType>::TYPE, "ICE-CONTROLLED")?;
+        $registry.add_name(<$crate::IceControlling as stun_types::attribute::AttributeStaticType>::TYPE, "ICE-CONTROLLING")?;
+        stun_types::attribute_display!($registry, $crate::Priority)?;
+        stun_types::attribute_display!($registry, $crate::UseCandidate)?;
+        stun_types::attribute_display!($registry, $crate::IceControlled)?;
+        stun_types::attribute_display!($registry, $crate::IceControlling)?;
+    }};
+}

@@ -1,0 +1,127 @@
+//! The attribute types of this crate: their numbers (RFC 8656, section 18; RFC 6062, section 6.2;
+//! RFC 7635, section 12; RFC 8016, section 4), a list of them, and their registration. Three of them
+//! come from `turn_basics`.
+
+use stun_types::attribute::AttributeType;
+pub use turn_basics::attribute_types::{DATA, LIFETIME, XOR_PEER_ADDRESS};
+
+/// CHANNEL-NUMBER.
+pub const CHANNEL_NUMBER: u16 = 0x000C;
+
+/// XOR-RELAYED-ADDRESS.
+pub const XOR_RELAYED_ADDRESS: u16 = 0x0016;
+
+/// REQUESTED-ADDRESS-FAMILY.
+pub const REQUESTED_ADDRESS_FAMILY: u16 = 0x0017;
+
+/// EVEN-PORT.
+pub const EVEN_PORT: u16 = 0x0018;
+
+/// REQUESTED-TRANSPORT.
+pub const REQUESTED_TRANSPORT: u16 = 0x0019;
+
+/// DONT-FRAGMENT.
+pub const DONT_FRAGMENT: u16 = 0x001A;
+
+/// ACCESS-TOKEN.
+pub const ACCESS_TOKEN: u16 = 0x001B;
+
+/// RESERVATION-TOKEN.
+pub const RESERVATION_TOKEN: u16 = 0x0022;
+
+/// CONNECTION-ID.
+pub const CONNECTION_ID: u16 = 0x002A;
+
+/// ADDITIONAL-ADDRESS-FAMILY.
+pub const ADDITIONAL_ADDRESS_FAMILY: u16 = 0x8000;
+
+/// ADDRESS-ERROR-CODE.
+pub const ADDRESS_ERROR_CODE: u16 = 0x8001;
+
+/// ICMP.
+pub const ICMP: u16 = 0x8004;
+
+/// THIRD-PARTY-AUTHORIZATION.
+pub const THIRD_PARTY_AUTHORIZATION: u16 = 0x802E;
+
+/// MOBILITY-TICKET.
+pub const MOBILITY_TICKET: u16 = 0x8030;
+
+/// The types of this crate, for `Message::check_attribute_types`.
+pub const KNOWN: [AttributeType; 17] = [
+    AttributeType(CHANNEL_NUMBER),
+    AttributeType(LIFETIME),
+    AttributeType(XOR_PEER_ADDRESS),
+    AttributeType(DATA),
+    AttributeType(XOR_RELAYED_ADDRESS),
+    AttributeType(REQUESTED_ADDRESS_FAMILY),
+    AttributeType(EVEN_PORT),
+    AttributeType(REQUESTED_TRANSPORT),
+    AttributeType(DONT_FRAGMENT),
+    AttributeType(ACCESS_TOKEN),
+    AttributeType(RESERVATION_TOKEN),
+    AttributeType(CONNECTION_ID),
+    AttributeType(ADDITIONAL_ADDRESS_FAMILY),
+    AttributeType(ADDRESS_ERROR_CODE),
+    AttributeType(ICMP),
+    AttributeType(THIRD_PARTY_AUTHORIZATION),
+    AttributeType(MOBILITY_TICKET),
+];
+
+/// Registers the names of types and methods and the functions that print of this crate, so that a
+/// message shows its attributes as what they are. It stands in the body of a function that makes
+/// the registry itself and answers a `Result`, and returns from it with `OutOfMemory` where an
+/// allocation fails.
+///
+/// ```
+/// let mut registry = Registry::new(alloc);
+/// turn_attrs::register!(registry);
+/// ```
+#[macro_export]
+macro_rules! register {
+    ($registry:ident) => {{
+        $registry.add_name(<$crate::ChannelNumber as stun_types::attribute::AttributeStaticType>::TYPE, "CHANNEL-NUMBER")?;
+        $registry.add_name(<$crate::Lifetime as stun_types::attribute::AttributeStaticType>::TYPE, "LIFETIME")?;
+        $registry.add_name(<$crate::XorPeerAddress as stun_types::attribute::AttributeStaticType>::TYPE, "XOR-PEER-ADDRESS")?;
+        $registry.add_name(<$crate::PeerData as stun_types::attribute::AttributeStaticType>::TYPE, "DATA")?;
+        $registry.add_name(<$crate::XorRelayedAddress as stun_types::attribute::AttributeStaticType>::TYPE, "XOR-RELAYED-ADDRESS")?;
+        $registry.add_name(<$crate::RequestedAddressFamily as stun_types::attribute::AttributeStaticType>::TYPE, "REQUESTED-ADDRESS-FAMILY")?;
+        $registry.add_name(<$crate::EvenPort as stun_types::attribute::AttributeStaticType>::TYPE, "EVEN-PORT")?;
+        $registry.add_name(<$crate::RequestedTransport as stun_types::attribute::AttributeStaticType>::TYPE, "REQUESTED-TRANSPORT")?;
+        $registry.add_name(<$crate::DontFragment as stun_types::attribute::AttributeStaticType>::TYPE, "DONT-FRAGMENT")?;
+        $registry.add_name(<$crate::AccessToken as stun_types::attribute::AttributeStaticType>::TYPE, "ACCESS-TOKEN")?;
+        $registry.add_name(<$crate::ReservationToken as stun_types::attribute::AttributeStaticType>::TYPE, "RESERVATION-TOKEN")?;
+        $registry.add_name(<$crate::ConnectionId as stun_types::attribute::AttributeStaticType>::TYPE, "CONNECTION-ID")?;
+        $registry.add_name(<$crate::AdditionalAddressFamily as stun_types::attribute::AttributeStaticType>::TYPE, "ADDITIONAL-ADDRESS-FAMILY")?;
+        $registry.add_name(<$crate::AddressErrorCode as stun_types::attribute::AttributeStaticType>::TYPE, "ADDRESS-ERROR-CODE")?;
+        $registry.add_name(<$crate::Icmp as stun_types::attribute::AttributeStaticType>::TYPE, "ICMP")?;
+        $registry.add_name(<$crate::ThirdPartyAuthorization as stun_types::attribute::AttributeStaticType>::TYPE, "THIRD-PARTY-AUTHORIZATION")?;
+        $registry.add_name(<$crate::MobilityTicket as stun_types::attribute::AttributeStaticType>::TYPE, "MOBILITY-TICKET")?;
+        $registry.add_method_name($crate::methods::ALLOCATE, "ALLOCATE")?;
+        $registry.add_method_name($crate::methods::REFRESH, "REFRESH")?;
+        $registry.add_method_name($crate::methods::SEND, "SEND")?;
+        $registry.add_method_name($crate::methods::DATA, "DATA")?;
+        $registry.add_method_name($crate::methods::CREATE_PERMISSION, "CREATE_PERMISSION")?;
+        $registry.add_method_name($crate::methods::CHANNEL_BIND, "CHANNEL_BIND")?;
+        $registry.add_method_name($crate::methods::CONNECT, "CONNECT")?;
+        $registry.add_method_name($crate::methods::CONNECTION_BIND, "CONNECTION_BIND")?;
+        $registry.add_method_name($crate::methods::CONNECTION_ATTEMPT, "CONNECTION_ATTEMPT")?;
+        stun_types::attribute_display!($registry, $crate::ChannelNumber)?;
+        stun_types::attribute_display!($registry, $crate::Lifetime)?;
+        stun_types::attribute_display!($registry, $crate::XorPeerAddress)?;
+        stun_types::attribute_display!($registry, $crate::PeerData)?;
+        stun_types::attribute_display!($registry, $crate::XorRelayedAddress)?;
+        stun_types::attribute_display!($registry, $crate::RequestedAddressFamily)?;
+        stun_types::attribute_display!($registry, $crate::EvenPort)?;
+        stun_types::attribute_display!($registry, $crate::RequestedTransport)?;
+        stun_types::attribute_display!($registry, $crate::DontFragment)?;
+        stun_types::attribute_display!($registry, $crate::AccessToken)?;
+        stun_types::attribute_display!($registry, $crate::ReservationToken)?;
+        stun_types::attribute_display!($registry, $crate::ConnectionId)?;
+        stun_types::attribute_display!($registry, $crate::AdditionalAddressFamily)?;
+        stun_types::attribute_display!($registry, $crate::AddressErrorCode)?;
+        stun_types::attribute_display!($registry, $crate::Icmp)?;
+        stun_types::attribute_display!($registry, $crate::ThirdPartyAuthorization)?;
+        stun_types::attribute_display!($registry, $crate::MobilityTicket)?;
+    }};
+}
