@@ -18,7 +18,7 @@ use user_examples::{
 };
 
 /// The binding request with the transaction ID 1000 and the SOFTWARE `stun-types`, and four bytes
-/// FF behind it.
+/// FF after it.
 const IN_FORTY: [u8; 40] = [
     0x00, 0x01, 0x00, 0x10, 0x21, 0x12, 0xA4, 0x42, 0x00, 0x00, 0x00, 0x00, 0x00, 0x00, 0x00, 0x00,
     0x00, 0x00, 0x03, 0xE8, 0x80, 0x22, 0x00, 0x0A, 0x73, 0x74, 0x75, 0x6E, 0x2D, 0x74, 0x79, 0x70,
@@ -157,7 +157,7 @@ fn keeps_its_header(rt: HostRuntime) -> Result<(), Fail> {
 }
 
 #[test]
-fn writes_a_lent_value(rt: HostRuntime) -> Result<(), Fail> {
+fn writes_a_borrowed_value(rt: HostRuntime) -> Result<(), Fail> {
     let mut dest = [0xFF; 9];
     assert!(rt; Blob::new(&[])?.write_into(&mut dest) == Ok(4));
     assert!(rt; dest == [0x88, 0x52, 0x00, 0x00, 0xFF, 0xFF, 0xFF, 0xFF, 0xFF]);
@@ -168,12 +168,12 @@ fn writes_a_lent_value(rt: HostRuntime) -> Result<(), Fail> {
 
 /// The first bytes of the request with the value 05 in an attribute of type 0x8852, signed for
 /// SHA-256 and with a FINGERPRINT.
-static LENT: [u8; 32] = [
+static BORROWED: [u8; 32] = [
     0x00, 0x01, 0x00, 0x34, 0x21, 0x12, 0xA4, 0x42, 0x00, 0x00, 0x00, 0x00, 0x00, 0x00, 0x00, 0x00,
     0x00, 0x00, 0x03, 0xE8, 0x88, 0x52, 0x00, 0x01, 0x05, 0x00, 0x00, 0x00, 0x00, 0x1C, 0x00, 0x20,
 ];
 
-/// What a step is answered.
+/// What a step answers.
 type Verdict = Result<(), StunWriteError>;
 
 /// Adds a borrowed value, signs, and adds a FINGERPRINT, in an array.
@@ -203,12 +203,12 @@ fn sign_borrowed<const N: usize>(
 }
 
 #[test]
-fn writes_a_lent_value_into_an_array(rt: HostRuntime) -> Result<(), Fail> {
+fn writes_a_borrowed_value_into_an_array(rt: HostRuntime) -> Result<(), Fail> {
     let key = short_term(rt.alloc(), "pass")?.make_key(rt.alloc(), IntegrityAlgorithm::Sha256)?;
     let blob = Blob::new(&[5])?;
     let mut write = WriteFixed::<72>::new();
     assert!(rt; sign_borrowed(rt.alloc(), &blob, &key, &mut write)? == [Ok(()); 3]);
-    assert!(rt; write.data().starts_with(&LENT));
+    assert!(rt; write.data().starts_with(&BORROWED));
     let read = Message::from_bytes(write.data())?;
     assert!(rt; read.validate_integrity_with_key(&key) == Ok(IntegrityAlgorithm::Sha256));
     Ok(())

@@ -10,7 +10,7 @@ use stun_types::message::{
 use stun_types::prelude::*;
 use test_messages::header;
 
-/// A BINDING request with the transaction ID 1000 and nothing behind its header.
+/// A BINDING request with the transaction ID 1000 and nothing after its header.
 pub(crate) fn request(alloc: Global) -> Result<MessageWriteVec, StunWriteError> {
     Message::builder(
         binding_request(),
@@ -36,7 +36,7 @@ fn overwrite_data<W: MessageWrite>(message: &mut W) -> Result<usize, StunWriteEr
     Ok(before)
 }
 
-/// No SOFTWARE is added behind the FINGERPRINT, though its bytes aren't there any more.
+/// No SOFTWARE is added after the FINGERPRINT, though its bytes were overwritten.
 fn assert_kept<W: MessageWrite>(rt: &impl Abort, alloc: Global, message: &mut W) {
     assert!(rt; add_software(alloc, message) == Err(StunWriteError::FingerprintExists));
     assert!(rt; message.len() == 28);
@@ -91,7 +91,7 @@ fn gives_the_slice_itself(rt: HostRuntime) -> Result<(), StunWriteError> {
     Ok(())
 }
 
-/// A header and an attribute behind it, pushed.
+/// A header and an attribute, pushed.
 fn pushed(alloc: Global) -> Result<MessageWriteVec, StunWriteError> {
     let mut message = MessageWriteVec::with_capacity(alloc, 20)?;
     message.push_data(&header(0))?;

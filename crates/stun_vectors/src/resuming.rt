@@ -8,7 +8,7 @@ use stun_types::message::{MessageWriteMutSlice, StunWriteError};
 use stun_types::prelude::*;
 use test_messages::header;
 
-/// A hundred bytes: a header with this length field, twelve bytes behind it, and zeros.
+/// A hundred bytes: a header with this length field, twelve bytes after it, and zeros.
 fn with_attributes(field: u16, attributes: &[u8; 12]) -> [u8; 100] {
     let mut bytes = [0; 100];
     bytes[..20].copy_from_slice(&header(field));
@@ -16,15 +16,15 @@ fn with_attributes(field: u16, attributes: &[u8; 12]) -> [u8; 100] {
     bytes
 }
 
-/// A FINGERPRINT with a wrong value, and another attribute behind it.
+/// A FINGERPRINT with a wrong value, and another attribute after it.
 static OUT_OF_ORDER: [u8; 12] = [
     0x80, 0x28, 0x00, 0x04, 0x11, 0x22, 0x33, 0x44, 0x00, 0x02, 0x00, 0x00,
 ];
 
-/// Bytes that are pushed behind them.
+/// Bytes that are pushed after them.
 static RAW: [u8; 4] = [0x00, 0x20, 0x00, 0x00];
 
-/// Each attribute that is there counts, and none that lies in bytes that were pushed.
+/// Each attribute that is there counts, and none among bytes that were pushed.
 fn assert_counts(rt: &impl Abort, message: &MessageWriteMutSlice<'_>) {
     let asked = [AttributeType(0x0002), AttributeType(0x8028)];
     assert!(rt; message.has_any_attribute(&asked) == Some(AttributeType(0x8028)));
@@ -32,8 +32,8 @@ fn assert_counts(rt: &impl Abort, message: &MessageWriteMutSlice<'_>) {
     assert!(rt; !message.has_attribute(AttributeType(0x0020)));
 }
 
-/// Pushes four bytes, and an attribute of the type 0x0003 behind them, where there is room.
-fn push_behind<W: MessageWrite>(message: &mut W) -> Result<(), StunWriteError> {
+/// Pushes four bytes, and an attribute of the type 0x0003, if there is room.
+fn push_after<W: MessageWrite>(message: &mut W) -> Result<(), StunWriteError> {
     let len = message.len();
     if len < 20 || len > 1000 {
         return Err(StunWriteError::OutOfMemory);
@@ -52,7 +52,7 @@ fn counts_what_is_there(rt: HostRuntime) -> Result<(), Fail> {
     let mut buf = with_attributes(12, &OUT_OF_ORDER);
     let mut message = MessageWriteMutSlice::resume(rt.alloc(), &mut buf, 32)?;
     assert_counts(&rt, &message);
-    push_behind(&mut message)?;
+    push_after(&mut message)?;
     assert_counts(&rt, &message);
     assert!(rt; message.has_attribute(AttributeType(0x0003)));
     assert!(rt; add_software(rt.alloc(), &mut message) == Err(StunWriteError::FingerprintExists));
