@@ -1,8 +1,13 @@
-//! Tests of what rows of `vectors/` cannot ask, since only Rattle can say it: borrowed and owned
+//! Tests of what the rows of `vectors/` can't ask, since only Rattle can say it: borrowed and owned
 //! bytes, what outlives what, bounds, conversions of errors, a user's own generator of random numbers,
-//! attributes, writers and helpers of a user's own, and the capacity that a writer has.
+//! attributes, writers, helpers and registered functions of a user's own, and the capacity that a
+//! writer has.
 #![tactic(auto)]
 
+#[cfg(test)]
+mod addresses;
+#[cfg(test)]
+mod borrowed;
 #[cfg(test)]
 mod bounds;
 #[cfg(test)]
@@ -20,8 +25,14 @@ mod ids;
 #[cfg(test)]
 mod lending;
 #[cfg(test)]
+mod lists;
+#[cfg(test)]
 mod look_up;
 #[cfg(test)]
 mod own;
 #[cfg(test)]
+mod registry;
+#[cfg(test)]
 mod resuming;
+#[cfg(test)]
+mod texts;

@@ -149,7 +149,7 @@ fn shows_by_registered_functions(rt: HostRuntime) -> Result<(), Fail> {
     Ok(())
 }
 
-/// Shows the attribute 0xFFFF = [4, 0], and tells how many bytes are written, or that it is
+/// Shows the attribute 0xFFFF = [4, 0], and returns how many bytes are written, or `None` if it is
 /// refused. A refusal writes nothing.
 fn written(rt: &impl Abort, registry: &Registry) -> Result<Option<usize>, Fail> {
     let raw = RawAttribute::new(AttributeType(0xFFFF), &[4, 0])?;

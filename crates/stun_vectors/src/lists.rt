@@ -1,49 +1,10 @@
-//! Lists of types and of password algorithms.
+//! Lists of types that grow.
 
 use std::alloc::Global;
 use std::test::Fail;
-use stun_types::attribute::{
-    AttributeType, PasswordAlgorithm, PasswordAlgorithmValue, PasswordAlgorithms, RawAttribute,
-    UnknownAttributes,
-};
-use stun_types::message::{IntegrityAlgorithm, StunWriteError};
+use stun_types::attribute::{AttributeType, UnknownAttributes};
+use stun_types::message::StunWriteError;
 use stun_types::prelude::*;
-
-#[test]
-fn no_algorithms(rt: HostRuntime) -> Result<(), Fail> {
-    let empty = PasswordAlgorithms::new(rt.alloc(), &[])?;
-    let raw = empty.to_raw(rt.alloc())?;
-    assert!(rt; raw.value().as_bytes().is_empty());
-    Ok(())
-}
-
-#[test]
-fn limits_algorithms(rt: HostRuntime) -> Result<(), Fail> {
-    let mut many = Vec::new(rt.alloc());
-    many.resize(16384, PasswordAlgorithmValue::MD5)?;
-    let large = StunWriteError::TooLarge {
-        expected: 16383,
-        actual: 16384,
-    };
-    assert!(rt; PasswordAlgorithms::new(rt.alloc(), &many).err() == Some(large));
-    Ok(())
-}
-
-#[test]
-fn algorithms_of_integrity(rt: HostRuntime) {
-    let sha256 = PasswordAlgorithm::new(PasswordAlgorithmValue::SHA256);
-    assert!(rt; sha256.algorithm().as_integrity() == IntegrityAlgorithm::Sha256);
-    assert!(rt; PasswordAlgorithmValue::MD5.as_integrity() == IntegrityAlgorithm::Sha1);
-}
-
-#[test]
-fn reads_the_first_algorithm(rt: HostRuntime) -> Result<(), Fail> {
-    let longer = [0x00, 0x02, 0x00, 0x00, 0xFF, 0xFF, 0xFF, 0xFF];
-    let raw = RawAttribute::new(AttributeType(0x001D), &longer)?;
-    let sha256 = PasswordAlgorithm::new(PasswordAlgorithmValue::SHA256);
-    assert!(rt; PasswordAlgorithm::from_raw(rt.alloc(), raw)? == sha256);
-    Ok(())
-}
 
 /// Whether a list has this encoding, of eight bytes.
 fn is_written(unknown: &UnknownAttributes, written: [u8; 8]) -> bool {
@@ -79,7 +40,7 @@ fn adds_an_unknown_type(rt: HostRuntime) -> Result<(), Fail> {
     Ok(())
 }
 
-/// Adds a type to a list, and tells whether the list was full. Only a full list and a failed
+/// Adds a type to a list, and returns whether the list was full. Only a full list and a failed
 /// allocation keep a type out, which is proved.
 fn is_full(unknown: &mut UnknownAttributes, atype: AttributeType) -> bool {
     if unknown.has_attribute(atype) {
