@@ -1,18 +1,12 @@
--- The report of bytes, and how a run ends that has written it.
-use Rattle.std.proofs.Common.{◌≡◌, ℕ, List, [], ◌++◌, Option, Some, None, Result, Ok, Err, ◌⊎◌, inl, inr, refl, sym, ap, subst, ◌∙◌}
+-- The report of bytes, and how a run ends that writes it.
+use Rattle.std.proofs.Common.{◌≡◌, ℕ, List, [], ◌++◌, Option, Some, None, refl, sym, ap, ◌∙◌}
 use Rattle.std.specs.List.{flat_map}
-use Rattle.std.specs.Io.KnownBytes.{Appends}
 use Rattle.stun_grammar.specs.declared.error.StunParseError.{StunParseError}
-use Rattle.stun_grammar.specs.declared.error.ValidateError.{ValidateError}
-use Rattle.stun_grammar.specs.declared.integrity_algorithm.IntegrityAlgorithm.{IntegrityAlgorithm}
 use Rattle.stun_grammar.specs.Parsing.{parse_fault}
 use Rattle.stun_grammar.specs.Showing.{shown}
 use Rattle.stun_base.specs.MessageTypes.{Header, header_of}
-use Rattle.stun_show.specs.declared.report.RunEnd.{RunEnd}
-use Rattle.stun_show.specs.declared.report.RunEnd.TheVariants.{Shown, Refused}
-use Rattle.stun_show.specs.Report.{header_line, attribute_line, refusal_line, password_verdict, integrity_lines, end_of_verdict, end_of_message, report, end_of}
-use Rattle.stun_streams.specs.Streams.{ReadsAll}
-use Rattle.stun_show.specs.ShowRun.{longest_input, Ends}
+use Rattle.stun_show.specs.declared.report.RunEnd.TheVariants.{Refused}
+use Rattle.stun_show.specs.Report.{header_line, attribute_line, refusal_line, integrity_lines, end_of_message, report, end_of}
 
 pub report-message : (d : List ℕ) (password : Option (List ℕ)) → parse_fault d ≡ None → report d password ≡ header_line (header_of d) ++ flat_map attribute_line (shown d) ++ integrity_lines d password
 unfolding report
