@@ -506,7 +506,7 @@ static void test_no_transactions(void) {
     }
 }
 
-/* ---- the stored cases of stun_ask: a response, and the address or the error that it tells */
+/* ---- the stored cases of stun_agent ask: a response, and the address or the error that it tells */
 
 /* Begins the transaction of the binding request with this ID, which is signed where there is a
    key. */
@@ -553,7 +553,7 @@ static void test_asks(void) {
         stun_types_received *received;
         slice bytes;
         const char *line = stored->line;
-        row("a stored case of stun_ask", stored->name);
+        row("a stored case of stun_agent ask", stored->name);
         key = stored->has_password ? password_key(part(stored->password)) : no_key();
         transaction = NEW(stun_types_transaction);
         ask(transaction, part(stored->id), key);

@@ -83,14 +83,14 @@ static void test_replies(void) {
     const reply_case *stored;
     for (i = 0; (stored = reply_case_at(i)) != NULL; i++) {
         stun_types_address source;
-        row("a stored case of stun_reply", stored->name);
+        row("a stored case of stun_agent reply", stored->name);
         source = address_of(part(stored->octets), stored->port);
         if (!stored->is_stream) {
             check_reply(part(stored->bytes), &source, part(stored->reply));
             continue;
         }
         check_stream(stored, &source, 70000);
-        row("a stored case of stun_reply, in small pieces", stored->name);
+        row("a stored case of stun_agent reply, in small pieces", stored->name);
         source = address_of(part(stored->octets), stored->port);
         check_stream(stored, &source, 7);
     }
@@ -154,7 +154,7 @@ static void test_great_requests(void) {
     }
 }
 
-/* ---- authentication: the users, the realm and the password algorithms of stun_login */
+/* ---- authentication: the users, the realm and the password algorithms of stun_agent login */
 
 static const char REALM[] = "example.org";
 static const uint16_t OFFERED[] = {STUN_TYPES_PASSWORD_SHA256, STUN_TYPES_PASSWORD_MD5};
@@ -257,7 +257,7 @@ static bool check_authenticates(const login *one) {
     return false;
 }
 
-/* The response to a request, as stun_login writes it: which attributes it has, and what it is
+/* The response to a request, as stun_agent login writes it: which attributes it has, and what it is
    signed by, are those of the stored case. */
 static void check_response(const login *one) {
     static const uint16_t known[] = {0x0006, 0x001E, 0x0014, 0x0015, 0x001D, 0x0008, 0x001C};
@@ -337,7 +337,7 @@ static void test_stored_logins(void) {
         login one;
         stun_types_policy *policy;
         stun_types_header header;
-        row("a stored case of stun_login", stored->name);
+        row("a stored case of stun_agent login", stored->name);
         one.stored = stored;
         one.bytes = part(stored->bytes);
         policy = NEW(stun_types_policy);
@@ -397,7 +397,7 @@ static const struct {
 
 static void test_arguments(void) {
     size_t i;
-    row("a stored case of stun_login", "each copy of a key is given back");
+    row("a stored case of stun_agent login", "each copy of a key is given back");
     CHECK(heap_held() == 0);
     heap_forget_secrets();
     for (i = 0; i < COUNT(arguments); i++) {

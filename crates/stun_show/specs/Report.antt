@@ -16,8 +16,8 @@ use Rattle.stun_grammar.specs.Chains.{Shown}
 use Rattle.stun_grammar.specs.Parsing.{parse_fault}
 use Rattle.stun_grammar.specs.Showing.{shown}
 use Rattle.stun_base.specs.MessageTypes.{Header, header_of, class_of, method_of, class_name, id_text}
-use Rattle.stun_show.specs.declared.engine.RunEnd.{RunEnd}
-use Rattle.stun_show.specs.declared.engine.RunEnd.TheVariants.{Shown as EndsShown, Refused as EndsRefused}
+use Rattle.stun_show.specs.declared.report.RunEnd.{RunEnd}
+use Rattle.stun_show.specs.declared.report.RunEnd.TheVariants.{Shown as EndsShown, Refused as EndsRefused}
 
 -- the end of each line
 abbrev pub line_feed : List ℕ

@@ -5,15 +5,16 @@ mod engine;
 mod program;
 mod report;
 
-use program::{end_without_arguments, run_on, status_of};
+use program::{run_on, status_of};
 use std::env;
 use std::io::Write;
 use std::process::ExitCode;
+use stun_streams::arguments_error;
 
 fn main(rt: HostRuntime) -> ExitCode {
     let end = match env::args(&rt) {
         Ok(arguments) => run_on(rt.alloc(), arguments, &mut rt.stdin(), &mut rt.stdout()),
-        Err(e) => end_without_arguments(e.kind()),
+        Err(e) => Err(arguments_error(e.kind())),
     };
     let (status, line) = status_of(end);
     let _ = rt.stdout().write_all(line.as_bytes());

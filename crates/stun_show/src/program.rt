@@ -1,20 +1,22 @@
 //! The program: what its arguments mean, and the status that it ends with.
 
-ghost use Rattle.std.specs.Prelude.{◌≡◌, ◌≢◌, map, MatchResult, Ok, Err};
+ghost use Rattle.std.specs.Prelude.{◌≡◌, map, MatchResult, Ok, Err};
 ghost use Rattle.std.specs.Option.{option_map};
 ghost use Rattle.std.specs.String.{string_bytes};
 ghost use Rattle.std.specs.Vec.Iter.{into_iter_items};
 ghost use Rattle.stun_show.specs.ShowProgram.{given_password, EndsOn, exit_status, last_line};
 
-use crate::engine::{RunEnd, run};
+use crate::engine::run;
+use crate::report::RunEnd;
 use std::alloc::Global;
 use std::env::Args;
-use std::io::{ErrorKind, Read, Write};
+use std::io::{Read, Write};
+use stun_streams::{FAILED, RunError};
 
 /// The password that the arguments give: the one after the program's name, if there is one. With
 /// more than one the usage is wrong.
 #[tactic(auto, using(crate::proofs::ShowProgramLemmas::none_left))]
-fn password_of(arguments: Args) -> Result<Option<String>, RunEnd>
+fn password_of(arguments: Args) -> Result<Option<String>, RunError>
     ensures { MatchResult result
         (λ given. given_password (map string_bytes (into_iter_items arguments))
         ≡ Ok (option_map string_bytes given))
@@ -28,53 +30,38 @@ fn password_of(arguments: Args) -> Result<Option<String>, RunEnd>
         return Ok(None);
     };
     match arguments.next() {
-        Some(_) => Err(RunEnd::Usage),
+        Some(_) => Err(RunError::Usage),
         None => Ok(Some(password)),
     }
 }
 
 /// Runs with the password that the arguments give. The arguments are checked before anything is
-/// read: where they are wrong, the run ends with `Usage`, and nothing is read or written.
+/// read: if they are wrong, the run fails with `Usage`, and nothing is read or written.
 pub fn run_on<R: Read, W: Write>(
     alloc: Global,
     arguments: Args,
     reader: &mut R,
     writer: &mut W,
-) -> RunEnd
+) -> Result<RunEnd, RunError>
     ensures { EndsOn (map string_bytes (into_iter_items arguments)) result
         (R.remaining reader.old) (R.remaining reader.new)
         (W.contents writer.old) (W.contents writer.new) }
 {
     match password_of(arguments) {
         Ok(given) => run(alloc, reader, given.as_deref(), writer),
-        Err(end) => end,
+        Err(error) => Err(error),
     }
 }
 
-/// How the program ends when its arguments can't be read, by the kind of the error.
-pub fn end_without_arguments(kind: ErrorKind) -> RunEnd
-    ensures memory { kind ≡ ErrorKind.OutOfMemory → result ≡ RunEnd.NoMemory }
-    ensures other { kind ≢ ErrorKind.OutOfMemory → result ≡ RunEnd.Usage }
-{
-    match kind {
-        ErrorKind::OutOfMemory => RunEnd::NoMemory,
-        _ => RunEnd::Usage,
-    }
-}
-
-/// The exit status of a run by how it ended, and the line that is printed then; the line is empty
-/// where the run has written a report, or a part of it.
-pub fn status_of(end: RunEnd) -> (u8, &'static str)
+/// Returns the exit status of a run by how it ended, and the line that is printed then; the line is
+/// empty if the run has written a report, or a part of it.
+pub fn status_of(end: Result<RunEnd, RunError>) -> (u8, &'static str)
     ensures status { result.0 ≡ exit_status end }
     ensures line { result.1.now ≡ last_line end }
 {
     match end {
-        RunEnd::Shown => (0, ""),
-        RunEnd::Refused => (1, ""),
-        RunEnd::Usage => (2, "usage: stun_show [password]\n"),
-        RunEnd::TooLong => (2, "input too long\n"),
-        RunEnd::ReadFailed => (2, "read failed\n"),
-        RunEnd::WriteFailed => (2, ""),
-        RunEnd::NoMemory => (2, "out of memory\n"),
+        Ok(RunEnd::Shown) => (0, ""),
+        Ok(RunEnd::Refused) => (1, ""),
+        Err(error) => (FAILED, error.line("usage: stun_show [password]\n")),
     }
 }

@@ -10,12 +10,21 @@ ghost use Rattle.stun_types.specs.Message.{message_bytes};
 ghost use Rattle.stun_show.specs.Report.{header_line, value_text, attribute_line, refusal_line, password_verdict, integrity_line, integrity_lines, end_of_verdict, end_of_message, report, end_of};
 ghost use Rattle.std.specs.Option.{option_map};
 
-use crate::engine::RunEnd;
 use std::alloc::{AllocError, Global};
 use stun_base::Hex;
 use stun_types::attribute::RawAttribute;
 use stun_types::message::keys::{IntegrityAlgorithm, ShortTermCredentials};
 use stun_types::message::{Message, MessageHeader, StunParseError, ValidateError};
+
+/// How a run ends that has written a report.
+#[derive(Debug, Clone, Copy, PartialEq, Eq)]
+pub enum RunEnd {
+    /// The message was shown.
+    Shown,
+    /// The report says why the bytes are refused, or that the password doesn't validate the
+    /// message.
+    Refused,
+}
 
 /// Writes the line of a header.
 fn write_header(text: &mut String, header: &MessageHeader) -> Result<(), AllocError>

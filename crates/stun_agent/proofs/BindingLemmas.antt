@@ -1,0 +1,49 @@
+-- What a transaction of the request tells.
+use Rattle.std.proofs.Common.{◌≡◌, ℕ, Bool, true, false, List, [], Option, refl, ap, ◌∙◌}
+use Rattle.std.specs.Prelude.{not, ◌&&◌, is_some, ◌==◌, if◌then◌else◌}
+use Rattle.std.specs.Option.{option_map_or}
+use Rattle.stun_grammar.specs.Headers.{type_field, id_field}
+use Rattle.stun_grammar.specs.Parsing.{parse_fault}
+use Rattle.stun_base.specs.declared.transport.TransportType.{TransportType}
+use Rattle.stun_base.specs.declared.transport.TransportType.TheVariants.{Udp}
+use Rattle.stun_base.specs.MessageTypes.{class_of, method_of, is_response}
+use Rattle.stun_transactions.specs.declared.course.Course.{Course}
+use Rattle.stun_transactions.specs.declared.guard.Protection.{Protection}
+use Rattle.stun_transactions.specs.declared.guard.Signed.{Signed}
+use Rattle.stun_transactions.specs.declared.received.Outcome.{Outcome}
+use Rattle.stun_transactions.specs.declared.received.Outcome.TheVariants.{NotForThis}
+use Rattle.stun_transactions.specs.declared.terms.Terms.{Terms}
+use Rattle.stun_transactions.specs.Guards.{guard_fault, signed_by}
+use Rattle.stun_transactions.specs.Outcomes.{is_open}
+use Rattle.stun_transactions.specs.Receiving.{heard, content, discarded}
+use Rattle.stun_transactions.specs.Terms.{is_answer}
+use Rattle.stun_agent.specs.declared.query.Login.{Login}
+use Rattle.stun_agent.specs.Binding.{told, is_answer_to, protection_of}
+
+-- of a transaction in progress
+in_progress : (ongoing parses answers : Bool) (taken : Outcome) → ongoing ≡ true
+    → (if ongoing && parses then (if answers then taken else NotForThis) else NotForThis) ≡ (if parses && answers then taken else NotForThis)
+in_progress true true answers taken o = refl
+in_progress true false answers taken o = refl
+in_progress false parses answers taken o = absurd cc
+
+-- it answers by the same method and transaction ID
+same_answer : (terms : Terms) (r d : List ℕ) → terms.method ≡ method_of (type_field r) → terms.id ≡ id_field r → is_answer terms d ≡ is_answer_to r d
+same_answer terms r d method id =
+    ap (λ (m : ℕ). is_response (class_of (type_field d)) && ((method_of (type_field d) == m) && (id_field d == terms.id))) method
+    ∙ ap (λ (i : ℕ). is_response (class_of (type_field d)) && ((method_of (type_field d) == method_of (type_field r)) && (id_field d == i))) id
+
+-- what is kept out, by the terms of the request
+same_guard : (terms : Terms) (login : Option Login) (r d : List ℕ) → terms.plan.transport ≡ Udp → terms.signed ≡ signed_by r → terms.protection ≡ protection_of login
+    → option_map_or (discarded terms.plan.transport) (guard_fault terms.protection terms.signed d) (content [] d) ≡ option_map_or (discarded Udp) (guard_fault (protection_of login) (signed_by r) d) (content [] d)
+same_guard terms login r d transport signed protection =
+    ap (λ (t : TransportType). option_map_or (discarded t) (guard_fault terms.protection terms.signed d) (content [] d)) transport
+    ∙ ap (λ (s : Signed). option_map_or (discarded Udp) (guard_fault terms.protection s d) (content [] d)) signed
+    ∙ ap (λ (p : Protection). option_map_or (discarded Udp) (guard_fault p (signed_by r) d) (content [] d)) protection
+
+pub heard_told : (terms : Terms) (course : Course) (login : Option Login) (r d : List ℕ) → is_open course ≡ true → terms.plan.transport ≡ Udp → terms.method ≡ method_of (type_field r) → terms.id ≡ id_field r
+    → terms.signed ≡ signed_by r → terms.protection ≡ protection_of login → heard terms course [] d ≡ told login r d
+heard_told terms course login r d ongoing transport method id signed protection =
+    in_progress (is_open course) (not (is_some (parse_fault d))) (is_answer terms d) (option_map_or (discarded terms.plan.transport) (guard_fault terms.protection terms.signed d) (content [] d)) ongoing
+    ∙ ap (λ (b : Bool). if not (is_some (parse_fault d)) && b then option_map_or (discarded terms.plan.transport) (guard_fault terms.protection terms.signed d) (content [] d) else NotForThis) (same_answer terms r d method id)
+    ∙ ap (λ (o : Outcome). if not (is_some (parse_fault d)) && is_answer_to r d then o else NotForThis) (same_guard terms login r d transport signed protection)

@@ -1,0 +1,2 @@
+mod BindingLemmas
+mod StreamLemmas

@@ -1,0 +1,113 @@
+-- The binding request, and what a datagram tells of it (RFC 8489, sections 6.1, 6.3.3, 6.3.4 and 9.1).
+use Rattle.std.specs.Prelude.{◌≡◌, ℕ, ◌∷◌, ◌++◌, List, [], Bool, true, not, ◌&&◌, codes, Option, None, Some, Ok, Err, is_some, ◌==◌, if◌then◌else◌}
+use Rattle.std.specs.Option.{option_map_or}
+use Rattle.std.specs.Fmt.{decimal}
+use Rattle.std.specs.Net.Text.{socket_text}
+use Rattle.stun_grammar.specs.declared.error.StunParseError.{StunParseError}
+use Rattle.stun_grammar.specs.declared.integrity_algorithm.IntegrityAlgorithm.TheVariants.{Sha1, Sha256}
+use Rattle.stun_grammar.specs.AttributeTypes.{USERNAME}
+use Rattle.stun_grammar.specs.Headers.{type_field, id_field}
+use Rattle.stun_grammar.specs.Names.{BINDING}
+use Rattle.stun_grammar.specs.Parsing.{parse_fault}
+use Rattle.stun_grammar.specs.Steps.{Step, add, sign}
+use Rattle.stun_grammar.specs.Sending.{sent_encoding}
+use Rattle.stun_base.specs.declared.message_type.MessageClass.TheVariants.{Request}
+use Rattle.stun_base.specs.declared.transport.TransportType.TheVariants.{Udp}
+use Rattle.stun_base.specs.MessageTypes.{type_of, class_of, method_of, is_response}
+use Rattle.stun_keys.specs.Keys.{key_bytes}
+use Rattle.stun_attributes.specs.Texts.{text_bytes}
+use Rattle.stun_transactions.specs.declared.guard.Protection.{Protection}
+use Rattle.stun_transactions.specs.declared.guard.Protection.TheVariants.{Unprotected, ShortTerm}
+use Rattle.stun_transactions.specs.declared.received.Discard.{Discard}
+use Rattle.stun_transactions.specs.declared.received.Failure.{Failure}
+use Rattle.stun_transactions.specs.declared.received.Outcome.{Outcome}
+use Rattle.stun_transactions.specs.declared.transaction.Transaction.{Transaction}
+use Rattle.stun_transactions.specs.Guards.{signed_by, guard_fault}
+use Rattle.stun_transactions.specs.Mapped.{ReadsMapped}
+use Rattle.stun_transactions.specs.Outcomes.{is_open}
+use Rattle.stun_transactions.specs.Receiving.{content, discarded}
+use Rattle.stun_transactions.specs.Transactions.{terms_of, course_of}
+use Rattle.stun_agent.specs.declared.binding.BindingResult.{BindingResult}
+use Rattle.stun_agent.specs.declared.binding.BindingResult.TheVariants.{Mapped, Unmapped, Refused, Failed, NotAuthentic, NotAnswered}
+use Rattle.stun_agent.specs.declared.query.Login.{Login}
+use Rattle.stun_agent.specs.declared.query.Query.{Query}
+
+-- ---- The request
+
+-- the steps that write its attributes: with a login it names the user, and is signed by both
+-- algorithms (RFC 8489, section 9.1.2)
+abbrev pub steps_by : Option Login → List Step
+steps_by None = []
+steps_by (Some login) =
+    add USERNAME (text_bytes login.username)
+    ∷ sign Sha1 (key_bytes login.key) ∷ sign Sha256 (key_bytes login.key) ∷ []
+
+-- the binding request with a transaction ID, by a login or without one
+abbrev pub request_by : ℕ → Option Login → List ℕ
+request_by id login =
+    sent_encoding (record { type = type_of Request BINDING; id = id; steps = steps_by login })
+
+abbrev pub request : Query → List ℕ
+request query = request_by query.id query.login
+
+-- how it is protected
+abbrev pub protection_of : Option Login → Protection
+protection_of None = Unprotected
+protection_of (Some login) = ShortTerm login.key
+
+-- ---- What a datagram is
+
+-- whether d is a response to the request r
+abbrev pub is_answer_to : List ℕ → List ℕ → Bool
+is_answer_to r d =
+    is_response (class_of (type_field d))
+    && ((method_of (type_field d) == method_of (type_field r)) && (id_field d == id_field r))
+
+-- what a transaction of the request r, by a login or without one, tells of d
+abbrev pub told : Option Login → List ℕ → List ℕ → Outcome
+told login r d =
+    if not (is_some (parse_fault d)) && is_answer_to r d then
+    option_map_or (discarded Udp) (guard_fault (protection_of login) (signed_by r) d) (content [] d)
+    else Outcome.NotForThis
+
+-- ---- The transaction
+
+-- a transaction is in progress, on the terms with which it began
+pub record IsPolled (old new : Transaction) : Type 0 where
+  pub terms : terms_of new ≡ terms_of old
+  pub ongoing : is_open (course_of new) ≡ true
+
+-- the request r was sent over UDP, and the transaction is in progress
+pub record IsSent (r : List ℕ) (login : Option Login) (transaction : Transaction) : Type 0 where
+  pub transport_is : (terms_of transaction).plan.transport ≡ Udp
+  pub method_is : (terms_of transaction).method ≡ method_of (type_field r)
+  pub id_is : (terms_of transaction).id ≡ id_field r
+  pub signed_is : (terms_of transaction).signed ≡ signed_by r
+  pub protection_is : (terms_of transaction).protection ≡ protection_of login
+  pub ongoing : is_open (course_of transaction) ≡ true
+
+-- ---- The answer
+
+-- the address that d tells; or none is read
+abbrev pub MapsTo : List ℕ → BindingResult → Type 0
+MapsTo d (Mapped a) = ReadsMapped d (Ok a)
+MapsTo d Unmapped = (e : StunParseError) × ReadsMapped d (Err e)
+MapsTo d _ = ⊥
+
+-- what d tells of the request r
+abbrev pub TellsOf : Option Login → List ℕ → List ℕ → BindingResult → Type 0
+TellsOf login r d (Mapped a) = (told login r d ≡ Outcome.Success) × MapsTo d (Mapped a)
+TellsOf login r d Unmapped = (told login r d ≡ Outcome.Success) × MapsTo d Unmapped
+TellsOf login r d (Refused code) = told login r d ≡ Outcome.Error code
+TellsOf login r d Failed = (failure : Failure) × (told login r d ≡ Outcome.Failed failure)
+TellsOf login r d NotAuthentic = (reason : Discard) × (told login r d ≡ Outcome.Discarded reason)
+TellsOf login r d NotAnswered = told login r d ≡ Outcome.NotForThis
+
+abbrev pub Tells : Query → List ℕ → BindingResult → Type 0
+Tells query d answer = TellsOf query.login (request query) d answer
+
+-- the line that is written for an answer: an address, or the code of an error
+abbrev pub result_text : BindingResult → List ℕ
+result_text (Mapped a) = socket_text a ++ 10 ∷ []
+result_text (Refused code) = codes "error " ++ decimal code ++ 10 ∷ []
+result_text _ = []

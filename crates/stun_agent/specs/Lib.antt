@@ -1,0 +1,10 @@
+pub mod AskArguments
+pub mod AskRun
+pub mod Binding
+pub mod Issued
+pub mod LoginRun
+pub mod Program
+pub mod ReplyArguments
+pub mod ReplyRun
+pub mod StreamRun
+pub mod StreamSteps

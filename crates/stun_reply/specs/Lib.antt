@@ -1,4 +1,0 @@
-pub mod ReplyRun
-pub mod StreamRun
-pub mod StreamSteps
-pub mod ReplyProgram
