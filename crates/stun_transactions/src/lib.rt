@@ -18,8 +18,6 @@ mod received;
 mod schedule;
 mod slots;
 mod terms;
-#[cfg(test)]
-mod tests;
 mod transaction;
 mod transactions;
 
