@@ -11,8 +11,6 @@ mod gather;
 mod kept_stream;
 mod laws;
 mod message_stream;
-#[cfg(test)]
-mod tests;
 
 pub use error::{StreamError, StreamFault};
 pub use kept_stream::{Pushed, push_kept};

@@ -4,8 +4,6 @@
 mod binding;
 mod in_slice;
 mod laws;
-#[cfg(test)]
-mod tests;
 mod unknown;
 
 pub use binding::reply;

@@ -18,8 +18,6 @@ mod retransmission;
 mod schedule;
 mod slots;
 mod terms;
-#[cfg(test)]
-mod tests;
 mod transaction;
 mod transactions;
 

@@ -1,7 +1,7 @@
 //! Tests of what the rows of `vectors/` can't ask, since only Rattle can say it: borrowed and owned
 //! bytes, what outlives what, bounds, conversions of errors, a user's own generator of random numbers,
-//! attributes, writers, helpers and registered functions of a user's own, and the capacity that a
-//! writer has.
+//! attributes, writers, helpers and registered functions of a user's own, the capacity that a writer
+//! has, and transactions that are taken apart.
 #![tactic(auto)]
 
 #[cfg(test)]
@@ -12,6 +12,8 @@ mod borrowed;
 mod bounds;
 #[cfg(test)]
 mod capacity;
+#[cfg(test)]
+mod client_loop;
 #[cfg(test)]
 mod data;
 #[cfg(test)]
@@ -36,3 +38,5 @@ mod registry;
 mod resuming;
 #[cfg(test)]
 mod texts;
+#[cfg(test)]
+mod transaction_parts;

@@ -1,14 +1,19 @@
 //! The loop of `docs/CLIENT.md`, over a carrier that loses the first two requests.
 
-use crate::tests::messages;
-use crate::{Action, Protection, Received, Schedule, Transaction};
 use std::alloc::Global;
 use std::net::{IpAddr, Ipv4Addr, SocketAddr};
 use std::test::Fail;
 use std::time::Duration;
+use stun_transactions::{Action, Protection, Received, Schedule, Transaction};
 use stun_types::TransportType;
 use stun_types::attribute::XorMappedAddress;
 use stun_types::message::Message;
+
+const REQUEST: &[u8] = b"\x00\x01\x00\x00\x21\x12\xA4\x42abcdefghijkl";
+
+/// XOR-MAPPED-ADDRESS 192.0.2.1:32853.
+const SUCCESS: &[u8] =
+    b"\x01\x01\x00\x0C\x21\x12\xA4\x42abcdefghijkl\x00\x20\x00\x08\x00\x01\xA1\x47\xE1\x12\xA6\x43";
 
 /// A socket that is connected to the server, and a clock.
 pub trait Carrier {
@@ -80,7 +85,7 @@ impl Carrier for Lossy {
 
     fn receive_until(&mut self, buffer: &mut [u8], until: Duration) -> usize {
         self.clock = until;
-        let response = messages::SUCCESS.as_slice();
+        let response = SUCCESS;
         if self.sent != self.answered || buffer.len() < response.len() {
             return 0;
         }
@@ -98,7 +103,7 @@ fn loses_two_requests(rt: HostRuntime) -> Result<(), Fail> {
             sent: 0,
             clock: Duration::ZERO,
         };
-        let told = mapped_address(rt.alloc(), &mut carrier, &messages::REQUEST);
+        let told = mapped_address(rt.alloc(), &mut carrier, REQUEST);
         assert!(rt;
             told == address && carrier.sent == sent,
             "answered: {answered}"

@@ -1,18 +1,34 @@
 //! Transactions that are taken apart and put together again.
 
-use crate::parts::PartsError::{
-    KeyForOneAlgorithm, NoKey, NoUseForKey, SentTooLate, SentTooOften, SignedOtherwise,
-};
-use crate::tests::messages;
-use crate::{
-    Action, Mechanism, PartsError, Protection, Received, Schedule, Transaction, TransactionEnd,
-    TransactionParts,
-};
 use std::alloc::Global;
 use std::test::Fail;
 use std::time::Duration;
+use stun_transactions::PartsError::{
+    KeyForOneAlgorithm, NoKey, NoUseForKey, SentTooLate, SentTooOften, SignedOtherwise,
+};
+use stun_transactions::{
+    Action, Mechanism, PartsError, Protection, Received, Schedule, Transaction, TransactionEnd,
+    TransactionParts,
+};
 use stun_types::TransportType::Udp;
 use stun_types::message::{IntegrityAlgorithm, IntegrityKey, Message, StunWriteError};
+
+/// A binding request, signed by HMAC-SHA1 with the key `secret`, as Python computed it.
+#[rattlefmt::skip]
+static REQUEST_SHA1: [u8; 44] = [
+    0x00, 0x01, 0x00, 0x18, 0x21, 0x12, 0xA4, 0x42, 0x00, 0x00, 0x00, 0x00, 0x00, 0x00, 0x00, 0x00,
+    0x00, 0x00, 0x03, 0xE8, 0x00, 0x08, 0x00, 0x14, 0x14, 0x5F, 0x0C, 0xB8, 0x25, 0xCA, 0xE5, 0xA1,
+    0x3A, 0x8A, 0x4C, 0xEE, 0x10, 0x21, 0xFE, 0x88, 0x43, 0xB3, 0x81, 0x81,
+];
+
+/// Its success response, signed in the same way.
+#[rattlefmt::skip]
+static SUCCESS_SHA1: [u8; 56] = [
+    0x01, 0x01, 0x00, 0x24, 0x21, 0x12, 0xA4, 0x42, 0x00, 0x00, 0x00, 0x00, 0x00, 0x00, 0x00, 0x00,
+    0x00, 0x00, 0x03, 0xE8, 0x00, 0x20, 0x00, 0x08, 0x00, 0x01, 0xA1, 0x47, 0xE1, 0x12, 0xA6, 0x43,
+    0x00, 0x08, 0x00, 0x14, 0xB4, 0x72, 0x9B, 0x88, 0x1F, 0x46, 0xD2, 0x80, 0x4B, 0x9F, 0x0B, 0x8A,
+    0xAA, 0x75, 0x72, 0x40, 0x7F, 0x51, 0xB7, 0xF6,
+];
 
 /// A key that was made for an algorithm, or with none.
 fn key(
@@ -25,7 +41,7 @@ fn key(
 
 /// A transaction of the signed request that was sent at 3 s and at 4 s, taken apart.
 fn parted(alloc: Global) -> Result<(TransactionParts, Option<IntegrityKey>), Fail> {
-    let request = Message::from_bytes(&messages::REQUEST_SHA1)?;
+    let request = Message::from_bytes(&REQUEST_SHA1)?;
     let secret = IntegrityKey::new(alloc, b"secret", Some(IntegrityAlgorithm::Sha1))?;
     let protection = Protection::LongTerm(secret);
     let begun = Duration::from_secs(3);
@@ -52,7 +68,7 @@ fn goes_on(rt: HostRuntime) -> Result<(), Fail> {
     assert!(rt; parts.poll(Duration::from_secs(6)) == Action::Send);
     let mut transaction = Transaction::from_parts(parts, key)?;
     assert!(rt; transaction.next_wake() == Some(Duration::from_secs(10)));
-    let taken = transaction.receive(&messages::SUCCESS_SHA1, &[]);
+    let taken = transaction.receive(&SUCCESS_SHA1, &[]);
     assert!(rt; matches!(taken, Received::Success(_)));
     let (mut parts, _key) = transaction.into_parts();
     assert!(rt; parts.end == Some(TransactionEnd::Answered));
