@@ -12,10 +12,7 @@ use crate::received::{Discard, Failure, Outcome};
 use crate::terms::Terms;
 use stun_authentication::shown_code;
 use stun_types::TransportType;
-use stun_types::attribute::{
-    AttributeStaticType, AttributeType, ErrorCode, MessageIntegrity, MessageIntegritySha256, Nonce,
-    PasswordAlgorithm, Realm, UnknownAttributes, Userhash, Username, XorMappedAddress,
-};
+use stun_types::attribute::{AttributeType, KNOWN};
 use stun_types::message::write::is_among;
 use stun_types::message::{Message, MessageClass};
 
@@ -23,20 +20,7 @@ use stun_types::message::{Message, MessageClass};
 fn is_own(atype: AttributeType) -> bool
     ensures { result ≡ has atype.0 own_types }
 {
-    let own = [
-        AttributeType(0x0001),
-        Username::TYPE,
-        MessageIntegrity::TYPE,
-        ErrorCode::TYPE,
-        UnknownAttributes::TYPE,
-        Realm::TYPE,
-        Nonce::TYPE,
-        MessageIntegritySha256::TYPE,
-        PasswordAlgorithm::TYPE,
-        Userhash::TYPE,
-        XorMappedAddress::TYPE,
-    ];
-    is_among(&own, atype)
+    is_among(&KNOWN, atype)
 }
 
 /// Whether an attribute of this type must be understood, and isn't.

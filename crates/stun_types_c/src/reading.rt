@@ -2,7 +2,6 @@
 
 ghost use Rattle.std.specs.Prelude.{◌≡◌, ◌%◌, ◌^◌, MatchOption};
 ghost use Rattle.stun_grammar.specs.Headers.{header_fault};
-ghost use Rattle.stun_grammar.specs.Numbers.{number};
 ghost use Rattle.stun_grammar.specs.Parsing.{parse_fault};
 ghost use Rattle.stun_types_c.specs.CallResults.{fault_result};
 ghost use Rattle.stun_base.specs.MessageTypes.{type_of};
@@ -10,9 +9,9 @@ ghost use Rattle.stun_types_c.specs.Reading.{Frames, header_in_c, class_number, 
 
 use crate::call_result::{CallResult, parse_result, plain};
 use crate::codes;
-use stun_base::{number_at, read_header};
+use stun_base::number_at;
 use stun_types::message::{
-    Message, MessageClass, MessageHeader, MessageType, Method, TransactionId, message_length,
+    Message, MessageClass, MessageHeader, MessageType, Method, message_length,
 };
 
 /// A transaction ID, as its bytes.
@@ -37,15 +36,6 @@ pub struct Header {
     pub length: u16,
     /// The transaction ID.
     pub id: Id,
-}
-
-/// The transaction ID of its bytes.
-pub(crate) fn id_of(id: &Id) -> TransactionId
-    ensures { result ≡ number id.now.bytes }
-{
-    let mut header = [0; 20];
-    header[8..].copy_from_slice(&id.bytes);
-    read_header(&header).transaction_id()
 }
 
 /// How many bytes the message has that begins here; 0 where more bytes are needed to tell.

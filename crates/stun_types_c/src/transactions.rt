@@ -14,7 +14,7 @@ ghost use Rattle.stun_types_c.specs.Transactions.{transport_numbered, mechanism_
 
 use crate::call_result::{CallResult, parse_result, plain};
 use crate::codes;
-use crate::reading::{Id, id_of};
+use crate::reading::Id;
 use crate::shared_key::SharedKey;
 use crate::type_list::types_of;
 use std::alloc::Global;
@@ -28,7 +28,7 @@ use stun_types::attribute::{
     AttributeStaticType, AttributeType, MessageIntegrity, MessageIntegritySha256,
 };
 use stun_types::message::keys::IntegrityKey;
-use stun_types::message::{Message, MessageClass, Method};
+use stun_types::message::{Message, MessageClass, Method, TransactionId};
 
 /// When a request is sent again and given up, in milliseconds.
 #[repr(C)]
@@ -184,7 +184,7 @@ fn parts_of(kept: &KeptTransaction) -> Option<TransactionParts>
         schedule: schedule_of(&kept.schedule)?,
         transport: transport_of(u32::from(kept.transport))?,
         method: Method::new(kept.method),
-        id: id_of(&kept.id),
+        id: TransactionId::from_bytes(&kept.id.bytes),
         sha1: kept.signed_by % 2 == 1,
         sha256: kept.signed_by > 1,
         mechanism: mechanism_of(u32::from(kept.protection))?,

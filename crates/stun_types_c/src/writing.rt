@@ -16,14 +16,14 @@ use crate::call_result::{CallResult, counted, plain, write_result};
 use crate::codes;
 use crate::keys::algorithm_of;
 use crate::new_values::{ErrorValue, TypeNumbers};
-use crate::reading::{Id, id_of};
+use crate::reading::Id;
 use crate::shared_key::SharedKey;
 use crate::values::text_in;
 use std::net::SocketAddr;
 use stun_base::MessageHeader;
 use stun_grammar::attribute_types::{ERROR_CODE, UNKNOWN_ATTRIBUTES};
 use stun_types::attribute::AttributeType;
-use stun_types::message::{MessageType, StunWriteError};
+use stun_types::message::{MessageType, StunWriteError, TransactionId};
 use stun_values::{address_length, check_error, check_type_count, write_address, xor_addr};
 use stun_write::{ResumePoint, write_message_header};
 
@@ -45,7 +45,7 @@ pub extern "C" fn stun_types_begin(
     if room.len() < MessageHeader::LENGTH {
         return counted(codes::TOO_SMALL, MessageHeader::LENGTH, room.len());
     }
-    write_message_header(mtype, id_of(id), room);
+    write_message_header(mtype, TransactionId::from_bytes(&id.bytes), room);
     *written = MessageHeader::LENGTH;
     plain(codes::OK)
 }
