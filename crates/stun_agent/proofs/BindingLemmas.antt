@@ -7,7 +7,7 @@ use Rattle.stun_grammar.specs.Parsing.{parse_fault}
 use Rattle.stun_base.specs.declared.transport.TransportType.{TransportType}
 use Rattle.stun_base.specs.declared.transport.TransportType.TheVariants.{Udp}
 use Rattle.stun_base.specs.MessageTypes.{class_of, method_of, is_response}
-use Rattle.stun_transactions.specs.declared.course.Course.{Course}
+use Rattle.stun_transactions.specs.declared.retransmission.RetransmissionState.{RetransmissionState}
 use Rattle.stun_transactions.specs.declared.guard.Protection.{Protection}
 use Rattle.stun_transactions.specs.declared.guard.Signed.{Signed}
 use Rattle.stun_transactions.specs.declared.received.Outcome.{Outcome}
@@ -15,7 +15,7 @@ use Rattle.stun_transactions.specs.declared.received.Outcome.TheVariants.{NotFor
 use Rattle.stun_transactions.specs.declared.terms.Terms.{Terms}
 use Rattle.stun_transactions.specs.Guards.{guard_fault, signed_by}
 use Rattle.stun_transactions.specs.Outcomes.{is_open}
-use Rattle.stun_transactions.specs.Receiving.{heard, content, discarded}
+use Rattle.stun_transactions.specs.Receiving.{received_outcome, content, discarded}
 use Rattle.stun_transactions.specs.Terms.{is_answer}
 use Rattle.stun_agent.specs.declared.query.Login.{Login}
 use Rattle.stun_agent.specs.Binding.{told, is_answer_to, protection_of}
@@ -41,9 +41,9 @@ same_guard terms login r d transport signed protection =
     ∙ ap (λ (s : Signed). option_map_or (discarded Udp) (guard_fault terms.protection s d) (content [] d)) signed
     ∙ ap (λ (p : Protection). option_map_or (discarded Udp) (guard_fault p (signed_by r) d) (content [] d)) protection
 
-pub heard_told : (terms : Terms) (course : Course) (login : Option Login) (r d : List ℕ) → is_open course ≡ true → terms.plan.transport ≡ Udp → terms.method ≡ method_of (type_field r) → terms.id ≡ id_field r
-    → terms.signed ≡ signed_by r → terms.protection ≡ protection_of login → heard terms course [] d ≡ told login r d
-heard_told terms course login r d ongoing transport method id signed protection =
+pub received_told : (terms : Terms) (course : RetransmissionState) (login : Option Login) (r d : List ℕ) → is_open course ≡ true → terms.plan.transport ≡ Udp → terms.method ≡ method_of (type_field r) → terms.id ≡ id_field r
+    → terms.signed ≡ signed_by r → terms.protection ≡ protection_of login → received_outcome terms course [] d ≡ told login r d
+received_told terms course login r d ongoing transport method id signed protection =
     in_progress (is_open course) (not (is_some (parse_fault d))) (is_answer terms d) (option_map_or (discarded terms.plan.transport) (guard_fault terms.protection terms.signed d) (content [] d)) ongoing
     ∙ ap (λ (b : Bool). if not (is_some (parse_fault d)) && b then option_map_or (discarded terms.plan.transport) (guard_fault terms.protection terms.signed d) (content [] d) else NotForThis) (same_answer terms r d method id)
     ∙ ap (λ (o : Outcome). if not (is_some (parse_fault d)) && is_answer_to r d then o else NotForThis) (same_guard terms login r d transport signed protection)

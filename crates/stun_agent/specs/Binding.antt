@@ -26,7 +26,7 @@ use Rattle.stun_transactions.specs.Guards.{signed_by, guard_fault}
 use Rattle.stun_transactions.specs.Mapped.{ReadsMapped}
 use Rattle.stun_transactions.specs.Outcomes.{is_open}
 use Rattle.stun_transactions.specs.Receiving.{content, discarded}
-use Rattle.stun_transactions.specs.Transactions.{terms_of, course_of}
+use Rattle.stun_transactions.specs.Transactions.{terms_of, state_of}
 use Rattle.stun_agent.specs.declared.binding.BindingResult.{BindingResult}
 use Rattle.stun_agent.specs.declared.binding.BindingResult.TheVariants.{Mapped, Unmapped, Refused, Failed, NotAuthentic, NotAnswered}
 use Rattle.stun_agent.specs.declared.query.Login.{Login}
@@ -75,7 +75,7 @@ told login r d =
 -- a transaction is in progress, on the terms with which it began
 pub record IsPolled (old new : Transaction) : Type 0 where
   pub terms : terms_of new ≡ terms_of old
-  pub ongoing : is_open (course_of new) ≡ true
+  pub ongoing : is_open (state_of new) ≡ true
 
 -- the request r was sent over UDP, and the transaction is in progress
 pub record IsSent (r : List ℕ) (login : Option Login) (transaction : Transaction) : Type 0 where
@@ -84,7 +84,7 @@ pub record IsSent (r : List ℕ) (login : Option Login) (transaction : Transacti
   pub id_is : (terms_of transaction).id ≡ id_field r
   pub signed_is : (terms_of transaction).signed ≡ signed_by r
   pub protection_is : (terms_of transaction).protection ≡ protection_of login
-  pub ongoing : is_open (course_of transaction) ≡ true
+  pub ongoing : is_open (state_of transaction) ≡ true
 
 -- ---- The answer
 

@@ -133,7 +133,7 @@ fn mapped(alloc: Global, response: &Message<'_>) -> BindingResult
 
 /// What a datagram tells of the binding request of a query. The error says that an allocation
 /// failed: the request that this makes parses, and its first poll sends it.
-#[tactic(auto, using(crate::proofs::BindingLemmas::heard_told))]
+#[tactic(auto, using(crate::proofs::BindingLemmas::received_told))]
 pub fn read_response(
     alloc: Global,
     query: Query,
