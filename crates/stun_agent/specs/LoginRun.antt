@@ -1,5 +1,5 @@
 -- What a run of the server of two users has read and written, by how it ends.
-use Rattle.std.specs.Prelude.{◌≡◌, ℕ, List, Option, Result, Ok, Err, ⊤}
+use Rattle.std.specs.Prelude.{◌≡◌, ℕ, List, Option, Result, Ok, Err}
 use Rattle.std.specs.Io.KnownBytes.{Keeps}
 use Rattle.stun_grammar.specs.Writing.{greatest_length}
 use Rattle.stun_streams.specs.Streams.{ReadsAll}
