@@ -58,10 +58,17 @@ func number(word string, base int) uint16 {
 
 func attrType(word string) stun.AttrType { return stun.AttrType(number(word, 16)) }
 
+// decodeAny returns the message that octets are, whatever its FINGERPRINT is.
+func decodeAny(value []byte) (*stun.Message, error) {
+	message := new(stun.Message)
+	err := stun.Decode(value, message)
+	return message, err
+}
+
 // decode returns the message that octets are, with a FINGERPRINT that is right if it has one.
 func decode(value []byte) (*stun.Message, error) {
-	message := new(stun.Message)
-	if err := stun.Decode(value, message); err != nil {
+	message, err := decodeAny(value)
+	if err != nil {
 		return nil, err
 	}
 	if message.Contains(stun.AttrFingerprint) {
@@ -84,7 +91,7 @@ func parse(value []byte) (string, error) {
 
 // show returns a word for each attribute, with its value or without it.
 func show(value []byte, word func(at int, attribute stun.RawAttribute) string) (string, error) {
-	message, err := decode(value)
+	message, err := decodeAny(value)
 	if err != nil {
 		return "", err
 	}
@@ -101,7 +108,7 @@ func show(value []byte, word func(at int, attribute stun.RawAttribute) string) (
 
 func find(words []string) (string, error) {
 	wanted, left := attrType(words[0]), number(words[1], 10)
-	message, err := decode(octets(words[2]))
+	message, err := decodeAny(octets(words[2]))
 	if err != nil {
 		return "", err
 	}
@@ -151,11 +158,13 @@ func validate(key stun.MessageIntegrity, value []byte) (string, error) {
 
 func text(word string) string { return string(octets(word)) }
 
-// value returns a message of an ID with one attribute.
+// holder returns a message of an ID with one attribute.
 func holder(t stun.AttrType, value []byte, words []string) *stun.Message {
 	message := stun.New()
 	if len(words) > 0 {
-		copy(message.TransactionID[:], octets(words[0]))
+		// (an ID may have no leading zeros)
+		id := octets(strings.Repeat("0", 24-len(words[0])) + words[0])
+		copy(message.TransactionID[:], id)
 	}
 	message.WriteHeader()
 	if value != nil {
@@ -206,7 +215,7 @@ func read(words []string) (string, error) {
 		if len(numbers) == 0 {
 			return "-", err
 		}
-		return strings.Join(numbers, " "), err
+		return strings.Join(numbers, ","), err
 	}
 	return "", errUnknown
 }
@@ -233,6 +242,13 @@ func makeValue(words []string) (string, error) {
 		message = holder(t, nil, nil)
 		code := stun.ErrorCodeAttribute{Code: stun.ErrorCode(number(words[1], 10)), Reason: octets(words[2])}
 		err = code.AddTo(message)
+	case t == stun.AttrUnknownAttributes && words[1] != "-":
+		message = holder(t, nil, nil)
+		types := stun.UnknownAttributes{}
+		for _, word := range strings.Split(words[1], ",") {
+			types = append(types, attrType(word))
+		}
+		err = types.AddTo(message)
 	default:
 		return "", errUnknown
 	}
@@ -257,7 +273,7 @@ func write(words []string) (string, error) {
 	}
 	copy(message.TransactionID[:], octets(start[2]))
 	message.WriteHeader()
-	answers := ""
+	answers := []string{}
 	for _, step := range words[2:] {
 		parts, err := strings.Split(step, ":"), error(nil)
 		switch {
@@ -275,12 +291,15 @@ func write(words []string) (string, error) {
 			return "", errUnknown
 		}
 		if err != nil {
-			answers += "!" + " "
+			answers = append(answers, "!")
 		} else {
-			answers += "ok "
+			answers = append(answers, "ok")
 		}
 	}
-	return answers + digits(message.Raw), nil
+	if len(answers) == 0 {
+		answers = []string{"-"}
+	}
+	return strings.Join(answers, ",") + " " + digits(message.Raw), nil
 }
 
 func answers(words []string) (string, error) {
