@@ -1,18 +1,15 @@
 #define _DEFAULT_SOURCE
 #include "check.h"
 
-#include <fcntl.h>
 #include <signal.h>
 #include <stdarg.h>
 #include <stdio.h>
 #include <stdlib.h>
 #include <string.h>
 #include <sys/mman.h>
-#include <sys/stat.h>
 #include <unistd.h>
 
 #include "heap.h"
-#include "tables_types.h"
 
 enum { REGIONS = 512, HEX_MOST = 1 << 18 };
 
@@ -225,57 +222,8 @@ slice joined(slice first, slice second) {
     return given(scratch, first.length + second.length);
 }
 
+uint8_t *guarded_end(uint8_t *place, size_t size, size_t length) {
+    return side == GUARD_BEFORE ? place : place + size - length;
+}
+
 bool is_untouched(const void *bytes, size_t length) { return is_filled(bytes, length); }
-
-/* ---- the tables */
-
-#include "tables.h"
-
-static const uint8_t *pool;
-static size_t pool_length;
-
-void pool_open(const char *path) {
-    struct stat told;
-    void *mapped;
-    int file = open(path, O_RDONLY);
-    if (file < 0 || fstat(file, &told) != 0) {
-        perror(path);
-        exit(1);
-    }
-    pool_length = (size_t)told.st_size;
-    mapped = mmap(NULL, pool_length, PROT_READ, MAP_PRIVATE, file, 0);
-    if (mapped == MAP_FAILED) abort();
-    pool = mapped;
-    close(file);
-}
-
-slice part(pool_part part) {
-    if (part.at > pool_length || part.length > pool_length - part.at) abort();
-    return given(pool + part.at, part.length);
-}
-
-slice message(const char *name) {
-    size_t i;
-    for (i = 0; i < COUNT(named_messages); i++)
-        if (strcmp(named_messages[i].name, name) == 0) return part(named_messages[i].bytes);
-    fprintf(stderr, "no message %s\n", name);
-    abort();
-}
-
-const shown_attribute *shown_attribute_at(size_t place) { return &shown_attributes[place]; }
-
-const shown_case *shown_case_at(size_t place) {
-    return place < COUNT(shown_cases) ? &shown_cases[place] : NULL;
-}
-
-const reply_case *reply_case_at(size_t place) {
-    return place < COUNT(reply_cases) ? &reply_cases[place] : NULL;
-}
-
-const login_case *login_case_at(size_t place) {
-    return place < COUNT(login_cases) ? &login_cases[place] : NULL;
-}
-
-const ask_case *ask_case_at(size_t place) {
-    return place < COUNT(ask_cases) ? &ask_cases[place] : NULL;
-}

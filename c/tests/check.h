@@ -72,9 +72,6 @@ slice hex(const char *digits);
 /* That of a text. */
 slice text(const char *letters);
 
-/* That of a message or a table in tables.h, by its name; and of a part of the pool. */
-slice message(const char *name);
-
 /* The first bytes of a slice, and those from an offset on. */
 slice front_of(slice whole, size_t length);
 slice behind(slice whole, size_t offset);
@@ -87,20 +84,13 @@ slice joined(slice first, slice second);
 uint8_t *room(size_t length);
 uint8_t *copy(const void *bytes, size_t length);
 
+/* The place for so many bytes at the guarded end of a room of this size. */
+uint8_t *guarded_end(uint8_t *place, size_t size, size_t length);
+
 /* Whether all bytes are those that rooms are filled with. */
 bool is_untouched(const void *bytes, size_t length);
 
 /* A struct of this type, as a room. */
 #define NEW(type) ((type *)(void *)room(sizeof(type)))
-
-/* ---- the tables */
-
-typedef struct {
-    size_t at, length;
-} pool_part;
-
-/* Maps the file that c/tests/tables writes. */
-void pool_open(const char *path);
-slice part(pool_part part);
 
 #endif

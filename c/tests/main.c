@@ -1,5 +1,5 @@
-/* Tests of the library through its header: tests POOL [PART..]. POOL is the file that
- * c/tests/tables writes; without a PART all are run. The last line is 'N passed, M failed'. */
+/* Tests of the library through its header, of what the rows of vectors/ can't say: tests [PART..].
+ * Without a PART all are run. The last line is 'N passed, M failed'. */
 #include <stdio.h>
 #include <string.h>
 
@@ -11,26 +11,21 @@ static const struct {
     const char *name;
     void (*run)(void);
 } parts[] = {
-    {"numbers", test_numbers}, {"reading", test_reading}, {"printing", test_printing},
-    {"keys", test_keys},       {"writing", test_writing}, {"servers", test_servers},
-    {"clients", test_clients}, {"streams", test_streams},
+    {"numbers", test_numbers}, {"reading", test_reading}, {"keys", test_keys},
+    {"writing", test_writing}, {"servers", test_servers}, {"clients", test_clients},
+    {"streams", test_streams},
 };
 
 static int is_asked(int count, char **arguments, const char *name) {
     int i;
-    for (i = 2; i < count; i++)
+    for (i = 1; i < count; i++)
         if (strcmp(arguments[i], name) == 0) return 1;
-    return count <= 2;
+    return count <= 1;
 }
 
 int main(int count, char **arguments) {
     int side;
     size_t i;
-    if (count < 2) {
-        fprintf(stderr, "usage: tests POOL [PART..]\n");
-        return 2;
-    }
-    pool_open(arguments[1]);
     for (side = GUARD_BEHIND; side <= GUARD_BEFORE; side++) {
         check_begin(side == GUARD_BEFORE ? GUARD_BEFORE : GUARD_BEHIND);
         for (i = 0; i < COUNT(parts); i++)

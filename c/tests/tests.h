@@ -4,7 +4,6 @@
 
 void test_numbers(void);
 void test_reading(void);
-void test_printing(void);
 void test_keys(void);
 void test_writing(void);
 void test_servers(void);

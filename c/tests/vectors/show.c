@@ -1,16 +1,73 @@
-/* The attributes that octets show. */
+/* The attributes that octets show, and look-ups of them. */
 #include "call.h"
 
-static void show(void) {
-    slice octets = call_octets();
-    stun_types_cursor cursor = {0, 0};
+/* Answers with each attribute that is shown. */
+static void answer_shown(slice octets, bool with_values) {
+    stun_types_cursor cursor = {0, 0}, before;
     stun_types_attribute attribute;
     while (stun_types_next(octets.bytes, octets.length, &cursor, &attribute)) {
         answer_space();
-        answer_text("%zu:%04x:", attribute.value_at - 4, (unsigned)attribute.type);
+        answer_text("%zu:%04x", attribute.value_at - 4, (unsigned)attribute.type);
+        if (!with_values) continue;
+        answer_text(":");
         answer_octets(octets.bytes + attribute.value_at, attribute.length);
     }
+    before = cursor;
+    CHECK(!stun_types_next(octets.bytes, octets.length, &cursor, &attribute));
+    CHECK(cursor.offset == before.offset && cursor.last == before.last);
     answer_or_nothing();
 }
 
-const verb verbs_of_show[] = {{"show", show}, {NULL, NULL}};
+static void show(void) { answer_shown(call_octets(), true); }
+
+static void list(void) { answer_shown(call_octets(), false); }
+
+static void count(void) {
+    slice octets = call_octets();
+    stun_types_cursor cursor = {0, 0};
+    stun_types_attribute attribute;
+    size_t found = 0, last = 0;
+    while (stun_types_next(octets.bytes, octets.length, &cursor, &attribute)) {
+        found++;
+        last = attribute.value_at - 4;
+    }
+    answer_text("%zu %zu", found, last);
+}
+
+static void find(void) {
+    uint16_t type = call_number();
+    uint64_t left = call_count();
+    slice octets = call_octets();
+    stun_types_cursor cursor = {0, 0};
+    stun_types_attribute attribute, first;
+    bool is_found = stun_types_find(octets.bytes, octets.length, type, &first), is_first = true;
+    if (!is_taken(stun_types_parse(octets.bytes, octets.length))) return;
+    while (stun_types_next(octets.bytes, octets.length, &cursor, &attribute)) {
+        if (attribute.type != type) continue;
+        CHECK(is_found);
+        if (is_first) CHECK(first.value_at == attribute.value_at && first.type == type);
+        if (is_first) CHECK(first.length == attribute.length);
+        is_first = false;
+        if (left-- != 0) continue;
+        answer_text("%zu ", attribute.value_at - 4);
+        answer_octets(octets.bytes + attribute.value_at, attribute.length);
+        return;
+    }
+    CHECK(is_found != is_first);
+    answer_text("none");
+}
+
+static void comprehension(void) {
+    uint16_t type = call_number(), told = 0;
+    stun_types_id id = id_of("0");
+    slice octets = message_with(type, given(NULL, 0), &id);
+    size_t count = stun_types_unknown_types(octets.bytes, octets.length, NULL, 0, &told, 1);
+    if (count != 0) CHECK(count == 1 && told == type);
+    answer_text(count == 0 ? "optional" : "required");
+}
+
+const verb verbs_of_show[] = {
+    {"show", show, false}, {"list", list, false},
+    {"count", count, false}, {"find", find, false},
+    {"comprehension", comprehension, false}, {NULL, NULL, false},
+};

@@ -1,0 +1,215 @@
+/* Values of attributes: addresses, errors and lists of types. C reads and writes no other values. */
+#include "call.h"
+
+#include <stdio.h>
+#include <string.h>
+
+typedef enum { NOTHING, ADDRESS, XOR_ADDRESS, ERROR, TYPES } value_kind;
+
+/* What C reads a value of this type as. */
+static value_kind kind_of(uint16_t type) {
+    switch (type) {
+    case STUN_TYPES_MAPPED_ADDRESS:
+    case STUN_TYPES_ALTERNATE_SERVER:
+    case STUN_TYPES_RESPONSE_ORIGIN:
+    case STUN_TYPES_OTHER_ADDRESS: return ADDRESS;
+    case STUN_TYPES_XOR_MAPPED_ADDRESS:
+    case STUN_TYPES_XOR_PEER_ADDRESS:
+    case STUN_TYPES_XOR_RELAYED_ADDRESS: return XOR_ADDRESS;
+    case STUN_TYPES_ERROR_CODE: return ERROR;
+    case STUN_TYPES_UNKNOWN_ATTRIBUTES: return TYPES;
+    default: return NOTHING;
+    }
+}
+
+/* Answers with an address, or why there is none; *read stays untouched then. */
+static stun_types_answer read_address(slice octets, const stun_types_attribute *attribute,
+                                      bool is_xored, bool is_told) {
+    stun_types_address *read = NEW(stun_types_address);
+    stun_types_answer told =
+        is_xored ? stun_types_read_xor_address(octets.bytes, octets.length, attribute, read)
+                 : stun_types_read_address(octets.bytes, octets.length, attribute, read);
+    if (told.code != STUN_TYPES_OK) CHECK(is_untouched(read, sizeof *read));
+    else CHECK(read->family == 4 || read->family == 6);
+    if (told.code != STUN_TYPES_OK || !is_told) return told;
+    answer_octets(read->octets, read->family == 4 ? 4 : 16);
+    answer_text(" %u", (unsigned)read->port);
+    return told;
+}
+
+/* The same with an error. */
+static stun_types_answer read_error(slice octets, const stun_types_attribute *attribute,
+                                    bool is_told) {
+    uint16_t *code = NEW(uint16_t);
+    size_t *at = NEW(size_t), *length = NEW(size_t);
+    stun_types_answer told =
+        stun_types_read_error(octets.bytes, octets.length, attribute, code, at, length);
+    if (told.code != STUN_TYPES_OK) {
+        CHECK(is_untouched(code, sizeof *code) && is_untouched(at, sizeof *at));
+        CHECK(is_untouched(length, sizeof *length));
+    }
+    if (told.code != STUN_TYPES_OK || !is_told) return told;
+    answer_text("%u ", (unsigned)*code);
+    answer_octets(octets.bytes + *at, *length);
+    return told;
+}
+
+/* The same with a list of types. That a length is odd has a code without numbers in C. */
+static stun_types_answer read_types(slice octets, const stun_types_attribute *attribute,
+                                    bool is_told) {
+    uint16_t *types = (uint16_t *)(void *)room(attribute->length);
+    size_t *count = NEW(size_t), at, held = attribute->length / 2;
+    stun_types_answer told =
+        stun_types_read_types(octets.bytes, octets.length, attribute, types, held, count);
+    if (told.code != STUN_TYPES_OK)
+        CHECK(is_untouched(types, attribute->length) && is_untouched(count, sizeof *count));
+    if (told.code == STUN_TYPES_INVALID_DATA)
+        return LENGTHS(STUN_TYPES_TRUNCATED, attribute->length + 1u, attribute->length);
+    CHECK(told.code == STUN_TYPES_OK && *count == held);
+    for (at = 0; at < held && is_told; at++)
+        answer_text("%s%04x", at == 0 ? "" : ",", (unsigned)types[at]);
+    if (held == 0 && is_told) answer_text("-");
+    return told;
+}
+
+/* Reads a value, and answers with what it means if that is to be told. */
+static stun_types_answer read_value(uint16_t type, slice value, const stun_types_id *id,
+                                    bool is_told) {
+    value_kind kind = kind_of(type);
+    slice octets = message_with(type, kind == NOTHING ? front_of(value, 0) : value, id);
+    stun_types_attribute attribute;
+    CHECK(stun_types_find(octets.bytes, octets.length, type, &attribute));
+    switch (kind) {
+    case ADDRESS: return read_address(octets, &attribute, false, is_told);
+    case XOR_ADDRESS: return read_address(octets, &attribute, true, is_told);
+    case ERROR: return read_error(octets, &attribute, is_told);
+    case TYPES: return read_types(octets, &attribute, is_told);
+    default: answer_unknown(); return OK_ANSWER;
+    }
+}
+
+/* The transaction ID of the next word, or 0. */
+static stun_types_id call_id(void) {
+    const char *word = call_word();
+    return id_of(word == NULL ? "0" : word);
+}
+
+static void read(void) {
+    uint16_t type = call_number();
+    slice value = call_octets();
+    stun_types_id id = call_id();
+    stun_types_answer told = read_value(type, value, &id, true);
+    if (told.code != STUN_TYPES_OK) answer_refusal(told);
+}
+
+/* The kind of the answer to a value of a length. */
+static void kind_word(stun_types_answer told, size_t length, char *to, size_t most) {
+    unsigned long long expected = told.expected, actual = told.actual;
+    const char *name = told.code == STUN_TYPES_TRUNCATED ? "Truncated" : "TooLarge";
+    if (told.code == STUN_TYPES_OK) snprintf(to, most, "read");
+    else if (told.code == STUN_TYPES_INVALID_DATA) snprintf(to, most, "!InvalidAttributeData");
+    else if (told.code != STUN_TYPES_TRUNCATED && told.code != STUN_TYPES_TOO_LARGE)
+        snprintf(to, most, "!%u", (unsigned)told.code);
+    else if (actual == length) snprintf(to, most, "!%s:%llu", name, expected);
+    else snprintf(to, most, "!%s:%llu:%llu", name, expected, actual);
+}
+
+static void lengths(void) {
+    uint16_t type = call_number();
+    slice value = call_octets();
+    stun_types_id id = call_id();
+    char last[60] = "", found[60];
+    size_t length, begun = 0;
+    if (kind_of(type) == NOTHING) {
+        answer_unknown();
+        return;
+    }
+    for (length = 0; length <= value.length; length++) {
+        slice prefix = front_of(value, length);
+        kind_word(read_value(type, prefix, &id, false), length, found, sizeof found);
+        if (length > 0 && strcmp(found, last) != 0) {
+            answer_text("%zu..%zu:%s ", begun, length - 1, last);
+            begun = length;
+        }
+        strcpy(last, found);
+    }
+    answer_text("%zu..%zu:%s", begun, value.length, last);
+}
+
+/* Begins a message with a transaction ID, to add the value to. */
+static draft begun(const stun_types_id *id) {
+    draft message;
+    ANSWERS(draft_begin(&message, ANY_ROOM, STUN_TYPES_REQUEST, STUN_TYPES_BINDING, id), OK_ANSWER);
+    return message;
+}
+
+/* Answers with the value of the only attribute of a message, or why it wasn't added. */
+static void answer_value(const draft *message, stun_types_answer told) {
+    stun_types_attribute attribute;
+    stun_types_cursor cursor = {0, 0};
+    if (!is_taken(told)) {
+        CHECK(message->written == 20);
+        return;
+    }
+    CHECK(stun_types_next(message->room, message->written, &cursor, &attribute));
+    CHECK(attribute.value_at == 24);
+    answer_octets(message->room + 24, attribute.length);
+}
+
+static void make_address(uint16_t type, bool is_xored) {
+    slice octets = call_octets();
+    uint64_t port = call_count();
+    stun_types_id id = call_id();
+    draft message = begun(&id);
+    stun_types_address address;
+    memset(&address, 0, sizeof address);
+    memcpy(address.octets, octets.bytes, octets.length == 4 ? 4 : 16);
+    address.port = (uint16_t)port;
+    address.family = octets.length == 4 ? 4 : 6;
+    answer_value(&message,
+                 is_xored ? stun_types_add_xor_address(message.room, message.size,
+                                                       &message.written, type, &address)
+                          : stun_types_add_address(message.room, message.size, &message.written,
+                                                   type, &address));
+}
+
+/* (C has no recommended reasons: a call without one isn't known) */
+static void make_error(void) {
+    uint64_t code = call_count();
+    char *word = call_word();
+    stun_types_id id = id_of("0");
+    draft message = begun(&id);
+    slice reason = octets_of(word == NULL ? "-" : word);
+    stun_types_answer told = stun_types_add_error(message.room, message.size, &message.written,
+                                                  (uint16_t)code, reason.bytes, reason.length);
+    if (word == NULL) answer_unknown();
+    else answer_value(&message, told);
+}
+
+static void make_list(void) {
+    static uint16_t types[64];
+    size_t count = types_of(call_word(), types, COUNT(types));
+    stun_types_id id = id_of("0");
+    draft message = begun(&id);
+    slice listed = given(types, count * sizeof *types);
+    stun_types_answer told =
+        stun_types_add_unknown_types(message.room, message.size, &message.written,
+                                     (const uint16_t *)(const void *)listed.bytes, count);
+    answer_value(&message, told);
+}
+
+static void make(void) {
+    uint16_t type = call_number();
+    switch (kind_of(type)) {
+    case ADDRESS: make_address(type, false); break;
+    case XOR_ADDRESS: make_address(type, true); break;
+    case ERROR: make_error(); break;
+    case TYPES: make_list(); break;
+    default: answer_unknown();
+    }
+}
+
+const verb verbs_of_values[] = {
+    {"read", read, false}, {"lengths", lengths, false},
+    {"make", make, false}, {NULL, NULL, false},
+};
