@@ -1,5 +1,5 @@
-/* Clients: times at the end of the clock, arguments that are refused, what stays as it was if memory
- * is refused, and what is no transaction. */
+/* Clients: times at the end of the clock, arguments that are refused, what stays as it was if
+ * memory is refused, and what is no transaction. */
 #include <string.h>
 
 #include "check.h"

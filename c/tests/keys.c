@@ -1,5 +1,5 @@
-/* Keys that aren't made, texts that aren't UTF-8, each byte of a signed message changed, and memory:
- * each allocation refused, and what is given back. */
+/* Keys that aren't made, texts that aren't UTF-8, each byte of a signed message changed, and
+ * memory: each allocation refused, and what is given back. */
 #include <string.h>
 
 #include "check.h"

@@ -1,4 +1,4 @@
-/* Authentication by short-term and long-term credentials, and what a client does with a challenge. */
+/* Authentication by short-term and long-term credentials, and a client's answer to a challenge. */
 #include "call.h"
 
 #include <stdlib.h>
@@ -29,7 +29,7 @@ static bool is_same(slice one, slice other) {
 }
 
 /* Whether a nonce of the server promises its password algorithms: the first of the bits that four
-   digits of Base64 have behind `obMatJos2`. */
+   digits of Base64 have after `obMatJos2`. */
 static bool promises(slice nonce) {
     static const char upper[] = "ghijklmnopqrstuvwxyz0123456789+/";
     return nonce.length >= 13 && memcmp(nonce.bytes, "obMatJos2", 9) == 0
@@ -48,7 +48,8 @@ static size_t user_of(slice message) {
         size_t length = strlen(users[at].name);
         if (is_named && is_text(name, users[at].name)) return at;
         if (!is_hashed) continue;
-        ANSWERS(stun_types_userhash(users[at].name, length, realm, strlen(realm), &hash), OK_ANSWER);
+        ANSWERS(stun_types_userhash(users[at].name, length, realm, strlen(realm), &hash),
+                OK_ANSWER);
         if (name.length == 32 && memcmp(name.bytes, hash.bytes, 32) == 0) return at;
     }
     return COUNT(users);
@@ -117,26 +118,26 @@ static void answer_refused(slice request, uint32_t code, const slice *fresh) {
     answer_draft(&to);
 }
 
-/* Answers with what becomes of a message; sha1_key and sha256_key sign by these algorithms. */
-static void answer_decision(slice message, const stun_types_authentication *told,
+/* Answers with what becomes of a message. The key signs the reply to an accepted request. */
+static void answer_decision(slice message, const stun_types_authentication *decision,
                             const stun_types_key *key, const slice *fresh) {
-    if (told->kind == STUN_TYPES_DISCARDED) answer_text("discarded");
-    else if (told->kind == STUN_TYPES_REFUSED) {
-        answer_text("refused %u ", (unsigned)told->error_code);
-        answer_refused(message, told->error_code, fresh);
+    if (decision->kind == STUN_TYPES_DISCARDED) answer_text("discarded");
+    else if (decision->kind == STUN_TYPES_REFUSED) {
+        answer_text("refused %u ", (unsigned)decision->error_code);
+        answer_refused(message, decision->error_code, fresh);
     } else {
-        CHECK(told->kind == STUN_TYPES_ACCEPTED);
+        CHECK(decision->kind == STUN_TYPES_ACCEPTED);
         answer_text("accepted ");
-        answer_algorithm(told->algorithm);
+        answer_algorithm(decision->algorithm);
         answer_text(" ");
         if (header_of(message).message_class != STUN_TYPES_REQUEST) answer_text("-");
-        else answer_accepted(message, key, told->reply_algorithm);
+        else answer_accepted(message, key, decision->reply_algorithm);
     }
 }
 
 /* Whether an authentication is an answer; else its struct stays untouched. */
-static bool is_told(stun_types_answer answer, const stun_types_authentication *told) {
-    if (answer.code != STUN_TYPES_OK) CHECK(is_untouched(told, sizeof *told));
+static bool has_decided(stun_types_answer answer, const stun_types_authentication *decision) {
+    if (answer.code != STUN_TYPES_OK) CHECK(is_untouched(decision, sizeof *decision));
     return is_taken(answer);
 }
 
@@ -145,7 +146,7 @@ static void short_term(void) {
     slice message = call_octets();
     size_t user = user_of(message);
     stun_types_key key = STUN_TYPES_NO_KEY_YET;
-    stun_types_authentication *told = NEW(stun_types_authentication);
+    stun_types_authentication *decision = NEW(stun_types_authentication);
     stun_types_answer answer = OK_ANSWER;
     if (user < COUNT(users)) {
         keep_secret(text(users[user].password));
@@ -153,10 +154,10 @@ static void short_term(void) {
                                            strlen(users[user].password));
     }
     if (is_taken(answer)
-        && is_told(stun_types_authenticate_short_term(message.bytes, message.length, &policy, &key,
-                                                      told),
-                   told))
-        answer_decision(message, told, &key, NULL);
+        && has_decided(stun_types_authenticate_short_term(message.bytes, message.length, &policy,
+                                                          &key, decision),
+                       decision))
+        answer_decision(message, decision, &key, NULL);
     stun_types_key_free(&key);
 }
 
@@ -176,8 +177,8 @@ static uint32_t nonce_state(slice message, slice fresh, slice stale) {
     return is_same(nonce, stale) ? STUN_TYPES_NONCE_STALE : STUN_TYPES_NONCE_UNKNOWN;
 }
 
-/* Whether the PASSWORD-ALGORITHM of a request is SHA-256. It counts where the server sent a list; the
-   key is that for MD5 else. */
+/* Whether the PASSWORD-ALGORITHM of a request is SHA-256. It counts if the server sent a list; else
+   the key is that for MD5. */
 static bool is_by_sha256(slice message) {
     slice chosen;
     return find_value(message, STUN_TYPES_PASSWORD_ALGORITHM, &chosen) && chosen.length >= 2
@@ -189,7 +190,7 @@ static void long_term(void) {
     slice fresh = call_octets(), stale = call_octets(), message = call_octets();
     size_t user = user_of(message);
     stun_types_key md5 = STUN_TYPES_NO_KEY_YET, sha256 = STUN_TYPES_NO_KEY_YET;
-    stun_types_authentication *told = NEW(stun_types_authentication);
+    stun_types_authentication *decision = NEW(stun_types_authentication);
     uint32_t state = nonce_state(message, fresh, stale);
     bool is_promised = state == STUN_TYPES_NONCE_VALID && promises(fresh);
     stun_types_answer answer = OK_ANSWER;
@@ -198,12 +199,12 @@ static void long_term(void) {
         if (answer.code == STUN_TYPES_OK) answer = make_long_term(&sha256, user, STUN_TYPES_SHA256);
     }
     if (is_taken(answer)
-        && is_told(stun_types_authenticate_long_term(
-                       message.bytes, message.length, &policy, state, offered,
-                       is_promised ? COUNT(offered) : 0, &md5, &sha256, told),
-                   told))
-        answer_decision(message, told, is_promised && is_by_sha256(message) ? &sha256 : &md5,
-                        &fresh);
+        && has_decided(stun_types_authenticate_long_term(
+                           message.bytes, message.length, &policy, state, offered,
+                           is_promised ? COUNT(offered) : 0, &md5, &sha256, decision),
+                       decision))
+        answer_decision(message, decision,
+                        is_promised && is_by_sha256(message) ? &sha256 : &md5, &fresh);
     stun_types_key_free(&md5);
     stun_types_key_free(&sha256);
 }
@@ -225,21 +226,21 @@ static void challenge(void) {
     uint16_t supported[ALGORITHMS];
     size_t count = algorithms_of(call_word(), supported);
     slice before = call_octets(), response = call_octets();
-    stun_types_challenge *told = NEW(stun_types_challenge);
+    stun_types_challenge *asked = NEW(stun_types_challenge);
     if (!is_taken(stun_types_challenge_of(response.bytes, response.length, supported, count,
-                                          before.bytes, before.length, told))) {
-        CHECK(is_untouched(told, sizeof *told));
+                                          before.bytes, before.length, asked))) {
+        CHECK(is_untouched(asked, sizeof *asked));
         return;
     }
-    answer_octets(response.bytes + told->realm_at, told->realm_length);
+    answer_octets(response.bytes + asked->realm_at, asked->realm_length);
     answer_text(" ");
-    answer_octets(response.bytes + told->nonce_at, told->nonce_length);
+    answer_octets(response.bytes + asked->nonce_at, asked->nonce_length);
     answer_text(" ");
-    answer_octets(response.bytes + told->algorithms_at,
-                  told->algorithms_at == 0 ? 0 : told->algorithms_length);
-    answer_text(told->password_algorithm == STUN_TYPES_PASSWORD_MD5 ? " md5" : " sha256");
-    answer_text(told->anonymous ? " userhash " : " username ");
-    answer_algorithm(told->integrity_algorithm);
+    answer_octets(response.bytes + asked->algorithms_at,
+                  asked->algorithms_at == 0 ? 0 : asked->algorithms_length);
+    answer_text(asked->password_algorithm == STUN_TYPES_PASSWORD_MD5 ? " md5" : " sha256");
+    answer_text(asked->anonymous ? " userhash " : " username ");
+    answer_algorithm(asked->integrity_algorithm);
 }
 
 /* Adds what the next request carries of a challenge, before it is signed. */
@@ -248,7 +249,8 @@ static void add_login(draft *to, slice response, const stun_types_challenge *ask
     uint8_t algorithm[4] = {0, 0, 0, 0};
     const uint8_t *bytes = response.bytes;
     slice asked_realm = given(bytes + asked->realm_at, asked->realm_length);
-    ANSWERS(stun_types_userhash("user", 4, asked_realm.bytes, asked_realm.length, &hash), OK_ANSWER);
+    ANSWERS(stun_types_userhash("user", 4, asked_realm.bytes, asked_realm.length, &hash),
+            OK_ANSWER);
     if (asked->anonymous) ANSWERS(add(to, STUN_TYPES_USERHASH, given(hash.bytes, 32)), OK_ANSWER);
     else ANSWERS(add(to, STUN_TYPES_USERNAME, text("user")), OK_ANSWER);
     ANSWERS(add(to, STUN_TYPES_REALM, asked_realm), OK_ANSWER);
@@ -295,7 +297,7 @@ static void error_response(void) {
     slice response = call_octets();
     stun_types_attribute attribute;
     stun_types_challenge asked;
-    stun_types_answer told;
+    stun_types_answer result;
     uint16_t code;
     size_t at, length;
     if (!is_taken(stun_types_parse(response.bytes, response.length))) return;
@@ -306,11 +308,11 @@ static void error_response(void) {
         answer_text("-");
         return;
     }
-    told = stun_types_challenge_of(response.bytes, response.length, both, COUNT(both), NULL, 0,
+    result = stun_types_challenge_of(response.bytes, response.length, both, COUNT(both), NULL, 0,
                                    &asked);
     answer_text("%u", (unsigned)code);
-    if (told.code != STUN_TYPES_NOT_A_CHALLENGE) answer_text(" challenge");
-    if (told.code == STUN_TYPES_BID_DOWN) answer_text(" bid-down");
+    if (result.code != STUN_TYPES_NOT_A_CHALLENGE) answer_text(" challenge");
+    if (result.code == STUN_TYPES_BID_DOWN) answer_text(" bid-down");
 }
 
 const verb verbs_of_authentication[] = {

@@ -1,5 +1,5 @@
-/* A call of vectors/README.md: the words that follow its verb, and the answer that is written to it.
- * Octets are slices with a guarded page at one end, as in check.h. */
+/* A call of vectors/README.md: the words that follow its verb, and the answer that is written to
+ * it. Octets are slices with a guarded page at one end, as in check.h. */
 #ifndef CALL_H
 #define CALL_H
 
@@ -45,7 +45,7 @@ void answer_text(const char *format, ...);
 /* Appends octets in hexadecimal, or `-`. */
 void answer_octets(const uint8_t *octets, size_t length);
 
-/* Appends the refusal of an answer that isn't OK, with a space or another mark before each number. */
+/* Appends the refusal of an answer that isn't OK, with a space or a mark before each number. */
 void answer_refusal(stun_types_answer answer);
 void answer_refusal_with(stun_types_answer answer, char mark);
 
@@ -64,7 +64,7 @@ void answer_or_nothing(void);
 /* The answer becomes `?`: the call is none that this runner knows. */
 void answer_unknown(void);
 
-/* Answers by a function twice, and a third time, and compares: `!!disagree` if the answers differ. */
+/* Answers by a function in each of so many ways, which must agree: else `!!disagree`. */
 void answer_each_way(void (*way)(uint32_t number), uint32_t count);
 
 /* ---- keys */
@@ -97,7 +97,7 @@ stun_types_answer draft_reply(draft *message, size_t size, slice request, uint32
 /* Adds SOFTWARE, which names the library, and the error 420 with these types: the first refusal. */
 stun_types_answer draft_unknown(draft *message, const uint16_t *types, size_t count);
 
-/* Appends the message, behind which the room must be untouched. */
+/* Appends the message, after which the room must be untouched. */
 void answer_draft(const draft *message);
 
 /* A message with one attribute: the class and the transaction ID are those of a request. */
@@ -109,7 +109,7 @@ stun_types_header header_of(slice octets);
 /* Whether the message with the second header is a response to the request with the first. */
 bool is_response_to(const stun_types_header *request, const stun_types_header *response);
 
-/* The value of the first attribute of a type that a message shows, in `value`; whether there is one. */
+/* Whether a message shows an attribute of a type: *value is that of the first. */
 bool find_value(slice octets, uint16_t type, slice *value);
 
 /* ---- verbs */

@@ -33,15 +33,14 @@ stun_types_answer draft_reply(draft *message, size_t size, slice request, uint32
 }
 
 stun_types_answer draft_unknown(draft *message, const uint16_t *types, size_t count) {
-    stun_types_answer told = stun_types_add(message->room, message->size, &message->written,
-                                            STUN_TYPES_SOFTWARE, "stun-types", 10);
-    if (told.code == STUN_TYPES_OK)
-        told = stun_types_add_error(message->room, message->size, &message->written,
-                                    STUN_TYPES_UNKNOWN_ATTRIBUTE, "Unknown Attributes", 18);
-    if (told.code == STUN_TYPES_OK && count != 0)
-        told = stun_types_add_unknown_types(message->room, message->size, &message->written, types,
-                                            count);
-    return told;
+    stun_types_answer result = stun_types_add(message->room, message->size, &message->written,
+                                              STUN_TYPES_SOFTWARE, "stun-types", 10);
+    if (result.code == STUN_TYPES_OK)
+        result = stun_types_add_error(message->room, message->size, &message->written,
+                                      STUN_TYPES_UNKNOWN_ATTRIBUTE, "Unknown Attributes", 18);
+    if (result.code != STUN_TYPES_OK || count == 0) return result;
+    return stun_types_add_unknown_types(message->room, message->size, &message->written, types,
+                                        count);
 }
 
 void answer_draft(const draft *message) {

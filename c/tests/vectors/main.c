@@ -1,10 +1,10 @@
 /* Answers the calls of vectors/README.md through the header: a call in each line of standard input,
  * and its answer in a line of standard output.
  *
- * Each call is made with the guarded page after each slice, and with it before. Then each allocation
- * that the call asks for is refused in turn: the answer has to be `!OutOfMemory`, or the same where
- * the library does without (a key that isn't prepared). If any of these has another answer than it
- * should have, the answer is `!!` and what happened. */
+ * Each call is made with the guarded page after each slice, and with it before. Then each
+ * allocation that the call asks for is refused in turn: the answer has to be `!OutOfMemory`, or the
+ * same if the library does without (a key that isn't prepared). If any of these has another answer
+ * than it should have, the answer is `!!` and what happened. */
 #include <ctype.h>
 #include <stdarg.h>
 #include <stdio.h>
@@ -110,9 +110,9 @@ void answer_refusal_with(stun_types_answer refused, char mark) {
 
 void answer_refusal(stun_types_answer refused) { answer_refusal_with(refused, ' '); }
 
-bool is_taken(stun_types_answer told) {
-    if (told.code == STUN_TYPES_OK) return true;
-    answer_refusal(told);
+bool is_taken(stun_types_answer result) {
+    if (result.code == STUN_TYPES_OK) return true;
+    answer_refusal(result);
     return false;
 }
 

@@ -7,11 +7,11 @@
 /* Answers with the header. What has none is no message, and leaves the struct untouched. */
 static void answer_header(slice octets) {
     stun_types_header *header = NEW(stun_types_header);
-    stun_types_answer told = stun_types_read_header(octets.bytes, octets.length, header);
+    stun_types_answer result = stun_types_read_header(octets.bytes, octets.length, header);
     size_t at;
-    if (!is_taken(told)) {
+    if (!is_taken(result)) {
         CHECK(is_untouched(header, sizeof *header));
-        CHECK(is_same_answer(stun_types_parse(octets.bytes, octets.length), told));
+        CHECK(is_same_answer(stun_types_parse(octets.bytes, octets.length), result));
         return;
     }
     answer_text("%s %03x ", class_words[header->message_class & 3], (unsigned)header->method);
@@ -38,12 +38,12 @@ static void make_type(void) {
 static bool is_type(unsigned number) {
     uint8_t bytes[20] = {0, 0, 0, 0, 0x21, 0x12, 0xA4, 0x42};
     stun_types_header header;
-    stun_types_answer told;
+    stun_types_answer result;
     bytes[0] = (uint8_t)(number >> 8);
     bytes[1] = (uint8_t)number;
-    told = stun_types_read_header(bytes, sizeof bytes, &header);
-    CHECK(told.code == STUN_TYPES_OK || told.code == STUN_TYPES_NOT_STUN);
-    if (told.code != STUN_TYPES_OK) return false;
+    result = stun_types_read_header(bytes, sizeof bytes, &header);
+    CHECK(result.code == STUN_TYPES_OK || result.code == STUN_TYPES_NOT_STUN);
+    if (result.code != STUN_TYPES_OK) return false;
     CHECK(header.type == number);
     CHECK(stun_types_message_type(header.message_class, header.method) == number);
     return true;
@@ -67,10 +67,10 @@ static void length(void) {
 /* What a prefix is answered: `message`, or how many octets are wanted, and by how many fewer are
    missing. */
 static void outcome(slice octets, char *to, size_t room) {
-    stun_types_answer told = stun_types_parse(octets.bytes, octets.length);
-    unsigned long long expected = told.expected, more = told.actual - octets.length;
-    if (told.code == STUN_TYPES_OK) snprintf(to, room, "message");
-    else if (told.code != STUN_TYPES_TRUNCATED) snprintf(to, room, "!%u", (unsigned)told.code);
+    stun_types_answer result = stun_types_parse(octets.bytes, octets.length);
+    unsigned long long expected = result.expected, more = result.actual - octets.length;
+    if (result.code == STUN_TYPES_OK) snprintf(to, room, "message");
+    else if (result.code != STUN_TYPES_TRUNCATED) snprintf(to, room, "!%u", (unsigned)result.code);
     else if (more == 0) snprintf(to, room, "%llu", expected);
     else snprintf(to, room, "%llu:%llu", expected, more);
 }

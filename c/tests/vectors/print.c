@@ -19,10 +19,10 @@ static void print_message(void) {
     enum { MOST = 10000 };
     uint8_t *text = room(MOST);
     size_t *written = NEW(size_t), length, at;
-    stun_types_answer told =
+    stun_types_answer result =
         stun_types_print(octets.bytes, octets.length, (char *)(void *)text, MOST, written);
     answer_text("\"");
-    if (!is_taken(told)) {
+    if (!is_taken(result)) {
         CHECK(is_untouched(text, MOST) && is_untouched(written, sizeof *written));
         return;
     }

@@ -30,17 +30,17 @@ static bool begin(draft *message, slice *request) {
 }
 
 /* Answers with why a response isn't whole, or `ok`, and with the response. */
-static void answer_reply(const draft *message, stun_types_answer told) {
-    if (told.code == STUN_TYPES_OK) answer_text("ok");
-    else answer_refusal_with(told, ':');
+static void answer_reply(const draft *message, stun_types_answer result) {
+    if (result.code == STUN_TYPES_OK) answer_text("ok");
+    else answer_refusal_with(result, ':');
     answer_text(" ");
     answer_draft(message);
 }
 
 static stun_types_answer add_bad_request(draft *message) {
-    stun_types_answer told = stun_types_add(message->room, message->size, &message->written,
-                                            STUN_TYPES_SOFTWARE, "stun-types", 10);
-    if (told.code != STUN_TYPES_OK) return told;
+    stun_types_answer result = stun_types_add(message->room, message->size, &message->written,
+                                              STUN_TYPES_SOFTWARE, "stun-types", 10);
+    if (result.code != STUN_TYPES_OK) return result;
     return stun_types_add_error(message->room, message->size, &message->written,
                                 STUN_TYPES_BAD_REQUEST, "Bad Request", 11);
 }
@@ -81,19 +81,19 @@ static void check_attributes(void) {
     else answer_text("-");
 }
 
-/* Whether a response is one to a request without credentials, by the request's transaction; false if
-   the request is signed, and no transaction begins without its key. */
+/* Whether a response is one to a request without credentials, by the request's transaction; false
+   if the request is signed, and no transaction begins without its key. */
 static bool is_for(slice request, slice response, bool *is_response) {
     const stun_types_schedule schedule = STUN_TYPES_SCHEDULE;
     const stun_types_key none = STUN_TYPES_NO_KEY_YET;
     stun_types_transaction transaction;
     stun_types_action action;
     stun_types_received received = {0, 0};
-    stun_types_answer told = stun_types_transaction_begin(
+    stun_types_answer result = stun_types_transaction_begin(
         &transaction, request.bytes, request.length, &schedule, STUN_TYPES_UDP,
         STUN_TYPES_UNPROTECTED, &none, 0);
-    if (told.code == STUN_TYPES_SIGNED) return false;
-    ANSWERS(told, OK_ANSWER);
+    if (result.code == STUN_TYPES_SIGNED) return false;
+    ANSWERS(result, OK_ANSWER);
     ANSWERS(stun_types_transaction_poll(&transaction, 0, &action), OK_ANSWER);
     ANSWERS(stun_types_transaction_receive(&transaction, &none, response.bytes, response.length,
                                            NULL, 0, &received),
@@ -104,8 +104,8 @@ static bool is_for(slice request, slice response, bool *is_response) {
 
 static void answers(void) {
     slice request = call_octets(), response = call_octets();
-    stun_types_header asked = header_of(request), told = header_of(response);
-    bool by_headers = is_response_to(&asked, &told), by_transaction = false;
+    stun_types_header asked = header_of(request), answered = header_of(response);
+    bool by_headers = is_response_to(&asked, &answered), by_transaction = false;
     if (is_for(request, response, &by_transaction)) CHECK(by_headers == by_transaction);
     answer_text(by_headers ? "yes" : "no");
 }

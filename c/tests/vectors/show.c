@@ -58,11 +58,11 @@ static void find(void) {
 }
 
 static void comprehension(void) {
-    uint16_t type = call_number(), told = 0;
+    uint16_t type = call_number(), listed = 0;
     stun_types_id id = id_of("0");
     slice octets = message_with(type, given(NULL, 0), &id);
-    size_t count = stun_types_unknown_types(octets.bytes, octets.length, NULL, 0, &told, 1);
-    if (count != 0) CHECK(count == 1 && told == type);
+    size_t count = stun_types_unknown_types(octets.bytes, octets.length, NULL, 0, &listed, 1);
+    if (count != 0) CHECK(count == 1 && listed == type);
     answer_text(count == 0 ? "optional" : "required");
 }
 

@@ -7,15 +7,15 @@
 enum { SHORT = 200 };
 
 /* Answers with why no message begins, and where. */
-static void answer_end(const stun_types_stream *stream, stun_types_answer told) {
-    unsigned long long offset = stream->offset, actual = told.actual;
+static void answer_end(const stun_types_stream *stream, stun_types_answer result) {
+    unsigned long long offset = stream->offset, actual = result.actual;
     CHECK(stream->message == 0);
-    if (told.code == STUN_TYPES_NOT_STUN) answer_text("end %llu NotStun", offset);
-    else if (told.code == STUN_TYPES_NOT_PADDED)
+    if (result.code == STUN_TYPES_NOT_STUN) answer_text("end %llu NotStun", offset);
+    else if (result.code == STUN_TYPES_NOT_PADDED)
         answer_text("end %llu NotPadded %llu", offset, actual);
-    else if (told.code == STUN_TYPES_TOO_LARGE)
+    else if (result.code == STUN_TYPES_TOO_LARGE)
         answer_text("end %llu TooLong %llu", offset, actual);
-    else answer_refusal(told);
+    else answer_refusal(result);
 }
 
 /* Where a stream is cut: after each number of octets, or at two places if that is 0. */
@@ -29,8 +29,8 @@ static size_t end_of(const cut_places *cuts, size_t at, size_t length) {
     return at < cuts->second ? cuts->second : length;
 }
 
-/* The stream whose pieces are pushed, a room for a piece, and the buffer in which the stream gathers
-   messages. */
+/* The stream whose pieces are pushed, a room for a piece, and the buffer in which the stream
+   gathers messages. */
 static slice octets;
 static uint8_t *piece_room, *buffer;
 static size_t buffer_size;
@@ -40,11 +40,11 @@ static stun_types_answer push_rest(stun_types_stream *stream, size_t at, size_t 
                                    size_t *taken) {
     uint8_t *piece = guarded_end(piece_room, octets.length, end - at);
     stun_types_stream before = *stream;
-    stun_types_answer told;
+    stun_types_answer result;
     memcpy(piece, octets.bytes + at, end - at);
     *taken = 0;
-    told = stun_types_stream_push(stream, buffer, buffer_size, piece, end - at, taken);
-    if (told.code == STUN_TYPES_OK) {
+    result = stun_types_stream_push(stream, buffer, buffer_size, piece, end - at, taken);
+    if (result.code == STUN_TYPES_OK) {
         CHECK(*taken > 0 && *taken <= end - at);
         CHECK(stream->message == 0 || stream->pending == 0);
         CHECK(stream->offset + stream->pending == at + *taken);
@@ -53,7 +53,7 @@ static stun_types_answer push_rest(stun_types_stream *stream, size_t at, size_t 
         CHECK(stream->pending == before.pending && stream->offset + stream->pending == at);
         CHECK(memcmp(buffer, octets.bytes + stream->offset, stream->pending) == 0);
     }
-    return told;
+    return result;
 }
 
 /* Answers with what a stream yields that is cut at these places. */
@@ -63,10 +63,10 @@ static void yields(const cut_places *cuts) {
     while (at < octets.length) {
         size_t end = end_of(cuts, at, octets.length);
         while (at < end) {
-            stun_types_answer told = push_rest(&stream, at, end, &taken);
-            if (told.code != STUN_TYPES_OK) {
+            stun_types_answer result = push_rest(&stream, at, end, &taken);
+            if (result.code != STUN_TYPES_OK) {
                 answer_space();
-                answer_end(&stream, told);
+                answer_end(&stream, result);
                 return;
             }
             at += taken;
@@ -81,12 +81,15 @@ static void yields(const cut_places *cuts) {
     answer_octets(buffer, stream.pending);
 }
 
+/* The next size of pieces: each of a short stream, and a few of a longer one. */
+static size_t next_size(size_t size) { return octets.length <= SHORT ? size + 1 : size * 11; }
+
 /* The cuts of the way with this number: first none, then pieces of each length, then two places. */
 static cut_places cuts_of(uint32_t number) {
     cut_places cuts = {octets.length, 0, 0};
     size_t length = octets.length, size = 1, first;
     if (length == 0 || number-- == 0) return cuts;
-    for (; size < length; size = length <= SHORT ? size + 1 : size * 11)
+    for (; size < length; size = next_size(size))
         if (number-- == 0) {
             cuts.each = size;
             return cuts;
@@ -115,20 +118,20 @@ static void stream(void) {
     octets = call_octets();
     piece_room = room(octets.length);
     buffer = room(buffer_size);
-    for (size = 1; size < octets.length; size = octets.length <= SHORT ? size + 1 : size * 11) ways++;
+    for (size = 1; size < octets.length; size = next_size(size)) ways++;
     if (octets.length <= SHORT) ways += (uint32_t)(octets.length * (octets.length + 1) / 2);
     answer_each_way(yields_in_way, ways);
 }
 
 /* Pushes a piece, and answers with what it did. */
 static stun_types_answer push_piece(stun_types_stream *kept, slice piece) {
-    size_t *told_taken = NEW(size_t), taken;
-    stun_types_answer told =
-        stun_types_stream_push(kept, buffer, buffer_size, piece.bytes, piece.length, told_taken);
-    taken = *told_taken;
-    if (told.code != STUN_TYPES_OK) CHECK(is_untouched(told_taken, sizeof *told_taken));
-    if (told.code == STUN_TYPES_BAD_ARGUMENT) answer_text("!NoStream");
-    else if (told.code != STUN_TYPES_OK) answer_end(kept, told);
+    size_t *taken_out = NEW(size_t), taken;
+    stun_types_answer result =
+        stun_types_stream_push(kept, buffer, buffer_size, piece.bytes, piece.length, taken_out);
+    taken = *taken_out;
+    if (result.code != STUN_TYPES_OK) CHECK(is_untouched(taken_out, sizeof *taken_out));
+    if (result.code == STUN_TYPES_BAD_ARGUMENT) answer_text("!NoStream");
+    else if (result.code != STUN_TYPES_OK) answer_end(kept, result);
     else {
         answer_text("%zu ", taken);
         answer_octets(buffer, kept->message);
@@ -136,26 +139,26 @@ static stun_types_answer push_piece(stun_types_stream *kept, slice piece) {
         answer_octets(buffer, kept->pending);
         answer_text(" %llu", (unsigned long long)kept->offset);
     }
-    return told;
+    return result;
 }
 
 /* (a connection is closed at the end: what more comes is no more pushed, and answered as before) */
 static void pieces(void) {
     stun_types_stream kept = {0, 0, 0};
-    stun_types_answer told = OK_ANSWER;
+    stun_types_answer result = OK_ANSWER;
     char *word;
     buffer_size = (size_t)call_count();
     buffer = room(buffer_size);
     while ((word = call_word()) != NULL) {
         answer_space();
-        if (told.code == STUN_TYPES_OK) told = push_piece(&kept, octets_of(word));
-        else answer_end(&kept, told);
+        if (result.code == STUN_TYPES_OK) result = push_piece(&kept, octets_of(word));
+        else answer_end(&kept, result);
     }
 }
 
 static void push(void) {
     stun_types_stream kept = {0, 0, 0};
-    stun_types_answer told;
+    stun_types_answer result;
     slice held, piece;
     size_t shown;
     buffer_size = (size_t)call_count();
@@ -166,10 +169,10 @@ static void push(void) {
     buffer = room(buffer_size);
     shown = held.length < buffer_size ? held.length : buffer_size;
     if (shown != 0) memcpy(buffer, held.bytes, shown);
-    told = push_piece(&kept, piece);
-    if (told.code == STUN_TYPES_OK) return;
+    result = push_piece(&kept, piece);
+    if (result.code == STUN_TYPES_OK) return;
     CHECK(shown == 0 || memcmp(buffer, held.bytes, shown) == 0);
-    if (told.code == STUN_TYPES_BAD_ARGUMENT)
+    if (result.code == STUN_TYPES_BAD_ARGUMENT)
         CHECK(kept.pending == held.length && is_untouched(buffer + shown, buffer_size - shown));
 }
 
@@ -183,11 +186,12 @@ static stun_types_answer frame_length(const uint8_t *bytes, size_t length, size_
 }
 
 /* How many are whole at the start of octets; *at is where they end. */
-static size_t frames_in(slice whole, size_t *at, stun_types_answer *told, bool is_shown) {
+static size_t frames_in(slice whole, size_t *at, stun_types_answer *result, bool is_shown) {
     size_t count = 0, length;
     for (*at = 0;; *at += length, count++) {
-        *told = frame_length(whole.bytes + *at, whole.length - *at, &length);
-        if (told->code != STUN_TYPES_OK || length == 0 || length > whole.length - *at) return count;
+        *result = frame_length(whole.bytes + *at, whole.length - *at, &length);
+        if (result->code != STUN_TYPES_OK || length == 0) return count;
+        if (length > whole.length - *at) return count;
         if (!is_shown) continue;
         answer_space();
         answer_octets(whole.bytes + *at, length);
@@ -196,12 +200,12 @@ static size_t frames_in(slice whole, size_t *at, stun_types_answer *told, bool i
 
 static void frames(void) {
     slice whole = call_octets();
-    stun_types_answer told, other;
+    stun_types_answer result, other;
     size_t at, end, length, before = 0;
-    frames_in(whole, &at, &told, true);
+    frames_in(whole, &at, &result, true);
     answer_space();
-    if (told.code == STUN_TYPES_NOT_STUN) answer_text("end NotStun");
-    else if (is_taken(told)) {
+    if (result.code == STUN_TYPES_NOT_STUN) answer_text("end NotStun");
+    else if (is_taken(result)) {
         answer_text("rest ");
         answer_octets(whole.bytes + at, whole.length - at);
     }
@@ -213,8 +217,8 @@ static void frames(void) {
 }
 
 /* (C has one code for octets that are no message and for those that are no ChannelData) */
-static bool is_channel(stun_types_answer told) {
-    if (told.code != STUN_TYPES_NOT_STUN) return is_taken(told);
+static bool is_channel(stun_types_answer result) {
+    if (result.code != STUN_TYPES_NOT_STUN) return is_taken(result);
     answer_text("!NotChannelData");
     return false;
 }
@@ -223,8 +227,8 @@ static void channel_data(void) {
     slice whole = call_octets();
     stun_types_channel_data *read = NEW(stun_types_channel_data);
     size_t padded = 0;
-    stun_types_answer told = stun_types_read_channel_data(whole.bytes, whole.length, read);
-    if (!is_channel(told)) {
+    stun_types_answer result = stun_types_read_channel_data(whole.bytes, whole.length, read);
+    if (!is_channel(result)) {
         CHECK(is_untouched(read, sizeof *read));
         return;
     }
@@ -250,14 +254,14 @@ static void write_channel_data(void) {
     size_t size = (size_t)call_count(), written = 0;
     uint8_t *to = room(size);
     bool is_padded = how != NULL && strcmp(how, "padded") == 0;
-    stun_types_answer told = stun_types_write_channel_data(channel, data.bytes, data.length,
+    stun_types_answer result = stun_types_write_channel_data(channel, data.bytes, data.length,
                                                            is_padded, to, size, &written);
     CHECK(is_untouched(to + written, size - written));
-    if (told.code == STUN_TYPES_OUT_OF_RANGE) {
-        CHECK(is_same_answer(told, LENGTHS(STUN_TYPES_OUT_OF_RANGE, 0x4FFF, channel)));
+    if (result.code == STUN_TYPES_OUT_OF_RANGE) {
+        CHECK(is_same_answer(result, LENGTHS(STUN_TYPES_OUT_OF_RANGE, 0x4FFF, channel)));
         answer_text("!NoChannel");
     }
-    else if (is_taken(told)) answer_octets(to, written);
+    else if (is_taken(result)) answer_octets(to, written);
 }
 
 static void protocols(void) {

@@ -1,4 +1,4 @@
-/* A client's transaction, event by event, and the address that a response tells. */
+/* A client's transaction, event by event, and the address that a response reports. */
 #define _DEFAULT_SOURCE
 #include "call.h"
 
@@ -43,10 +43,10 @@ static stun_types_schedule schedule_of(char *word) {
 }
 
 /* Whether a transaction has begun. C has one code for a schedule with a 0 and for one too long. */
-static bool has_begun(stun_types_answer told, const stun_types_schedule *schedule) {
+static bool has_begun(stun_types_answer result, const stun_types_schedule *schedule) {
     bool is_zero = schedule->rto == 0 || schedule->requests == 0 || schedule->last_wait == 0;
-    if (told.code != STUN_TYPES_OUT_OF_RANGE) return is_taken(told);
-    CHECK(is_same_answer(told, PLAIN(STUN_TYPES_OUT_OF_RANGE)));
+    if (result.code != STUN_TYPES_OUT_OF_RANGE) return is_taken(result);
+    CHECK(is_same_answer(result, PLAIN(STUN_TYPES_OUT_OF_RANGE)));
     answer_text(is_zero ? "!Zero" : "!TooLong");
     return false;
 }
@@ -107,10 +107,10 @@ static bool take(const event *it, stun_types_transaction *transaction, const stu
         answer_action(&action);
     } else if (strcmp(it->name, "got") == 0) {
         stun_types_transaction before = *transaction;
-        stun_types_answer told = stun_types_transaction_receive(
+        stun_types_answer result = stun_types_transaction_receive(
             transaction, key, it->octets.bytes, it->octets.length, understood->types,
             understood->count, &received);
-        if (!is_taken(told)) {
+        if (!is_taken(result)) {
             CHECK(memcmp(&before, transaction, sizeof before) == 0);
             return false;
         }
@@ -128,14 +128,15 @@ static void run(uint32_t made_for) {
     const event *understood = &nothing;
     stun_types_key key = STUN_TYPES_NO_KEY_YET;
     stun_types_transaction transaction;
-    stun_types_answer told;
+    stun_types_answer result;
     size_t at;
-    bool goes_on = script.protection == STUN_TYPES_UNPROTECTED || make_key(&key, script.key, made_for);
-    if (!goes_on) return;
-    told = stun_types_transaction_begin(&transaction, script.request.bytes, script.request.length,
+    bool goes_on;
+    bool is_protected = script.protection != STUN_TYPES_UNPROTECTED;
+    if (is_protected && !make_key(&key, script.key, made_for)) return;
+    result = stun_types_transaction_begin(&transaction, script.request.bytes, script.request.length,
                                         &script.schedule, script.transport, script.protection,
                                         &key, 0);
-    goes_on = has_begun(told, &script.schedule);
+    goes_on = has_begun(result, &script.schedule);
     for (at = 0; at < script.count && goes_on; at++) {
         const event *it = &script.events[at];
         if (strcmp(it->name, "understand") == 0) understood = it;
@@ -156,11 +157,11 @@ static void transaction(void) {
     script.key = call_octets();
     script.request = call_octets();
     read_events();
-    /* (by the numbers of the algorithms, of which the first is any; a short-term key serves both) */
+    /* (by the numbers of the algorithms, the first of which is any; a short-term key is for any) */
     answer_each_way(run, script.protection == STUN_TYPES_LONG_TERM ? 3 : 1);
 }
 
-/* A client that asks at each moment that it was told to wait for. */
+/* A client that asks at each moment that it is asked to wait for. */
 static void schedule(void) {
     const stun_types_key none = STUN_TYPES_NO_KEY_YET;
     stun_types_schedule given_schedule = schedule_of(call_word());
@@ -198,13 +199,13 @@ static void answer_address(const stun_types_address *address) {
 
 static void mapped(void) {
     slice request = call_octets(), response = call_octets();
-    stun_types_header asked, told;
+    stun_types_header asked, answered;
     stun_types_attribute attribute;
     stun_types_address address;
     if (!is_taken(stun_types_parse(response.bytes, response.length))) return;
     asked = header_of(request);
-    told = header_of(response);
-    if (told.message_class != STUN_TYPES_SUCCESS || !is_response_to(&asked, &told))
+    answered = header_of(response);
+    if (answered.message_class != STUN_TYPES_SUCCESS || !is_response_to(&asked, &answered))
         answer_text("-");
     else if (!stun_types_find(response.bytes, response.length, STUN_TYPES_XOR_MAPPED_ADDRESS,
                               &attribute))

@@ -1,4 +1,4 @@
-/* Values of attributes: addresses, errors and lists of types. C reads and writes no other values. */
+/* Values of attributes: addresses, errors and lists of types. C reads and makes no others. */
 #include "call.h"
 
 #include <stdio.h>
@@ -24,66 +24,66 @@ static value_kind kind_of(uint16_t type) {
 
 /* Answers with an address, or why there is none; *read stays untouched then. */
 static stun_types_answer read_address(slice octets, const stun_types_attribute *attribute,
-                                      bool is_xored, bool is_told) {
+                                      bool is_xored, bool is_shown) {
     stun_types_address *read = NEW(stun_types_address);
-    stun_types_answer told =
+    stun_types_answer result =
         is_xored ? stun_types_read_xor_address(octets.bytes, octets.length, attribute, read)
                  : stun_types_read_address(octets.bytes, octets.length, attribute, read);
-    if (told.code != STUN_TYPES_OK) CHECK(is_untouched(read, sizeof *read));
+    if (result.code != STUN_TYPES_OK) CHECK(is_untouched(read, sizeof *read));
     else CHECK(read->family == 4 || read->family == 6);
-    if (told.code != STUN_TYPES_OK || !is_told) return told;
+    if (result.code != STUN_TYPES_OK || !is_shown) return result;
     answer_octets(read->octets, read->family == 4 ? 4 : 16);
     answer_text(" %u", (unsigned)read->port);
-    return told;
+    return result;
 }
 
 /* The same with an error. */
 static stun_types_answer read_error(slice octets, const stun_types_attribute *attribute,
-                                    bool is_told) {
+                                    bool is_shown) {
     uint16_t *code = NEW(uint16_t);
     size_t *at = NEW(size_t), *length = NEW(size_t);
-    stun_types_answer told =
+    stun_types_answer result =
         stun_types_read_error(octets.bytes, octets.length, attribute, code, at, length);
-    if (told.code != STUN_TYPES_OK) {
+    if (result.code != STUN_TYPES_OK) {
         CHECK(is_untouched(code, sizeof *code) && is_untouched(at, sizeof *at));
         CHECK(is_untouched(length, sizeof *length));
     }
-    if (told.code != STUN_TYPES_OK || !is_told) return told;
+    if (result.code != STUN_TYPES_OK || !is_shown) return result;
     answer_text("%u ", (unsigned)*code);
     answer_octets(octets.bytes + *at, *length);
-    return told;
+    return result;
 }
 
 /* The same with a list of types. That a length is odd has a code without numbers in C. */
 static stun_types_answer read_types(slice octets, const stun_types_attribute *attribute,
-                                    bool is_told) {
+                                    bool is_shown) {
     uint16_t *types = (uint16_t *)(void *)room(attribute->length);
     size_t *count = NEW(size_t), at, held = attribute->length / 2;
-    stun_types_answer told =
+    stun_types_answer result =
         stun_types_read_types(octets.bytes, octets.length, attribute, types, held, count);
-    if (told.code != STUN_TYPES_OK)
+    if (result.code != STUN_TYPES_OK)
         CHECK(is_untouched(types, attribute->length) && is_untouched(count, sizeof *count));
-    if (told.code == STUN_TYPES_INVALID_DATA)
+    if (result.code == STUN_TYPES_INVALID_DATA)
         return LENGTHS(STUN_TYPES_TRUNCATED, attribute->length + 1u, attribute->length);
-    CHECK(told.code == STUN_TYPES_OK && *count == held);
-    for (at = 0; at < held && is_told; at++)
+    CHECK(result.code == STUN_TYPES_OK && *count == held);
+    for (at = 0; at < held && is_shown; at++)
         answer_text("%s%04x", at == 0 ? "" : ",", (unsigned)types[at]);
-    if (held == 0 && is_told) answer_text("-");
-    return told;
+    if (held == 0 && is_shown) answer_text("-");
+    return result;
 }
 
-/* Reads a value, and answers with what it means if that is to be told. */
+/* Reads a value, and answers with what it means if that is to be result. */
 static stun_types_answer read_value(uint16_t type, slice value, const stun_types_id *id,
-                                    bool is_told) {
+                                    bool is_shown) {
     value_kind kind = kind_of(type);
     slice octets = message_with(type, kind == NOTHING ? front_of(value, 0) : value, id);
     stun_types_attribute attribute;
     CHECK(stun_types_find(octets.bytes, octets.length, type, &attribute));
     switch (kind) {
-    case ADDRESS: return read_address(octets, &attribute, false, is_told);
-    case XOR_ADDRESS: return read_address(octets, &attribute, true, is_told);
-    case ERROR: return read_error(octets, &attribute, is_told);
-    case TYPES: return read_types(octets, &attribute, is_told);
+    case ADDRESS: return read_address(octets, &attribute, false, is_shown);
+    case XOR_ADDRESS: return read_address(octets, &attribute, true, is_shown);
+    case ERROR: return read_error(octets, &attribute, is_shown);
+    case TYPES: return read_types(octets, &attribute, is_shown);
     default: answer_unknown(); return OK_ANSWER;
     }
 }
@@ -98,18 +98,18 @@ static void read(void) {
     uint16_t type = call_number();
     slice value = call_octets();
     stun_types_id id = call_id();
-    stun_types_answer told = read_value(type, value, &id, true);
-    if (told.code != STUN_TYPES_OK) answer_refusal(told);
+    stun_types_answer result = read_value(type, value, &id, true);
+    if (result.code != STUN_TYPES_OK) answer_refusal(result);
 }
 
 /* The kind of the answer to a value of a length. */
-static void kind_word(stun_types_answer told, size_t length, char *to, size_t most) {
-    unsigned long long expected = told.expected, actual = told.actual;
-    const char *name = told.code == STUN_TYPES_TRUNCATED ? "Truncated" : "TooLarge";
-    if (told.code == STUN_TYPES_OK) snprintf(to, most, "read");
-    else if (told.code == STUN_TYPES_INVALID_DATA) snprintf(to, most, "!InvalidAttributeData");
-    else if (told.code != STUN_TYPES_TRUNCATED && told.code != STUN_TYPES_TOO_LARGE)
-        snprintf(to, most, "!%u", (unsigned)told.code);
+static void kind_word(stun_types_answer result, size_t length, char *to, size_t most) {
+    unsigned long long expected = result.expected, actual = result.actual;
+    const char *name = result.code == STUN_TYPES_TRUNCATED ? "Truncated" : "TooLarge";
+    if (result.code == STUN_TYPES_OK) snprintf(to, most, "read");
+    else if (result.code == STUN_TYPES_INVALID_DATA) snprintf(to, most, "!InvalidAttributeData");
+    else if (result.code != STUN_TYPES_TRUNCATED && result.code != STUN_TYPES_TOO_LARGE)
+        snprintf(to, most, "!%u", (unsigned)result.code);
     else if (actual == length) snprintf(to, most, "!%s:%llu", name, expected);
     else snprintf(to, most, "!%s:%llu:%llu", name, expected, actual);
 }
@@ -144,10 +144,10 @@ static draft begun(const stun_types_id *id) {
 }
 
 /* Answers with the value of the only attribute of a message, or why it wasn't added. */
-static void answer_value(const draft *message, stun_types_answer told) {
+static void answer_value(const draft *message, stun_types_answer result) {
     stun_types_attribute attribute;
     stun_types_cursor cursor = {0, 0};
-    if (!is_taken(told)) {
+    if (!is_taken(result)) {
         CHECK(message->written == 20);
         return;
     }
@@ -180,10 +180,10 @@ static void make_error(void) {
     stun_types_id id = id_of("0");
     draft message = begun(&id);
     slice reason = octets_of(word == NULL ? "-" : word);
-    stun_types_answer told = stun_types_add_error(message.room, message.size, &message.written,
+    stun_types_answer result = stun_types_add_error(message.room, message.size, &message.written,
                                                   (uint16_t)code, reason.bytes, reason.length);
     if (word == NULL) answer_unknown();
-    else answer_value(&message, told);
+    else answer_value(&message, result);
 }
 
 static void make_list(void) {
@@ -192,10 +192,10 @@ static void make_list(void) {
     stun_types_id id = id_of("0");
     draft message = begun(&id);
     slice listed = given(types, count * sizeof *types);
-    stun_types_answer told =
+    stun_types_answer result =
         stun_types_add_unknown_types(message.room, message.size, &message.written,
                                      (const uint16_t *)(const void *)listed.bytes, count);
-    answer_value(&message, told);
+    answer_value(&message, result);
 }
 
 static void make(void) {

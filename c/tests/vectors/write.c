@@ -92,17 +92,17 @@ static stun_types_answer take(const step *it, draft *to) {
     }
 }
 
-/* Appends what a step answers. In C one code says that an attribute bars another, and its type which
-   one: FINGERPRINT bars all but itself, and what bars an attribute is no attribute of its type. */
-static void answer_step(const step *it, stun_types_answer told) {
-    bool is_finger = told.type == STUN_TYPES_FINGERPRINT;
-    if (told.code == STUN_TYPES_OK) answer_text("ok");
-    else if (told.code == STUN_TYPES_EXISTS && is_finger && it->kind != FINGER)
+/* Appends what a step answers. In C one code says that an attribute bars another, and its type says
+   which one: by another name if it is FINGERPRINT, or if an ordinary attribute is barred. */
+static void answer_step(const step *it, stun_types_answer result) {
+    bool is_finger = result.type == STUN_TYPES_FINGERPRINT;
+    if (result.code == STUN_TYPES_OK) answer_text("ok");
+    else if (result.code == STUN_TYPES_EXISTS && is_finger && it->kind != FINGER)
         answer_text("!FingerprintExists");
-    else if (told.code == STUN_TYPES_EXISTS && it->kind == ATTRIBUTE) {
-        CHECK(told.type == STUN_TYPES_MESSAGE_INTEGRITY);
+    else if (result.code == STUN_TYPES_EXISTS && it->kind == ATTRIBUTE) {
+        CHECK(result.type == STUN_TYPES_MESSAGE_INTEGRITY);
         answer_text("!MessageIntegrityExists");
-    } else answer_refusal_with(told, ':');
+    } else answer_refusal_with(result, ':');
 }
 
 /* Takes each step, and answers with what each of them answered, and with the message. */
@@ -110,16 +110,16 @@ static void answer_steps(draft *message) {
     size_t at;
     for (at = 0; at < step_count; at++) {
         size_t before = message->written;
-        stun_types_answer told = take(&steps[at], message);
-        if (told.code != STUN_TYPES_OK) CHECK(message->written == before);
+        stun_types_answer result = take(&steps[at], message);
+        if (result.code != STUN_TYPES_OK) CHECK(message->written == before);
         if (at != 0) answer_text(",");
-        answer_step(&steps[at], told);
+        answer_step(&steps[at], result);
     }
     answer_text(step_count == 0 ? "- " : " ");
     answer_draft(message);
 }
 
-/* Begins the message of `CLASS:METHOD:ID`. `none` isn't known: C adds to no room without a header. */
+/* Begins the message of `CLASS:METHOD:ID`. `none` isn't known: in C a message has a header. */
 static bool start(draft *message, size_t size, char *word) {
     char *message_class = next_part(&word, ':'), *method = next_part(&word, ':');
     stun_types_id id;
@@ -174,11 +174,11 @@ static void added_in(size_t size, char *start_word, char *letters) {
     letters[0] = 0;
     if (!start(&message, size, word)) return;
     for (at = 0; at < step_count; at++) {
-        stun_types_answer told = take(&steps[at], &message);
-        CHECK(told.code == STUN_TYPES_OK || told.code == STUN_TYPES_TOO_SMALL);
-        if (told.code != STUN_TYPES_OK)
-            CHECK(told.actual == size && told.expected > size);
-        letters[at] = told.code == STUN_TYPES_OK ? 'y' : 'n';
+        stun_types_answer result = take(&steps[at], &message);
+        CHECK(result.code == STUN_TYPES_OK || result.code == STUN_TYPES_TOO_SMALL);
+        if (result.code != STUN_TYPES_OK)
+            CHECK(result.actual == size && result.expected > size);
+        letters[at] = result.code == STUN_TYPES_OK ? 'y' : 'n';
     }
     letters[step_count] = 0;
     CHECK(is_untouched(message.room + message.written, size - message.written));
