@@ -2,7 +2,7 @@
 // (golang-github-pion-stun-dev): a call in each line of standard input, and its answer in a line of
 // standard output.
 //
-// GOFLAGS=-mod=mod GO111MODULE=off GOPATH=/usr/share/gocode go build -o /tmp/pion main.go
+// GO111MODULE=off GOPATH=/usr/share/gocode go build -o pion main.go
 package main
 
 import (
