@@ -26,8 +26,8 @@ ghost use Rattle.stun_transactions.specs.Transactions.{terms_of, state_of, Begin
 ghost use Rattle.stun_transactions.specs.Parts.{plan_in, state_in, at_state, parts_of, key_of, parts_fault, whole_fault};
 ghost use Rattle.stun_transactions.specs.Runs.{Call, IsRun, Stays, sends, IsSpaced, left_by};
 
-/// The row is kept by polls that are in time: request number `k + 1` follows request number `k`
-/// after the wait that is told once `k + 1` were sent, and the end follows the last one so too.
+/// Polls that are in time keep the row: request number `k + 1` follows request number `k` after the
+/// wait that the schedule gives once `k + 1` requests were sent, and so the end follows the last one.
 pub fn waits_make_the_row()
     ensures next { (rto requests last_wait_factor k : ℕ) → k + 1 < requests
         → moment rto (k + 1) ≡ moment rto k + row_wait rto requests last_wait_factor (k + 1) }
@@ -36,22 +36,22 @@ pub fn waits_make_the_row()
         ≡ moment rto (requests - 1) + row_wait rto requests last_wait_factor requests }
 {}
 
-/// The first poll of a transaction hands out its request, where no time has passed.
+/// The first poll of a transaction answers `Send`, if no time has passed since it began.
 #[tactic(auto, using(crate::proofs::FirstPollLemmas::first_sends))]
 pub fn first_poll_sends()
     ensures { (plan : Plan) (now : Duration) (action : Action) (state : RetransmissionState)
         → Polls plan (begun now) now action state → action ≡ Action.Send }
 {}
 
-/// Preparing a transaction's key changes nothing of what received bytes are for it.
+/// Received bytes are for a transaction with a prepared key what they are without.
 pub fn preparing_changes_nothing()
     ensures { (terms other : Terms) (state : RetransmissionState) (understood : List AttributeType)
         (d : List ℕ) → AreSameTerms terms other
         → received_outcome other state understood d ≡ received_outcome terms state understood d }
 {}
 
-/// Whatever calls are made, with whatever moments: no request is handed out before its interval
-/// after the one before has passed, and no more than the plan allows.
+/// Whatever calls are made, with whatever moments: no poll answers `Send` before the interval after
+/// the last such poll has passed, nor more often than the plan allows.
 #[tactic(auto, using(crate::proofs::RunsLemmas::spaced))]
 pub fn requests_are_spaced()
     ensures { (plan : Plan) (state : RetransmissionState) (calls : List Call)
@@ -59,7 +59,7 @@ pub fn requests_are_spaced()
         → IsSpaced plan state.sent (as_nanos state.last) (sends calls) }
 {}
 
-/// After an end no call changes anything: no request is handed out, and no message is taken.
+/// After an end no call changes anything, no poll answers `Send`, and no message is taken.
 #[tactic(auto, using(crate::proofs::RunsLemmas::nothing_left, crate::proofs::RunsLemmas::nothing_sent))]
 pub fn ends_are_final()
     ensures calls { (plan : Plan) (state : RetransmissionState) (calls : List Call)
@@ -74,7 +74,7 @@ pub fn ends_are_final()
         → state.end ≡ Some end → received_outcome terms state understood d ≡ Outcome.NotForThis }
 {}
 
-/// What is received, cancelled or failed neither hands out a request nor moves the next one.
+/// A received message, a cancel or a fail sends no request and doesn't move the next one.
 #[tactic(auto, using(crate::proofs::RunsLemmas::receiving_stays))]
 pub fn other_calls_stay()
     ensures receiving { (terms : Terms) (state : RetransmissionState)
@@ -93,15 +93,15 @@ pub fn taken_is_right()
         → IsRightResponse terms d }
 {}
 
-/// Its parts and its key are all of a transaction: one that is taken apart and put together again
-/// has the terms and the state that it had.
+/// Its parts and its key determine a transaction: one that is taken apart and put together again has
+/// the terms and the state that it had.
 #[tactic(auto, using(crate::proofs::PartsLemmas::all_of_it))]
 pub fn parts_are_the_whole()
     ensures { (one other : Transaction) → parts_of one ≡ parts_of other → key_of one ≡ key_of other
         → (terms_of one ≡ terms_of other) × (state_of one ≡ state_of other) }
 {}
 
-/// No parts of a transaction are refused: not where it begins, nor after any call.
+/// No parts of a transaction are refused, neither when it begins nor after any call.
 pub fn no_parts_are_refused()
     ensures begins { (r : List ℕ) (schedule : Schedule) (transport : TransportType)
         (protection : Protection) (now : Duration) (transaction : Transaction)

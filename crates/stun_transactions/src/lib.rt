@@ -1,9 +1,10 @@
 //! A client's transaction over `stun_types`, without sockets and without a clock (RFC 8489,
 //! sections 6.2, 6.3.3, 6.3.4, 9.1.4 and 9.2.5).
 //!
-//! A [`Transaction`] tells when its request is to be sent and when it is given up
-//! ([`Transaction::poll`]), and what a received message is for it ([`Transaction::receive`]). Time
-//! comes in as a `Duration` since a beginning of the caller's. It allocates nothing.
+//! A [`Transaction`] says when to send its request and when to give up ([`Transaction::poll`]), and
+//! what a received message is for it ([`Transaction::receive`]). The caller passes the time, as a
+//! `Duration` since a beginning of its choice. Only [`Transaction::prepare`] and
+//! [`Protection::prepare`] allocate.
 #![tactic(auto)]
 
 mod guard;

@@ -1,4 +1,4 @@
-//! The address that a response tells.
+//! The address that a response reports.
 
 ghost use Rattle.stun_types.specs.Message.{message_bytes};
 ghost use Rattle.stun_transactions.specs.Mapped.{ReadsMapped, ReadsAnswer};
@@ -9,13 +9,13 @@ use stun_types::attribute::XorMappedAddress;
 use stun_types::found_has_its_type;
 use stun_types::message::{Message, MessageClass, StunParseError};
 
-/// The address in the first XOR-MAPPED-ADDRESS that a response shows: that from which the server saw
-/// the request come (RFC 8489, section 14.2). It takes no memory.
+/// The address in the first XOR-MAPPED-ADDRESS that a response shows: the one from which the server
+/// saw the request come (RFC 8489, section 14.2). It takes no memory.
 ///
 /// # Errors
 ///
-/// `MissingAttribute` of this type where the response shows none, and the errors of reading
-/// [`XorMappedAddress`] where its value isn't an address.
+/// `MissingAttribute` of this type if the response shows none, and the errors of reading
+/// [`XorMappedAddress`] if its value isn't an address.
 pub fn response_address(alloc: Global, response: &Message<'_>) -> Result<SocketAddr, StunParseError>
     ensures { ReadsMapped (message_bytes response.now) result }
 {
@@ -24,13 +24,13 @@ pub fn response_address(alloc: Global, response: &Message<'_>) -> Result<SocketA
     Ok(mapped.addr(response.transaction_id()))
 }
 
-/// The address from which the server saw a request come, as received bytes tell it; `None` where
-/// they are a message, but no success response to the request. Nothing is validated: that is what
-/// [`Transaction::receive`](crate::Transaction::receive) does. It takes no memory.
+/// The address from which the server saw a request come, if the received bytes are the success
+/// response to it; `None` if they are another message. Nothing is validated:
+/// [`Transaction::receive`](crate::Transaction::receive) does that. It takes no memory.
 ///
 /// # Errors
 ///
-/// Those of [`Message::from_bytes`] where the bytes are no message, and else those of
+/// Those of [`Message::from_bytes`] if the bytes are no message, and else those of
 /// [`response_address`].
 pub fn mapped_address(
     alloc: Global,

@@ -91,8 +91,8 @@ impl TransactionParts {
         Ok(())
     }
 
-    /// When a poll has something to do, as [`Transaction::next_wake`](crate::Transaction::next_wake)
-    /// tells of the transaction.
+    /// The moment from which on a poll does something, as
+    /// [`Transaction::next_wake`](crate::Transaction::next_wake) has it.
     pub fn next_wake(&self) -> Option<Duration>
         ensures { MatchOption result (is_some self.now.end ≡ true)
             (λ at. (self.now.end ≡ None)
@@ -104,8 +104,8 @@ impl TransactionParts {
         }
     }
 
-    /// What is to be done now, as [`Transaction::poll`](crate::Transaction::poll) answers of the
-    /// transaction: this takes no key.
+    /// What is to be done now, as [`Transaction::poll`](crate::Transaction::poll) answers; it needs
+    /// no key.
     pub fn poll(&mut self, now: Duration) -> Action
         ensures polls { Polls (plan_in self.old) (state_in self.old) now result
             (state_in self.new) }

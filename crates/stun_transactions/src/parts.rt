@@ -26,7 +26,7 @@ pub enum PartsError {
     /// The request was sent more often than the schedule says.
     #[error("the request was sent too often")]
     SentTooOften,
-    /// The request was sent after the latest moment that was told.
+    /// The request was last sent (`last`) after the latest moment of a call (`clock`).
     #[error("the request was sent after the latest moment")]
     SentTooLate,
     /// A mechanism protects the request, and there is no key.
@@ -42,7 +42,7 @@ pub enum PartsError {
 }
 
 /// A transaction without its key: what it was begun with, and how far it has come, for a caller that
-/// keeps it in a form of its own.
+/// stores it in its own representation.
 #[derive(Clone, Copy, Debug, PartialEq, Eq)]
 pub struct TransactionParts {
     /// When the request is sent.
@@ -59,11 +59,12 @@ pub struct TransactionParts {
     pub sha256: bool,
     /// The mechanism that protects the request, if one does.
     pub mechanism: Option<Mechanism>,
-    /// How many times the request was handed out.
+    /// How many polls have answered `Send`.
     pub sent: u32,
-    /// When it last was, and before the first time when the transaction began.
+    /// The moment of the last of them, and before the first the moment at which the transaction
+    /// began.
     pub last: Duration,
-    /// The latest moment of which the caller has told.
+    /// The latest moment that a call was given.
     pub clock: Duration,
     /// Whether a response was discarded that wasn't authentic.
     pub violated: bool,

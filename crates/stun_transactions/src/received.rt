@@ -12,12 +12,12 @@ use stun_types::message::Message;
 pub enum Discard {
     /// It isn't authentic (RFC 8489, sections 9.1.4 and 9.2.5).
     NotAuthentic,
-    /// Its nonce promises PASSWORD-ALGORITHMS, and it shows none, to a request that a long-term
-    /// credential protects: somebody on the way may have taken it out. A 401 or a 438 is not
-    /// discarded so (RFC 8489, section 9.2.5).
+    /// Its nonce promises PASSWORD-ALGORITHMS and it shows none, in response to a request that a
+    /// long-term credential protects: an attacker may have removed it. A 401 or a 438 is not
+    /// discarded for this reason (RFC 8489, section 9.2.5).
     BidDown,
-    /// It is an error response with the code 400 and with no integrity attribute, to a request that
-    /// a long-term credential protects (RFC 8489, section 9.2.5).
+    /// It is an error response 400 with no integrity attribute, to a request that a long-term
+    /// credential protects (RFC 8489, section 9.2.5).
     UnsignedBadRequest,
 }
 
@@ -29,7 +29,8 @@ pub enum Failure {
     /// It shows an attribute of this type, which must be understood and isn't (RFC 8489, sections
     /// 6.3.3 and 6.3.4).
     UnknownAttribute(AttributeType),
-    /// It is an error response that tells no code of 300 to 699 (RFC 8489, section 6.3.4).
+    /// It is an error response without an ERROR-CODE of 300 to 699 that can be read (RFC 8489,
+    /// section 6.3.4).
     NoErrorCode,
 }
 

@@ -38,12 +38,12 @@ impl Transaction {
     ghost use Rattle.stun_transactions.specs.Parts.{parts_of, key_of, whole_fault};
 
     /// A transaction of a request, which is to be sent over a transport, by a schedule. Its first
-    /// poll hands the request out.
+    /// poll answers `Send`.
     ///
     /// # Errors
     ///
-    /// `NotARequest` where the message has another class; `NotSigned` where a credential is to
-    /// protect it and it shows no integrity attribute, `Signed` where none is to and it shows one.
+    /// `NotARequest` if the message has another class; else `NotSigned` if a credential is to protect
+    /// it and it shows no integrity attribute, `Signed` if none is to and it shows one.
     pub fn new(
         request: &Message<'_>,
         schedule: Schedule,
@@ -118,11 +118,11 @@ impl Transaction {
         (parts, key)
     }
 
-    /// The transaction of these parts and this key, which goes on where they were taken from it.
+    /// The transaction of these parts and this key, which continues where it was taken apart.
     ///
-    /// What is handed in is tested: parts that no transaction has are refused, as is a key that
-    /// isn't wanted. The key of a long-term credential is one for both algorithms, as
-    /// `IntegrityKey::for_both` makes it.
+    /// Parts that no transaction has are refused, and so is a key that doesn't belong to them. The
+    /// key of a long-term credential is one for both algorithms, as `IntegrityKey::for_both` makes
+    /// it.
     ///
     /// # Errors
     ///
@@ -160,8 +160,8 @@ impl Transaction {
         self.terms.id
     }
 
-    /// When a poll has something to do, if no message is received before: from this moment on it
-    /// hands out the request, or tells that time is up. `None` where the transaction has ended.
+    /// The moment from which on a poll answers `Send`, or `Ended` since time is up, unless a message
+    /// is received before. `None` if the transaction has ended.
     pub fn next_wake(&self) -> Option<Duration>
         ensures { Wakes self.now result }
     {
@@ -197,7 +197,7 @@ impl Transaction {
     ///
     /// `understood` are the types of the attributes that must be understood (below 0x8000) and that
     /// the caller understands; those that RFC 8489 defines (section 18.3) need not be among them.
-    /// The response that is handed out borrows the bytes. After a response, or a failure, the
+    /// A response that is returned borrows `bytes`. After `Success`, `Error` or `Failed` the
     /// transaction has ended.
     pub fn receive<'m>(&mut self, bytes: &'m [u8], understood: &[AttributeType]) -> Received<'m>
         ensures outcome { outcome_of result
@@ -241,10 +241,10 @@ impl Transaction {
         with_message(outcome, message)
     }
 
-    /// How long the response took, if it was received at this moment: the time from when the
-    /// request was handed out, and 0 where the clock stepped back behind that. `None` where no
-    /// response was taken, and where the request was sent more than once, since then it isn't known
-    /// which request was answered (RFC 8489, section 6.2.1).
+    /// How long the response took, if it was received at this moment: the time since the poll that
+    /// answered `Send`, or 0 if `now` is before that. `None` if no response was taken, or if the
+    /// request was sent more than once, since then it isn't known which request was answered (RFC
+    /// 8489, section 6.2.1).
     pub fn round_trip(&self, now: Duration) -> Option<Duration>
         ensures { TellsTime (state_of self.now) now result }
     {

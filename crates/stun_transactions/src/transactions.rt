@@ -18,9 +18,9 @@ use stun_types::message::{Message, TransactionId};
 /// way. They lie in the value itself: it allocates nothing.
 ///
 /// Each call is that of one transaction, and leaves the others as they are. The caller keeps the
-/// bytes of the requests, and sends those with the ID that [`Transactions::poll`] tells. A
-/// transaction stays, and its ID with it, until `poll` has told its end. Each call looks at up to
-/// `N` slots, however many messages come: this is meant for an `N` of at most 64.
+/// bytes of the requests, and sends the one whose ID [`Transactions::poll`] returns. A transaction
+/// keeps its slot and its ID until `poll` has returned its end. Each call looks at up to `N` slots:
+/// this is meant for an `N` of at most 64.
 #[derive(Debug, Drop)]
 pub struct Transactions<const N: usize> {
     slots: [Option<Transaction>; N],
@@ -55,16 +55,16 @@ impl<const N: usize> Transactions<N> {
         }
     }
 
-    /// Begins a transaction, as [`Transaction::new`] does: the next poll hands its request out.
+    /// Begins a transaction, as [`Transaction::new`] does: its request is due at once.
     ///
     /// # Errors
     ///
     /// The first of these that applies; nothing is changed then:
     ///
-    /// - `Begin(error)` where [`Transaction::new`] answers this error;
-    /// - `InUse` where a transaction with the request's ID is there, be it one that has ended and
-    ///   whose end isn't told yet;
-    /// - `Full` where there are `N` transactions.
+    /// - `Begin(error)` if [`Transaction::new`] answers this error;
+    /// - `InUse` if there is a transaction with the request's ID, also one that has ended and whose
+    ///   end no poll has returned yet;
+    /// - `Full` if there are `N` transactions.
     pub fn begin(
         &mut self,
         request: &Message<'_>,
@@ -86,7 +86,7 @@ impl<const N: usize> Transactions<N> {
     }
 
     /// The transaction with this ID. Once it has ended, it is there until [`Transactions::poll`]
-    /// has told its end.
+    /// has returned its end.
     pub fn get(&self, id: TransactionId) -> Option<&Transaction>
         ensures distinct { HasDistinctIds self.now }
         ensures found { option_copied result ≡ held self.now (place_of id self.now) }
@@ -94,8 +94,9 @@ impl<const N: usize> Transactions<N> {
         slots::held(&self.slots, id)
     }
 
-    /// When a poll has something to do, if no message is received before: 0 where an end is yet to
-    /// be told, and `None` where there is no transaction. Nothing is changed.
+    /// The moment from which on a poll answers `Send` or `Ended`, unless a message is received
+    /// before: 0 if a transaction has ended and no poll has returned its end yet. `None` if there is
+    /// no transaction.
     pub fn next_wake(&self) -> Option<Duration>
         ensures { option_map as_nanos result ≡ soonest self.now }
     {
@@ -107,7 +108,7 @@ impl<const N: usize> Transactions<N> {
     ///
     /// - `Send(id)`: send the request with this ID, as for `Send` of [`Transaction::poll`].
     /// - `Ended(id, end)`: this transaction has ended, or ends now since its time is up. Each end is
-    ///   told once: the transaction is gone, and its slot and its ID are free.
+    ///   returned once: the transaction is gone, and its slot and its ID are free.
     /// - `WaitUntil(time)`: nothing before `time`, which is the soonest moment at which one of them
     ///   has something to do, unless a message is received.
     /// - `Idle`: there is no transaction.
@@ -119,7 +120,7 @@ impl<const N: usize> Transactions<N> {
 
     /// What the bytes of a received message are: the transaction ID of the message, and what
     /// [`Transaction::receive`] of the transaction with this ID answers (RFC 8489, section 6.3).
-    /// `None` where they are no message, or there is no such transaction; nothing is changed then.
+    /// `None` if they are no message, or there is no such transaction; nothing is changed then.
     ///
     /// The bytes are parsed once. `understood` is as for [`Transaction::receive`].
     pub fn receive<'m>(
@@ -136,7 +137,7 @@ impl<const N: usize> Transactions<N> {
         slots::receive(&mut self.slots, bytes, understood)
     }
 
-    /// Ends the transaction with this ID, as [`Transaction::cancel`] does, and tells whether there
+    /// Ends the transaction with this ID, as [`Transaction::cancel`] does, and returns whether there
     /// is one.
     pub fn cancel(&mut self, id: TransactionId) -> bool
         ensures found { result ≡ is_some (place_of id self.old) }
@@ -146,7 +147,7 @@ impl<const N: usize> Transactions<N> {
         slots::end_by(&mut self.slots, id, TransactionEnd::Cancelled)
     }
 
-    /// Ends the transaction with this ID, as [`Transaction::fail`] does, and tells whether there is
+    /// Ends the transaction with this ID, as [`Transaction::fail`] does, and returns whether there is
     /// one.
     pub fn fail(&mut self, id: TransactionId) -> bool
         ensures found { result ≡ is_some (place_of id self.old) }
