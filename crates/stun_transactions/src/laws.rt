@@ -27,7 +27,8 @@ ghost use Rattle.stun_transactions.specs.Parts.{plan_in, state_in, at_state, par
 ghost use Rattle.stun_transactions.specs.Runs.{Call, IsRun, Stays, sends, IsSpaced, left_by};
 
 /// Polls that are in time keep the row: request number `k + 1` follows request number `k` after the
-/// wait that the schedule gives once `k + 1` requests were sent, and so the end follows the last one.
+/// wait that the schedule gives once `k + 1` requests were sent, and so the end follows the last
+/// one.
 pub fn waits_make_the_row()
     ensures next { (rto requests last_wait_factor k : ℕ) → k + 1 < requests
         → moment rto (k + 1) ≡ moment rto k + row_wait rto requests last_wait_factor (k + 1) }
@@ -93,8 +94,8 @@ pub fn taken_is_right()
         → IsRightResponse terms d }
 {}
 
-/// Its parts and its key determine a transaction: one that is taken apart and put together again has
-/// the terms and the state that it had.
+/// Its parts and its key determine a transaction: one that is taken apart and put together again
+/// has the terms and the state that it had.
 #[tactic(auto, using(crate::proofs::PartsLemmas::all_of_it))]
 pub fn parts_are_the_whole()
     ensures { (one other : Transaction) → parts_of one ≡ parts_of other → key_of one ≡ key_of other

@@ -42,8 +42,8 @@ impl Transaction {
     ///
     /// # Errors
     ///
-    /// `NotARequest` if the message has another class; else `NotSigned` if a credential is to protect
-    /// it and it shows no integrity attribute, `Signed` if none is to and it shows one.
+    /// `NotARequest` if the message has another class; else `NotSigned` if a credential is to
+    /// protect it and it shows no integrity attribute, `Signed` if none is to and it shows one.
     pub fn new(
         request: &Message<'_>,
         schedule: Schedule,
@@ -160,8 +160,8 @@ impl Transaction {
         self.terms.id
     }
 
-    /// The moment from which on a poll answers `Send`, or `Ended` since time is up, unless a message
-    /// is received before. `None` if the transaction has ended.
+    /// The moment from which on a poll answers `Send`, or `Ended` since time is up, unless a
+    /// message is received before. `None` if the transaction has ended.
     pub fn next_wake(&self) -> Option<Duration>
         ensures { Wakes self.now result }
     {

@@ -95,8 +95,8 @@ impl<const N: usize> Transactions<N> {
     }
 
     /// The moment from which on a poll answers `Send` or `Ended`, unless a message is received
-    /// before: 0 if a transaction has ended and no poll has returned its end yet. `None` if there is
-    /// no transaction.
+    /// before: 0 if a transaction has ended and no poll has returned its end yet. `None` if there
+    /// is no transaction.
     pub fn next_wake(&self) -> Option<Duration>
         ensures { option_map as_nanos result ≡ soonest self.now }
     {
@@ -137,8 +137,8 @@ impl<const N: usize> Transactions<N> {
         slots::receive(&mut self.slots, bytes, understood)
     }
 
-    /// Ends the transaction with this ID, as [`Transaction::cancel`] does, and returns whether there
-    /// is one.
+    /// Ends the transaction with this ID, as [`Transaction::cancel`] does, and returns whether
+    /// there is one.
     pub fn cancel(&mut self, id: TransactionId) -> bool
         ensures found { result ≡ is_some (place_of id self.old) }
         ensures slots { self.new ≡ changed (ending TransactionEnd.Cancelled)
@@ -147,8 +147,8 @@ impl<const N: usize> Transactions<N> {
         slots::end_by(&mut self.slots, id, TransactionEnd::Cancelled)
     }
 
-    /// Ends the transaction with this ID, as [`Transaction::fail`] does, and returns whether there is
-    /// one.
+    /// Ends the transaction with this ID, as [`Transaction::fail`] does, and returns whether there
+    /// is one.
     pub fn fail(&mut self, id: TransactionId) -> bool
         ensures found { result ≡ is_some (place_of id self.old) }
         ensures slots { self.new

@@ -51,13 +51,13 @@ pub struct Waits {
 pub struct KeptTransaction {
     /// When the request is sent.
     pub schedule: Waits,
-    /// When it last was, in milliseconds.
+    /// When it was last sent, and before the first time when the transaction began, in milliseconds.
     pub last: u64,
-    /// The latest moment of which the caller has told, in milliseconds.
+    /// The latest moment that a call was given, in milliseconds.
     pub clock: u64,
     /// The transaction ID.
     pub id: Id,
-    /// How often the request was handed out.
+    /// How many polls have answered that the request is to be sent.
     pub sent: u32,
     /// The method of the request.
     pub method: u16,
