@@ -51,7 +51,7 @@ pub struct Waits {
 pub struct KeptTransaction {
     /// When the request is sent.
     pub schedule: Waits,
-    /// When it was last sent, and before the first time when the transaction began, in milliseconds.
+    /// When the request was last sent, and before that when the transaction began, in milliseconds.
     pub last: u64,
     /// The latest moment that a call was given, in milliseconds.
     pub clock: u64,
