@@ -1,4 +1,4 @@
-//! The request, and what its response tells.
+//! The request, and what its response says.
 
 ghost use Rattle.std.specs.Prelude.{◌≡◌, None, Some, IfOk};
 ghost use Rattle.stun_grammar.specs.Names.{BINDING};
@@ -20,12 +20,12 @@ use stun_types::message::{
 };
 use stun_types::prelude::*;
 
-/// What a datagram tells of the request.
+/// What a datagram says of the request.
 #[derive(Clone, Copy, PartialEq, Eq)]
 pub enum BindingResult {
     /// The address from which the server saw the request come.
     Mapped(SocketAddr),
-    /// The request succeeded, but no address is told.
+    /// The request succeeded, but the response shows no XOR-MAPPED-ADDRESS that can be read.
     Unmapped,
     /// The server refused it with this code.
     Refused(u16),
@@ -121,7 +121,7 @@ fn sent(bytes: &[u8], login: Option<Login>) -> Result<Transaction, AllocError>
     }
 }
 
-/// The address that a success response tells.
+/// The address that a success response reports.
 fn mapped(alloc: Global, response: &Message<'_>) -> BindingResult
     ensures { MapsTo (message_bytes response.now) result }
 {
@@ -131,7 +131,7 @@ fn mapped(alloc: Global, response: &Message<'_>) -> BindingResult
     }
 }
 
-/// What a datagram tells of the binding request of a query. The error says that an allocation
+/// What a datagram says of the binding request of a query. The error says that an allocation
 /// failed: the request that this makes parses, and its first poll sends it.
 #[tactic(auto, using(crate::proofs::BindingLemmas::received_told))]
 pub fn read_response(

@@ -21,7 +21,7 @@ pub enum RunEnd {
     Answered(BindingResult),
     /// A message is a user's, and the reply to a request was written.
     Accepted,
-    /// An error response to a user's request was written.
+    /// A request was refused, since it isn't shown to be a user's: the error response was written.
     Refused,
     /// A message is neither accepted nor refused, and nothing was written.
     Discarded,
@@ -34,7 +34,7 @@ pub enum AgentError {
     Cut(u64),
     /// No message begins where one of a stream had to.
     NoMessage(StreamError),
-    /// A reply to a user's request can't be written: a nonce is too long for its attribute.
+    /// An error response can't be written: a nonce is too long for its attribute.
     NoReply,
     /// The arguments are wrong, or reading, writing or an allocation failed.
     Run(RunError),
