@@ -1,5 +1,6 @@
 /* Keys that aren't made, texts that aren't UTF-8, each byte of a signed message changed, and
  * memory: each allocation refused, and what is given back. */
+#include <stdlib.h>
 #include <string.h>
 
 #include "check.h"
@@ -39,7 +40,7 @@ static void test_changes(void) {
             uint8_t other[200];
             uint32_t algorithm;
             stun_types_answer answer;
-            if (bytes.length > sizeof other) break;
+            if (bytes.length > sizeof other) abort();
             memcpy(other, bytes.bytes, bytes.length);
             other[at] ^= 0x04;
             answer = stun_types_validate(other, bytes.length, key, &algorithm);

@@ -278,6 +278,8 @@ static long make(const char *call, guarded_side side, long refused) {
     else asked_for->answer();
     asked = heap_asked();
     heap_refuse(0);
+    /* (a refusal may come before the last word) */
+    if (call_word() != NULL && strchr(answer, '!') == NULL && !is_out_of_memory) answer_unknown();
     check_end();
     if (is_unknown) strcpy(answer, "?");
     else if (is_out_of_memory) strcpy(answer, "!OutOfMemory");
