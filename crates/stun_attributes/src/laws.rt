@@ -33,6 +33,7 @@ use crate::{
 use stun_attrs::{Attribute, AttributeFromRaw};
 
 /// A text is read back, unless out of memory.
+#[tactic(auto, using(crate::proofs::TextsLemmas::read_back))]
 pub fn text_is_read_back<const TYPE: u16, const MAX: u16>()
     ensures { (text : TextAttribute TYPE MAX)
         (result : Result (TextAttribute TYPE MAX) StunParseError)
@@ -59,6 +60,7 @@ pub fn xor_twice()
 {}
 
 /// An ALTERNATE-SERVER without flow info and scope ID is read back.
+#[tactic(auto, using(crate::proofs::AddressesLemmas::address_back))]
 pub fn address_is_read_back()
     ensures { (attribute : AlternateServer) (result : Result AlternateServer StunParseError)
         → IsPlain (server_addr attribute) → IsInRange (server_addr attribute)
@@ -68,6 +70,7 @@ pub fn address_is_read_back()
 {}
 
 /// An XOR-MAPPED-ADDRESS is read back.
+#[tactic(auto, using(crate::proofs::AddressesLemmas::address_back))]
 pub fn xored_address_is_read_back()
     ensures { (attribute : XorMappedAddress) (result : Result XorMappedAddress StunParseError)
         → IsInRange (written_mapped_addr attribute)
@@ -78,6 +81,7 @@ pub fn xored_address_is_read_back()
 {}
 
 /// An ERROR-CODE is read back, unless out of memory.
+#[tactic(auto, using(crate::proofs::ReadBackLemmas::error_back))]
 pub fn error_is_read_back()
     ensures { (attribute : ErrorCode) (result : Result ErrorCode StunParseError)
         → ReadsError (error_value (error_code attribute) (error_reason attribute)) result
@@ -86,6 +90,7 @@ pub fn error_is_read_back()
 {}
 
 /// An UNKNOWN-ATTRIBUTES is read back, unless out of memory.
+#[tactic(auto, using(crate::proofs::ReadBackLemmas::types_back))]
 pub fn types_are_read_back()
     ensures { (attribute : UnknownAttributes) (result : Result UnknownAttributes StunParseError)
         → AreTypes (listed attribute) → ReadsTypes (types_encoding (listed attribute)) result
@@ -94,6 +99,7 @@ pub fn types_are_read_back()
 {}
 
 /// A PASSWORD-ALGORITHM is read back.
+#[tactic(auto, using(crate::proofs::ReadBackLemmas::algorithm_back))]
 pub fn algorithm_is_read_back()
     ensures { (attribute : PasswordAlgorithm) (result : Result PasswordAlgorithm StunParseError)
         → ReadsAlgorithm (algorithm_encoding (held_algorithm attribute)) result
@@ -101,6 +107,7 @@ pub fn algorithm_is_read_back()
 {}
 
 /// A PASSWORD-ALGORITHMS that isn't empty is read back, unless out of memory.
+#[tactic(auto, using(crate::proofs::ReadBackLemmas::algorithms_back))]
 pub fn algorithms_are_read_back()
     ensures { (attribute : PasswordAlgorithms) (result : Result PasswordAlgorithms StunParseError)
         → 0 < length (held_algorithms attribute)

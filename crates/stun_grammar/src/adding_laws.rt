@@ -11,6 +11,7 @@ ghost use Rattle.stun_grammar.specs.Adding.{appended};
 
 /// The encoding of a message with an attribute appended is the encoding of the message whose list
 /// of attributes has that attribute added at its end.
+#[tactic(auto, using(crate::proofs::AddingLemmas::message_more))]
 pub fn message_grows()
     ensures { (type id : ℕ) (attributes : List Attribute) (atype : ℕ) (value : List ℕ)
         → atype < 2 ^ 16 → length value < 2 ^ 16
@@ -25,6 +26,7 @@ pub fn hmac_has_length()
 {}
 
 /// The value of a FINGERPRINT has four bytes (RFC 8489, section 14.7).
+#[tactic(auto, using(crate::proofs::AddingLemmas::fingerprint_length))]
 pub fn fingerprint_has_length()
     ensures { (d : List ℕ) (offset : ℕ) → length (fingerprint_value d offset) ≡ 4 }
 {}

@@ -63,6 +63,7 @@ pub fn one_longest_prefix()
 {}
 
 /// Some bytes that follow make bytes a header exactly if these pass the test `begins`.
+#[tactic(auto, using(crate::proofs::HeadersLemmas::begins_some, crate::proofs::HeadersLemmas::begins_from))]
 pub fn incomplete_header()
     ensures { (b : List ℕ) → (begins b ≡ true) ↔ Begins b }
 {}
@@ -79,6 +80,7 @@ pub fn length_is_stated()
 {}
 
 /// Parsing returns four errors only: `NotStun`, `Truncated`, `TooLarge` and `FingerprintMismatch`.
+#[tactic(auto, using(crate::proofs::ParsingLemmas::parse_tells))]
 pub fn refusals_of_parsing()
     ensures { (d : List ℕ) → IfSome (parse_fault d) IsRefusal }
 {}
@@ -120,6 +122,7 @@ pub fn encoding_grows()
 {}
 
 /// A FINGERPRINT that was computed over the message before it is right, whatever follows it.
+#[tactic(auto, using(crate::proofs::WritingLemmas::right_where_computed))]
 pub fn right_fingerprint()
     ensures { (type id : ℕ) (before behind : List Attribute)
         → has FINGERPRINT (types before) ≡ false
@@ -131,6 +134,7 @@ pub fn right_fingerprint()
 
 /// Where the encoding of one attribute begins that of another, the two attributes are equal: they
 /// have the same type, the same value and the same padding.
+#[tactic(auto, using(crate::proofs::AttributesLemmas::no_encoding_begins))]
 pub fn one_spelling()
     ensures { (a b : Attribute) (more : List ℕ)
         → IsAttribute a → IsAttribute b → encoding b ≡ encoding a ++ more → a ≡ b }

@@ -132,6 +132,7 @@ impl<const N: usize, H: HashFunction<N>> KeyedHashers<N, H> {
     }
 
     /// The HMAC of the pieces, joined, under the key whose blocks the hashers have taken in.
+    #[tactic(auto, using(std::proofs::Common::refl, crate::proofs::BlocksLemmas::by_blocks))]
     pub(crate) fn hmac(&self, pieces: &[&[u8]]) -> [u8; N]
         ensures { (key : List ℕ)
             → AreKeyed H.holds (digest_of H.algorithm) key self.now.inner self.now.outer
@@ -156,6 +157,7 @@ fn digest_with<const N: usize, H: HashFunction<N>>(block: &[u8], pieces: &[&[u8]
 }
 
 /// The HMAC of the pieces, joined, by the two blocks of a key, which follow one another.
+#[tactic(auto, using(crate::proofs::BlocksLemmas::inner_block, crate::proofs::BlocksLemmas::outer_block, crate::proofs::BlocksLemmas::by_blocks))]
 pub(crate) fn hmac_by<const N: usize, H: HashFunction<N>>(
     blocks: &[u8],
     pieces: &[&[u8]],

@@ -200,6 +200,7 @@ impl IntegrityKey {
     }
 
     /// The two blocks with which an HMAC-SHA1 under the key begins.
+    #[tactic(auto, using(crate::proofs::BlocksLemmas::of_sha1))]
     fn sha1_blocks(&self) -> &[u8]
         ensures blocks { result.now ≡ blocks_over sha1 (key_bytes self.now) }
         ensures length { length result.now ≡ 128 }
@@ -209,6 +210,7 @@ impl IntegrityKey {
     }
 
     /// The two blocks with which an HMAC-SHA256 under the key begins.
+    #[tactic(auto, using(crate::proofs::BlocksLemmas::of_sha256))]
     fn sha256_blocks(&self) -> &[u8]
         ensures blocks { result.now ≡ blocks_over sha256 (key_bytes self.now) }
         ensures length { length result.now ≡ 128 }
