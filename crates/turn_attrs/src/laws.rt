@@ -26,6 +26,7 @@ pub fn fields_are_held()
 {}
 
 /// An ADDRESS-ERROR-CODE is read back, unless out of memory.
+#[tactic(auto, using(crate::proofs::AddressErrorsLemmas::address_error_back))]
 pub fn address_error_is_read_back()
     ensures { (attribute : AddressErrorCode) (result : Result AddressErrorCode StunParseError)
         → ReadsAddressError (address_error_value attribute) result

@@ -163,6 +163,7 @@ fn lacks_one(message: &Message<'_>, required: &[AttributeType]) -> bool
 /// The law of responses: what may be written with the type of a response to a request and with its
 /// transaction ID is a response that answers the request, whatever its attributes. The function
 /// does nothing: its contract is the law.
+#[tactic(auto, using(crate::proofs::RepliesLemmas::answers_request))]
 pub fn response_answers()
     ensures { (class : MessageClass) (r : List ℕ) (attributes : List Attribute)
         → is_response class ≡ true → IsWritable (response_type class r) (id_field r) attributes
