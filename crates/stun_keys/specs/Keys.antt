@@ -8,6 +8,7 @@ use Rattle.stun_grammar.specs.declared.integrity_algorithm.IntegrityAlgorithm.{I
 use Rattle.stun_grammar.specs.declared.integrity_algorithm.IntegrityAlgorithm.TheVariants.{Sha1, Sha256}
 use Rattle.stun_keys.specs.declared.keys.integrity_key.IntegrityKey.{IntegrityKey}
 use Rattle.stun_keys.specs.Blocks.{key_in}
+use Rattle.stun_keys.specs.Prepared.{keeps}
 use Rattle.stun_keys.specs.declared.keys.long_term.LongTermCredentials.{LongTermCredentials}
 use Rattle.stun_keys.specs.declared.keys.long_term_key.LongTermKeyCredentials.{LongTermKeyCredentials}
 use Rattle.stun_keys.specs.declared.keys.short_term.ShortTermCredentials.{ShortTermCredentials}
@@ -75,6 +76,12 @@ serves (Some Sha1) Sha1 = true
 serves (Some Sha1) Sha256 = false
 serves (Some Sha256) Sha1 = false
 serves (Some Sha256) Sha256 = true
+
+-- whether a key keeps hashers by each algorithm that it works with, so that its HMACs take none of
+-- its blocks again
+abbrev pub is_prepared : IntegrityKey → Bool
+is_prepared key =
+    keeps key.prepared.both (serves (key_algorithm key) Sha1) (serves (key_algorithm key) Sha256)
 
 -- username, realm and password, separated by colons
 abbrev pub long_term_text : (username realm password : List ℕ) → List ℕ

@@ -1,13 +1,13 @@
 //! What a key that makes many HMACs keeps for them.
 
-ghost use Rattle.std.specs.Prelude.{◌≡◌, ℕ, List, None, IfOk, IfErr, IfSome, length, map, box_value};
+ghost use Rattle.std.specs.Prelude.{◌≡◌, ℕ, List, Bool, true, None, IfOk, IfErr, IfSome, length, map, box_value};
 ghost use Rattle.std.specs.List.{concat};
 ghost use Rattle.sha1.specs.Sha1.{sha1};
 ghost use Rattle.sha2.specs.Sha256.{sha256};
 ghost use Rattle.stun_grammar.specs.declared.integrity_algorithm.IntegrityAlgorithm.TheVariants as algorithms;
 ghost use Rattle.stun_grammar.specs.Hmac.{hmac};
 ghost use Rattle.stun_keys.specs.Blocks.{blocks_over};
-ghost use Rattle.stun_keys.specs.Prepared.{ArePrepared, IfPrepared};
+ghost use Rattle.stun_keys.specs.Prepared.{ArePrepared, IfPrepared, are_there, keeps};
 
 use super::hmac::{KeyedHashers, hmac_by};
 use sha1::Sha1;
@@ -52,6 +52,8 @@ impl Prepared {
     /// Keeps hashers, in memory from `alloc`.
     pub(crate) fn of(alloc: Global, hashers: BothHashers) -> Result<Self, StunWriteError>
         ensures ok { IfOk result (λ made. IfSome made.both (λ both. box_value both ≡ hashers)) }
+        ensures there { (sha1 sha256 : Bool) → are_there hashers sha1 sha256 ≡ true
+            → IfOk result (λ made. keeps made.both sha1 sha256 ≡ true) }
         ensures err { IfErr result (λ e. e ≡ StunWriteError.OutOfMemory) }
     {
         match Box::new(alloc, hashers) {
@@ -61,7 +63,9 @@ impl Prepared {
     }
 
     /// Whether there are hashers by both algorithms, as far as they are wanted.
-    pub(crate) fn are_there(&self, sha1: bool, sha256: bool) -> bool {
+    pub(crate) fn are_there(&self, sha1: bool, sha256: bool) -> bool
+        ensures { result ≡ keeps self.now.both sha1 sha256 }
+    {
         match &self.both {
             Some(both) => (both.sha1.is_some() || !sha1) && (both.sha256.is_some() || !sha256),
             None => false,

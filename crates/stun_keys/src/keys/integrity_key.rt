@@ -59,14 +59,14 @@ fn with_blocks(alloc: Global, key: &[u8]) -> Result<SecretBytes, StunWriteError>
 }
 
 impl IntegrityKey {
-    ghost use Rattle.std.specs.Prelude.{◌≡◌, ◌≤◌, None, IfOk, IfErr, length, map};
+    ghost use Rattle.std.specs.Prelude.{◌≡◌, ◌≤◌, true, None, IfOk, IfErr, OnOk, length, map};
     ghost use Rattle.std.specs.List.{concat};
     ghost use Rattle.sha1.specs.Sha1.{sha1};
     ghost use Rattle.sha2.specs.Sha256.{sha256};
     ghost use Rattle.stun_grammar.specs.Hmac.{hmac};
     ghost use Rattle.stun_keys.specs.Blocks.{blocks_over, ready_blocks};
-    ghost use Rattle.stun_keys.specs.Prepared.{ArePrepared};
-    ghost use Rattle.stun_keys.specs.Keys.{key_bytes, key_algorithm, serves, IsKey};
+    ghost use Rattle.stun_keys.specs.Prepared.{ArePrepared, are_there};
+    ghost use Rattle.stun_keys.specs.Keys.{key_bytes, key_algorithm, serves, is_prepared, IsKey};
 
     /// The key with these bytes, made for an algorithm or with none. The bytes are copied, and the
     /// blocks of its HMACs are made, in one allocation by `alloc`. For a key that makes more than two
@@ -107,6 +107,7 @@ impl IntegrityKey {
     /// `OutOfMemory` alone. The key works as before.
     pub fn prepare(&mut self, alloc: Global) -> Result<(), StunWriteError>
         ensures key { IsKey (key_algorithm self.old) (key_bytes self.old) self.new }
+        ensures prepared { OnOk result (is_prepared self.new ≡ true) }
         ensures err { IfErr result (λ e. e ≡ StunWriteError.OutOfMemory) }
     {
         let sha1 = self.serves(IntegrityAlgorithm::Sha1);
@@ -120,7 +121,8 @@ impl IntegrityKey {
 
     /// The hashers of the key's HMACs, by the algorithms that are wanted.
     fn hashers(&self, sha1: bool, sha256: bool) -> BothHashers
-        ensures { ArePrepared (key_bytes self.now) result }
+        ensures right { ArePrepared (key_bytes self.now) result }
+        ensures there { are_there result sha1 sha256 ≡ true }
     {
         let sha1_blocks = self.sha1_blocks();
         let sha256_blocks = self.sha256_blocks();

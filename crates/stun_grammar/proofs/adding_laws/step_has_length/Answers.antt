@@ -3,7 +3,7 @@ use Rattle.stun_grammar.specs.declared.integrity_algorithm.IntegrityAlgorithm.Th
 use Rattle.stun_grammar.specs.AttributeTypes.{MESSAGE_INTEGRITY, MESSAGE_INTEGRITY_SHA256, FINGERPRINT}
 use Rattle.stun_grammar.specs.Attributes.{canonical, encoding}
 use Rattle.stun_grammar.specs.Fingerprints.{fingerprint_value}
-use Rattle.stun_grammar.specs.Steps.{sign, finger, appended_by, integrity_value}
+use Rattle.stun_grammar.specs.Steps.{appended_by, integrity_value}
 use Rattle.stun_grammar.proofs.AddingLemmas.{fingerprint_length}
 use Rattle.stun_grammar.proofs.HmacLemmas.{hmac_has_length}
 use Rattle.stun_grammar.proofs.WritingLemmas.{length-canonical}
