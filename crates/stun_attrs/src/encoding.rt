@@ -85,7 +85,7 @@ pub fn copy_to_start(bytes: &[u8], dest: &mut [u8])
 
 /// Writes zeros from `end` up to the next multiple of 4, of which there are at most three, as one
 /// number of four bytes: it also clears bytes before `end`, which the caller writes afterwards.
-#[tactic(auto, using(std::proofs::Common::arith, crate::proofs::EncodingLemmas::put_zeros))]
+#[tactic(auto, using(crate::proofs::EncodingLemmas::put_zeros))]
 fn clear_padding(end: usize, dest: &mut [u8])
     requires { padded_length end ≤ length dest.old }
     ensures size { length dest.new ≡ length dest.old }

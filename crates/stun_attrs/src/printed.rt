@@ -14,7 +14,7 @@ use stun_text::{PrintText, TextSink, TextTooLong, put_comma, put_decimal, write_
 use stun_values::read_value;
 
 /// Writes a byte at an index of a list in decimal, and what stands before it.
-#[tactic(auto, using(std::proofs::Common::rules, std::proofs::Common::arith, std::proofs::lemmas::Grind::common_steps, stun_text::proofs::Joining::both, stun_text::proofs::Joining::spelled_so))]
+#[tactic(auto, using(stun_text::proofs::Joining::both, stun_text::proofs::Joining::spelled_so))]
 fn put_byte<S: TextSink>(sink: &mut S, index: usize, byte: u8) -> Result<(), S::Error>
     ensures { OnOk result (S.wrote sink.old (comma_before index ++ decimal byte) sink.new) }
 {

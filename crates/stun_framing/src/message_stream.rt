@@ -84,7 +84,6 @@ impl<'b> MessageStream<'b> {
     /// # Requires
     ///
     /// `buffer` has at least twenty bytes, those of a header.
-    #[tactic(auto, using(crate::proofs::StreamsLemmas::begun_is))]
     pub fn new(buffer: &'b mut [u8]) -> MessageStream<'b>
         requires { 20 ≤ length buffer.old }
         ensures { result ≡ begun (length buffer.old) }
@@ -111,7 +110,6 @@ impl<'b> MessageStream<'b> {
     /// let taken = stream.push(piece)?;
     /// (held, offset) = (stream.pending().len(), stream.offset());
     /// ```
-    #[tactic(auto, using(std::proofs::Common::None, std::proofs::Common::sym, std::proofs::Common::subst, crate::proofs::ResumingLemmas::resumes_if, crate::proofs::ResumingLemmas::resumed_is))]
     pub fn resume(buffer: &'b mut [u8], held: usize, offset: u64) -> Option<MessageStream<'b>>
         ensures { MatchOption result (can_resume buffer.old held ≡ false)
             (λ stream. (can_resume buffer.old held ≡ true)

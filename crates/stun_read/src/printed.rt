@@ -25,7 +25,7 @@ fn print_head<S: TextSink>(header: &MessageHeader, sink: &mut S) -> Result<(), S
 }
 
 /// Prints a text and an attribute behind it.
-#[tactic(auto, using(std::proofs::Common::rules, std::proofs::Common::arith, std::proofs::lemmas::Grind::common_steps, stun_text::proofs::Joining::both, stun_text::proofs::Joining::spelled_so))]
+#[tactic(auto, using(stun_text::proofs::Joining::both, stun_text::proofs::Joining::spelled_so))]
 fn print_led<S: TextSink>(
     lead: &str,
     attribute: &RawAttribute<'_>,

@@ -66,7 +66,7 @@ impl fmt::Display for PasswordAlgorithmValue {
 }
 
 /// Writes the name of the algorithm at an index of a list, and what stands before it.
-#[tactic(auto, using(std::proofs::Common::rules, std::proofs::Common::arith, std::proofs::lemmas::Grind::common_steps, stun_text::proofs::Joining::both, stun_text::proofs::Joining::spelled_so))]
+#[tactic(auto, using(stun_text::proofs::Joining::both, stun_text::proofs::Joining::spelled_so))]
 fn put_name<S: TextSink>(
     sink: &mut S,
     index: usize,
@@ -248,7 +248,7 @@ pub fn check_algorithms(value: &[u8]) -> Result<(), StunParseError>
 /// # Errors
 ///
 /// That of the sink.
-#[tactic(auto, using(std::proofs::Common::rules, std::proofs::Common::arith, std::proofs::lemmas::Grind::common_steps, stun_text::proofs::Joining::both, stun_text::proofs::Joining::spelled_so))]
+#[tactic(auto, using(stun_text::proofs::Joining::both, stun_text::proofs::Joining::spelled_so))]
 pub fn print_algorithm<S: TextSink>(
     sink: &mut S,
     algorithm: PasswordAlgorithmValue,

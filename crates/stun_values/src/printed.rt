@@ -11,7 +11,7 @@ use stun_base::{AttributeType, Hex};
 use stun_text::{PrintText, TextSink, put_socket};
 
 /// Writes what stands before the value of an attribute of this type: the type, a colon and a space.
-#[tactic(auto, using(std::proofs::Common::rules, std::proofs::Common::arith, std::proofs::lemmas::Grind::common_steps, stun_text::proofs::Joining::both, stun_text::proofs::Joining::spelled_so))]
+#[tactic(auto, using(stun_text::proofs::Joining::both, stun_text::proofs::Joining::spelled_so))]
 pub(crate) fn put_type<S: TextSink>(sink: &mut S, atype: AttributeType) -> Result<(), S::Error>
     ensures { OnOk result
         (S.wrote sink.old (attribute_type_text atype.0 ++ codes ": ") sink.new) }
@@ -46,7 +46,7 @@ pub fn print_hex<S: TextSink>(
 /// # Errors
 ///
 /// That of the sink.
-#[tactic(auto, using(std::proofs::Common::rules, std::proofs::Common::arith, std::proofs::lemmas::Grind::common_steps, stun_text::proofs::Joining::both, stun_text::proofs::Joining::spelled_so))]
+#[tactic(auto, using(stun_text::proofs::Joining::both, stun_text::proofs::Joining::spelled_so))]
 pub fn print_plain<S: TextSink>(
     sink: &mut S,
     atype: AttributeType,
@@ -85,7 +85,7 @@ pub fn print_quoted<S: TextSink>(
 /// # Errors
 ///
 /// That of the sink.
-#[tactic(auto, using(std::proofs::Common::rules, std::proofs::Common::arith, std::proofs::lemmas::Grind::common_steps, stun_text::proofs::Joining::both, stun_text::proofs::Joining::spelled_so))]
+#[tactic(auto, using(stun_text::proofs::Joining::both, stun_text::proofs::Joining::spelled_so))]
 pub fn print_address<S: TextSink>(
     sink: &mut S,
     atype: AttributeType,
@@ -104,7 +104,7 @@ pub fn print_address<S: TextSink>(
 /// # Errors
 ///
 /// That of the sink.
-#[tactic(auto, using(std::proofs::Common::rules, std::proofs::Common::arith, std::proofs::lemmas::Grind::common_steps, stun_text::proofs::Joining::both, stun_text::proofs::Joining::spelled_so))]
+#[tactic(auto, using(stun_text::proofs::Joining::both, stun_text::proofs::Joining::spelled_so))]
 pub fn print_xored<S: TextSink>(
     sink: &mut S,
     atype: AttributeType,

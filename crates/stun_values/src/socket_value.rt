@@ -74,7 +74,7 @@ pub(crate) fn ipv4_of(bytes: &[u8]) -> Ipv4Addr
 }
 
 /// The IPv6 address of these sixteen bytes.
-#[tactic(auto, using(std::proofs::Common::ap, std::proofs::Common::arith, crate::proofs::OctetsLemmas::octets_back))]
+#[tactic(auto, using(crate::proofs::OctetsLemmas::octets_back))]
 pub(crate) fn ipv6_of(bytes: &[u8]) -> Ipv6Addr
     requires { length bytes.now ≡ 16 }
     ensures octets { ipv6_octets result ≡ bytes.now }

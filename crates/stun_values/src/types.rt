@@ -52,7 +52,7 @@ pub fn check_types(value: &[u8]) -> Result<(), StunParseError>
 }
 
 /// Writes a type at an index of a list, as `{:?}` prints it, and what stands before it.
-#[tactic(auto, using(std::proofs::Common::rules, std::proofs::Common::arith, std::proofs::lemmas::Grind::common_steps, stun_text::proofs::Joining::both, stun_text::proofs::Joining::spelled_so))]
+#[tactic(auto, using(stun_text::proofs::Joining::both, stun_text::proofs::Joining::spelled_so))]
 fn put_listed<S: TextSink>(sink: &mut S, index: usize, atype: AttributeType) -> Result<(), S::Error>
     ensures { OnOk result
         (S.wrote sink.old (comma_before index ++ attribute_type_debug atype.0) sink.new) }

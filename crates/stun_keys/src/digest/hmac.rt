@@ -132,7 +132,7 @@ impl<const N: usize, H: HashFunction<N>> KeyedHashers<N, H> {
     }
 
     /// The HMAC of the pieces, joined, under the key whose blocks the hashers have taken in.
-    #[tactic(auto, using(std::proofs::Common::refl, crate::proofs::BlocksLemmas::by_blocks))]
+    #[tactic(auto, using(crate::proofs::BlocksLemmas::by_blocks))]
     pub(crate) fn hmac(&self, pieces: &[&[u8]]) -> [u8; N]
         ensures { (key : List ℕ)
             → AreKeyed H.holds (digest_of H.algorithm) key self.now.inner self.now.outer
