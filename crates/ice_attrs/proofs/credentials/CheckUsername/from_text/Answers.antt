@@ -1,9 +1,5 @@
-use Rattle.std.proofs.Common.{◌≡◌, ℕ, List, eqb, length, inl, inr, arith, sym, subst, Option}
-use Rattle.std.specs.Prelude.{MatchOption}
-use Rattle.std.specs.List.{position_or_len, before_first, after_first}
-use Rattle.ice_attrs.specs.Credentials.{IsCheckUsername}
-use Rattle.ice_attrs.specs.declared.credentials.CheckUsername.{CheckUsername}
-use Rattle.ice_attrs.specs.CheckUsernames.{receiver_text, sender_text}
+use Rattle.std.proofs.Common.{◌≡◌, ℕ, List, eqb, length, inl, inr, arith}
+use Rattle.std.specs.List.{position_or_len}
 use Rattle.ice_attrs.proofs.SplittingLemmas.{none_without, none_round}
 use Rattle.ice_attrs.proofs.credentials.CheckUsername.from_text.Goals as goal
 
