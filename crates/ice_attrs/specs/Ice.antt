@@ -1,5 +1,7 @@
--- ICE: its attributes (RFC 8445, section 16.1) and the priority of a candidate (section 5.1.2).
-use Rattle.std.specs.Prelude.{ℕ, ◌+◌, ◌*◌, ◌-◌, ◌^◌, nat_lt, ◌==◌, Option, Some, None, if◌then◌else◌}
+-- ICE: its attributes (RFC 8445, section 16.1), the priority of a candidate (section 5.1.2) and that of
+-- a pair (section 6.1.2.3).
+use Rattle.std.specs.Prelude.{ℕ, ◌+◌, ◌*◌, ◌-◌, ◌^◌, min, max, nat_lt, ◌==◌, Option, Some, None, if◌then◌else◌}
+use Rattle.std.specs.Option.{option_or}
 use Rattle.stun_grammar.specs.declared.error.StunWriteError.{StunWriteError}
 use Rattle.stun_grammar.specs.declared.error.StunWriteError.TheVariants.{OutOfRange}
 
@@ -30,3 +32,20 @@ priority_fault type_preference local_preference component =
     if nat_lt 256 component then Some (OutOfRange component 1 256) else (
     if candidate_priority type_preference local_preference component == 0
     then Some (OutOfRange 0 1 (2 ^ 31 - 1)) else None)))
+
+-- the priority of a pair, by that of the controlling agent's candidate and that of the controlled
+-- agent's
+abbrev pub candidates_priority : (controlling controlled : ℕ) → ℕ
+candidates_priority controlling controlled =
+    2 ^ 32 * min controlling controlled + 2 * max controlling controlled
+    + (if nat_lt controlled controlling then 1 else 0)
+
+-- why a number is no priority of a candidate (section 5.1.2)
+abbrev pub no_priority : ℕ → Option StunWriteError
+no_priority n =
+    if n == 0 then Some (OutOfRange n 1 (2 ^ 31 - 1)) else (
+    if nat_lt (2 ^ 31 - 1) n then Some (OutOfRange n 1 (2 ^ 31 - 1)) else None)
+
+-- why a pair has none: the first of the two that is no priority
+abbrev pub pair_fault : (controlling controlled : ℕ) → Option StunWriteError
+pair_fault controlling controlled = option_or (no_priority controlling) (no_priority controlled)

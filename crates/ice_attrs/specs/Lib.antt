@@ -1,1 +1,5 @@
 pub mod Ice
+pub mod Pacing
+pub mod Roles
+pub mod Credentials
+pub mod CheckUsernames

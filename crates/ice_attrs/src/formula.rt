@@ -1,5 +1,5 @@
 ghost use Rattle.std.specs.Prelude.{◌≡◌, ◌<◌, ◌≤◌, ◌^◌, ◌⊎◌, Some, None, MatchResult};
-ghost use Rattle.ice_attrs.specs.Ice.{candidate_priority, priority_fault};
+ghost use Rattle.ice_attrs.specs.Ice.{candidate_priority, priority_fault, candidates_priority, pair_fault};
 
 use stun_types::message::StunWriteError;
 
@@ -32,6 +32,31 @@ pub fn priority(
         + (256 - component as u32);
     check_range(priority as usize, 1, 0x7FFF_FFFF)?;
     Ok(priority)
+}
+
+/// The greatest priority of a candidate (RFC 8445, section 5.1.2).
+const GREATEST_PRIORITY: u32 = 0x7FFF_FFFF;
+
+/// The priority of a candidate pair (RFC 8445, section 6.1.2.3), of the priorities of the
+/// candidates of the controlling and of the controlled agent: 2^32 times the smaller one, twice the
+/// greater one, and 1 if that of the controlling agent is the greater one. Pairs are checked in
+/// decreasing order of it, and both agents compute the same.
+///
+/// # Errors
+///
+/// `OutOfRange { value, min: 1, max: 2147483647 }` for the first of the two that is no priority of
+/// a candidate (section 5.1.2).
+pub fn pair_priority(controlling: u32, controlled: u32) -> Result<u64, StunWriteError>
+    ensures { MatchResult result
+        (λ priority. (pair_fault controlling controlled ≡ None)
+        × (priority ≡ candidates_priority controlling controlled))
+        (λ e. pair_fault controlling controlled ≡ Some e) }
+{
+    check_range(controlling as usize, 1, GREATEST_PRIORITY as usize)?;
+    check_range(controlled as usize, 1, GREATEST_PRIORITY as usize)?;
+    let least = u64::from(controlling.min(controlled));
+    let greatest = u64::from(controlling.max(controlled));
+    Ok(0x1_0000_0000 * least + 2 * greatest + u64::from(controlling > controlled))
 }
 
 /// Tests that a number is at least `min` and at most `max`.

@@ -6,7 +6,8 @@ use Rattle.std.specs.List.{All, concat, flat_map}
 use Rattle.std.specs.Io.KnownBytes.{Appends, Consumes, IsAtEnd}
 use Rattle.std.specs.declared.net.socket_addr.SocketAddr.{SocketAddr}
 use Rattle.stun_framing.specs.declared.error.StreamError.{StreamError}
-use Rattle.stun_framing.specs.Framing.{IsMessage, IsCut}
+use Rattle.stun_framing.specs.declared.carries.Carries.TheVariants.{Messages}
+use Rattle.stun_framing.specs.Framing.{Room, room_of, IsMessage, IsCut}
 use Rattle.stun_framing.specs.Streams.{offset_of}
 use Rattle.stun_framing.specs.Runs.{ending}
 use Rattle.stun_streams.specs.Streams.{WritesPart}
@@ -17,9 +18,9 @@ use Rattle.stun_agent.specs.declared.end.AgentError.TheVariants.{Cut, NoMessage,
 use Rattle.stun_agent.specs.declared.end.RunEnd.{RunEnd}
 use Rattle.stun_agent.specs.declared.end.RunEnd.TheVariants.{Complete}
 
--- the greatest message of a stream
-abbrev pub room : ℕ
-room = 65552
+-- a stream carries STUN messages, and there is room for the greatest one
+abbrev pub room : Room
+room = room_of Messages 65552
 
 -- the reply to a message, or nothing where there is none
 abbrev pub answer_to : SocketAddr → List ℕ → List ℕ

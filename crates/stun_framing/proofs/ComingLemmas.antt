@@ -6,13 +6,13 @@ use Rattle.std.proofs.lemmas.List.{length-append, append-nil, append_cancel_righ
 use Rattle.std.proofs.lemmas.List.Elements.{All-nil, All-append}
 use Rattle.std.proofs.lemmas.List.Folds.{concat-append}
 use Rattle.stun_framing.specs.declared.error.StreamError.{StreamError}
-use Rattle.stun_framing.specs.Framing.{IsMessage}
+use Rattle.stun_framing.specs.Framing.{Room, IsMessage}
 use Rattle.stun_framing.specs.Streams.{Stream, begun, joined, is_whole, offset_of, refusal, answer_of, answer, with_bytes, left_of, left}
 use Rattle.stun_framing.specs.Runs.{taken_of, untaken, message_in, Says, HasCome}
 use Rattle.stun_framing.proofs.StreamsLemmas.{nothing_faults}
 use Rattle.stun_framing.proofs.RunsLemmas.{Ended, Stands, runs_on, runs_if, ended_if, step, none_by_part, says_ended}
 
-pub none : (room : ℕ) → HasCome room [] [] (begun room)
+pub none : (room : Room) → HasCome room [] [] (begun room)
 none room = record {
   cut = record { joined = refl; each = All-nil (IsMessage room); last = none_by_part room [] refl };
   room_is = refl;
@@ -22,7 +22,7 @@ none room = record {
   part = refl;
 }
 
-stands_so : (room : ℕ) (bytes : List ℕ) (messages : List (List ℕ)) (stream : Stream) (coming : List ℕ) → HasCome room bytes messages stream → Stands room (length (concat messages)) stream coming
+stands_so : (room : Room) (bytes : List ℕ) (messages : List (List ℕ)) (stream : Stream) (coming : List ℕ) → HasCome room bytes messages stream → Stands room (length (concat messages)) stream coming
 stands_so room bytes messages stream coming come = record {
   room_is = come.room_is;
   offset_is = come.offset_is;
@@ -41,7 +41,7 @@ refused (Some error') k error e = cc
 error_stays : (stream : Stream) (b : List ℕ) → (with_bytes stream b).error ≡ stream.error
 error_stays stream b = elim (cases_Bool (is_whole b)) [ inl whole ↦ rw whole refl | inr part ↦ rw part refl ]
 
-pub comes : (room : ℕ) (bytes : List ℕ) (messages : List (List ℕ)) (stream : Stream) (piece : List ℕ) (taken : ℕ) → HasCome room bytes messages stream → answer stream piece ≡ Ok taken
+pub comes : (room : Room) (bytes : List ℕ) (messages : List (List ℕ)) (stream : Stream) (piece : List ℕ) (taken : ℕ) → HasCome room bytes messages stream → answer stream piece ≡ Ok taken
     → HasCome room (bytes ++ take taken piece) (messages ++ message_in (left stream piece).message) (left stream piece)
 comes room bytes messages stream piece taken come told =
     let n = length (concat messages) in
@@ -79,7 +79,7 @@ comes room bytes messages stream piece taken come told =
       part = runs.part;
     }
 
-pub stops : (room : ℕ) (bytes : List ℕ) (messages : List (List ℕ)) (stream : Stream) (piece : List ℕ) (error : StreamError) → HasCome room bytes messages stream → answer stream piece ≡ Err error
+pub stops : (room : Room) (bytes : List ℕ) (messages : List (List ℕ)) (stream : Stream) (piece : List ℕ) (error : StreamError) → HasCome room bytes messages stream → answer stream piece ≡ Err error
     → Says room (bytes ++ piece) messages (Some error)
 stops room bytes messages stream piece error come told =
     let new = left stream piece in

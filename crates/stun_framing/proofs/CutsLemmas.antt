@@ -1,7 +1,7 @@
 -- Messages of a stream, and bytes that begin one.
-use Rattle.std.proofs.Common.{◌≡◌, ℕ, ◌+◌, ◌%◌, ◌≤◌, true, List, [], ◌∷◌, ◌++◌, length, take, drop, replicate, Some, None, refl, sym, ap, ◌∙◌, inl, inr, append_assoc, arith}
+use Rattle.std.proofs.Common.{◌≡◌, ℕ, ◌+◌, ◌%◌, ◌≤◌, leb, true, false, List, [], ◌∷◌, ◌++◌, length, take, drop, replicate, Some, None, refl, sym, ap, ◌∙◌, inl, inr, append_assoc, arith}
 use Rattle.std.specs.List.{All, concat}
-use Rattle.std.proofs.lemmas.Bool.{cases_lt}
+use Rattle.std.proofs.lemmas.Bool.{cases_lt, le-leb}
 use Rattle.std.proofs.lemmas.List.{length-append, length-take, length-replicate, take_at, append_cancel_left, take-append-drop}
 use Rattle.std.proofs.lemmas.List.Elements.{All-head, All-tail}
 use Rattle.stun_grammar.specs.Numbers.{IsBytes}
@@ -9,72 +9,118 @@ use Rattle.stun_grammar.specs.Headers.{begins, length_field}
 use Rattle.stun_grammar.specs.Showing.{frame_fault}
 use Rattle.stun_grammar.proofs.HeadersLemmas.{header, header_there, header_length, frame_there, framed_length, field_fits, frame-whole, begins_some, begins_from, whole_begins, begins_whole}
 use Rattle.stun_framing.specs.declared.error.StreamFault.{StreamFault}
-use Rattle.stun_framing.specs.Framing.{stated_length, IsMessage, IsCut, MayBegin, header_refusal, length_refusal, stream_fault}
+use Rattle.stun_framing.specs.Framing.{Room, begins_channel, channel_length, stated_length, IsStunMessage, IsChannelData, IsMessage, IsCut, MayBegin, begins_either, header_refusal, length_refusal, stream_fault}
 use Rattle.stun_framing.specs.Gathering.{IsKept}
 use Rattle.stun_framing.specs.Streams.{is_whole}
-use Rattle.stun_framing.proofs.FramingLemmas.{begun_if, unrefused, begins_stays, no_fault, faultless, header_passes, field_passes, length_there, field_stays, fault_stays, fault_passes, stated, wanted_short, wanted_long, whole_if, whole_parts}
+use Rattle.stun_framing.proofs.FramingLemmas.{begun_is_stun, channel_stays, either_stun, either_channel, either_parts, begun_if, unrefused, begins_stays, no_fault, faultless, header_passes, field_passes, stun_refusal, channel_refusal, stun_length, channel_stated, least_stated, stated_stays, field_stays, fault_passes, whole_sound, fits, padded, wanted_short, wanted_long, whole_if, whole_parts}
 
 -- ---- A message and what follows it
 
-pub least_length : (room : ℕ) (m : List ℕ) → IsMessage room m → 20 ≤ length m
-least_length room m is = header_length m is.header
+stun_begins : (size : ℕ) (m : List ℕ) → IsStunMessage size m → begins m ≡ true
+stun_begins size m is = begins_from m (whole_begins m (header_length m is.header) is.header)
+
+pub stun_apart : (size : ℕ) (m : List ℕ) → IsStunMessage size m → begins_channel m ≡ false
+stun_apart size m is = begun_is_stun m (stun_begins size m is)
+
+pub apart : (size : ℕ) (m : List ℕ) → IsStunMessage size m → IsChannelData size m → ⊥
+apart size m is other = let stun = stun_apart size m is in let channel : begins_channel m ≡ true = other.channel in cc (stun, channel)
+
+pub least_length : (room : Room) (m : List ℕ) → IsMessage room m → 4 ≤ length m
+least_length room m (inl is) = omega (arith, header_length m is.header)
+least_length room m (inr (there, is)) = is.header
+
+pub stated_is : (room : Room) (m : List ℕ) → IsMessage room m → length m ≡ stated_length m
+stated_is room m (inl is) = is.whole ∙ sym (stun_length m (stun_apart room.size m is))
+stated_is room m (inr (there, is)) = is.whole ∙ sym (channel_stated m is.channel)
+
+message_fits : (room : Room) (m : List ℕ) → IsMessage room m → length m ≤ room.size
+message_fits room m (inl is) = is.fits
+message_fits room m (inr (there, is)) = is.fits
+
+either_in : (room : Room) (m : List ℕ) → IsMessage room m → begins_either room.carries m ≡ true
+either_in room m (inl is) = either_stun room.carries m (stun_begins room.size m is)
+either_in room m (inr (there, is)) = either_channel room.carries m there is.channel
+
+refusal_in : (room : Room) (m : List ℕ) → IsMessage room m → length_refusal room.size m ≡ None
+refusal_in room m (inl is) =
+    stun_refusal room.size m (omega (arith, header_length m is.header)) (stun_apart room.size m is)
+    ∙ field_passes room.size (length_field m) is.padded (omega (arith, is.whole, is.fits))
+refusal_in room m (inr (there, is)) =
+    channel_refusal room.size m is.header is.channel
+    ∙ (let e : leb (channel_length m) room.size ≡ true = le-leb (channel_length m) room.size (omega (arith, is.whole, is.fits)) in rw e refl)
+
+sound_in : (room : Room) (m : List ℕ) → IsMessage room m → stream_fault room m ≡ None
+sound_in room m is =
+    let whole : header_refusal room.carries m ≡ None = unrefused room.carries m (either_in room m is) in
+    let first : header_refusal room.carries (take 4 m) ≡ None =
+    header_passes room.carries (take 4 m) (drop 4 m) (ap (header_refusal room.carries) (take-append-drop 4 m) ∙ whole) in
+    no_fault room m first (refusal_in room m is) whole
 
 -- no message has a fault
-pub no_fault_in : (room : ℕ) (m behind : List ℕ) → IsMessage room m → stream_fault room (m ++ behind) ≡ None
+pub no_fault_in : (room : Room) (m behind : List ℕ) → IsMessage room m → stream_fault room (m ++ behind) ≡ None
 no_fault_in room m behind is =
-    let long = least_length room m is in
-    let whole : header_refusal m ≡ None = unrefused m (begins_from m (whole_begins m long is.header)) in
-    let first : header_refusal (take 4 m) ≡ None = header_passes (take 4 m) (drop 4 m) (ap header_refusal (take-append-drop 4 m) ∙ whole) in
-    let field : length_refusal room m ≡ None =
-    length_there room m (omega (arith, long)) ∙ field_passes room (length_field m) is.padded (omega (arith, is.whole, is.fits)) in
-    fault_stays room m behind long ∙ no_fault room m first field whole
+    whole_sound room m behind (sound_in room m is) (least_length room m is) (omega (arith, stated_is room m is))
 
-pub stated_in : (room : ℕ) (m behind : List ℕ) → IsMessage room m → stated_length (m ++ behind) ≡ length m
-stated_in room m behind is = ap (λ (n : ℕ). 20 + n) (field_stays m behind (omega (arith, least_length room m is))) ∙ sym is.whole
+pub stated_in : (room : Room) (m behind : List ℕ) → IsMessage room m → stated_length (m ++ behind) ≡ length m
+stated_in room m behind is = stated_stays m behind (least_length room m is) ∙ sym (stated_is room m is)
 
-pub whole_in : (room : ℕ) (m behind : List ℕ) → IsMessage room m → is_whole (m ++ behind) ≡ true
+pub whole_in : (room : Room) (m behind : List ℕ) → IsMessage room m → is_whole (m ++ behind) ≡ true
 whole_in room m behind is =
     let long = least_length room m is in
     whole_if (m ++ behind) (omega (arith, long, length-append m behind)) (omega (arith, stated_in room m behind is, length-append m behind))
 
 -- bytes without a fault, as many as they state, are a message
-pub message_is : (room : ℕ) (m : List ℕ) → stream_fault room m ≡ None → 20 ≤ length m → length m ≡ stated_length m → IsMessage room m
-message_is room m sound long whole =
-    let there = stated room m sound (omega (arith, long)) in
+pub message_is : (room : Room) (m : List ℕ) → stream_fault room m ≡ None → 4 ≤ length m → length m ≡ stated_length m → IsMessage room m
+message_is room m sound long whole = elim (either_parts room.carries m (begun_if room.carries m (faultless room m sound).2)) [
+  | inl begun ↦
+      let stun = begun_is_stun m begun in
+      let all : length m ≡ 20 + length_field m = whole ∙ stun_length m stun in
+      inl (record {
+        header = begins_whole m (omega (arith, all)) (begins_some m begun);
+        whole = all;
+        padded = padded room m sound long stun;
+        fits = omega (arith, whole, fits room m sound long);
+      })
+  | inr (there, channel) ↦ inr (
+    there,
     record {
-      header = begins_whole m long (begins_some m (begun_if m (faultless room m sound).2));
-      whole = whole;
-      padded = there.0;
-      fits = omega (arith, whole, there.1);
-    }
+      channel = channel;
+      header = long;
+      whole = whole ∙ channel_stated m channel;
+      fits = omega (arith, whole, fits room m sound long);
+    },
+  )
+]
 
 -- the first message of bytes that have no fault
-pub first_message : (room : ℕ) (b : List ℕ) → stream_fault room b ≡ None → is_whole b ≡ true → IsMessage room (take (stated_length b) b)
+pub first_message : (room : Room) (b : List ℕ) → stream_fault room b ≡ None → is_whole b ≡ true → IsMessage room (take (stated_length b) b)
 first_message room b sound whole =
     let n = stated_length b in
     let m = take n b in
     let parts = whole_parts b whole in
     let joined : m ++ drop n b ≡ b = take-append-drop n b in
     let long : length m ≡ n = omega (arith, length-take n b, parts.1) in
-    let field : length_field b ≡ length_field m = ap length_field (sym joined) ∙ field_stays m (drop n b) (omega (arith, long)) in
-    message_is room m (fault_passes room m (drop n b) (ap (stream_fault room) joined ∙ sound)) (omega (arith, long)) (omega (arith, long, field))
+    let least : 4 ≤ length m = omega (arith, long, least_stated b) in
+    let stated : stated_length b ≡ stated_length m = ap stated_length (sym joined) ∙ stated_stays m (drop n b) least in
+    message_is room m (fault_passes room m (drop n b) (ap (stream_fault room) joined ∙ sound)) least (omega (arith, long, stated))
 
-pub framed : (room : ℕ) (m : List ℕ) → IsMessage room m → frame_fault m ≡ None
-framed room m is = frame-whole m (header m (least_length room m is) is.header) is.whole
+pub framed : (size : ℕ) (m : List ℕ) → IsStunMessage size m → frame_fault m ≡ None
+framed size m is = frame-whole m (header m (header_length m is.header) is.header) is.whole
 
-pub taken : (room : ℕ) (m : List ℕ) → frame_fault m ≡ None → length m % 4 ≡ 0 → length m ≤ room → IsMessage room m
-taken room m e fours fits =
+pub taken : (size : ℕ) (m : List ℕ) → frame_fault m ≡ None → length m % 4 ≡ 0 → length m ≤ size → IsStunMessage size m
+taken size m e fours fits =
     let there = header_there m (frame_there m e) in
     let whole = framed_length m e in
     record { header = there.1; whole = whole; padded = omega (arith, whole, fours); fits = fits }
 
 -- no message is longer than the greatest
-pub longest : (room : ℕ) (m : List ℕ) → IsMessage room m → IsBytes m → length m ≤ 65552
-longest room m is bytes = omega (arith, is.whole, is.padded, field_fits m bytes)
+pub longest : (room : Room) (m : List ℕ) → IsMessage room m → IsBytes m → length m ≤ 65552
+longest room m (inl is) bytes = omega (arith, is.whole, is.padded, field_fits m bytes)
+longest room m (inr (there, is)) bytes = omega (arith, is.whole, field_fits m bytes)
 
 -- what is kept is a message once all is there that is wanted
-pub kept_message : (room : ℕ) (m : List ℕ) (wanted : ℕ) → IsKept room m wanted → length m ≡ wanted → IsMessage room m
-kept_message room m wanted kept all = elim (cases_lt (length m) 20) [
+pub kept_message : (room : Room) (m : List ℕ) (wanted : ℕ) → IsKept room m wanted → length m ≡ wanted → IsMessage room m
+kept_message room m wanted kept all = elim (cases_lt (length m) 4) [
   | inl short ↦ absurd (omega (arith, short, all, kept.wanted_is, wanted_short m short))
   | inr long ↦ message_is room m kept.sound long (all ∙ kept.wanted_is ∙ wanted_long m long)
 ]
@@ -82,12 +128,12 @@ kept_message room m wanted kept all = elim (cases_lt (length m) 20) [
 -- ---- One cut
 
 -- two messages that begin the same bytes are one
-same_first : (room : ℕ) (m m' behind behind' : List ℕ) → IsMessage room m → IsMessage room m' → m ++ behind ≡ m' ++ behind' → m ≡ m'
+same_first : (room : Room) (m m' behind behind' : List ℕ) → IsMessage room m → IsMessage room m' → m ++ behind ≡ m' ++ behind' → m ≡ m'
 same_first room m m' behind behind' is is' e =
     let n : length m' ≡ length m = sym (stated_in room m' behind' is') ∙ ap stated_length (sym e) ∙ stated_in room m behind is in
     sym (take_at m behind (length m) refl) ∙ ap (take (length m)) e ∙ take_at m' behind' (length m) n
 
-pub one : (room : ℕ) (bytes : List ℕ) (messages others : List (List ℕ)) (rest other : List ℕ)
+pub one : (room : Room) (bytes : List ℕ) (messages others : List (List ℕ)) (rest other : List ℕ)
     → IsCut room bytes messages rest → IsCut room bytes others other → (messages ≡ others) × (rest ≡ other)
 one room bytes messages others rest other cut cut' =
     go messages others (sym cut.joined ∙ cut'.joined) cut.each cut'.each
@@ -107,39 +153,66 @@ one room bytes messages others rest other cut cut' =
 -- ---- What begins a message
 
 -- a fault stays, whatever follows
-pub refused : (room : ℕ) (b : List ℕ) (fault : StreamFault) → stream_fault room b ≡ Some fault → MayBegin room b → ⊥
+pub refused : (room : Room) (b : List ℕ) (fault : StreamFault) → stream_fault room b ≡ Some fault → MayBegin room b → ⊥
 refused room b fault e (more, m, behind, is, joined) =
     let sound = fault_passes room b more (ap (stream_fault room) joined ∙ no_fault_in room m behind is) in
     cc (sound, e)
 
--- bytes with their length field, in which there is no fault
-pub goes_on : (room : ℕ) (b : List ℕ) → 20 ≤ room → 4 ≤ length b → stream_fault room b ≡ None → MayBegin room b
-goes_on room b least long sound =
-    let begun = begins_some b (begun_if b (faultless room b sound).2) in
+-- so many bytes of what follows make a message of those that begin one
+made_whole : (room : Room) (b more : List ℕ) → stream_fault room b ≡ None → 4 ≤ length b → stated_length b ≤ length (b ++ more)
+    → begins_either room.carries (b ++ more) ≡ true → MayBegin room b
+made_whole room b more sound long enough either =
     let n = stated_length b in
-    let more = begun.0 ++ replicate n 0 in
     let w = b ++ more in
     let m = take n w in
-    let there = stated room b sound long in
     let joined : m ++ drop n w ≡ w = take-append-drop n w in
-    let enough : n ≤ length w = omega (arith, length-append b more, length-append begun.0 (replicate n 0), length-replicate {A = ℕ} n 0) in
     let all : length m ≡ n = omega (arith, length-take n w, enough) in
-    let h = b ++ begun.0 in
-    let long_header : 20 ≤ length h = header_length h begun.1 in
-    let apart : w ≡ h ++ replicate n 0 = sym (append_assoc b begun.0 (replicate n 0)) in
-    let begins_w : begins w ≡ true =
-    ap begins apart ∙ begins_stays h (replicate n 0) (omega (arith, long_header)) ∙ begins_from h (whole_begins h long_header begun.1) in
-    let begins_m : begins m ≡ true = begun_if m (header_passes m (drop n w) (ap header_refusal joined ∙ unrefused w begins_w)) in
-    let field : length_field m ≡ length_field b =
-    sym (field_stays m (drop n w) (omega (arith, all))) ∙ ap length_field joined ∙ field_stays b more long in (
-      more,
-      m,
-      drop n w,
-      record {
-        header = begins_whole m (omega (arith, all)) (begins_some m begins_m);
-        whole = all ∙ ap (λ (k : ℕ). 20 + k) (sym field);
-        padded = ap (λ (k : ℕ). k % 4) field ∙ there.0;
-        fits = omega (arith, all, there.1);
-      },
-      sym joined,
-    )
+    let least : 4 ≤ length m = omega (arith, all, least_stated b) in
+    let stated : stated_length m ≡ n = sym (stated_stays m (drop n w) least) ∙ ap stated_length joined ∙ stated_stays b more long in
+    let channel : begins_channel m ≡ begins_channel b = sym (channel_stays m (drop n w) (omega (arith, least))) ∙ ap begins_channel joined ∙ channel_stays b more (omega arith) in
+    let field : length_field m ≡ length_field b = sym (field_stays m (drop n w) least) ∙ ap length_field joined ∙ field_stays b more long in
+    let begun : header_refusal room.carries m ≡ None = header_passes room.carries m (drop n w) (ap (header_refusal room.carries) joined ∙ unrefused room.carries w either) in
+    let is : IsMessage room m = elim (either_parts room.carries m (begun_if room.carries m begun)) [
+      | inl there ↦
+          let stun = begun_is_stun m there in
+          let whole : length m ≡ 20 + length_field m = all ∙ sym stated ∙ stun_length m stun in
+          inl (record {
+            header = begins_whole m (omega (arith, whole)) (begins_some m there);
+            whole = whole;
+            padded = ap (λ (k : ℕ). k % 4) field ∙ padded room b sound long (sym channel ∙ stun);
+            fits = omega (arith, all, fits room b sound long);
+          })
+      | inr (there, is_channel) ↦ inr (
+        there,
+        record {
+          channel = is_channel;
+          header = least;
+          whole = all ∙ sym stated ∙ channel_stated m is_channel;
+          fits = omega (arith, all, fits room b sound long);
+        },
+      )
+    ] in
+    (more, m, drop n w, is, sym joined)
+
+-- bytes with their length field, in which there is no fault
+pub goes_on : (room : Room) (b : List ℕ) → 4 ≤ length b → stream_fault room b ≡ None → MayBegin room b
+goes_on room b long sound =
+    let n = stated_length b in
+    elim (either_parts room.carries b (begun_if room.carries b (faultless room b sound).2)) [
+      | inl begun ↦
+          let some = begins_some b begun in
+          let h = b ++ some.0 in
+          let more = some.0 ++ replicate n 0 in
+          let apart : b ++ more ≡ h ++ replicate n 0 = sym (append_assoc b some.0 (replicate n 0)) in
+          let long_header : 20 ≤ length h = header_length h some.1 in
+          let begins_w : begins (b ++ more) ≡ true =
+          ap begins apart ∙ begins_stays h (replicate n 0) (omega (arith, long_header)) ∙ begins_from h (whole_begins h long_header some.1) in
+          made_whole room b more sound long
+          (omega (arith, length-append b more, length-append some.0 (replicate n 0), length-replicate {A = ℕ} n 0))
+          (either_stun room.carries (b ++ more) begins_w)
+      | inr (there, channel) ↦
+          let more : List ℕ = replicate n 0 in
+          made_whole room b more sound long
+          (omega (arith, length-append b more, length-replicate {A = ℕ} n 0))
+          (either_channel room.carries (b ++ more) there (channel_stays b more (omega arith) ∙ channel))
+    ]

@@ -1,6 +1,6 @@
 -- Why no message begins, and what does not change by what follows.
 use Rattle.std.proofs.Common.{◌≡◌, ℕ, ◌+◌, ◌-◌, ◌%◌, ◌<◌, ◌≤◌, ◌⊎◌, Bool, true, false, leb, eqb, List, [], ◌∷◌, ◌++◌, length, take, drop, Option, Some, None, refl, sym, ap, ◌∙◌, inl, inr, append_assoc, arith}
-use Rattle.std.specs.Prelude.{if◌then◌else◌}
+use Rattle.std.specs.Prelude.{◌&&◌, ◌||◌, if◌then◌else◌}
 use Rattle.std.specs.List.{zip}
 use Rattle.std.specs.Option.{option_or}
 use Rattle.std.proofs.lemmas.Bool.{cases_lt, cases_Bool, lt-ltb, le-ltb, le-leb, lt-leb, leb-true, eqb-true, eq-eqb, and_parts}
@@ -13,7 +13,8 @@ use Rattle.stun_grammar.specs.Headers.{magic_cookie, is_header, begins, header_f
 use Rattle.stun_grammar.proofs.HeadersLemmas.{not_begun, begun, not_header, header, header_there, begins_some, begins_from, whole_begins, begins_whole}
 use Rattle.stun_framing.specs.declared.error.StreamFault.{StreamFault}
 use Rattle.stun_framing.specs.declared.error.StreamFault.TheVariants.{NotStun, NotPadded, TooLong}
-use Rattle.stun_framing.specs.Framing.{stated_length, header_refusal, field_refusal, length_refusal, stream_fault}
+use Rattle.stun_framing.specs.declared.carries.Carries.{Carries}
+use Rattle.stun_framing.specs.Framing.{Room, has_channels, begins_channel, channel_length, stated_length, begins_either, header_refusal, size_refusal, field_refusal, length_refusal, stream_fault}
 use Rattle.stun_framing.specs.Streams.{is_whole, of_first}
 use Rattle.stun_framing.specs.Gathering.{wanted_for, IsKept}
 
@@ -46,50 +47,31 @@ begins_cut b told e other = elim (cases_Bool (begins b)) [
   ])
 ]
 
--- ---- The three refusals
+-- ---- Which kind of message begins
 
--- none of three
-three : (a b c : Option StreamFault) → option_or a (option_or b c) ≡ None → (a ≡ None) × (b ≡ None) × (c ≡ None)
-three None None c e = (refl, refl, e)
-three None (Some x) c e = absurd cc
-three (Some x) b c e = absurd cc
-
-pub no_fault : (room : ℕ) (b : List ℕ) → header_refusal (take 4 b) ≡ None → length_refusal room b ≡ None → header_refusal b ≡ None → stream_fault room b ≡ None
-unfolding stream_fault
-no_fault room b first field header = rw (first, field, header) refl
-
-pub faultless : (room : ℕ) (b : List ℕ) → stream_fault room b ≡ None → (header_refusal (take 4 b) ≡ None) × (length_refusal room b ≡ None) × (header_refusal b ≡ None)
-unfolding stream_fault
-faultless room b e = three (header_refusal (take 4 b)) (length_refusal room b) (header_refusal b) e
-
--- ---- What a refusal says
-
-pub begun_if : (b : List ℕ) → header_refusal b ≡ None → begins b ≡ true
-begun_if b e = elim (cases_Bool (begins b)) [
-  | inl there ↦ there
-  | inr none ↦ absurd (let refused : header_refusal b ≡ Some NotStun = rw none refl in cc (refused, e))
+-- no header of a STUN message begins a ChannelData message
+pub channel_high : (b : List ℕ) → begins_channel b ≡ true → begins b ≡ false
+unfolding begins
+channel_high [] e = absurd cc
+channel_high (x ∷ b) e = elim (cases_lt x 64) [
+  | inl low ↦ absurd (let none : begins_channel (x ∷ b) ≡ false = rw (lt-leb 64 x low) refl in cc (none, e))
+  | inr high ↦ rw (le-ltb x 64 high) refl
 ]
 
-pub unrefused : (b : List ℕ) → begins b ≡ true → header_refusal b ≡ None
-unrefused b e = rw e refl
+channel_some : (b : List ℕ) → begins_channel b ≡ true → 1 ≤ length b
+channel_some [] e = absurd cc
+channel_some (x ∷ b) e = omega arith
 
--- a field that isn't refused
-field_is : (room n : ℕ) → field_refusal room n ≡ None → (n % 4 ≡ 0) × (20 + n ≤ room)
-field_is room n e = elim (cases_Bool (eqb (n % 4) 0)) [
-  | inl padded ↦ elim (cases_Bool (leb (20 + n) room)) [
-    | inl fits ↦ (eqb-true (n % 4) 0 padded, leb-true (20 + n) room fits)
-    | inr long ↦ absurd (let refused : field_refusal room n ≡ Some (TooLong (20 + n)) = rw (padded, long) refl in cc (refused, e))
-  ]
-  | inr loose ↦ absurd (let refused : field_refusal room n ≡ Some (NotPadded n) = rw loose refl in cc (refused, e))
+pub begun_is_stun : (b : List ℕ) → begins b ≡ true → begins_channel b ≡ false
+begun_is_stun b begun = elim (cases_Bool (begins_channel b)) [
+  | inr stun ↦ stun
+  | inl channel ↦ absurd (let none = channel_high b channel in cc (none, begun))
 ]
 
-pub field_passes : (room n : ℕ) → n % 4 ≡ 0 → 20 + n ≤ room → field_refusal room n ≡ None
-field_passes room n padded fits = rw (eq-eqb (n % 4) 0 padded, le-leb (20 + n) room fits) refl
-
-pub length_there : (room : ℕ) (b : List ℕ) → 4 ≤ length b → length_refusal room b ≡ field_refusal room (length_field b)
-length_there room b long = rw (le-ltb (length b) 4 long) refl
-
--- ---- What follows
+pub channel_stays : (b more : List ℕ) → 1 ≤ length b → begins_channel (b ++ more) ≡ begins_channel b
+channel_stays b more long =
+    let first : take 1 (b ++ more) ≡ take 1 b = take-append-le 1 b more long in
+    rw first refl
 
 -- two lists beside each other, of which the first is as long
 zip_long : (xs more c : List ℕ) → length c ≤ length xs → zip (xs ++ more) c ≡ zip xs c
@@ -114,72 +96,185 @@ field_stays b more long =
     let field : take 2 (drop 2 b ++ more) ≡ take 2 (drop 2 b) = take-append-le 2 (drop 2 b) more (omega (arith, length-drop 2 b)) in
     rw (behind, field) refl
 
--- from twenty bytes on, what follows changes nothing
-pub fault_stays : (room : ℕ) (b more : List ℕ) → 20 ≤ length b → stream_fault room (b ++ more) ≡ stream_fault room b
+pub stated_stays : (b more : List ℕ) → 4 ≤ length b → stated_length (b ++ more) ≡ stated_length b
+stated_stays b more long =
+    let channel = channel_stays b more (omega arith) in
+    let field = field_stays b more long in
+    rw (channel, field) refl
+
+-- ---- Whether a header of either kind begins
+
+pub either_stun : (c : Carries) (b : List ℕ) → begins b ≡ true → begins_either c b ≡ true
+either_stun c b begun = rw begun refl
+
+pub either_channel : (c : Carries) (b : List ℕ) → has_channels c ≡ true → begins_channel b ≡ true → begins_either c b ≡ true
+either_channel c b there channel = rw (channel_high b channel, there, channel) refl
+
+pub either_parts : (c : Carries) (b : List ℕ) → begins_either c b ≡ true → (begins b ≡ true) ⊎ ((has_channels c ≡ true) × (begins_channel b ≡ true))
+either_parts c b e = elim (cases_Bool (begins b)) [
+  | inl begun ↦ inl begun
+  | inr none ↦ inr (and_parts (has_channels c) (begins_channel b) (sym (ap (λ (x : Bool). x || has_channels c && begins_channel b) none) ∙ e))
+]
+
+pub begun_if : (c : Carries) (b : List ℕ) → header_refusal c b ≡ None → begins_either c b ≡ true
+begun_if c b e = elim (cases_Bool (begins_either c b)) [
+  | inl there ↦ there
+  | inr none ↦ absurd (let refused : header_refusal c b ≡ Some NotStun = ap (λ (x : Bool). if x then None else Some NotStun) none in cc (refused, e))
+]
+
+pub unrefused : (c : Carries) (b : List ℕ) → begins_either c b ≡ true → header_refusal c b ≡ None
+unrefused c b e = ap (λ (x : Bool). if x then None else Some NotStun) e
+
+-- ---- The three refusals
+
+-- none of three
+three : (a b c : Option StreamFault) → option_or a (option_or b c) ≡ None → (a ≡ None) × (b ≡ None) × (c ≡ None)
+three None None c e = (refl, refl, e)
+three None (Some x) c e = absurd cc
+three (Some x) b c e = absurd cc
+
+pub no_fault : (room : Room) (b : List ℕ) → header_refusal room.carries (take 4 b) ≡ None → length_refusal room.size b ≡ None → header_refusal room.carries b ≡ None → stream_fault room b ≡ None
 unfolding stream_fault
-fault_stays room b more long =
+no_fault room b first field header = rw (first, field, header) refl
+
+pub faultless : (room : Room) (b : List ℕ) → stream_fault room b ≡ None → (header_refusal room.carries (take 4 b) ≡ None) × (length_refusal room.size b ≡ None) × (header_refusal room.carries b ≡ None)
+unfolding stream_fault
+faultless room b e = three (header_refusal room.carries (take 4 b)) (length_refusal room.size b) (header_refusal room.carries b) e
+
+-- ---- What a refusal says
+
+size_is : (size n : ℕ) → size_refusal size n ≡ None → n ≤ size
+size_is size n e = elim (cases_Bool (leb n size)) [
+  | inl fits ↦ leb-true n size fits
+  | inr long ↦ absurd (let refused : size_refusal size n ≡ Some (TooLong n) = rw long refl in cc (refused, e))
+]
+
+-- a field that isn't refused
+field_is : (size n : ℕ) → field_refusal size n ≡ None → (n % 4 ≡ 0) × (20 + n ≤ size)
+field_is size n e = elim (cases_Bool (eqb (n % 4) 0)) [
+  | inl padded ↦
+      let told : size_refusal size (20 + n) ≡ None = sym (ap (λ (x : Bool). if x then size_refusal size (20 + n) else Some (NotPadded n)) padded) ∙ e in
+      (eqb-true (n % 4) 0 padded, size_is size (20 + n) told)
+  | inr loose ↦ absurd (let refused : field_refusal size n ≡ Some (NotPadded n) = rw loose refl in cc (refused, e))
+]
+
+pub field_passes : (size n : ℕ) → n % 4 ≡ 0 → 20 + n ≤ size → field_refusal size n ≡ None
+field_passes size n padded fits = rw (eq-eqb (n % 4) 0 padded, le-leb (20 + n) size fits) refl
+
+-- by the kind, once the length field is there
+abbrev pub kind_refusal : (size : ℕ) → List ℕ → Option StreamFault
+kind_refusal size b = if begins_channel b then size_refusal size (channel_length b) else field_refusal size (length_field b)
+
+pub length_there : (size : ℕ) (b : List ℕ) → 4 ≤ length b → length_refusal size b ≡ kind_refusal size b
+length_there size b long = ap (λ (x : Bool). if x then None else kind_refusal size b) (le-ltb (length b) 4 long)
+
+length_stays : (size : ℕ) (b more : List ℕ) → 4 ≤ length b → length_refusal size (b ++ more) ≡ length_refusal size b
+length_stays size b more long =
     let longer : 4 ≤ length (b ++ more) = omega (arith, length-append b more) in
-    let first : take 4 (b ++ more) ≡ take 4 b = take-append-le 4 b more (omega arith) in
-    let field : length_refusal room (b ++ more) ≡ length_refusal room b =
-    length_there room (b ++ more) longer ∙ ap (field_refusal room) (field_stays b more (omega arith)) ∙ sym (length_there room b (omega arith)) in
-    let header : header_refusal (b ++ more) ≡ header_refusal b =
-    ap (λ (there : Bool). if there then None else Some NotStun) (begins_stays b more (omega arith)) in
-    rw (first, field, header) refl
+    let channel = channel_stays b more (omega arith) in
+    let field = field_stays b more long in
+    let same : kind_refusal size (b ++ more) ≡ kind_refusal size b = rw (channel, field) refl in
+    length_there size (b ++ more) longer ∙ same ∙ sym (length_there size b long)
 
--- the first twenty bytes decide
-pub fault_twenty : (room : ℕ) (b : List ℕ) → stream_fault room (take 20 b) ≡ stream_fault room b
-fault_twenty room b = elim (cases_lt (length b) 20) [
-  | inl short ↦ ap (stream_fault room) (take_all 20 b (omega arith))
-  | inr long ↦ sym (ap (stream_fault room) (sym (take-append-drop 20 b)) ∙ fault_stays room (take 20 b) (drop 20 b) (omega (arith, length-take 20 b)))
+pub stun_refusal : (size : ℕ) (b : List ℕ) → 4 ≤ length b → begins_channel b ≡ false → length_refusal size b ≡ field_refusal size (length_field b)
+stun_refusal size b long stun = length_there size b long ∙ ap (λ (x : Bool). if x then size_refusal size (channel_length b) else field_refusal size (length_field b)) stun
+
+pub channel_refusal : (size : ℕ) (b : List ℕ) → 4 ≤ length b → begins_channel b ≡ true → length_refusal size b ≡ size_refusal size (channel_length b)
+channel_refusal size b long channel = length_there size b long ∙ ap (λ (x : Bool). if x then size_refusal size (channel_length b) else field_refusal size (length_field b)) channel
+
+-- the length by the kind
+pub stun_length : (b : List ℕ) → begins_channel b ≡ false → stated_length b ≡ 20 + length_field b
+stun_length b stun = ap (λ (x : Bool). if x then channel_length b else 20 + length_field b) stun
+
+pub channel_stated : (b : List ℕ) → begins_channel b ≡ true → stated_length b ≡ channel_length b
+channel_stated b channel = ap (λ (x : Bool). if x then channel_length b else 20 + length_field b) channel
+
+pub least_stated : (b : List ℕ) → 4 ≤ stated_length b
+least_stated b = elim (cases_Bool (begins_channel b)) [
+  | inl channel ↦ omega (arith, channel_stated b channel)
+  | inr stun ↦ omega (arith, stun_length b stun)
 ]
 
-pub wanted_twenty : (b : List ℕ) → wanted_for (take 20 b) ≡ wanted_for b
-wanted_twenty b = elim (cases_lt (length b) 20) [
-  | inl short ↦ ap wanted_for (take_all 20 b (omega arith))
-  | inr long ↦
-      let cut : 20 ≤ length (take 20 b) = omega (arith, length-take 20 b) in
-      let field : length_field b ≡ length_field (take 20 b) =
-      ap length_field (sym (take-append-drop 20 b)) ∙ field_stays (take 20 b) (drop 20 b) (omega (arith, cut)) in
-      rw (le-ltb (length (take 20 b)) 20 cut, le-ltb (length b) 20 long, field) refl
-]
+-- without a fault there is room for as many bytes as are stated, and a STUN message is padded
+pub fits : (room : Room) (b : List ℕ) → stream_fault room b ≡ None → 4 ≤ length b → stated_length b ≤ room.size
+fits room b e long =
+    let told = (faultless room b e).1 in
+    elim (cases_Bool (begins_channel b)) [
+      | inl channel ↦ omega (arith, channel_stated b channel, size_is room.size (channel_length b) (sym (channel_refusal room.size b long channel) ∙ told))
+      | inr stun ↦ omega (arith, stun_length b stun, (field_is room.size (length_field b) (sym (stun_refusal room.size b long stun) ∙ told)).1)
+    ]
+
+pub padded : (room : Room) (b : List ℕ) → stream_fault room b ≡ None → 4 ≤ length b → begins_channel b ≡ false → length_field b % 4 ≡ 0
+padded room b e long stun = (field_is room.size (length_field b) (sym (stun_refusal room.size b long stun) ∙ (faultless room b e).1)).0
+
+-- ---- What follows
+
+nothing_begins : (b : List ℕ) → length b < 1 → begins b ≡ true
+unfolding begins
+nothing_begins [] none = refl
+nothing_begins (x ∷ b) none = absurd (omega arith)
 
 -- what begins a header, so does each prefix of it
-pub header_passes : (b more : List ℕ) → header_refusal (b ++ more) ≡ None → header_refusal b ≡ None
-header_passes b more e =
-    let begun = begins_some (b ++ more) (begun_if (b ++ more) e) in
-    unrefused b (begins_from b (more ++ begun.0, ap is_header (sym (append_assoc b more begun.0)) ∙ begun.1))
+either_passes : (c : Carries) (b more : List ℕ) → begins_either c (b ++ more) ≡ true → begins_either c b ≡ true
+either_passes c b more e = elim (either_parts c (b ++ more) e) [
+  | inl begun ↦
+      let some = begins_some (b ++ more) begun in
+      either_stun c b (begins_from b (more ++ some.0, ap is_header (sym (append_assoc b more some.0)) ∙ some.1))
+  | inr (there, channel) ↦ elim (cases_lt (length b) 1) [
+    | inl none ↦ either_stun c b (nothing_begins b none)
+    | inr some ↦ either_channel c b there (sym (channel_stays b more some) ∙ channel)
+  ]
+]
+
+pub header_passes : (c : Carries) (b more : List ℕ) → header_refusal c (b ++ more) ≡ None → header_refusal c b ≡ None
+header_passes c b more e = unrefused c b (either_passes c b more (begun_if c (b ++ more) e))
 
 -- what has no fault has none before
-pub fault_passes : (room : ℕ) (b more : List ℕ) → stream_fault room (b ++ more) ≡ None → stream_fault room b ≡ None
+pub fault_passes : (room : Room) (b more : List ℕ) → stream_fault room (b ++ more) ≡ None → stream_fault room b ≡ None
 fault_passes room b more e =
     let parts = faultless room (b ++ more) e in
-    let header = header_passes b more parts.2 in
+    let header = header_passes room.carries b more parts.2 in
     elim (cases_lt (length b) 4) [
       | inl short ↦
           let whole : take 4 b ≡ b = take_all 4 b (omega arith) in
-          no_fault room b (ap header_refusal whole ∙ header) (rw (lt-ltb (length b) 4 short) refl) header
+          no_fault room b (ap (header_refusal room.carries) whole ∙ header) (rw (lt-ltb (length b) 4 short) refl) header
       | inr long ↦
-          let longer : 4 ≤ length (b ++ more) = omega (arith, length-append b more) in
           let first : take 4 (b ++ more) ≡ take 4 b = take-append-le 4 b more long in
           no_fault room b
-          (ap header_refusal (sym first) ∙ parts.0)
-          (length_there room b long ∙ ap (field_refusal room) (sym (field_stays b more long)) ∙ sym (length_there room (b ++ more) longer) ∙ parts.1)
+          (ap (header_refusal room.carries) (sym first) ∙ parts.0)
+          (sym (length_stays room.size b more long) ∙ parts.1)
           header
     ]
 
+-- a whole message has no fault, whatever follows
+pub whole_sound : (room : Room) (m more : List ℕ) → stream_fault room m ≡ None → 4 ≤ length m → stated_length m ≤ length m → stream_fault room (m ++ more) ≡ None
+whole_sound room m more e long whole =
+    let parts = faultless room m e in
+    let first : take 4 (m ++ more) ≡ take 4 m = take-append-le 4 m more long in
+    let either : begins_either room.carries (m ++ more) ≡ true = elim (either_parts room.carries m (begun_if room.carries m parts.2)) [
+      | inl begun ↦
+          let stated = stun_length m (begun_is_stun m begun) in
+          either_stun room.carries (m ++ more) (begins_stays m more (omega (arith, stated, whole)) ∙ begun)
+      | inr (there, channel) ↦ either_channel room.carries (m ++ more) there (channel_stays m more (omega arith) ∙ channel)
+    ] in
+    no_fault room (m ++ more)
+    (ap (header_refusal room.carries) first ∙ parts.0)
+    (length_stays room.size m more long ∙ parts.1)
+    (unrefused room.carries (m ++ more) either)
+
 -- why there is a fault
-fault_if : (room : ℕ) (b : List ℕ) (fault : StreamFault) → stream_fault room b ≡ Some fault
-    → (header_refusal (take 4 b) ≡ Some fault) ⊎ ((header_refusal (take 4 b) ≡ None) × ((length_refusal room b ≡ Some fault) ⊎ ((length_refusal room b ≡ None) × (header_refusal b ≡ Some fault))))
+fault_if : (room : Room) (b : List ℕ) (fault : StreamFault) → stream_fault room b ≡ Some fault
+    → (header_refusal room.carries (take 4 b) ≡ Some fault) ⊎ ((header_refusal room.carries (take 4 b) ≡ None) × ((length_refusal room.size b ≡ Some fault) ⊎ ((length_refusal room.size b ≡ None) × (header_refusal room.carries b ≡ Some fault))))
 unfolding stream_fault
-fault_if room b fault e = go (header_refusal (take 4 b)) (length_refusal room b) (header_refusal b) e
+fault_if room b fault e = go (header_refusal room.carries (take 4 b)) (length_refusal room.size b) (header_refusal room.carries b) e
   where
     go : (x y z : Option StreamFault) → option_or x (option_or y z) ≡ Some fault → (x ≡ Some fault) ⊎ ((x ≡ None) × ((y ≡ Some fault) ⊎ ((y ≡ None) × (z ≡ Some fault))))
     go (Some x) y z e = inl e
     go None (Some y) z e = inr (refl, inl e)
     go None None z e = inr (refl, inr (refl, e))
 
-fault_of : (room : ℕ) (b : List ℕ) (fault : StreamFault)
-    → (header_refusal (take 4 b) ≡ Some fault) ⊎ ((header_refusal (take 4 b) ≡ None) × ((length_refusal room b ≡ Some fault) ⊎ ((length_refusal room b ≡ None) × (header_refusal b ≡ Some fault))))
+fault_of : (room : Room) (b : List ℕ) (fault : StreamFault)
+    → (header_refusal room.carries (take 4 b) ≡ Some fault) ⊎ ((header_refusal room.carries (take 4 b) ≡ None) × ((length_refusal room.size b ≡ Some fault) ⊎ ((length_refusal room.size b ≡ None) × (header_refusal room.carries b ≡ Some fault))))
     → stream_fault room b ≡ Some fault
 unfolding stream_fault
 fault_of room b fault (inl first) = rw first refl
@@ -187,40 +282,38 @@ fault_of room b fault (inr (none, inl field)) = rw (none, field) refl
 fault_of room b fault (inr (none, inr (field, header))) = rw (none, field, header) refl
 
 -- what begins no header begins none with what follows it
-header_grows : (b more : List ℕ) (fault : StreamFault) → header_refusal b ≡ Some fault → header_refusal (b ++ more) ≡ Some fault
-header_grows b more fault e = elim (cases_Bool (begins (b ++ more))) [
-  | inl there ↦ absurd (let passed = header_passes b more (unrefused (b ++ more) there) in cc (passed, e))
-  | inr none ↦ elim (cases_Bool (begins b)) [
-    | inl there ↦ absurd (let passed = unrefused b there in cc (passed, e))
+header_grows : (c : Carries) (b more : List ℕ) (fault : StreamFault) → header_refusal c b ≡ Some fault → header_refusal c (b ++ more) ≡ Some fault
+header_grows c b more fault e = elim (cases_Bool (begins_either c (b ++ more))) [
+  | inl there ↦ absurd (let passed = header_passes c b more (unrefused c (b ++ more) there) in cc (passed, e))
+  | inr none ↦ elim (cases_Bool (begins_either c b)) [
+    | inl there ↦ absurd (let passed = unrefused c b there in cc (passed, e))
     | inr none' ↦
-        let refused : header_refusal b ≡ Some NotStun = rw none' refl in
-        let refused' : header_refusal (b ++ more) ≡ Some NotStun = rw none refl in
+        let refused : header_refusal c b ≡ Some NotStun = ap (λ (x : Bool). if x then None else Some NotStun) none' in
+        let refused' : header_refusal c (b ++ more) ≡ Some NotStun = ap (λ (x : Bool). if x then None else Some NotStun) none in
         cc (refused, refused', e)
   ]
 ]
 
 -- a fault stays, whatever follows
-pub fault_grows : (room : ℕ) (b more : List ℕ) (fault : StreamFault) → stream_fault room b ≡ Some fault → stream_fault room (b ++ more) ≡ Some fault
+pub fault_grows : (room : Room) (b more : List ℕ) (fault : StreamFault) → stream_fault room b ≡ Some fault → stream_fault room (b ++ more) ≡ Some fault
 fault_grows room b more fault e = elim (cases_lt (length b) 4) [
   | inl short ↦
       let whole : take 4 b ≡ b = take_all 4 b (omega arith) in
-      let field : length_refusal room b ≡ None = rw (lt-ltb (length b) 4 short) refl in
+      let field : length_refusal room.size b ≡ None = rw (lt-ltb (length b) 4 short) refl in
       let cut : take 4 (b ++ more) ≡ b ++ take (4 - length b) more = ap (λ (n : ℕ). take n (b ++ more)) (four b short) ∙ take-append-add b more (4 - length b) in
-      let begun : header_refusal b ≡ Some fault = elim (fault_if room b fault e) [
-        | inl first ↦ sym (ap header_refusal whole) ∙ first
+      let begun : header_refusal room.carries b ≡ Some fault = elim (fault_if room b fault e) [
+        | inl first ↦ sym (ap (header_refusal room.carries) whole) ∙ first
         | inr (none, inl told) ↦ absurd (cc (field, told))
         | inr (none, inr (told, header)) ↦ header
       ] in
-      fault_of room (b ++ more) fault (inl (ap header_refusal cut ∙ header_grows b (take (4 - length b) more) fault begun))
+      fault_of room (b ++ more) fault (inl (ap (header_refusal room.carries) cut ∙ header_grows room.carries b (take (4 - length b) more) fault begun))
   | inr long ↦
-      let longer : 4 ≤ length (b ++ more) = omega (arith, length-append b more) in
-      let first : header_refusal (take 4 (b ++ more)) ≡ header_refusal (take 4 b) = ap header_refusal (take-append-le 4 b more long) in
-      let field : length_refusal room (b ++ more) ≡ length_refusal room b =
-      length_there room (b ++ more) longer ∙ ap (field_refusal room) (field_stays b more long) ∙ sym (length_there room b long) in
+      let first : header_refusal room.carries (take 4 (b ++ more)) ≡ header_refusal room.carries (take 4 b) = ap (header_refusal room.carries) (take-append-le 4 b more long) in
+      let field : length_refusal room.size (b ++ more) ≡ length_refusal room.size b = length_stays room.size b more long in
       elim (fault_if room b fault e) [
         | inl told ↦ fault_of room (b ++ more) fault (inl (first ∙ told))
         | inr (none, inl told) ↦ fault_of room (b ++ more) fault (inr (first ∙ none, inl (field ∙ told)))
-        | inr (none, inr (told, header)) ↦ fault_of room (b ++ more) fault (inr (first ∙ none, inr (field ∙ told, header_grows b more fault header)))
+        | inr (none, inr (told, header)) ↦ fault_of room (b ++ more) fault (inr (first ∙ none, inr (field ∙ told, header_grows room.carries b more fault header)))
       ]
 ]
   where
@@ -229,82 +322,103 @@ fault_grows room b more fault e = elim (cases_lt (length b) 4) [
 
 -- ---- The first message
 
--- without a fault the length that is stated is right
-pub stated : (room : ℕ) (b : List ℕ) → stream_fault room b ≡ None → 4 ≤ length b → (length_field b % 4 ≡ 0) × (stated_length b ≤ room)
-stated room b e long = field_is room (length_field b) (sym (length_there room b long) ∙ (faultless room b e).1)
-
 -- how many bytes are wanted, by how many there are
-pub wanted_short : (b : List ℕ) → length b < 20 → wanted_for b ≡ 20
-wanted_short b short = rw (lt-ltb (length b) 20 short) refl
+pub wanted_short : (b : List ℕ) → length b < 4 → wanted_for b ≡ 4
+wanted_short b short = ap (λ (x : Bool). if x then 4 else stated_length b) (lt-ltb (length b) 4 short)
 
-pub wanted_long : (b : List ℕ) → 20 ≤ length b → wanted_for b ≡ stated_length b
-wanted_long b long = rw (le-ltb (length b) 20 long) refl
+pub wanted_long : (b : List ℕ) → 4 ≤ length b → wanted_for b ≡ stated_length b
+wanted_long b long = ap (λ (x : Bool). if x then 4 else stated_length b) (le-ltb (length b) 4 long)
 
-pub least_wanted : (b : List ℕ) → 20 ≤ wanted_for b
-least_wanted b = elim (cases_lt (length b) 20) [
+pub least_wanted : (b : List ℕ) → 4 ≤ wanted_for b
+least_wanted b = elim (cases_lt (length b) 4) [
   | inl short ↦ omega (arith, wanted_short b short)
-  | inr long ↦ omega (arith, wanted_long b long)
+  | inr long ↦ omega (arith, wanted_long b long, least_stated b)
 ]
 
--- nor do they change by what follows a header
-pub wanted_stays : (b more : List ℕ) → 20 ≤ length b → wanted_for (b ++ more) ≡ wanted_for b
+-- nor do they change by what follows the first four
+pub wanted_stays : (b more : List ℕ) → 4 ≤ length b → wanted_for (b ++ more) ≡ wanted_for b
 wanted_stays b more long =
-    let longer : 20 ≤ length (b ++ more) = omega (arith, length-append b more) in
-    let field : length_field (b ++ more) ≡ length_field b = field_stays b more (omega arith) in
-    wanted_long (b ++ more) longer ∙ ap (λ (n : ℕ). 20 + n) field ∙ sym (wanted_long b long)
+    let longer : 4 ≤ length (b ++ more) = omega (arith, length-append b more) in
+    wanted_long (b ++ more) longer ∙ stated_stays b more long ∙ sym (wanted_long b long)
+
+pub wanted_four : (b : List ℕ) → wanted_for (take 4 b) ≡ wanted_for b
+wanted_four b = elim (cases_lt (length b) 4) [
+  | inl short ↦ ap wanted_for (take_all 4 b (omega arith))
+  | inr long ↦ sym (ap wanted_for (sym (take-append-drop 4 b)) ∙ wanted_stays (take 4 b) (drop 4 b) (omega (arith, length-take 4 b)))
+]
 
 -- whether the first message is whole
-pub whole_if : (b : List ℕ) → 20 ≤ length b → stated_length b ≤ length b → is_whole b ≡ true
-whole_if b long all = rw (le-leb 20 (length b) long, le-leb (stated_length b) (length b) all) refl
+pub whole_if : (b : List ℕ) → 4 ≤ length b → stated_length b ≤ length b → is_whole b ≡ true
+whole_if b long all = ap2 (le-leb 4 (length b) long) (le-leb (stated_length b) (length b) all)
+  where
+    ap2 : {x y : Bool} → x ≡ true → y ≡ true → (x && y) ≡ true
+    ap2 e e' = rw (e, e') refl
 
 pub not_whole : (b : List ℕ) → length b < stated_length b → is_whole b ≡ false
-not_whole b part = elim (cases_Bool (leb 20 (length b))) [
-  | inl long ↦ rw (long, lt-leb (stated_length b) (length b) part) refl
-  | inr short ↦ rw short refl
+not_whole b part = elim (cases_Bool (leb 4 (length b))) [
+  | inl long ↦ ap (λ (x : Bool). x && leb (stated_length b) (length b)) long ∙ lt-leb (stated_length b) (length b) part
+  | inr short ↦ ap (λ (x : Bool). x && leb (stated_length b) (length b)) short
 ]
 
-pub whole_parts : (b : List ℕ) → is_whole b ≡ true → (20 ≤ length b) × (stated_length b ≤ length b)
+pub whole_parts : (b : List ℕ) → is_whole b ≡ true → (4 ≤ length b) × (stated_length b ≤ length b)
 whole_parts b whole =
-    let parts = and_parts (leb 20 (length b)) (leb (stated_length b) (length b)) whole in
-    (leb-true 20 (length b) parts.0, leb-true (stated_length b) (length b) parts.1)
+    let parts = and_parts (leb 4 (length b)) (leb (stated_length b) (length b)) whole in
+    (leb-true 4 (length b) parts.0, leb-true (stated_length b) (length b) parts.1)
 
 pub whole_wanted : (b : List ℕ) → is_whole b ≡ true → wanted_for b ≡ stated_length b
 whole_wanted b whole = wanted_long b (whole_parts b whole).0
 
 -- the bytes that are wanted are those of the first message
 pub first_is : (b : List ℕ) → of_first b ≡ take (wanted_for b) b
-first_is b = elim (cases_lt (length b) 20) [
-  | inl short ↦ rw (not_whole b (omega arith), wanted_short b short) (sym (take_all 20 b (omega arith)))
-  | inr long ↦ elim (cases_lt (length b) (stated_length b)) [
-    | inl part ↦ rw (not_whole b part, wanted_long b long) (sym (take_all (stated_length b) b (omega arith)))
-    | inr all ↦ rw (whole_if b long all, wanted_long b long) refl
-  ]
+first_is b = elim (cases_Bool (is_whole b)) [
+  | inl whole ↦ ap (λ (x : Bool). if x then take (stated_length b) b else b) whole ∙ ap (λ (n : ℕ). take n b) (sym (whole_wanted b whole))
+  | inr part ↦ ap (λ (x : Bool). if x then take (stated_length b) b else b) part ∙ sym (take_all (wanted_for b) b (part_wants b part))
 ]
+  where
+    part_wants : (b : List ℕ) → is_whole b ≡ false → length b ≤ wanted_for b
+    part_wants b part = elim (cases_lt (length b) 4) [
+      | inl short ↦ omega (arith, wanted_short b short)
+      | inr long ↦ elim (cases_lt (length b) (stated_length b)) [
+        | inl less ↦ omega (arith, less, wanted_long b long)
+        | inr all ↦ absurd (let whole = whole_if b long all in cc (whole, part))
+      ]
+    ]
+
+-- the bytes that are wanted decide
+pub first_sound : (room : Room) (b : List ℕ) → stream_fault room (take (wanted_for b) b) ≡ None → stream_fault room b ≡ None
+first_sound room b e =
+    let n = wanted_for b in
+    let m = take n b in
+    let joined : m ++ drop n b ≡ b = take-append-drop n b in
+    elim (cases_lt (length b) n) [
+      | inl part ↦ ap (stream_fault room) (sym (take_all n b (omega arith))) ∙ e
+      | inr all ↦
+          let long : length m ≡ n = omega (arith, length-take n b, all) in
+          let least : 4 ≤ length m = omega (arith, long, least_wanted b) in
+          let stated : stated_length b ≡ stated_length m = ap stated_length (sym joined) ∙ stated_stays m (drop n b) least in
+          let wanted : n ≡ stated_length b = wanted_long b (omega (arith, all, least_wanted b)) in
+          ap (stream_fault room) (sym joined) ∙ whole_sound room m (drop n b) e least (omega (arith, long, stated, wanted))
+    ]
 
 -- these are bytes of a message
-pub kept_of : (room : ℕ) (b : List ℕ) → 20 ≤ room → stream_fault room b ≡ None → IsKept room (take (wanted_for b) b) (wanted_for b)
+pub kept_of : (room : Room) (b : List ℕ) → 4 ≤ room.size → stream_fault room b ≡ None → IsKept room (take (wanted_for b) b) (wanted_for b)
 kept_of room b least e =
     let n = wanted_for b in
     let m = take n b in
     let joined : m ++ drop n b ≡ b = take-append-drop n b in
-    elim (cases_lt (length b) 20) [
+    let within : length m ≤ n = omega (arith, length-take n b) in
+    let sound : stream_fault room m ≡ None = fault_passes room m (drop n b) (ap (stream_fault room) joined ∙ e) in
+    elim (cases_lt (length b) 4) [
       | inl short ↦
-          let wanted : n ≡ 20 = wanted_short b short in
+          let wanted : n ≡ 4 = wanted_short b short in
           let all : m ≡ b = take_all n b (omega arith) in
-          record {
-            sound = ap (stream_fault room) all ∙ e;
-            wanted_is = sym (ap wanted_for all);
-            within = omega (arith, ap length all);
-            fits = omega arith;
-          }
+          record { sound = sound; wanted_is = sym (ap wanted_for all); within = within; fits = omega (arith, wanted, least) }
       | inr long ↦
-          let wanted : n ≡ stated_length b = wanted_long b long in
-          let least_held : 20 ≤ length m = omega (arith, length-take n b) in
-          let field : length_field b ≡ length_field m = ap length_field (sym joined) ∙ field_stays m (drop n b) (omega arith) in
+          let least_held : 4 ≤ length m = omega (arith, length-take n b, least_wanted b, long) in
           record {
-            sound = fault_passes room m (drop n b) (ap (stream_fault room) joined ∙ e);
-            wanted_is = wanted ∙ ap (λ (k : ℕ). 20 + k) field ∙ sym (wanted_long m least_held);
-            within = omega (arith, length-take n b);
-            fits = omega (arith, (stated room b e (omega arith)).1);
+            sound = sound;
+            wanted_is = ap wanted_for (sym joined) ∙ wanted_stays m (drop n b) least_held;
+            within = within;
+            fits = omega (arith, wanted_long b long, fits room b e long);
           }
     ]

@@ -1,12 +1,14 @@
 -- What a buffer holds of a message.
-use Rattle.std.proofs.Common.{◌≡◌, ℕ, ◌+◌, ◌-◌, ◌<◌, ◌≤◌, List, ◌++◌, length, take, drop, min, Some, None, sym, ap, ◌∙◌, append_assoc, arith}
+use Rattle.std.proofs.Common.{◌≡◌, ℕ, ◌+◌, ◌-◌, ◌<◌, ◌≤◌, List, ◌++◌, length, take, drop, min, Some, None, Result, Ok, Err, sym, ap, subst, ◌∙◌, append_assoc, arith}
+use Rattle.std.specs.Prelude.{MatchResult}
 use Rattle.std.proofs.lemmas.List.{length-append, length-take, take_at, take_min, take-append-le, take-append-drop}
 use Rattle.std.proofs.Math.Seq.{take-append-add}
 use Rattle.stun_framing.specs.declared.error.StreamFault.{StreamFault}
 use Rattle.stun_framing.specs.declared.gather.Kept.{Kept}
-use Rattle.stun_framing.specs.Framing.{stream_fault}
-use Rattle.stun_framing.specs.Gathering.{wanted_for, IsKept, HoldsHeader, HoldsFirst, Refuses}
-use Rattle.stun_framing.proofs.FramingLemmas.{fault_twenty, wanted_twenty, fault_stays, least_wanted, kept_of}
+use Rattle.stun_framing.specs.declared.carries.Carries.{Carries}
+use Rattle.stun_framing.specs.Framing.{Room, room_of, stream_fault}
+use Rattle.stun_framing.specs.Gathering.{wanted_for, IsKept, HoldsStart, HoldsFirst, Refuses}
+use Rattle.stun_framing.proofs.FramingLemmas.{fault_grows, wanted_four, wanted_stays, first_sound, kept_of}
 
 -- bytes between the first ones of a list and its last ones
 pub behind_first : (old bytes rest : List ℕ) (held count : ℕ) → held ≤ length old → length bytes ≡ count → take (held + count) (take held old ++ bytes ++ rest) ≡ take held old ++ bytes
@@ -30,82 +32,104 @@ filled old piece held wanted count within most e =
     ∙ sym (take-append-add h piece (wanted - held))
     ∙ ap (λ (n : ℕ). take n (h ++ piece)) all
 
--- the header of b is there
-pub header_held : (old new piece : List ℕ) (held header wanted : ℕ) → length new ≡ length old → held ≤ length old → 20 ≤ length old
-    → header ≡ min 20 (held + length piece) → take header new ≡ take 20 (take held old ++ piece)
-    → stream_fault (length old) (take header new) ≡ None → wanted ≡ wanted_for (take header new)
-    → HoldsHeader (take held old ++ piece) (record { held = header; wanted = wanted }) new
-header_held old new piece held header wanted same within room count bytes sound e =
+-- the first four bytes of b are there
+pub start_held : (carries : Carries) (old new piece : List ℕ) (held start wanted : ℕ) → length new ≡ length old → held ≤ length old → 4 ≤ length old
+    → start ≡ min 4 (held + length piece) → take start new ≡ take 4 (take held old ++ piece)
+    → stream_fault (room_of carries (length old)) (take start new) ≡ None → wanted ≡ wanted_for (take start new)
+    → HoldsStart (take held old ++ piece) (record { held = start; wanted = wanted }) new
+start_held carries old new piece held start wanted same within room count bytes sound e =
     let b = take held old ++ piece in
     let long : length b ≡ held + length piece = omega (arith, length-append (take held old) piece, length-take held old) in
-    let faultless : stream_fault (length new) b ≡ None = sym (fault_twenty (length new) b) ∙ ap (stream_fault (length new)) (sym bytes) ∙ ap (λ (n : ℕ). stream_fault n (take header new)) same ∙ sound in
-    let wanted_is : wanted ≡ wanted_for b = e ∙ ap wanted_for bytes ∙ wanted_twenty b in
-    let kept = kept_of (length new) b (omega arith) faultless in
+    let kept = kept_of (room_of carries (length old)) (take start new) room sound in
     record {
-      sound = faultless;
       bytes = bytes;
-      count = count ∙ ap (min 20) (sym long);
-      wanted = wanted_is;
-      least = omega (arith, least_wanted b);
-      fits = omega (arith, kept.fits);
+      count = count ∙ ap (min 4) (sym long);
+      wanted = e ∙ ap wanted_for bytes ∙ wanted_four b;
+      fits = omega (arith, e, kept.fits, same);
     }
 
-pub header_refused : (old new piece : List ℕ) (held header : ℕ) (fault : StreamFault)
-    → take header new ≡ take 20 (take held old ++ piece) → take held new ≡ take held old
-    → stream_fault (length old) (take header new) ≡ Some fault → Refuses held piece fault old new
-header_refused old new piece held header fault bytes kept e =
+-- no message begins with the first bytes of b
+pub first_refused : (carries : Carries) (old new piece : List ℕ) (held count n : ℕ) (fault : StreamFault)
+    → take count new ≡ take n (take held old ++ piece) → take held new ≡ take held old
+    → stream_fault (room_of carries (length old)) (take count new) ≡ Some fault → Refuses carries held piece fault old new
+first_refused carries old new piece held count n fault bytes kept e =
+    let room = room_of carries (length old) in
     let b = take held old ++ piece in
     record {
-      fault_is = sym (fault_twenty (length old) b) ∙ ap (stream_fault (length old)) (sym bytes) ∙ e;
+      fault_is = ap (stream_fault room) (sym (take-append-drop n b)) ∙ fault_grows room (take n b) (drop n b) fault (ap (stream_fault room) (sym bytes) ∙ e);
       kept = kept;
     }
 
--- a message whose header was there goes on
-pub gone_on : (old new piece : List ℕ) (held wanted now : ℕ) → length new ≡ length old → 20 ≤ held → held ≤ length old
-    → IsKept (length old) (take held old) wanted → take now new ≡ take wanted (take held old ++ piece) → now ≤ length new
-    → HoldsFirst (take held old ++ piece) (record { held = now; wanted = wanted }) new
-gone_on old new piece held wanted now same least within kept bytes bound =
-    let h = take held old in
-    let long : 20 ≤ length h = omega (arith, length-take held old) in
-    let first : take 20 (h ++ piece) ≡ take 20 h = take-append-le 20 h piece long in
-    let wanted_is : wanted ≡ wanted_for (h ++ piece) =
-    kept.wanted_is ∙ sym (wanted_twenty h) ∙ ap wanted_for (sym first) ∙ wanted_twenty (h ++ piece) in
+-- how many bytes are wanted doesn't change by a piece
+pub wanted_goes_on : (room : Room) (old piece : List ℕ) (held wanted : ℕ) → 4 ≤ held → held ≤ length old → IsKept room (take held old) wanted
+    → wanted ≡ wanted_for (take held old ++ piece)
+wanted_goes_on room old piece held wanted least within kept =
+    kept.wanted_is ∙ sym (wanted_stays (take held old) piece (omega (arith, length-take held old)))
+
+-- what is wanted of b is there, as far as b has it
+pub gathered : (carries : Carries) (old new piece : List ℕ) (held wanted now : ℕ) → length new ≡ length old → wanted ≡ wanted_for (take held old ++ piece)
+    → take now new ≡ take wanted (take held old ++ piece) → now ≤ length new
+    → stream_fault (room_of carries (length old)) (take now new) ≡ None
+    → HoldsFirst carries (take held old ++ piece) (record { held = now; wanted = wanted }) new
+gathered carries old new piece held wanted now same e bytes bound sound =
+    let room = room_of carries (length old) in
+    let b = take held old ++ piece in
+    let first : take now new ≡ take (wanted_for b) b = bytes ∙ ap (λ (n : ℕ). take n b) e in
     record {
-      sound = ap (λ (n : ℕ). stream_fault n (h ++ piece)) same ∙ fault_stays (length old) h piece long ∙ kept.sound;
-      bytes = bytes ∙ ap (λ (n : ℕ). take n (h ++ piece)) wanted_is;
+      sound = ap (λ (n : ℕ). stream_fault (room_of carries n) b) same ∙ first_sound room b (ap (stream_fault room) (sym first) ∙ sound);
+      bytes = first;
       held = bound;
-      wanted = wanted_is;
+      wanted = e;
     }
 
--- how many bytes of a piece belong to the header
-pub header_count : (old piece buffer : List ℕ) (held : ℕ) (kept : Kept) → held ≤ length old → HoldsHeader (take held old ++ piece) kept buffer → kept.held ≡ min 20 (held + length piece)
-header_count old piece buffer held kept within header =
-    let long : length (take held old ++ piece) ≡ held + length piece = omega (arith, length-append (take held old) piece, length-take held old) in
-    header.count ∙ ap (min 20) long
-
--- b is the bytes of its header, as far as they are there, and then those behind
-pub cut_behind : (old piece : List ℕ) (held header : ℕ) → held < 20 → held ≤ length old → header ≡ min 20 (held + length piece)
-    → take 20 (take held old ++ piece) ++ drop (header - held) piece ≡ take held old ++ piece
-cut_behind old piece held header short within count =
+-- b is its first four bytes, as far as they are there, and then those behind
+pub cut_behind : (old piece : List ℕ) (held start : ℕ) → held < 4 → held ≤ length old → start ≡ min 4 (held + length piece)
+    → take 4 (take held old ++ piece) ++ drop (start - held) piece ≡ take held old ++ piece
+cut_behind old piece held start short within count =
     let h = take held old in
     let long : length h ≡ held = omega (arith, length-take held old) in
-    let all : 20 ≡ length h + (20 - held) = omega (arith, long) in
-    let cut : take 20 (h ++ piece) ≡ h ++ take (20 - held) piece =
-    ap (λ (n : ℕ). take n (h ++ piece)) all ∙ take-append-add h piece (20 - held) in
-    let part : min (20 - held) (length piece) ≡ header - held = omega arith in
-    let taken : take (20 - held) piece ≡ take (header - held) piece =
-    sym (take_min (20 - held) piece) ∙ ap (λ (n : ℕ). take n piece) part in
-    ap (λ (xs : List ℕ). xs ++ drop (header - held) piece) (cut ∙ ap (λ (xs : List ℕ). h ++ xs) taken)
-    ∙ append_assoc h (take (header - held) piece) (drop (header - held) piece)
-    ∙ ap (λ (xs : List ℕ). h ++ xs) (take-append-drop (header - held) piece)
+    let all : 4 ≡ length h + (4 - held) = omega (arith, long) in
+    let cut : take 4 (h ++ piece) ≡ h ++ take (4 - held) piece =
+    ap (λ (n : ℕ). take n (h ++ piece)) all ∙ take-append-add h piece (4 - held) in
+    let part : min (4 - held) (length piece) ≡ start - held = omega arith in
+    let taken : take (4 - held) piece ≡ take (start - held) piece =
+    sym (take_min (4 - held) piece) ∙ ap (λ (n : ℕ). take n piece) part in
+    ap (λ (xs : List ℕ). xs ++ drop (start - held) piece) (cut ∙ ap (λ (xs : List ℕ). h ++ xs) taken)
+    ∙ append_assoc h (take (start - held) piece) (drop (start - held) piece)
+    ∙ ap (λ (xs : List ℕ). h ++ xs) (take-append-drop (start - held) piece)
 
--- a message whose header is there now goes on with what follows that
-pub gone_on_behind : (b mid new behind : List ℕ) (kept : Kept) (now : ℕ) → length new ≡ length mid → HoldsHeader b kept mid
-    → take 20 b ++ behind ≡ b → take now new ≡ take kept.wanted (take kept.held mid ++ behind) → now ≤ length new
-    → HoldsFirst b (record { held = now; wanted = kept.wanted }) new
-gone_on_behind b mid new behind kept now same header cut bytes bound = record {
-  sound = ap (λ (n : ℕ). stream_fault n b) same ∙ header.sound;
-  bytes = bytes ∙ ap (λ (xs : List ℕ). take kept.wanted (xs ++ behind)) header.bytes ∙ ap (take kept.wanted) cut ∙ ap (λ (n : ℕ). take n b) header.wanted;
-  held = bound;
-  wanted = header.wanted;
+-- how many bytes of a piece belong to the first four
+pub start_count : (old piece buffer : List ℕ) (held : ℕ) (kept : Kept) → held ≤ length old → HoldsStart (take held old ++ piece) kept buffer → kept.held ≡ min 4 (held + length piece)
+start_count old piece buffer held kept within start =
+    let long : length (take held old ++ piece) ≡ held + length piece = omega (arith, length-append (take held old) piece, length-take held old) in
+    start.count ∙ ap (min 4) long
+
+-- the first four bytes of b and those behind them are b
+pub start_joined : (old mid piece : List ℕ) (held : ℕ) (start : Kept) → held < 4 → held ≤ length old → HoldsStart (take held old ++ piece) start mid
+    → take start.held mid ++ drop (start.held - held) piece ≡ take held old ++ piece
+start_joined old mid piece held start short within holds =
+    ap (λ (xs : List ℕ). xs ++ drop (start.held - held) piece) holds.bytes
+    ∙ cut_behind old piece held start.held short within (start_count old piece mid held start within holds)
+
+-- what is held and refused behind them
+pub refused_behind : (carries : Carries) (old mid new piece behind : List ℕ) (held start : ℕ) (fault : StreamFault) → length mid ≡ length old → length new ≡ length mid → held ≤ start → start ≤ length mid
+    → take start mid ++ behind ≡ take held old ++ piece → take held mid ≡ take held old → Refuses carries start behind fault mid new → Refuses carries held piece fault old new
+refused_behind carries old mid new piece behind held start fault same same' within bound joined kept refuses = record {
+  fault_is = ap (stream_fault (room_of carries (length old))) (sym joined)
+      ∙ ap (λ (n : ℕ). stream_fault (room_of carries n) (take start mid ++ behind)) (sym same) ∙ refuses.fault_is;
+  kept = sym (shorter held start new within (omega (arith, bound, same'))) ∙ ap (take held) refuses.kept ∙ shorter held start mid within bound ∙ kept;
 }
+  where
+    shorter : (held start : ℕ) (xs : List ℕ) → held ≤ start → start ≤ length xs → take held (take start xs) ≡ take held xs
+    shorter held start xs within bound =
+        sym (take-append-le held (take start xs) (drop start xs) (omega (arith, length-take start xs))) ∙ ap (take held) (take-append-drop start xs)
+
+-- what is gathered behind the first four bytes is gathered of all
+pub gathered_behind : (carries : Carries) (old mid new piece behind : List ℕ) (held : ℕ) (start : Kept) (result : Result Kept StreamFault) → length mid ≡ length old → length new ≡ length mid
+    → held ≤ start.held → start.held ≤ length mid → take start.held mid ++ behind ≡ take held old ++ piece → take held mid ≡ take held old
+    → MatchResult result (λ kept. HoldsFirst carries (take start.held mid ++ behind) kept new) (λ fault. Refuses carries start.held behind fault mid new)
+    → MatchResult result (λ kept. HoldsFirst carries (take held old ++ piece) kept new) (λ fault. Refuses carries held piece fault old new)
+gathered_behind carries old mid new piece behind held start (Ok kept) same same' within bound joined stays holds =
+    subst (λ (b : List ℕ). HoldsFirst carries b kept new) joined holds
+gathered_behind carries old mid new piece behind held start (Err fault) same same' within bound joined stays refuses =
+    refused_behind carries old mid new piece behind held start.held fault same same' within bound joined stays refuses

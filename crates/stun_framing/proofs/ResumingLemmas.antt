@@ -6,7 +6,8 @@ use Rattle.std.proofs.lemmas.Bool.{cases_lt, cases_Bool, le-leb, leb-true, not-t
 use Rattle.std.proofs.lemmas.List.{length-take}
 use Rattle.stun_framing.specs.declared.error.StreamFault.{StreamFault}
 use Rattle.stun_framing.specs.declared.error.StreamError.{StreamError}
-use Rattle.stun_framing.specs.Framing.{stated_length, stream_fault}
+use Rattle.stun_framing.specs.declared.carries.Carries.{Carries}
+use Rattle.stun_framing.specs.Framing.{Room, room_of, stated_length, stream_fault}
 use Rattle.stun_framing.specs.Gathering.{wanted_for}
 use Rattle.stun_framing.specs.Streams.{Stream, is_whole, of_first, offset_of, joined, can_resume, resumed, answer_of, answer, left, with_bytes, left_of}
 use Rattle.stun_framing.specs.Fields.{IsStream}
@@ -14,7 +15,7 @@ use Rattle.stun_framing.specs.Runs.{HasCome}
 use Rattle.stun_framing.proofs.FramingLemmas.{wanted_long, wanted_short, whole_if, kept_of}
 
 whole_by : (b : List ℕ) → wanted_for b ≤ length b → is_whole b ≡ true
-whole_by b all = elim (cases_lt (length b) 20) [
+whole_by b all = elim (cases_lt (length b) 4) [
   | inl short ↦ absurd (omega (arith, all, wanted_short b short))
   | inr long ↦ whole_if b long (omega (arith, all, wanted_long b long))
 ]
@@ -26,16 +27,16 @@ none_by (Some fault) e = absurd cc
 -- ---- Whether bytes can be pending
 
 -- what it means that they can
-pub record Resumes (buffer : List ℕ) (held : ℕ) : Type 0 where
+pub record Resumes (carries : Carries) (buffer : List ℕ) (held : ℕ) : Type 0 where
   pub room : 20 ≤ length buffer
   pub within : held ≤ length buffer
-  pub sound : stream_fault (length buffer) (take held buffer) ≡ None
+  pub sound : stream_fault (room_of carries (length buffer)) (take held buffer) ≡ None
   pub part : held < wanted_for (take held buffer)
 
-pub resumes_if : (buffer : List ℕ) (held : ℕ) → can_resume buffer held ≡ true → Resumes buffer held
-resumes_if buffer held can =
+pub resumes_if : (carries : Carries) (buffer : List ℕ) (held : ℕ) → can_resume carries buffer held ≡ true → Resumes carries buffer held
+resumes_if carries buffer held can =
     let b = take held buffer in
-    let fault = stream_fault (length buffer) b in
+    let fault = stream_fault (room_of carries (length buffer)) b in
     let room_test = nat_le 20 (length buffer) in
     let within_test = nat_le held (length buffer) in
     let last = and_parts (room_test && within_test && not (is_some fault)) (not (is_whole b)) can in
@@ -54,11 +55,11 @@ resumes_if buffer held can =
 
 -- ---- The stream that goes on
 
-pub resumed_is : (buffer : List ℕ) (held : ℕ) → Resumes buffer held → IsStream buffer (record { held = held; wanted = wanted_for (take held buffer) }) None
-resumed_is buffer held resumes =
+pub resumed_is : (carries : Carries) (buffer : List ℕ) (held : ℕ) → Resumes carries buffer held → IsStream carries buffer (record { held = held; wanted = wanted_for (take held buffer) }) None
+resumed_is carries buffer held resumes =
     let b = take held buffer in
     let long : length b ≡ held = omega (arith, length-take held buffer, resumes.within) in
-    let kept = kept_of (length buffer) b resumes.room resumes.sound in
+    let kept = kept_of (room_of carries (length buffer)) b (omega (arith, resumes.room)) resumes.sound in
     record {
       room = resumes.room;
       bound = resumes.within;
@@ -73,16 +74,16 @@ resumed_is buffer held resumes =
 
 -- ---- The laws
 
-pub resumes : (room : ℕ) (bytes : List ℕ) (messages : List (List ℕ)) (stream : Stream) (buffer : List ℕ) → HasCome room bytes messages stream → 20 ≤ room → length buffer ≡ room
-    → take (length stream.pending) buffer ≡ stream.pending → can_resume buffer (length stream.pending) ≡ true
+pub resumes : (room : Room) (bytes : List ℕ) (messages : List (List ℕ)) (stream : Stream) (buffer : List ℕ) → HasCome room bytes messages stream → 20 ≤ room.size → length buffer ≡ room.size
+    → take (length stream.pending) buffer ≡ stream.pending → can_resume room.carries buffer (length stream.pending) ≡ true
 resumes room bytes messages stream buffer come least long is =
     let held = length stream.pending in
-    let sound : stream_fault (length buffer) (take held buffer) ≡ None = ap (λ (n : ℕ). stream_fault n (take held buffer)) long ∙ ap (stream_fault room) is ∙ come.sound in
+    let sound : stream_fault (room_of room.carries (length buffer)) (take held buffer) ≡ None = ap (λ (n : ℕ). stream_fault (room_of room.carries n) (take held buffer)) long ∙ ap (stream_fault room) is ∙ come.sound in
     let part : is_whole (take held buffer) ≡ false = ap is_whole is ∙ come.part in
     let within : held ≤ length buffer = omega (arith, ap length is, length-take held buffer) in
     rw (le-leb 20 (length buffer) (omega (arith, long, least)), le-leb held (length buffer) within, sound, part) refl
 
-pub comes : (room : ℕ) (bytes : List ℕ) (messages : List (List ℕ)) (stream : Stream) → HasCome room bytes messages stream → HasCome room bytes messages (resumed room stream.offset stream.pending)
+pub comes : (room : Room) (bytes : List ℕ) (messages : List (List ℕ)) (stream : Stream) → HasCome room bytes messages stream → HasCome room bytes messages (resumed room stream.offset stream.pending)
 comes room bytes messages stream come = record {
   cut = come.cut;
   room_is = refl;

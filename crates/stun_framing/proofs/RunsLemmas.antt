@@ -10,32 +10,32 @@ use Rattle.std.proofs.lemmas.List.Elements.{All-nil, All-cons, All-append}
 use Rattle.std.proofs.lemmas.List.Folds.{concat-append}
 use Rattle.stun_framing.specs.declared.error.StreamFault.{StreamFault}
 use Rattle.stun_framing.specs.declared.error.StreamError.{StreamError}
-use Rattle.stun_framing.specs.Framing.{stated_length, IsMessage, stream_fault}
+use Rattle.stun_framing.specs.Framing.{Room, stated_length, IsMessage, stream_fault}
 use Rattle.stun_framing.specs.Streams.{Stream, begun, joined, is_whole, of_first, offset_of, refusal, answer_of, with_bytes, left_of, left}
 use Rattle.stun_framing.specs.Runs.{taken_of, untaken, IsHandedOver, left_by, left_over, message_in, yielded, IsDone, Says}
-use Rattle.stun_framing.proofs.FramingLemmas.{fault_grows, field_stays, whole_if, whole_parts}
+use Rattle.stun_framing.proofs.FramingLemmas.{fault_grows, least_stated, stated_stays, whole_if, whole_parts}
 use Rattle.stun_framing.proofs.StreamsLemmas.{nothing_faults}
 use Rattle.stun_framing.proofs.CutsLemmas.{no_fault_in, whole_in, first_message}
 
 -- where a stream stands that may still have messages
-pub record Runs (room : ℕ) (stream : Stream) : Type 0 where
+pub record Runs (room : Room) (stream : Stream) : Type 0 where
   pub sound : stream_fault room stream.pending ≡ None
   pub part : is_whole stream.pending ≡ false
 
 -- where one stands that has ended, by what is to come
-pub record Ended (room : ℕ) (stream : Stream) (coming : List ℕ) (error : StreamError) : Type 0 where
+pub record Ended (room : Room) (stream : Stream) (coming : List ℕ) (error : StreamError) : Type 0 where
   pub none : stream.message ≡ None
   pub offset_is : error.offset ≡ stream.offset
   pub fault_is : stream_fault room (stream.pending ++ coming) ≡ Some error.fault
 
 -- where a stream stands behind so many bytes of messages
-pub record Stands (room n : ℕ) (stream : Stream) (coming : List ℕ) : Type 0 where
+pub record Stands (room : Room) (n : ℕ) (stream : Stream) (coming : List ℕ) : Type 0 where
   pub room_is : stream.room ≡ room
   pub offset_is : stream.offset ≡ offset_of n
   pub ends : MatchOption stream.error (Runs room stream) (Ended room stream coming)
 
 -- what a call yields, and where the stream stands then
-pub record Steps (room n : ℕ) (stream : Stream) (coming : List ℕ) (new : Stream) (coming' : List ℕ) : Type 0 where
+pub record Steps (room : Room) (n : ℕ) (stream : Stream) (coming : List ℕ) (new : Stream) (coming' : List ℕ) : Type 0 where
   pub joined_is : stream.pending ++ coming ≡ concat (message_in new.message) ++ (new.pending ++ coming')
   pub each : All (IsMessage room) (message_in new.message)
   pub stands : Stands room (n + length (concat (message_in new.message))) new coming'
@@ -61,12 +61,12 @@ rest_is pending piece behind k least most =
 
 -- the first message ends behind what is pending
 ends_behind : (pending piece : List ℕ) → is_whole pending ≡ false → length pending < stated_length (pending ++ piece)
-ends_behind pending piece part = elim (cases_lt (length pending) 20) [
-  | inl short ↦ omega arith
+ends_behind pending piece part = elim (cases_lt (length pending) 4) [
+  | inl short ↦ omega (arith, least_stated (pending ++ piece))
   | inr long ↦ elim (cases_lt (length pending) (stated_length (pending ++ piece))) [
     | inl less ↦ less
     | inr all ↦
-        let stays : stated_length (pending ++ piece) ≡ stated_length pending = ap (λ (n : ℕ). 20 + n) (field_stays pending piece (omega (arith, long))) in
+        let stays : stated_length (pending ++ piece) ≡ stated_length pending = stated_stays pending piece long in
         let whole = whole_if pending long (omega (arith, all, stays)) in
         absurd (cc (whole, part))
   ]
@@ -76,11 +76,11 @@ offsets_add : (offset n k : ℕ) → offset ≡ offset_of n → offset_of (offse
 offsets_add offset n k e = ap (λ (m : ℕ). min (m + k) 18446744073709551615) e ∙ omega arith
 
 -- a stream that hasn't ended
-pub runs_on : (room : ℕ) (stream : Stream) (coming : List ℕ) → stream.error ≡ None → Runs room stream → MatchOption stream.error (Runs room stream) (Ended room stream coming)
+pub runs_on : (room : Room) (stream : Stream) (coming : List ℕ) → stream.error ≡ None → Runs room stream → MatchOption stream.error (Runs room stream) (Ended room stream coming)
 runs_on room stream coming running runs = subst (λ (o : Option StreamError). MatchOption o (Runs room stream) (Ended room stream coming)) (sym running) runs
 
 -- a piece that makes a message whole
-makes_whole : (room n : ℕ) (stream : Stream) (piece behind : List ℕ) → Stands room n stream (piece ++ behind) → Runs room stream → stream.error ≡ None
+makes_whole : (room : Room) (n : ℕ) (stream : Stream) (piece behind : List ℕ) → Stands room n stream (piece ++ behind) → Runs room stream → stream.error ≡ None
     → stream_fault room (joined stream piece) ≡ None → is_whole (joined stream piece) ≡ true
     → Steps room n stream (piece ++ behind)
     (record stream { offset = offset_of (stream.offset + stated_length (joined stream piece)); pending = []; message = Some (take (stated_length (joined stream piece)) (joined stream piece)) })
@@ -108,7 +108,7 @@ makes_whole room n stream piece behind stands runs running sound whole =
     }
 
 -- a piece that leaves a message pending
-leaves_part : (room n : ℕ) (stream : Stream) (piece behind : List ℕ) → Stands room n stream (piece ++ behind) → stream.error ≡ None
+leaves_part : (room : Room) (n : ℕ) (stream : Stream) (piece behind : List ℕ) → Stands room n stream (piece ++ behind) → stream.error ≡ None
     → stream_fault room (joined stream piece) ≡ None → is_whole (joined stream piece) ≡ false
     → Steps room n stream (piece ++ behind) (record stream { pending = joined stream piece; message = None }) (drop (length (joined stream piece) - length stream.pending) (piece ++ behind))
 leaves_part room n stream piece behind stands running sound part =
@@ -126,7 +126,7 @@ leaves_part room n stream piece behind stands running sound part =
     }
 
 -- a piece that ends the stream, or comes behind its end
-stops : (room n : ℕ) (stream : Stream) (coming : List ℕ) (error : StreamError) → Stands room n stream coming
+stops : (room : Room) (n : ℕ) (stream : Stream) (coming : List ℕ) (error : StreamError) → Stands room n stream coming
     → error.offset ≡ stream.offset → stream_fault room (stream.pending ++ coming) ≡ Some error.fault
     → Steps room n stream coming (record stream { message = None; error = Some error }) coming
 stops room n stream coming error stands at fault = record {
@@ -140,14 +140,14 @@ stops room n stream coming error stands at fault = record {
 }
 
 -- by how a piece is answered
-by_refusal : (room n : ℕ) (stream : Stream) (piece coming : List ℕ) (told : Option StreamError) → refusal stream piece ≡ told
+by_refusal : (room : Room) (n : ℕ) (stream : Stream) (piece coming : List ℕ) (told : Option StreamError) → refusal stream piece ≡ told
     → Steps room n stream coming (left_of told stream (joined stream piece)) (drop (taken_of (answer_of told (length (of_first (joined stream piece)) - length stream.pending))) coming)
     → Steps room n stream coming (left stream piece) (untaken stream piece coming)
 by_refusal room n stream piece coming told e steps =
     subst (λ (o : Option StreamError). Steps room n stream coming (left_of o stream (joined stream piece)) (drop (taken_of (answer_of o (length (of_first (joined stream piece)) - length stream.pending))) coming)) (sym e) steps
 
 -- a piece without a fault
-goes_on : (room n : ℕ) (stream : Stream) (piece behind : List ℕ) → Stands room n stream (piece ++ behind) → Runs room stream → stream.error ≡ None
+goes_on : (room : Room) (n : ℕ) (stream : Stream) (piece behind : List ℕ) → Stands room n stream (piece ++ behind) → Runs room stream → stream.error ≡ None
     → stream_fault room (joined stream piece) ≡ None
     → Steps room n stream (piece ++ behind) (with_bytes stream (joined stream piece)) (drop (length (of_first (joined stream piece)) - length stream.pending) (piece ++ behind))
 goes_on room n stream piece behind stands runs running sound =
@@ -161,13 +161,13 @@ goes_on room n stream piece behind stands runs running sound =
     ]
 
 -- how a stream stands that has ended, and that hasn't
-pub runs_if : (room : ℕ) (stream : Stream) (coming : List ℕ) → MatchOption stream.error (Runs room stream) (Ended room stream coming) → stream.error ≡ None → Runs room stream
+pub runs_if : (room : Room) (stream : Stream) (coming : List ℕ) → MatchOption stream.error (Runs room stream) (Ended room stream coming) → stream.error ≡ None → Runs room stream
 runs_if room stream coming ends e = subst (λ (o : Option StreamError). MatchOption o (Runs room stream) (Ended room stream coming)) e ends
 
-pub ended_if : (room : ℕ) (stream : Stream) (coming : List ℕ) (error : StreamError) → MatchOption stream.error (Runs room stream) (Ended room stream coming) → stream.error ≡ Some error → Ended room stream coming error
+pub ended_if : (room : Room) (stream : Stream) (coming : List ℕ) (error : StreamError) → MatchOption stream.error (Runs room stream) (Ended room stream coming) → stream.error ≡ Some error → Ended room stream coming error
 ended_if room stream coming error ends e = subst (λ (o : Option StreamError). MatchOption o (Runs room stream) (Ended room stream coming)) e ends
 
-step_on : (room n : ℕ) (stream : Stream) (piece behind : List ℕ) → Stands room n stream (piece ++ behind)
+step_on : (room : Room) (n : ℕ) (stream : Stream) (piece behind : List ℕ) → Stands room n stream (piece ++ behind)
     → Steps room n stream (piece ++ behind) (left stream piece) (untaken stream piece (piece ++ behind))
 step_on room n stream piece behind stands =
     let coming = piece ++ behind in
@@ -180,7 +180,7 @@ step_on room n stream piece behind stands =
           (stops room n stream coming error stands ended.offset_is ended.fault_is)
       | inl running ↦
           let to_fault : refusal stream piece ≡ told (stream_fault room b) =
-          ap (λ (o : Option StreamError). option_or o (told (stream_fault stream.room b))) running ∙ ap (λ (k : ℕ). told (stream_fault k b)) stands.room_is in
+          ap (λ (o : Option StreamError). option_or o (told (stream_fault stream.room b))) running ∙ ap (λ (r : Room). told (stream_fault r b)) stands.room_is in
           elim (cases_option (stream_fault room b)) [
             | inl sound ↦ by_refusal room n stream piece coming None (to_fault ∙ ap told sound)
                 (goes_on room n stream piece behind stands (runs_if room stream coming stands.ends running) running sound)
@@ -190,7 +190,7 @@ step_on room n stream piece behind stands =
           ]
     ]
 
-pub step : (room n : ℕ) (stream : Stream) (piece coming : List ℕ) → Stands room n stream coming → ((behind : List ℕ) × (coming ≡ piece ++ behind))
+pub step : (room : Room) (n : ℕ) (stream : Stream) (piece coming : List ℕ) → Stands room n stream coming → ((behind : List ℕ) × (coming ≡ piece ++ behind))
     → Steps room n stream coming (left stream piece) (untaken stream piece coming)
 step room n stream piece coming stands (behind, e) =
     subst (λ (xs : List ℕ). Steps room n stream xs (left stream piece) (untaken stream piece xs)) (sym e)
@@ -199,12 +199,12 @@ step room n stream piece coming stands (behind, e) =
 -- ---- All calls
 
 -- what all calls yield
-record Ends (room n : ℕ) (stream : Stream) (coming : List ℕ) (pieces : List (List ℕ)) : Type 0 where
+record Ends (room : Room) (n : ℕ) (stream : Stream) (coming : List ℕ) (pieces : List (List ℕ)) : Type 0 where
   pub joined_is : stream.pending ++ coming ≡ concat (yielded stream pieces) ++ ((left_by stream pieces).pending ++ left_over stream coming pieces)
   pub each : All (IsMessage room) (yielded stream pieces)
   pub stands : Stands room (n + length (concat (yielded stream pieces))) (left_by stream pieces) (left_over stream coming pieces)
 
-run : (room n : ℕ) (stream : Stream) (coming : List ℕ) (pieces : List (List ℕ)) → Stands room n stream coming → IsHandedOver stream coming pieces → Ends room n stream coming pieces
+run : (room : Room) (n : ℕ) (stream : Stream) (coming : List ℕ) (pieces : List (List ℕ)) → Stands room n stream coming → IsHandedOver stream coming pieces → Ends room n stream coming pieces
 run room n stream coming [] stands handed = record {
   joined_is = refl;
   each = All-nil (IsMessage room);
@@ -231,22 +231,22 @@ run room n stream coming (piece ∷ pieces) stands handed =
 
 -- ---- What the bytes say
 
-begins_standing : (room : ℕ) (bytes : List ℕ) → Stands room 0 (begun room) bytes
+begins_standing : (room : Room) (bytes : List ℕ) → Stands room 0 (begun room) bytes
 begins_standing room bytes = record { room_is = refl; offset_is = refl; ends = record { sound = nothing_faults room; part = refl } }
 
 -- no message begins with bytes that have a fault, or aren't whole
-none_by_fault : (room : ℕ) (rest : List ℕ) (fault : StreamFault) → stream_fault room rest ≡ Some fault → (m behind : List ℕ) → IsMessage room m → rest ≡ m ++ behind → ⊥
+none_by_fault : (room : Room) (rest : List ℕ) (fault : StreamFault) → stream_fault room rest ≡ Some fault → (m behind : List ℕ) → IsMessage room m → rest ≡ m ++ behind → ⊥
 none_by_fault room rest fault told m behind is e =
     let sound = ap (stream_fault room) e ∙ no_fault_in room m behind is in
     cc (sound, told)
 
-pub none_by_part : (room : ℕ) (rest : List ℕ) → is_whole rest ≡ false → (m behind : List ℕ) → IsMessage room m → rest ≡ m ++ behind → ⊥
+pub none_by_part : (room : Room) (rest : List ℕ) → is_whole rest ≡ false → (m behind : List ℕ) → IsMessage room m → rest ≡ m ++ behind → ⊥
 none_by_part room rest part m behind is e =
     let whole = ap is_whole e ∙ whole_in room m behind is in
     cc (whole, part)
 
 -- a stream that has ended says so
-pub says_ended : (room : ℕ) (bytes : List ℕ) (messages : List (List ℕ)) (stream : Stream) (coming : List ℕ) (error : StreamError)
+pub says_ended : (room : Room) (bytes : List ℕ) (messages : List (List ℕ)) (stream : Stream) (coming : List ℕ) (error : StreamError)
     → bytes ≡ concat messages ++ (stream.pending ++ coming) → All (IsMessage room) messages → stream.offset ≡ offset_of (length (concat messages))
     → Ended room stream coming error → stream.error ≡ Some error → Says room bytes messages stream.error
 says_ended room bytes messages stream coming error joins each at ended e =
@@ -261,7 +261,7 @@ says_ended room bytes messages stream coming error joins each at ended e =
     }
 
 -- and so does one of which nothing is left
-says_running : (room : ℕ) (bytes : List ℕ) (messages : List (List ℕ)) (stream : Stream) (coming : List ℕ)
+says_running : (room : Room) (bytes : List ℕ) (messages : List (List ℕ)) (stream : Stream) (coming : List ℕ)
     → bytes ≡ concat messages ++ (stream.pending ++ coming) → All (IsMessage room) messages → coming ≡ []
     → Runs room stream → stream.error ≡ None → Says room bytes messages stream.error
 says_running room bytes messages stream coming joins each nothing runs e =
@@ -273,7 +273,7 @@ says_running room bytes messages stream coming joins each nothing runs e =
       error_is = e ∙ sym (ap told runs.sound);
     }
 
-said_by : (room : ℕ) (bytes : List ℕ) (messages : List (List ℕ)) (stream : Stream) (coming : List ℕ)
+said_by : (room : Room) (bytes : List ℕ) (messages : List (List ℕ)) (stream : Stream) (coming : List ℕ)
     → bytes ≡ concat messages ++ (stream.pending ++ coming) → All (IsMessage room) messages → Stands room (0 + length (concat messages)) stream coming
     → (coming ≡ []) ⊎ IsSome stream.error → Says room bytes messages stream.error
 said_by room bytes messages stream coming joins each stands done =
@@ -286,7 +286,7 @@ said_by room bytes messages stream coming joins each stands done =
       ]
     ]
 
-pub said : (room : ℕ) (bytes : List ℕ) (pieces : List (List ℕ)) → IsHandedOver (begun room) bytes pieces → IsDone (begun room) bytes pieces
+pub said : (room : Room) (bytes : List ℕ) (pieces : List (List ℕ)) → IsHandedOver (begun room) bytes pieces → IsDone (begun room) bytes pieces
     → Says room bytes (yielded (begun room) pieces) (left_by (begun room) pieces).error
 said room bytes pieces handed done =
     let ends = run room 0 (begun room) bytes pieces (begins_standing room bytes) handed in

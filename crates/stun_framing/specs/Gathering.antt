@@ -1,39 +1,39 @@
 -- The bytes of one message, which are kept in a buffer until it is whole.
 use Rattle.std.specs.Prelude.{◌≡◌, ℕ, ◌≤◌, List, ◌++◌, length, take, min, nat_lt, if◌then◌else◌, None, Some}
+use Rattle.stun_framing.specs.declared.carries.Carries.{Carries}
 use Rattle.stun_framing.specs.declared.error.StreamFault.{StreamFault}
 use Rattle.stun_framing.specs.declared.gather.Kept.{Kept}
-use Rattle.stun_framing.specs.Framing.{stated_length, stream_fault}
+use Rattle.stun_framing.specs.Framing.{Room, room_of, stated_length, stream_fault}
 
--- how many bytes are wanted of the message that begins with b: a header, and then as many as it
--- states
+-- how many bytes are wanted of the message that begins with b: four, and then as many as these state
 abbrev pub wanted_for : List ℕ → ℕ
-wanted_for b = if nat_lt (length b) 20 then 20 else stated_length b
+wanted_for b = if nat_lt (length b) 4 then 4 else stated_length b
 
 -- b are bytes of a message, up to its end at most, and so many are wanted, which a buffer of so many
 -- bytes takes
-pub record IsKept (room : ℕ) (b : List ℕ) (wanted : ℕ) : Type 0 where
+pub record IsKept (room : Room) (b : List ℕ) (wanted : ℕ) : Type 0 where
   pub sound : stream_fault room b ≡ None
   pub wanted_is : wanted ≡ wanted_for b
   pub within : length b ≤ wanted
-  pub fits : wanted ≤ room
+  pub fits : wanted ≤ room.size
 
--- a buffer holds the header with which b begins, as far as it is there
-pub record HoldsHeader (b : List ℕ) (kept : Kept) (buffer : List ℕ) : Type 0 where
-  pub sound : stream_fault (length buffer) b ≡ None
-  pub bytes : take kept.held buffer ≡ take 20 b
-  pub count : kept.held ≡ min 20 (length b)
+-- a buffer holds the first four bytes of b, as far as they are there
+pub record HoldsStart (b : List ℕ) (kept : Kept) (buffer : List ℕ) : Type 0 where
+  pub bytes : take kept.held buffer ≡ take 4 b
+  pub count : kept.held ≡ min 4 (length b)
   pub wanted : kept.wanted ≡ wanted_for b
-  pub least : 20 ≤ kept.wanted
   pub fits : kept.wanted ≤ length buffer
 
 -- a buffer holds the bytes that belong to the message with which b begins
-pub record HoldsFirst (b : List ℕ) (kept : Kept) (buffer : List ℕ) : Type 0 where
-  pub sound : stream_fault (length buffer) b ≡ None
+pub record HoldsFirst (carries : Carries) (b : List ℕ) (kept : Kept) (buffer : List ℕ)
+    : Type 0 where
+  pub sound : stream_fault (room_of carries (length buffer)) b ≡ None
   pub bytes : take kept.held buffer ≡ take (wanted_for b) b
   pub held : kept.held ≤ length buffer
   pub wanted : kept.wanted ≡ wanted_for b
 
 -- no message begins with the bytes that are held and a piece, and those that are held stay
-pub record Refuses (held : ℕ) (piece : List ℕ) (fault : StreamFault) (old new : List ℕ) : Type 0 where
-  pub fault_is : stream_fault (length old) (take held old ++ piece) ≡ Some fault
+pub record Refuses (carries : Carries) (held : ℕ) (piece : List ℕ) (fault : StreamFault)
+    (old new : List ℕ) : Type 0 where
+  pub fault_is : stream_fault (room_of carries (length old)) (take held old ++ piece) ≡ Some fault
   pub kept : take held new ≡ take held old

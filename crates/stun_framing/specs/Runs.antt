@@ -2,7 +2,7 @@
 use Rattle.std.specs.Prelude.{◌≡◌, ℕ, ◌⊎◌, false, List, [], ◌∷◌, ◌++◌, length, drop, Option, None, Some, IsSome, option_map, Result, Ok, Err}
 use Rattle.std.specs.List.{concat}
 use Rattle.stun_framing.specs.declared.error.StreamError.{StreamError}
-use Rattle.stun_framing.specs.Framing.{IsCut, stream_fault}
+use Rattle.stun_framing.specs.Framing.{Room, IsCut, stream_fault}
 use Rattle.stun_framing.specs.Streams.{Stream, is_whole, offset_of, answer, left}
 
 -- how many bytes of a piece are taken
@@ -51,20 +51,20 @@ IsDone stream coming pieces =
 -- ---- What the bytes of a stream say
 
 -- how a stream ends behind these messages, by what follows them
-abbrev pub ending : (room : ℕ) → (messages : List (List ℕ)) → (rest : List ℕ) → Option StreamError
+abbrev pub ending : (room : Room) → (messages : List (List ℕ)) → (rest : List ℕ) → Option StreamError
 ending room messages rest = option_map
     (λ fault. record { offset = offset_of (length (concat messages)); fault = fault })
     (stream_fault room rest)
 
 -- the bytes of a stream are these messages and a rest, by which it ends so or goes on
-pub record Says (room : ℕ) (bytes : List ℕ) (messages : List (List ℕ)) (error : Option StreamError)
+pub record Says (room : Room) (bytes : List ℕ) (messages : List (List ℕ)) (error : Option StreamError)
     : Type 0 where
   pub rest : List ℕ
   pub cut : IsCut room bytes messages rest
   pub error_is : error ≡ ending room messages rest
 
 -- so much of a stream has come: these messages, and then the pending bytes of one that isn't whole
-pub record HasCome (room : ℕ) (bytes : List ℕ) (messages : List (List ℕ)) (stream : Stream)
+pub record HasCome (room : Room) (bytes : List ℕ) (messages : List (List ℕ)) (stream : Stream)
     : Type 0 where
   pub cut : IsCut room bytes messages stream.pending
   pub room_is : stream.room ≡ room

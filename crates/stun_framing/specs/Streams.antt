@@ -4,23 +4,24 @@ use Rattle.std.specs.Option.{option_or}
 use Rattle.std.specs.Result.{result_map_both}
 use Rattle.stun_framing.specs.declared.error.StreamError.{StreamError}
 use Rattle.stun_framing.specs.declared.kept_stream.Pushed.{Pushed}
-use Rattle.stun_framing.specs.Framing.{stated_length, stream_fault}
+use Rattle.stun_framing.specs.declared.carries.Carries.{Carries}
+use Rattle.stun_framing.specs.Framing.{Room, room_of, stated_length, stream_fault}
 
--- how many bytes the buffer takes, the offset in the stream of the pending bytes, which are those of a
+-- what it carries and how many bytes the buffer takes, the offset in the stream of the pending bytes, which are those of a
 -- message that isn't whole, the message that the last piece made whole, and how the stream ended
 pub record Stream : Type 0 where
-  pub room : ℕ
+  pub room : Room
   pub offset : ℕ
   pub pending : List ℕ
   pub message : Option (List ℕ)
   pub error : Option StreamError
 
 -- a stream of which nothing has come
-abbrev pub begun : (room : ℕ) → Stream
+abbrev pub begun : (room : Room) → Stream
 begun room = record { room = room; offset = 0; pending = []; message = None; error = None }
 
 -- a stream that goes on with these bytes of a message pending, at an offset
-abbrev pub resumed : (room offset : ℕ) → (pending : List ℕ) → Stream
+abbrev pub resumed : (room : Room) → (offset : ℕ) → (pending : List ℕ) → Stream
 resumed room offset pending =
     record { room = room; offset = offset; pending = pending; message = None; error = None }
 
@@ -32,14 +33,14 @@ joined stream piece = stream.pending ++ piece
 
 -- b begins with a whole message, if with any
 abbrev pub is_whole : List ℕ → Bool
-is_whole b = nat_le 20 (length b) && nat_le (stated_length b) (length b)
+is_whole b = nat_le 4 (length b) && nat_le (stated_length b) (length b)
 
 -- the first bytes of a buffer, so many, can be pending: the buffer takes a header, and they are the
 -- beginning of a message that it takes too, and not all of it
-abbrev pub can_resume : (buffer : List ℕ) → (held : ℕ) → Bool
-can_resume buffer held =
+abbrev pub can_resume : Carries → (buffer : List ℕ) → (held : ℕ) → Bool
+can_resume carries buffer held =
     nat_le 20 (length buffer) && nat_le held (length buffer)
-    && not (is_some (stream_fault (length buffer) (take held buffer)))
+    && not (is_some (stream_fault (room_of carries (length buffer)) (take held buffer)))
     && not (is_whole (take held buffer))
 
 -- the bytes of b that belong to the message with which it begins

@@ -1,15 +1,17 @@
 //! The bytes of one message, gathered in a buffer.
 
 ghost use Rattle.std.specs.Prelude.{◌≡◌, ◌+◌, ◌<◌, ◌≤◌, ◌++◌, length, take, drop, min, true, false, MatchOption, MatchResult};
-ghost use Rattle.stun_framing.specs.Gathering.{wanted_for, IsKept, HoldsHeader, HoldsFirst, Refuses};
+ghost use Rattle.stun_framing.specs.Framing.{room_of};
+ghost use Rattle.stun_framing.specs.Gathering.{wanted_for, IsKept, HoldsStart, HoldsFirst, Refuses};
 ghost use Rattle.stun_framing.specs.Streams.{can_resume};
 
+use crate::carries::Carries;
 use crate::error::StreamFault;
-use crate::fault::wanted_length;
+use crate::fault::{START, stream_fault, wanted_length};
 use stun_base::MessageHeader;
 
-/// What a buffer holds of a message: how many bytes, and how many are wanted. Until the header is
-/// there, these are its twenty, and then as many as it states.
+/// What a buffer holds of a message: how many bytes, and how many are wanted. Until its first four
+/// are there, these are four, and then as many as they state.
 #[derive(Clone, Copy, Debug)]
 pub(crate) struct Kept {
     pub(crate) held: usize,
@@ -19,20 +21,20 @@ pub(crate) struct Kept {
 /// Nothing of a message.
 pub(crate) const NOTHING: Kept = Kept {
     held: 0,
-    wanted: MessageHeader::LENGTH,
+    wanted: START,
 };
 
 /// What a buffer holds of a message whose first `held` bytes it begins with, unless no message
 /// begins so for which there is room, or they are all of it.
-pub(crate) fn held_part(buffer: &[u8], held: usize) -> Option<Kept>
-    ensures { MatchOption result (can_resume buffer.now held ≡ false)
-        (λ kept. (can_resume buffer.now held ≡ true)
+pub(crate) fn held_part(carries: Carries, buffer: &[u8], held: usize) -> Option<Kept>
+    ensures { MatchOption result (can_resume carries buffer.now held ≡ false)
+        (λ kept. (can_resume carries buffer.now held ≡ true)
         × (kept ≡ record { held = held; wanted = wanted_for (take held buffer.now) })) }
 {
     if buffer.len() < MessageHeader::LENGTH || buffer.len() < held {
         return None;
     }
-    let Ok(wanted) = wanted_length(buffer.len(), &buffer[..held]) else {
+    let Ok(wanted) = wanted_length(carries, buffer.len(), &buffer[..held]) else {
         return None;
     };
     if wanted <= held {
@@ -64,26 +66,62 @@ fn fill(buffer: &mut [u8], held: usize, wanted: usize, piece: &[u8]) -> usize
     held + count
 }
 
-/// Copies what belongs to the header, and looks at the header as far as it is there then.
+/// Copies what belongs to the first four bytes, and looks at them as far as they are there then.
 ///
 /// # Errors
 ///
 /// As for [`gather`].
-fn gather_header(buffer: &mut [u8], held: usize, piece: &[u8]) -> Result<Kept, StreamFault>
-    requires held { held < 20 }
-    requires room { 20 ≤ length buffer.old }
-    ensures { MatchResult result
-        (λ kept. HoldsHeader (take held buffer.old ++ piece.now) kept buffer.new)
-        (λ fault. Refuses held piece.now fault buffer.old buffer.new) }
+fn gather_start(
+    carries: Carries,
+    buffer: &mut [u8],
+    held: usize,
+    piece: &[u8],
+) -> Result<Kept, StreamFault>
+    requires held { held < 4 }
+    requires room { 4 ≤ length buffer.old }
+    ensures kept { take held buffer.new ≡ take held buffer.old }
+    ensures start { MatchResult result
+        (λ kept. HoldsStart (take held buffer.old ++ piece.now) kept buffer.new)
+        (λ fault. Refuses carries held piece.now fault buffer.old buffer.new) }
 {
     let room = buffer.len();
-    let header = fill(buffer, held, MessageHeader::LENGTH, piece);
-    match wanted_length(room, &buffer[..header]) {
+    let start = fill(buffer, held, START, piece);
+    match wanted_length(carries, room, &buffer[..start]) {
         Ok(wanted) => Ok(Kept {
-            held: header,
+            held: start,
             wanted,
         }),
         Err(fault) => Err(fault),
+    }
+}
+
+/// Copies what belongs to a message of which it is known how many bytes are wanted, unless `piece`
+/// is empty, behind the bytes that are kept of it.
+///
+/// # Errors
+///
+/// As for [`gather`].
+fn gather_rest(
+    carries: Carries,
+    buffer: &mut [u8],
+    kept: Kept,
+    piece: &[u8],
+) -> Result<Kept, StreamFault>
+    requires held { kept.held ≤ kept.wanted }
+    requires fits { kept.wanted ≤ length buffer.old }
+    requires wanted { kept.wanted ≡ wanted_for (take kept.held buffer.old ++ piece.now) }
+    ensures { MatchResult result
+        (λ new. HoldsFirst carries (take kept.held buffer.old ++ piece.now) new buffer.new)
+        (λ fault. Refuses carries kept.held piece.now fault buffer.old buffer.new) }
+{
+    let room = buffer.len();
+    let now = fill(buffer, kept.held, kept.wanted, piece);
+    match stream_fault(carries, room, &buffer[..now]) {
+        Some(fault) => Err(fault),
+        None => Ok(Kept {
+            held: now,
+            wanted: kept.wanted,
+        }),
     }
 }
 
@@ -93,26 +131,26 @@ fn gather_header(buffer: &mut [u8], held: usize, piece: &[u8]) -> Result<Kept, S
 ///
 /// Why no message for which there is room begins with the bytes that are kept and `piece`. The
 /// bytes that are kept stay.
-pub(crate) fn gather(buffer: &mut [u8], kept: Kept, piece: &[u8]) -> Result<Kept, StreamFault>
+pub(crate) fn gather(
+    carries: Carries,
+    buffer: &mut [u8],
+    kept: Kept,
+    piece: &[u8],
+) -> Result<Kept, StreamFault>
     requires bound { kept.held < kept.wanted }
-    requires kept { IsKept (length buffer.old) (take kept.held buffer.old) kept.wanted }
+    requires kept { IsKept (room_of carries (length buffer.old)) (take kept.held buffer.old)
+        kept.wanted }
     ensures { MatchResult result
-        (λ new. HoldsFirst (take kept.held buffer.old ++ piece.now) new buffer.new)
-        (λ fault. Refuses kept.held piece.now fault buffer.old buffer.new) }
+        (λ new. HoldsFirst carries (take kept.held buffer.old ++ piece.now) new buffer.new)
+        (λ fault. Refuses carries kept.held piece.now fault buffer.old buffer.new) }
 {
-    let Kept { held, wanted } = kept;
-    if held >= MessageHeader::LENGTH {
-        let now = fill(buffer, held, wanted, piece);
-        return Ok(Kept { held: now, wanted });
+    if kept.held >= START {
+        return gather_rest(carries, buffer, kept, piece);
     }
-    let header = match gather_header(buffer, held, piece) {
-        Ok(header) => header,
+    let start = match gather_start(carries, buffer, kept.held, piece) {
+        Ok(start) => start,
         Err(fault) => return Err(fault),
     };
-    let behind = &piece[header.held - held..];
-    let now = fill(buffer, header.held, header.wanted, behind);
-    Ok(Kept {
-        held: now,
-        wanted: header.wanted,
-    })
+    let behind = &piece[start.held - kept.held..];
+    gather_rest(carries, buffer, start, behind)
 }

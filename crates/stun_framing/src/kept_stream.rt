@@ -1,9 +1,11 @@
 //! A stream of messages of which the caller keeps the buffer.
 
 ghost use Rattle.std.specs.Prelude.{◌≡◌, length, take, true, false, Some, None, if◌then◌else◌, MatchOption};
+ghost use Rattle.stun_framing.specs.Framing.{room_of};
 ghost use Rattle.stun_framing.specs.Fields.{is_all};
 ghost use Rattle.stun_framing.specs.Streams.{resumed, can_resume, pushed, left, StandsIn};
 
+use crate::carries::Carries;
 use crate::error::StreamError;
 use crate::gather::{Kept, gather, held_part};
 use crate::message_stream::{offset_behind, pending_of};
@@ -46,7 +48,7 @@ fn whole_length(kept: Kept) -> Option<usize>
 /// stays as it was.
 ///
 /// ```
-/// let pushed = push_kept(&mut buffer, held, offset, piece).ok_or(Error::BadArgument)??;
+/// let pushed = push_kept(Carries::Messages, &mut buffer, held, offset, piece).ok_or(Error::BadArgument)??;
 /// (held, offset) = (pushed.pending, pushed.offset);
 /// rest = &piece[pushed.taken..];
 /// if let Some(length) = pushed.message {
@@ -63,18 +65,20 @@ fn whole_length(kept: Kept) -> Option<usize>
 /// [`MessageStream::resume`]: crate::MessageStream::resume
 #[tactic(auto, using(crate::proofs::KeptLemmas::resumed_kept))]
 pub fn push_kept(
+    carries: Carries,
     buffer: &mut [u8],
     held: usize,
     offset: u64,
     piece: &[u8],
 ) -> Option<Result<Pushed, StreamError>>
-    ensures { let stream = resumed (length buffer.old) offset (take held buffer.old) in
-        MatchOption result ((can_resume buffer.old held ≡ false) × (buffer.new ≡ buffer.old))
-        (λ answered. (can_resume buffer.old held ≡ true)
+    ensures { let stream = resumed (room_of carries (length buffer.old)) offset
+        (take held buffer.old) in
+        MatchOption result ((can_resume carries buffer.old held ≡ false) × (buffer.new ≡ buffer.old))
+        (λ answered. (can_resume carries buffer.old held ≡ true)
         × (answered ≡ pushed stream piece.now) × StandsIn (left stream piece.now) buffer.new) }
 {
-    let part = held_part(buffer, held)?;
-    Some(match gather(buffer, part, piece) {
+    let part = held_part(carries, buffer, held)?;
+    Some(match gather(carries, buffer, part, piece) {
         Ok(kept) => Ok(Pushed {
             taken: kept.held - held,
             offset: offset_behind(offset, kept),

@@ -5,7 +5,7 @@ ghost use Rattle.stun_grammar.specs.Numbers.{IsBytes};
 ghost use Rattle.stun_grammar.specs.Showing.{frame_fault};
 ghost use Rattle.stun_framing.specs.declared.error.StreamError.{StreamError};
 ghost use Rattle.stun_framing.specs.declared.error.StreamFault.{StreamFault};
-ghost use Rattle.stun_framing.specs.Framing.{IsMessage, IsCut, MayBegin, stream_fault};
+ghost use Rattle.stun_framing.specs.Framing.{Room, IsStunMessage, IsChannelData, IsMessage, IsCut, MayBegin, stream_fault};
 ghost use Rattle.stun_framing.specs.Streams.{Stream, begun, resumed, can_resume, answer, left};
 ghost use Rattle.stun_framing.specs.Runs.{message_in, IsHandedOver, left_by, yielded, IsDone, Says, HasCome};
 
@@ -15,36 +15,38 @@ use crate::message_stream::GREATEST_MESSAGE;
 /// and why they stop, are those that the bytes say.
 #[tactic(auto, using(crate::proofs::RunsLemmas::said))]
 pub fn cuts_change_nothing()
-    ensures { (room : ℕ) (bytes : List ℕ) (pieces : List (List ℕ))
+    ensures { (room : Room) (bytes : List ℕ) (pieces : List (List ℕ))
         → IsHandedOver (begun room) bytes pieces → IsDone (begun room) bytes pieces
         → Says room bytes (yielded (begun room) pieces) (left_by (begun room) pieces).error }
 {}
 
 /// The bytes of a stream are cut into messages and a rest in one way alone.
 pub fn one_cut()
-    ensures { (room : ℕ) (bytes : List ℕ) (messages others : List (List ℕ)) (rest other : List ℕ)
+    ensures { (room : Room) (bytes : List ℕ) (messages others : List (List ℕ)) (rest other : List ℕ)
         → IsCut room bytes messages rest → IsCut room bytes others other
         → (messages ≡ others) × (rest ≡ other) }
 {}
 
-/// A message of a stream is a header and as many bytes as it states, so that none is refused for its
-/// length; all such bytes are one where their length is a multiple of 4 and the buffer takes them;
-/// and none is longer than [`GREATEST_MESSAGE`](crate::GREATEST_MESSAGE).
+/// A STUN message of a stream is a header and as many bytes as it states, so that none is refused for
+/// its length; all such bytes are one if their length is a multiple of 4 and the buffer takes them;
+/// no message is longer than [`GREATEST_MESSAGE`](crate::GREATEST_MESSAGE); and no bytes are both
+/// a STUN message and a ChannelData message.
 pub fn messages_are_framed()
-    ensures framed { (room : ℕ) (m : List ℕ) → IsMessage room m → frame_fault m ≡ None }
-    ensures taken { (room : ℕ) (m : List ℕ) → frame_fault m ≡ None → length m % 4 ≡ 0
-        → length m ≤ room → IsMessage room m }
-    ensures longest { (room : ℕ) (m : List ℕ) → IsMessage room m → IsBytes m
+    ensures framed { (size : ℕ) (m : List ℕ) → IsStunMessage size m → frame_fault m ≡ None }
+    ensures taken { (size : ℕ) (m : List ℕ) → frame_fault m ≡ None → length m % 4 ≡ 0
+        → length m ≤ size → IsStunMessage size m }
+    ensures longest { (room : Room) (m : List ℕ) → IsMessage room m → IsBytes m
         → length m ≤ GREATEST_MESSAGE }
+    ensures apart { (size : ℕ) (m : List ℕ) → IsStunMessage size m → ¬ (IsChannelData size m) }
 {}
 
 /// What ends a stream is no beginning of one; and from the fourth byte on, with which the length
 /// field is there, what doesn't end it is.
 #[tactic(auto, using(crate::proofs::CutsLemmas::refused, crate::proofs::CutsLemmas::goes_on))]
 pub fn faults_are_right()
-    ensures refused { (room : ℕ) (b : List ℕ) (fault : StreamFault)
+    ensures refused { (room : Room) (b : List ℕ) (fault : StreamFault)
         → stream_fault room b ≡ Some fault → ¬ (MayBegin room b) }
-    ensures goes_on { (room : ℕ) (b : List ℕ) → 20 ≤ room → 4 ≤ length b
+    ensures goes_on { (room : Room) (b : List ℕ) → 4 ≤ length b
         → stream_fault room b ≡ None → MayBegin room b }
 {}
 
@@ -52,13 +54,13 @@ pub fn faults_are_right()
 /// that is refused says what the bytes up to its own say. So a loop over calls may keep how much of
 /// a stream has come, from none on.
 pub fn calls_go_on()
-    ensures none { (room : ℕ) → HasCome room [] [] (begun room) }
-    ensures comes { (room : ℕ) (bytes : List ℕ) (messages : List (List ℕ)) (stream : Stream)
+    ensures none { (room : Room) → HasCome room [] [] (begun room) }
+    ensures comes { (room : Room) (bytes : List ℕ) (messages : List (List ℕ)) (stream : Stream)
         (piece : List ℕ) (taken : ℕ) → HasCome room bytes messages stream
         → answer stream piece ≡ Ok taken
         → HasCome room (bytes ++ take taken piece)
         (messages ++ message_in (left stream piece).message) (left stream piece) }
-    ensures stops { (room : ℕ) (bytes : List ℕ) (messages : List (List ℕ)) (stream : Stream)
+    ensures stops { (room : Room) (bytes : List ℕ) (messages : List (List ℕ)) (stream : Stream)
         (piece : List ℕ) (error : StreamError) → HasCome room bytes messages stream
         → answer stream piece ≡ Err error → Says room (bytes ++ piece) messages (Some error) }
 {}
@@ -68,11 +70,11 @@ pub fn calls_go_on()
 /// come, and each further call is answered and leaves what it would have. Only a whole message that
 /// the last call yielded is gone.
 pub fn resuming_changes_nothing()
-    ensures resumes { (room : ℕ) (bytes : List ℕ) (messages : List (List ℕ)) (stream : Stream)
-        (buffer : List ℕ) → HasCome room bytes messages stream → 20 ≤ room → length buffer ≡ room
+    ensures resumes { (room : Room) (bytes : List ℕ) (messages : List (List ℕ)) (stream : Stream)
+        (buffer : List ℕ) → HasCome room bytes messages stream → 20 ≤ room.size → length buffer ≡ room.size
         → take (length stream.pending) buffer ≡ stream.pending
-        → can_resume buffer (length stream.pending) ≡ true }
-    ensures comes { (room : ℕ) (bytes : List ℕ) (messages : List (List ℕ)) (stream : Stream)
+        → can_resume room.carries buffer (length stream.pending) ≡ true }
+    ensures comes { (room : Room) (bytes : List ℕ) (messages : List (List ℕ)) (stream : Stream)
         → HasCome room bytes messages stream
         → HasCome room bytes messages (resumed room stream.offset stream.pending) }
     ensures goes_on { (stream : Stream) (piece : List ℕ) → stream.error ≡ None

@@ -5,6 +5,7 @@
 //! allocates nothing. [`push_kept`] does the same for a caller that keeps the buffer and two numbers.
 #![tactic(auto)]
 
+mod carries;
 mod error;
 mod fault;
 mod gather;
@@ -12,6 +13,7 @@ mod kept_stream;
 mod laws;
 mod message_stream;
 
+pub use carries::Carries;
 pub use error::{StreamError, StreamFault};
 pub use kept_stream::{Pushed, push_kept};
 pub use laws::{

@@ -3,6 +3,7 @@
 ghost use Rattle.std.specs.Prelude.{◌≡◌};
 ghost use Rattle.stun_framing.specs.Fields.{pending_of, offset_behind};
 
+use crate::carries::Carries;
 use crate::error::StreamError;
 use crate::gather::{Kept, NOTHING, gather, held_part};
 use std::marker::Model;
@@ -34,7 +35,9 @@ pub(crate) fn offset_behind(offset: u64, kept: Kept) -> u64
 }
 
 /// The messages of a stream of bytes that comes in pieces of any size, as over TCP and TLS: one
-/// behind the other, with nothing between them (RFC 8489, section 6.2.2).
+/// behind the other, with nothing between them (RFC 8489, section 6.2.2). A stream between a TURN
+/// client and its server has ChannelData messages among them (RFC 8656, section 12.5); it is made by
+/// [`MessageStream::carrying`].
 ///
 /// It gathers the bytes of one message at a time in a buffer of the caller's, where each is copied
 /// once, and allocates nothing. What it yields doesn't depend on how the stream was cut.
@@ -56,6 +59,7 @@ pub(crate) fn offset_behind(offset: u64, kept: Kept) -> u64
 /// ```
 #[derive(Debug, Drop)]
 pub struct MessageStream<'b> {
+    carries: Carries,
     buffer: &'b mut [u8],
     kept: Kept,
     offset: u64,
@@ -68,17 +72,18 @@ impl<'b> Model for MessageStream<'b> {
 
     ghost Value = { Stream };
 
-    ghost view = { λ s. stream_of s.buffer.now s.kept s.offset s.error };
+    ghost view = { λ s. stream_of s.carries s.buffer.now s.kept s.offset s.error };
 
-    ghost invariant = { λ s. IsStream s.buffer.now s.kept s.error };
+    ghost invariant = { λ s. IsStream s.carries s.buffer.now s.kept s.error };
 }
 
 impl<'b> MessageStream<'b> {
     ghost use Rattle.std.specs.Prelude.{◌≡◌, ◌≤◌, ◌<◌, length, take, true, false, Some, None, IfOk, IfSome, MatchOption};
-    ghost use Rattle.stun_framing.specs.Framing.{IsMessage};
+    ghost use Rattle.stun_framing.specs.declared.carries.Carries.TheVariants.{Messages};
+    ghost use Rattle.stun_framing.specs.Framing.{room_of, IsMessage};
     ghost use Rattle.stun_framing.specs.Streams.{begun, resumed, can_resume, answer, left};
 
-    /// A stream of which nothing has come. What `buffer` holds doesn't matter; messages that are
+    /// A stream of STUN messages of which nothing has come. What `buffer` holds doesn't matter; messages that are
     /// longer than it end the stream.
     ///
     /// # Requires
@@ -86,9 +91,24 @@ impl<'b> MessageStream<'b> {
     /// `buffer` has at least twenty bytes, those of a header.
     pub fn new(buffer: &'b mut [u8]) -> MessageStream<'b>
         requires { 20 ≤ length buffer.old }
-        ensures { result ≡ begun (length buffer.old) }
+        ensures { result ≡ begun (room_of Messages (length buffer.old)) }
+    {
+        Self::carrying(Carries::Messages, buffer)
+    }
+
+    /// The same of a stream that carries ChannelData messages too, or not. What
+    /// [`MessageStream::message`] then yields is one if its first byte is one of 0x40 to 0x4F, and
+    /// has its padding; `ChannelData::from_bytes` of `turn_attrs` reads it.
+    ///
+    /// # Requires
+    ///
+    /// `buffer` has at least twenty bytes, those of a header.
+    pub fn carrying(carries: Carries, buffer: &'b mut [u8]) -> MessageStream<'b>
+        requires { 20 ≤ length buffer.old }
+        ensures { result ≡ begun (room_of carries (length buffer.old)) }
     {
         MessageStream {
+            carries,
             buffer,
             kept: NOTHING,
             offset: 0,
@@ -106,17 +126,24 @@ impl<'b> MessageStream<'b> {
     /// there is room, as [`MessageStream::push`] would answer; or they are a whole message.
     ///
     /// ```
-    /// let mut stream = MessageStream::resume(&mut buffer, held, offset)?;
+    /// let mut stream = MessageStream::resume(Carries::Messages, &mut buffer, held, offset)?;
     /// let taken = stream.push(piece)?;
     /// (held, offset) = (stream.pending().len(), stream.offset());
     /// ```
-    pub fn resume(buffer: &'b mut [u8], held: usize, offset: u64) -> Option<MessageStream<'b>>
-        ensures { MatchOption result (can_resume buffer.old held ≡ false)
-            (λ stream. (can_resume buffer.old held ≡ true)
-            × (stream ≡ resumed (length buffer.old) offset (take held buffer.old))) }
+    pub fn resume(
+        carries: Carries,
+        buffer: &'b mut [u8],
+        held: usize,
+        offset: u64,
+    ) -> Option<MessageStream<'b>>
+        ensures { MatchOption result (can_resume carries buffer.old held ≡ false)
+            (λ stream. (can_resume carries buffer.old held ≡ true)
+            × (stream ≡ resumed (room_of carries (length buffer.old)) offset
+            (take held buffer.old))) }
     {
-        match held_part(buffer, held) {
+        match held_part(carries, buffer, held) {
             Some(kept) => Some(MessageStream {
+                carries,
                 buffer,
                 kept,
                 offset,
@@ -139,7 +166,8 @@ impl<'b> MessageStream<'b> {
     /// error, and changes nothing. It is answered with the first byte that shows it, whatever
     /// follows:
     ///
-    /// - `NotStun` with the first byte, or with one of the magic cookie, the fifth to the eighth;
+    /// - `NotStun` with the first byte, or with one of the magic cookie, the fifth to the eighth of a
+    ///   STUN message;
     /// - `NotPadded` or else `TooLong` with the fourth byte, the last of the length field.
     pub fn push(&mut self, piece: &[u8]) -> Result<usize, StreamError>
         ensures answer { result ≡ answer self.old piece.now }
@@ -151,7 +179,7 @@ impl<'b> MessageStream<'b> {
             return Err(error);
         }
         let pending = pending_of(self.kept);
-        match gather(self.buffer, pending, piece) {
+        match gather(self.carries, self.buffer, pending, piece) {
             Ok(kept) => {
                 self.offset = offset_behind(self.offset, kept);
                 self.kept = kept;
@@ -170,7 +198,8 @@ impl<'b> MessageStream<'b> {
     }
 
     /// The bytes of the message that the last call of [`MessageStream::push`] made whole: a header
-    /// and as many bytes as it states. The rest of a message is for `Message::from_bytes` to judge.
+    /// and as many bytes as it states, and the padding of a ChannelData message. The rest of a
+    /// message is for `Message::from_bytes` to judge.
     ///
     /// `None` where that call left a message pending or was refused, and before the first one.
     pub fn message(&self) -> Option<&[u8]>

@@ -1,9 +1,11 @@
 -- Streams of messages, as C keeps them between its calls (RFC 8489, section 6.2.2).
 use Rattle.std.specs.Prelude.{◌≡◌, ℕ, true, false, List, length, take, Option, None, Some, Result, Ok, Err}
 use Rattle.std.specs.Option.{option_map_or}
+use Rattle.stun_framing.specs.declared.carries.Carries.TheVariants.{Messages}
 use Rattle.stun_framing.specs.declared.error.StreamError.{StreamError}
 use Rattle.stun_framing.specs.declared.error.StreamFault.{StreamFault}
 use Rattle.stun_framing.specs.declared.error.StreamFault.TheVariants.{NotStun, NotPadded, TooLong}
+use Rattle.stun_framing.specs.Framing.{room_of}
 use Rattle.stun_framing.specs.Streams.{Stream, resumed, can_resume, refusal, answer, left, StandsIn}
 use Rattle.stun_types_c.specs.declared.call_result.CallResult.{CallResult}
 use Rattle.stun_types_c.specs.declared.streams.KeptStream.{KeptStream}
@@ -19,7 +21,8 @@ fault_result room (TooLong stated) = counted TOO_LARGE room stated
 -- the stream that goes on with what C keeps: an offset, and as many bytes at the start of its buffer
 -- as are pending
 abbrev pub stream_kept : KeptStream → (buffer : List ℕ) → Stream
-stream_kept kept buffer = resumed (length buffer) kept.offset (take kept.pending buffer)
+stream_kept kept buffer =
+    resumed (room_of Messages (length buffer)) kept.offset (take kept.pending buffer)
 
 -- what C keeps of a stream, and how long the message is that the last piece made whole, or 0
 abbrev pub kept_of : Stream → KeptStream
@@ -46,7 +49,7 @@ abbrev pub PushesPiece : (piece buffer filled : List ℕ) → CallResult → (ol
     → (before after : ℕ) → Type 0
 PushesPiece piece buffer filled result old new before after =
     let stream = stream_kept old buffer in
-    elim (can_resume buffer old.pending) [
+    elim (can_resume Messages buffer old.pending) [
       | false ↦ (result ≡ plain BAD_ARGUMENT) × (new ≡ old) × (filled ≡ buffer) × (after ≡ before)
       | true ↦ (result ≡ piece_answer (length buffer) (refusal stream piece))
           × (new ≡ kept_of (left stream piece))

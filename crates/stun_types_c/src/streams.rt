@@ -5,7 +5,7 @@ ghost use Rattle.stun_types_c.specs.Streams.{fault_result, PushesPiece};
 
 use crate::call_result::{CallResult, counted, plain};
 use crate::codes;
-use stun_framing::{StreamFault, push_kept};
+use stun_framing::{Carries, StreamFault, push_kept};
 
 /// A stream, as C keeps it.
 #[repr(C)]
@@ -42,7 +42,8 @@ pub extern "C" fn stun_types_stream_push(
         taken.old taken.new }
 {
     let size = buffer.len();
-    let Some(answer) = push_kept(buffer, kept.pending, kept.offset, piece) else {
+    let Some(answer) = push_kept(Carries::Messages, buffer, kept.pending, kept.offset, piece)
+    else {
         return plain(codes::BAD_ARGUMENT);
     };
     match answer {

@@ -4,12 +4,12 @@ use Rattle.stun_framing.proofs.kept_stream.push_kept.Goals as goal
 
 pub overflow_sub-result : goal.overflow_sub-result
 overflow_sub-result c =
-    (goes_on c.args.buffer.now c.gather.new.buffer c.args.piece.now c.args.held c.args.offset c.in_ok-part.part c.in-Ok.kept
+    (goes_on c.args.carries c.args.buffer.now c.gather.new.buffer c.args.piece.now c.args.held c.args.offset c.in_ok-part.part c.in-Ok.kept
     c.in_ok-part.ensures.0 c.in_ok-part.ensures.1 c.gather.auto.buffer c.in-Ok.ensures).grows
 
 pub returns-in-Ok : goal.returns-in-Ok
 returns-in-Ok c =
-    let goes = goes_on c.args.buffer.now c.gather.new.buffer c.args.piece.now c.args.held c.args.offset c.in_ok-part.part c.in-Ok.kept
+    let goes = goes_on c.args.carries c.args.buffer.now c.gather.new.buffer c.args.piece.now c.args.held c.args.offset c.in_ok-part.part c.in-Ok.kept
     c.in_ok-part.ensures.0 c.in_ok-part.ensures.1 c.gather.auto.buffer c.in-Ok.ensures in (
       c.in_ok-part.ensures.0,
       (λ i. Ok (record {

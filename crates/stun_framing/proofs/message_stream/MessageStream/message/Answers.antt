@@ -1,6 +1,6 @@
 use Rattle.std.proofs.Common.{◌≡◌, ℕ, List, length, take, ap, subst, arith}
 use Rattle.std.proofs.lemmas.List.{length-take}
-use Rattle.stun_framing.specs.Framing.{IsMessage}
+use Rattle.stun_framing.specs.Framing.{Room, room_of, IsMessage}
 use Rattle.stun_framing.specs.Streams.{Stream}
 use Rattle.stun_framing.proofs.CutsLemmas.{kept_message}
 use Rattle.stun_framing.proofs.message_stream.MessageStream.message.Goals as goal
@@ -12,4 +12,4 @@ returns-clause-whole c =
     let is = c.self.invariant in
     let m : List ℕ = take kept.held buffer in
     let all : length m ≡ kept.wanted = omega (arith, length-take kept.held buffer, is.bound, is.sound.within, c.if-self.false) in
-    subst (λ (room : ℕ). IsMessage room m) (ap (λ (s : Stream). s.room) c.self.view_is) (kept_message (length buffer) m kept.wanted is.sound all)
+    subst (λ (room : Room). IsMessage room m) (ap (λ (s : Stream). s.room) c.self.view_is) (kept_message (room_of c.self.inside.carries (length buffer)) m kept.wanted is.sound all)

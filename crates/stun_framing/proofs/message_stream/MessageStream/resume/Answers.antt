@@ -7,4 +7,5 @@ use Rattle.stun_framing.proofs.message_stream.MessageStream.resume.Goals as goal
 pub invariant_of-result : goal.invariant_of-result
 invariant_of-result c =
     let held = c.in-Some.ensures in
-    subst (λ (kept : Kept). IsStream c.args.buffer.now kept None) (sym held.1) (resumed_is c.args.buffer.now c.args.held (resumes_if c.args.buffer.now c.args.held held.0))
+    subst (λ (kept : Kept). IsStream c.args.carries c.args.buffer.now kept None) (sym held.1)
+    (resumed_is c.args.carries c.args.buffer.now c.args.held (resumes_if c.args.carries c.args.buffer.now c.args.held held.0))

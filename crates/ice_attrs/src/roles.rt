@@ -1,0 +1,84 @@
+//! Roles of agents, and what an agent does about a conflict of roles (RFC 8445, section 7.3.1.1).
+
+ghost use Rattle.std.specs.Prelude.{◌≡◌};
+ghost use Rattle.ice_attrs.specs.Roles.{role_decision};
+
+use stun_types::attribute::ErrorCode;
+
+/// The role of an agent (RFC 8445, section 6.1.1).
+#[derive(Clone, Copy, Debug, PartialEq, Eq)]
+pub enum Role {
+    /// It decides which candidate pairs are used. Its checks have ICE-CONTROLLING.
+    Controlling,
+    /// Its checks have ICE-CONTROLLED.
+    Controlled,
+}
+
+impl Role {
+    ghost use Rattle.std.specs.Prelude.{◌≡◌};
+    ghost use Rattle.ice_attrs.specs.Roles.{other_role};
+
+    /// The other role: the one that an agent switches to.
+    pub fn other(self) -> Role
+        ensures { result ≡ other_role self }
+    {
+        match self {
+            Role::Controlling => Role::Controlled,
+            Role::Controlled => Role::Controlling,
+        }
+    }
+}
+
+/// What an agent does about the role that a check shows (RFC 8445, section 7.3.1.1).
+#[derive(Clone, Copy, Debug, PartialEq, Eq)]
+pub enum RoleDecision {
+    /// There is no conflict: the agent keeps its role and answers the check.
+    Keep,
+    /// The agent switches to the other role and answers the check. It computes the priorities of its
+    /// pairs again.
+    Switch,
+    /// The agent keeps its role and answers with error 487 (Role Conflict).
+    Refuse,
+}
+
+impl RoleDecision {
+    ghost use Rattle.std.specs.Prelude.{◌≡◌};
+    ghost use Rattle.ice_attrs.specs.Roles.{refusal_code};
+
+    /// The code of the error response: 487 (Role Conflict) for `Refuse`, and `None` for a success
+    /// response.
+    pub fn error_code(self) -> Option<u16>
+        ensures { result ≡ refusal_code self }
+    {
+        match self {
+            RoleDecision::Keep | RoleDecision::Switch => None,
+            RoleDecision::Refuse => Some(ErrorCode::ROLE_CONFLICT),
+        }
+    }
+}
+
+/// What an agent of a role and a tiebreaker does about a check whose ICE-CONTROLLING or
+/// ICE-CONTROLLED, which is `shown`, has the value `contents` (RFC 8445, section 7.3.1.1).
+///
+/// The agent that sent the check and receives error 487 switches to the other role than its request
+/// showed, changes its tiebreaker, and checks the pair again (section 7.2.5.1). So of two agents
+/// that have one role the one with the greater tiebreaker ends as the controlling one, whichever
+/// sends the first check ([`greater_tiebreaker_controls`](crate::greater_tiebreaker_controls)).
+///
+/// ```
+/// let decision = decide_role(role, tiebreaker, Role::Controlling, check.value());
+/// if decision == RoleDecision::Switch {
+///     role = role.other();
+/// }
+/// ```
+pub fn decide_role(role: Role, tiebreaker: u64, shown: Role, contents: u64) -> RoleDecision
+    ensures { result ≡ role_decision role tiebreaker shown contents }
+{
+    if role != shown {
+        return RoleDecision::Keep;
+    }
+    match (role, tiebreaker >= contents) {
+        (Role::Controlling, true) | (Role::Controlled, false) => RoleDecision::Refuse,
+        (Role::Controlling, false) | (Role::Controlled, true) => RoleDecision::Switch,
+    }
+}

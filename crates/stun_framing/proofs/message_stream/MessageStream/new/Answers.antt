@@ -1,5 +1,0 @@
-use Rattle.stun_framing.proofs.StreamsLemmas.{begun_is}
-use Rattle.stun_framing.proofs.message_stream.MessageStream.new.Goals as goal
-
-pub invariant_of-result : goal.invariant_of-result
-invariant_of-result c = begun_is c.args.buffer.now c.requires
