@@ -291,8 +291,8 @@ abbrev pub discard_kind : Discard → ℕ
 discard_kind NotAuthentic = 1
 discard_kind BidDown = 2
 discard_kind UnsignedBadRequest = 3
-discard_kind OtherAlgorithm = 9
-discard_kind NoFingerprint = 10
+discard_kind OtherAlgorithm = 4
+discard_kind NoFingerprint = 5
 
 abbrev pub claim_number : Claim → ℕ
 claim_number claim = option_map_or (λ code. code) claim.code 0
@@ -310,13 +310,13 @@ outcome_in_c NotForThis = record { kind = 0; number = 0; algorithm = 0 }
 outcome_in_c (Discarded reason claim) =
     record { kind = discard_kind reason; number = claim_number claim; algorithm = 0 }
 outcome_in_c (Failed (Violated claim)) =
-    record { kind = 4; number = claim_number claim; algorithm = 0 }
+    record { kind = 6; number = claim_number claim; algorithm = 0 }
 outcome_in_c (Failed (UnknownAttribute type)) =
-    record { kind = 5; number = type.0; algorithm = 0 }
-outcome_in_c (Failed NoErrorCode) = record { kind = 6; number = 0; algorithm = 0 }
-outcome_in_c (Success proof) = record { kind = 7; number = 0; algorithm = proof_number proof }
+    record { kind = 7; number = type.0; algorithm = 0 }
+outcome_in_c (Failed NoErrorCode) = record { kind = 8; number = 0; algorithm = 0 }
+outcome_in_c (Success proof) = record { kind = 9; number = 0; algorithm = proof_number proof }
 outcome_in_c (Error code proof) =
-    record { kind = 8; number = code; algorithm = proof_number proof }
+    record { kind = 10; number = code; algorithm = proof_number proof }
 
 -- what C keeps, and what received bytes are
 pub record ReceivedState : Type 0 where

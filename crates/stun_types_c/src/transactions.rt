@@ -365,8 +365,8 @@ fn discard_kind(reason: Discard) -> u32
         Discard::NotAuthentic => 1,
         Discard::BidDown => 2,
         Discard::UnsignedBadRequest => 3,
-        Discard::OtherAlgorithm => 9,
-        Discard::NoFingerprint => 10,
+        Discard::OtherAlgorithm => 4,
+        Discard::NoFingerprint => 5,
     }
 }
 
@@ -398,11 +398,11 @@ fn outcome_of(received: &Received<'_>) -> ReceivedOutcome
     let (kind, number, algorithm) = match received {
         Received::NotForThis => (0, 0, 0),
         Received::Discarded(reason, claim) => (discard_kind(*reason), claim_number(*claim), 0),
-        Received::Failed(Failure::IntegrityViolated(claim)) => (4, claim_number(*claim), 0),
-        Received::Failed(Failure::UnknownAttribute(atype)) => (5, u32::from(atype.0), 0),
-        Received::Failed(Failure::NoErrorCode) => (6, 0, 0),
-        Received::Success(_, proof) => (7, 0, proof_number(*proof)),
-        Received::Error(_, code, proof) => (8, u32::from(*code), proof_number(*proof)),
+        Received::Failed(Failure::IntegrityViolated(claim)) => (6, claim_number(*claim), 0),
+        Received::Failed(Failure::UnknownAttribute(atype)) => (7, u32::from(atype.0), 0),
+        Received::Failed(Failure::NoErrorCode) => (8, 0, 0),
+        Received::Success(_, proof) => (9, 0, proof_number(*proof)),
+        Received::Error(_, code, proof) => (10, u32::from(*code), proof_number(*proof)),
     };
     ReceivedOutcome {
         kind,
