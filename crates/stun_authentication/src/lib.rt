@@ -30,6 +30,6 @@ pub use laws::{accepted_is_authentic, cookie_is_read};
 pub use logins::Logins;
 pub use long_term::authenticate_long_term;
 pub use lookups::{KnownNonce, LongTermKeys, Nonces, ShortTermKeys};
-pub use policy::Policy;
+pub use policy::{Policy, has_least_length};
 pub use refusing::{Demand, refuse};
 pub use short_term::authenticate_short_term;
