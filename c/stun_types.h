@@ -454,18 +454,22 @@ stun_types_answer stun_types_binding_reply(const uint8_t *bytes, size_t length,
 
 /* ---- A server with credentials ----------------------------------------------------------------- */
 
-/* Which integrity attributes count: those of one algorithm, or by STUN_TYPES_ANY of both; and how
-   many bytes a MESSAGE-INTEGRITY-SHA256 has at least: 32 unless a usage says 16, 20, 24 or 28
-   (RFC 8489, section 14.6). */
+/* Which integrity attributes count: those of one algorithm, or by STUN_TYPES_ANY of both; how many
+   bytes a MESSAGE-INTEGRITY-SHA256 has at least: 32 unless a usage says 16, 20, 24 or 28 (RFC 8489,
+   section 14.6); and, unless it is 0, that the usage uses FINGERPRINT, as ICE does: a message
+   without one is discarded (sections 6.3 and 7). */
 typedef struct {
     uint32_t algorithm;
     uint32_t shortest;
+    uint32_t fingerprint;
 } stun_types_policy;
 
 enum { /* stun_types_authentication.kind */
     STUN_TYPES_ACCEPTED = 0, /* it is this user's; sign the reply by reply_algorithm with their key */
     STUN_TYPES_REFUSED = 1,  /* answer by an error response with error_code: 400, 401 or 438 */
-    STUN_TYPES_DISCARDED = 2 /* answer nothing */
+    STUN_TYPES_DISCARDED = 2, /* answer nothing */
+    STUN_TYPES_NOT_A_REQUEST = 3 /* not authenticated: a response, or an indication under long-term
+                                    credentials, such as TURN's Send (RFC 8489, section 9.2) */
 };
 
 typedef struct {

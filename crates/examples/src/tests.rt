@@ -77,7 +77,7 @@ fn client_asks_and_reads(rt: HostRuntime) -> Result<(), Fail> {
 #[test]
 fn login_answers(rt: HostRuntime) -> Result<(), Fail> {
     let response = Message::from_bytes(&vectors::CHALLENGE)?;
-    let challenge = challenge_of(&response, &BOTH, None);
+    let challenge = challenge_of(&response, &BOTH, None, None);
     let challenge = challenge.ok().ok_or("no challenge")?;
     let request = login_request(rt.alloc(), 0x7392, &challenge, "user", "pass")?;
     assert!(rt; request.as_slice() == vectors::ANSWER.as_slice());

@@ -1,16 +1,24 @@
--- Which integrity attributes count, and whether they are right (RFC 8489, sections 9.1.3, 9.2.4 and
--- 14.6).
+-- Which messages are taken, which integrity attributes count, and whether they are right (RFC 8489,
+-- sections 6.3, 7, 9.1.3, 9.2.4 and 14.6).
 use Rattle.std.specs.Prelude.{◌≡◌, ℕ, Bool, true, false, ◌||◌, List, length, Option, Some, None, is_some, Result, Ok, Err, nat_le, if◌then◌else◌}
 use Rattle.std.specs.Option.{option_map_or}
 use Rattle.stun_grammar.specs.declared.error.ValidateError.{ValidateError}
 use Rattle.stun_grammar.specs.declared.integrity_algorithm.IntegrityAlgorithm.{IntegrityAlgorithm}
 use Rattle.stun_grammar.specs.declared.integrity_algorithm.IntegrityAlgorithm.TheVariants.{Sha1, Sha256}
-use Rattle.stun_grammar.specs.AttributeTypes.{MESSAGE_INTEGRITY, MESSAGE_INTEGRITY_SHA256}
+use Rattle.stun_grammar.specs.AttributeTypes.{MESSAGE_INTEGRITY, MESSAGE_INTEGRITY_SHA256, FINGERPRINT}
 use Rattle.stun_grammar.specs.Verdicts.{type_of_algorithm, is_checked_type, verdict}
 use Rattle.stun_keys.specs.declared.keys.integrity_key.IntegrityKey.{IntegrityKey}
 use Rattle.stun_keys.specs.Keys.{IsKey}
 use Rattle.stun_read.specs.LookingUp.{nth}
 use Rattle.stun_authentication.specs.declared.policy.Policy.{Policy}
+
+-- whether d shows a FINGERPRINT
+abbrev pub is_fingerprinted : List ℕ → Bool
+is_fingerprinted d = is_some (nth d FINGERPRINT 0)
+
+-- whether d is taken: with a FINGERPRINT, where the usage uses them (sections 6.3 and 7)
+abbrev pub is_taken : Policy → List ℕ → Bool
+is_taken policy d = if policy.fingerprint then is_fingerprinted d else true
 
 -- whether d shows the integrity attribute of the algorithm that serves, or of one of both
 abbrev pub shows_served : Option IntegrityAlgorithm → List ℕ → Bool
