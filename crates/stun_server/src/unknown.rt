@@ -116,7 +116,7 @@ impl EncodeValue for UnknownTypes<'_> {
 }
 
 /// How many bytes a message of `len` bytes has with an UNKNOWN-ATTRIBUTES of these types.
-#[tactic(auto, using(std::proofs::Common::arith, stun_values::proofs::ListsLemmas::length_of_twos))]
+#[tactic(auto, using(stun_values::proofs::ListsLemmas::length_of_twos))]
 pub(crate) fn with_unknown(len: usize, unknown: &UnknownTypes<'_>) -> usize
     requires { len ≤ 100 }
     ensures length { result ≡ grown_length len
