@@ -30,13 +30,16 @@ shows_served (Some algorithm) d = is_some (nth d (type_of_algorithm algorithm) 0
 abbrev pub is_signed : Policy → List ℕ → Bool
 is_signed policy d = shows_served policy.algorithm d
 
--- whether the HMAC of this algorithm has enough bytes in d: only that of a
+-- whether the HMAC of this algorithm has at least so many bytes in d: only that of a
 -- MESSAGE-INTEGRITY-SHA256 may be cut (section 14.6)
+abbrev pub has_least_length : ℕ → IntegrityAlgorithm → List ℕ → Bool
+has_least_length shortest Sha1 d = true
+has_least_length shortest Sha256 d =
+    option_map_or (λ a. nat_le shortest (length a.value)) (nth d MESSAGE_INTEGRITY_SHA256 0) false
+
+-- whether it has as many as the policy asks for
 abbrev pub is_long_enough : Policy → IntegrityAlgorithm → List ℕ → Bool
-is_long_enough policy Sha1 d = true
-is_long_enough policy Sha256 d =
-    option_map_or (λ a. nat_le policy.shortest (length a.value)) (nth d MESSAGE_INTEGRITY_SHA256 0)
-    false
+is_long_enough policy algorithm d = has_least_length policy.shortest algorithm d
 
 -- what a validation of d answers with a key: of the attribute that counts, and of
 -- MESSAGE-INTEGRITY-SHA256 where both do

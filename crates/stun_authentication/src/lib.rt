@@ -41,7 +41,7 @@ pub use logins::Logins;
 pub use long_term::authenticate_long_term;
 pub use lookups::{KnownNonce, LongTermKeys, Nonces, ShortTermKeys};
 pub use nonces::{Freshness, NonceMaker, NoncesOf};
-pub use policy::Policy;
+pub use policy::{Policy, has_least_length};
 pub use refusing::{refuse_long_term, refuse_short_term};
 pub use retry::{challenge_of, is_bid_down};
 pub use short_term::authenticate_short_term;

@@ -3,6 +3,7 @@
 ghost use Rattle.std.specs.Prelude.{◌≡◌};
 ghost use Rattle.stun_types.specs.Message.{message_bytes};
 ghost use Rattle.stun_keys.specs.Keys.{key_bytes, IsKey};
+ghost use Rattle.stun_authentication.specs.Policies.{has_least_length};
 
 use stun_types::attribute::{
     AttributeStaticType, Fingerprint, MessageIntegrity, MessageIntegritySha256,
@@ -26,6 +27,27 @@ pub struct Policy {
     pub fingerprint: bool,
 }
 
+/// Whether the HMAC of an algorithm has at least `shortest` bytes in a message. That of a
+/// MESSAGE-INTEGRITY has 20 always, and only that of a MESSAGE-INTEGRITY-SHA256 may be cut, where the
+/// usage says so (RFC 8489, section 14.6).
+pub fn has_least_length(
+    shortest: usize,
+    algorithm: IntegrityAlgorithm,
+    message: &Message<'_>,
+) -> bool
+    ensures { result ≡ has_least_length shortest algorithm (message_bytes message.now) }
+{
+    match algorithm {
+        IntegrityAlgorithm::Sha1 => true,
+        IntegrityAlgorithm::Sha256 => {
+            match message.raw_attribute(MessageIntegritySha256::TYPE) {
+                Some(raw) => shortest <= raw.value().as_bytes().len(),
+                None => false,
+            }
+        }
+    }
+}
+
 impl Default for Policy {
     ghost use Rattle.std.specs.Prelude.{◌≡◌, None, false};
 
@@ -45,7 +67,7 @@ impl Policy {
     ghost use Rattle.std.specs.Prelude.{◌≡◌};
     ghost use Rattle.stun_types.specs.Message.{message_bytes};
     ghost use Rattle.stun_keys.specs.Keys.{key_bytes, IsKey};
-    ghost use Rattle.stun_authentication.specs.Policies.{is_fingerprinted, is_taken, is_signed, is_long_enough, proof_of, Proves};
+    ghost use Rattle.stun_authentication.specs.Policies.{is_fingerprinted, is_taken, is_signed, proof_of, Proves};
 
     /// Whether a message is taken: with a FINGERPRINT, where the usage uses them.
     pub(crate) fn is_taken(self, message: &Message<'_>) -> bool
@@ -68,21 +90,6 @@ impl Policy {
         }
     }
 
-    /// Whether the HMAC of this algorithm has enough bytes in a message.
-    fn is_long_enough(self, algorithm: IntegrityAlgorithm, message: &Message<'_>) -> bool
-        ensures { result ≡ is_long_enough self algorithm (message_bytes message.now) }
-    {
-        match algorithm {
-            IntegrityAlgorithm::Sha1 => true,
-            IntegrityAlgorithm::Sha256 => {
-                match message.raw_attribute(MessageIntegritySha256::TYPE) {
-                    Some(raw) => self.shortest <= raw.value().as_bytes().len(),
-                    None => false,
-                }
-            }
-        }
-    }
-
     /// The algorithm whose HMAC in a message is right under a key, where it counts; and the key,
     /// which then works with both algorithms.
     pub(crate) fn proof_of(
@@ -95,7 +102,7 @@ impl Policy {
     {
         let key = key.made_for(self.algorithm);
         match message.validate_integrity_with_key(&key) {
-            Ok(algorithm) if self.is_long_enough(algorithm, message) => {
+            Ok(algorithm) if has_least_length(self.shortest, algorithm, message) => {
                 Some((key.for_both(), algorithm))
             }
             _ => None,
