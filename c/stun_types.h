@@ -454,18 +454,22 @@ stun_types_answer stun_types_binding_reply(const uint8_t *bytes, size_t length,
 
 /* ---- A server with credentials ----------------------------------------------------------------- */
 
-/* Which integrity attributes count: those of one algorithm, or by STUN_TYPES_ANY of both; and how
-   many bytes a MESSAGE-INTEGRITY-SHA256 has at least: 32 unless a usage says 16, 20, 24 or 28
-   (RFC 8489, section 14.6). */
+/* Which integrity attributes count: those of one algorithm, or by STUN_TYPES_ANY of both; how many
+   bytes a MESSAGE-INTEGRITY-SHA256 has at least: 32 unless a usage says 16, 20, 24 or 28 (RFC 8489,
+   section 14.6); and, unless it is 0, that the usage uses FINGERPRINT, as ICE does: a message
+   without one is discarded (sections 6.3 and 7). */
 typedef struct {
     uint32_t algorithm;
     uint32_t shortest;
+    uint32_t fingerprint;
 } stun_types_policy;
 
 enum { /* stun_types_authentication.kind */
     STUN_TYPES_ACCEPTED = 0, /* it is this user's; sign the reply by reply_algorithm with their key */
     STUN_TYPES_REFUSED = 1,  /* answer by an error response with error_code: 400, 401 or 438 */
-    STUN_TYPES_DISCARDED = 2 /* answer nothing */
+    STUN_TYPES_DISCARDED = 2, /* answer nothing */
+    STUN_TYPES_NOT_A_REQUEST = 3 /* not authenticated: a response, or an indication under long-term
+                                    credentials, such as TURN's Send (RFC 8489, section 9.2) */
 };
 
 typedef struct {
@@ -512,21 +516,28 @@ stun_types_answer stun_types_authenticate_long_term(const uint8_t *bytes, size_t
 
 enum { STUN_TYPES_UDP = 0, STUN_TYPES_TCP = 1 };
 
-/* When a request is sent again and given up, in milliseconds (RFC 8489, section 6.2). */
+/* When a request is sent again and given up, in milliseconds (RFC 8489, section 6.2), and which
+   responses the usage takes. Fields that are left 0 at the end are what RFC 8489 says where a usage
+   says nothing. */
 typedef struct {
     uint64_t rto;           /* the first interval, which doubles */
     uint64_t reliable_wait; /* over TCP, the whole time (Ti) */
     uint32_t requests;      /* how many are sent at most (Rc) */
     uint32_t last_wait;     /* how many times rto is waited after the last (Rm) */
+    uint32_t shortest;      /* bytes that a MESSAGE-INTEGRITY-SHA256 has at least (section 14.6): a
+                               usage may say 16, 20, 24 or 28; 0 is 32 */
+    uint32_t fingerprint;   /* not 0: the usage sends FINGERPRINT, so that a response without one is
+                               discarded (sections 6.3 and 7) */
 } stun_types_schedule;
 
 /* What RFC 8489 recommends. */
-#define STUN_TYPES_SCHEDULE { 500, 39500, 7, 16 }
+#define STUN_TYPES_SCHEDULE { 500, 39500, 7, 16, 32, 0 }
 
 enum { /* how a request is protected */
     STUN_TYPES_UNPROTECTED = 0,
     STUN_TYPES_SHORT_TERM = 1,
-    STUN_TYPES_LONG_TERM = 2
+    STUN_TYPES_LONG_TERM = 2,
+    STUN_TYPES_FIRST_LONG_TERM = 3 /* not signed, as the first request by the long-term mechanism */
 };
 
 /* A transaction of a request. The fields are the library's own. Times are milliseconds since a
@@ -537,7 +548,7 @@ typedef struct {
     stun_types_id id;
     uint32_t sent;
     uint16_t method;
-    uint8_t transport, protection, signed_by, violated, end, reserved;
+    uint8_t transport, protection, signed_by, violated, end, stopped;
 } stun_types_transaction;
 
 /* Begins the transaction of a request, signed where it is protected. key is that of the credential
@@ -562,7 +573,7 @@ enum { /* how a transaction ended */
     STUN_TYPES_TIMED_OUT = 2,
     STUN_TYPES_INTEGRITY_VIOLATED = 3, /* responses came, and none was authentic */
     STUN_TYPES_RESPONSE_REFUSED = 4,   /* a response came that a client can't take */
-    STUN_TYPES_CANCELLED = 5,
+    STUN_TYPES_CANCELLED = 5,          /* also where sending was stopped, and none was taken in time */
     STUN_TYPES_TRANSPORT_FAILED = 6
 };
 
@@ -578,31 +589,43 @@ stun_types_answer stun_types_transaction_poll(stun_types_transaction *transactio
 
 enum { /* stun_types_received.kind */
     STUN_TYPES_NOT_FOR_THIS = 0,             /* no response to this request */
-    STUN_TYPES_DISCARDED_NOT_AUTHENTIC = 1,  /* the transaction goes on, as for 2 and 3 */
+    STUN_TYPES_DISCARDED_NOT_AUTHENTIC = 1,  /* the transaction goes on, as for 2 to 5 */
     STUN_TYPES_DISCARDED_BID_DOWN = 2,
     STUN_TYPES_DISCARDED_UNSIGNED = 3,
-    STUN_TYPES_FAILED_INTEGRITY = 4,         /* the transaction has ended, as for all below */
-    STUN_TYPES_FAILED_UNKNOWN_ATTRIBUTE = 5, /* number: its type */
-    STUN_TYPES_FAILED_NO_ERROR_CODE = 6,
-    STUN_TYPES_TAKEN_SUCCESS = 7,            /* the success response */
-    STUN_TYPES_TAKEN_ERROR = 8               /* the error response; number: its code */
+    STUN_TYPES_DISCARDED_OTHER_ALGORITHM = 4, /* signed, by no algorithm of the request (9.1.4) */
+    STUN_TYPES_DISCARDED_NO_FINGERPRINT = 5,  /* the usage sends FINGERPRINT, and it has none */
+    STUN_TYPES_FAILED_INTEGRITY = 6,         /* the transaction has ended, as for all below */
+    STUN_TYPES_FAILED_UNKNOWN_ATTRIBUTE = 7, /* number: its type */
+    STUN_TYPES_FAILED_NO_ERROR_CODE = 8,
+    STUN_TYPES_TAKEN_SUCCESS = 9,            /* the success response */
+    STUN_TYPES_TAKEN_ERROR = 10              /* the error response; number: its code */
 };
 
+/* Of a response that is discarded, or fails by its integrity, number is the code that it claims, or 0:
+   it isn't authentic, and nothing follows from it. algorithm is that of the attribute that
+   authenticates a response that is taken, STUN_TYPES_SHA1 or STUN_TYPES_SHA256, by which later
+   requests are signed (9.1.5); 0 where no credential protects the request, and for a 401 or 438 that
+   isn't signed. A 300 with the algorithm 0 must not be followed (14.8). */
 typedef struct {
     uint32_t kind;
     uint32_t number;
+    uint32_t algorithm;
 } stun_types_received;
 
 /* What received bytes are for the transaction (RFC 8489, sections 6.3.3, 6.3.4, 9.1.4 and 9.2.5).
    understood are the types below 0x8000 that the caller understands, but for those of RFC 8489, at
    most 64 of them. key is that which the transaction began with.
-   BAD_ARGUMENT: the transaction isn't one, or more types. NO_KEY. Allocates where the request is
-   protected, for a copy of the key: OUT_OF_MEMORY, and the transaction stays as it was. */
+   BAD_ARGUMENT: the transaction isn't one, or more types. NO_KEY. Allocates where a credential
+   protects the request, for a copy of the key: OUT_OF_MEMORY, and the transaction stays as it was. */
 stun_types_answer stun_types_transaction_receive(stun_types_transaction *transaction,
                                                  const stun_types_key *key, const uint8_t *bytes,
                                                  size_t length, const uint16_t *understood,
                                                  size_t understood_count,
                                                  stun_types_received *received);
+
+/* Sends the request no more, unless the transaction has ended. A response is still taken, until the
+   transaction would have timed out; then it ends as cancelled (RFC 8445, section 7.3.1.4). */
+stun_types_answer stun_types_transaction_stop_sending(stun_types_transaction *transaction);
 
 /* Ends the transaction, unless it has ended: the caller wants no response, or the transport failed. */
 stun_types_answer stun_types_transaction_cancel(stun_types_transaction *transaction);

@@ -355,10 +355,12 @@ static int login(carrier *by, const task *asked, stun_types_key *key, stun_types
 /* Asks, with credentials where the server wants them, and prints what it answers. */
 static int run(const task *asked) {
     stun_types_key key = STUN_TYPES_NO_KEY_YET;
-    stun_types_received taken = {0, 0};
+    stun_types_received taken = {0, 0, 0};
     if (!connect_to(&connection, asked)) return say(SILENT, strerror(errno));
     if (!end_request(begin_request())) return say(FAILED, "the request can't be made");
-    int status = ask(&connection, STUN_TYPES_UNPROTECTED, &key, &taken);
+    int status = ask(&connection,
+                     asked->user != NULL ? STUN_TYPES_FIRST_LONG_TERM : STUN_TYPES_UNPROTECTED,
+                     &key, &taken);
     if (status == TOLD && asked->user != NULL) status = login(&connection, asked, &key, &taken);
     stun_types_key_free(&key);
     if (status != TOLD) return status;

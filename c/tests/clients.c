@@ -61,7 +61,8 @@ static const struct {
     {"long-term, without a key", REQUEST_SHA1, 0, 2, false, STUN_TYPES_NO_KEY},
     {"another transport", REQUEST, 2, 0, false, STUN_TYPES_BAD_ARGUMENT},
     {"the greatest transport", REQUEST, UINT32_MAX, 0, false, STUN_TYPES_BAD_ARGUMENT},
-    {"another protection", REQUEST, 0, 3, true, STUN_TYPES_BAD_ARGUMENT},
+    {"a first request, and a key that isn't looked at", REQUEST, 0, 3, true, STUN_TYPES_OK},
+    {"another protection", REQUEST, 0, 4, true, STUN_TYPES_BAD_ARGUMENT},
     {"the greatest protection", REQUEST, 0, UINT32_MAX, true, STUN_TYPES_BAD_ARGUMENT},
 };
 
@@ -208,6 +209,7 @@ static void test_no_transactions(void) {
         ANSWERS(stun_types_transaction_receive(transaction, no_key(), bytes.bytes, bytes.length,
                                                NO_TYPES, 0, received),
                 PLAIN(STUN_TYPES_BAD_ARGUMENT));
+        ANSWERS(stun_types_transaction_stop_sending(transaction), PLAIN(STUN_TYPES_BAD_ARGUMENT));
         ANSWERS(stun_types_transaction_cancel(transaction), PLAIN(STUN_TYPES_BAD_ARGUMENT));
         ANSWERS(stun_types_transaction_fail(transaction), PLAIN(STUN_TYPES_BAD_ARGUMENT));
         CHECK(is_untouched(action, sizeof *action) && is_untouched(received, sizeof *received));

@@ -26,9 +26,12 @@ static struct {
     size_t count;
 } script;
 
+/* What was received last. */
+static stun_types_received last_received;
+
 /* The schedule of four numbers. */
 static stun_types_schedule schedule_of(char *word) {
-    stun_types_schedule schedule;
+    stun_types_schedule schedule = {0, 0, 0, 0, 0, 0};
     uint64_t numbers[4] = {0, 0, 0, 0};
     char *part;
     size_t at;
@@ -70,6 +73,8 @@ static void answer_received(const stun_types_received *received) {
     case STUN_TYPES_DISCARDED_NOT_AUTHENTIC: answer_text("discarded:not-authentic"); break;
     case STUN_TYPES_DISCARDED_BID_DOWN: answer_text("discarded:bid-down"); break;
     case STUN_TYPES_DISCARDED_UNSIGNED: answer_text("discarded:unsigned-400"); break;
+    case STUN_TYPES_DISCARDED_OTHER_ALGORITHM: answer_text("discarded:other-algorithm"); break;
+    case STUN_TYPES_DISCARDED_NO_FINGERPRINT: answer_text("discarded:no-fingerprint"); break;
     case STUN_TYPES_FAILED_INTEGRITY: answer_text("failed:not-authentic"); break;
     case STUN_TYPES_FAILED_UNKNOWN_ATTRIBUTE: answer_text("failed:unknown:%04x", number); break;
     case STUN_TYPES_FAILED_NO_ERROR_CODE: answer_text("failed:no-code"); break;
@@ -77,6 +82,39 @@ static void answer_received(const stun_types_received *received) {
     case STUN_TYPES_TAKEN_ERROR: answer_text("error:%u", number); break;
     default: answer_text("!%u", (unsigned)received->kind);
     }
+}
+
+/* Whether the response that was received last is taken. */
+static bool was_taken(void) {
+    return last_received.kind == STUN_TYPES_TAKEN_SUCCESS ||
+           last_received.kind == STUN_TYPES_TAKEN_ERROR;
+}
+
+/* The algorithm that authenticates it. */
+static void answer_authenticated(void) {
+    static const char *const names[] = {"no", "sha1", "sha256"};
+    CHECK(was_taken() || last_received.algorithm == STUN_TYPES_ANY);
+    answer_space();
+    answer_text(names[last_received.algorithm < COUNT(names) ? last_received.algorithm : 0]);
+}
+
+/* The code that it claims, if it is discarded. */
+static void answer_claimed(void) {
+    bool is_unknown = last_received.kind == STUN_TYPES_FAILED_UNKNOWN_ATTRIBUTE;
+    answer_space();
+    if (was_taken() || is_unknown || last_received.number == 0) answer_text("none");
+    else answer_text("%u", (unsigned)last_received.number);
+}
+
+/* Whether an event has no argument. */
+static bool is_plain(const char *word) {
+    static const char *const plain[] = {
+        "authenticated", "claimed", "stop-sending", "cancel", "transport-fails",
+    };
+    size_t at;
+    for (at = 0; at < COUNT(plain); at++)
+        if (strcmp(word, plain[at]) == 0) return true;
+    return false;
 }
 
 /* Reads the events that are left. (C measures no round trip.) */
@@ -92,8 +130,7 @@ static void read_events(void) {
         else if (strcmp(word, "got") == 0) next->octets = call_octets();
         else if (strcmp(word, "understand") == 0)
             next->count = types_of(call_word(), next->types, TYPES_MOST);
-        else if (strcmp(word, "cancel") != 0 && strcmp(word, "transport-fails") != 0)
-            answer_unknown();
+        else if (!is_plain(word)) answer_unknown();
     }
 }
 
@@ -101,7 +138,7 @@ static void read_events(void) {
 static bool take(const event *it, stun_types_transaction *transaction, const stun_types_key *key,
                  const event *understood) {
     stun_types_action action = {9, 9, 9};
-    stun_types_received received = {99, 0};
+    stun_types_received received = {99, 0, 0};
     if (strcmp(it->name, "at") == 0) {
         ANSWERS(stun_types_transaction_poll(transaction, it->time, &action), OK_ANSWER);
         answer_action(&action);
@@ -115,7 +152,12 @@ static bool take(const event *it, stun_types_transaction *transaction, const stu
             return false;
         }
         answer_received(&received);
-    } else if (strcmp(it->name, "cancel") == 0)
+        last_received = received;
+    } else if (strcmp(it->name, "authenticated") == 0) answer_authenticated();
+    else if (strcmp(it->name, "claimed") == 0) answer_claimed();
+    else if (strcmp(it->name, "stop-sending") == 0)
+        ANSWERS(stun_types_transaction_stop_sending(transaction), OK_ANSWER);
+    else if (strcmp(it->name, "cancel") == 0)
         ANSWERS(stun_types_transaction_cancel(transaction), OK_ANSWER);
     else if (strcmp(it->name, "transport-fails") == 0)
         ANSWERS(stun_types_transaction_fail(transaction), OK_ANSWER);
@@ -131,7 +173,8 @@ static void run(uint32_t made_for) {
     stun_types_answer result;
     size_t at;
     bool goes_on;
-    bool is_protected = script.protection != STUN_TYPES_UNPROTECTED;
+    bool is_protected = script.protection == STUN_TYPES_SHORT_TERM ||
+                        script.protection == STUN_TYPES_LONG_TERM;
     if (is_protected && !make_key(&key, script.key, made_for)) return;
     result = stun_types_transaction_begin(&transaction, script.request.bytes, script.request.length,
                                         &script.schedule, script.transport, script.protection,
@@ -146,14 +189,24 @@ static void run(uint32_t made_for) {
     answer_or_nothing();
 }
 
+/* Reads how the request is protected, and what the usage specifies of responses. */
+static void read_mechanism(char *word) {
+    const char *part = next_part(&word, ':');
+    script.protection = STUN_TYPES_UNPROTECTED;
+    if (part == NULL) answer_unknown();
+    else if (strcmp(part, "first") == 0) script.protection = STUN_TYPES_FIRST_LONG_TERM;
+    else if (strcmp(part, "short") == 0) script.protection = STUN_TYPES_SHORT_TERM;
+    else if (strcmp(part, "long") == 0) script.protection = STUN_TYPES_LONG_TERM;
+    while ((part = next_part(&word, ':')) != NULL)
+        if (strcmp(part, "fingerprint") == 0) script.schedule.fingerprint = 1;
+        else script.schedule.shortest = (uint32_t)strtoul(part, NULL, 10);
+}
+
 static void transaction(void) {
-    const char *transport = call_word(), *mechanism;
+    const char *transport = call_word();
     script.transport = strcmp(transport, "reliable") == 0 ? STUN_TYPES_TCP : STUN_TYPES_UDP;
     script.schedule = schedule_of(call_word());
-    mechanism = call_word();
-    script.protection = STUN_TYPES_UNPROTECTED;
-    if (strcmp(mechanism, "short") == 0) script.protection = STUN_TYPES_SHORT_TERM;
-    if (strcmp(mechanism, "long") == 0) script.protection = STUN_TYPES_LONG_TERM;
+    read_mechanism(call_word());
     script.key = call_octets();
     script.request = call_octets();
     read_events();

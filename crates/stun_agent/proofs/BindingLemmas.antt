@@ -13,12 +13,13 @@ use Rattle.stun_transactions.specs.declared.guard.Signed.{Signed}
 use Rattle.stun_transactions.specs.declared.received.Outcome.{Outcome}
 use Rattle.stun_transactions.specs.declared.received.Outcome.TheVariants.{NotForThis}
 use Rattle.stun_transactions.specs.declared.terms.Terms.{Terms}
-use Rattle.stun_transactions.specs.Guards.{guard_fault, signed_by}
+use Rattle.stun_transactions.specs.declared.usage.Usage.{Usage}
+use Rattle.stun_transactions.specs.Guards.{proof_of, guard_fault, signed_by}
 use Rattle.stun_transactions.specs.Outcomes.{is_open}
-use Rattle.stun_transactions.specs.Receiving.{received_outcome, content, discarded}
+use Rattle.stun_transactions.specs.Receiving.{received_outcome, content, claim_of, discarded}
 use Rattle.stun_transactions.specs.Terms.{is_answer}
 use Rattle.stun_agent.specs.declared.query.Login.{Login}
-use Rattle.stun_agent.specs.Binding.{told, is_answer_to, protection_of}
+use Rattle.stun_agent.specs.Binding.{told, is_answer_to, protection_of, usage}
 
 -- of a transaction in progress
 in_progress : (ongoing parses answers : Bool) (taken : Outcome) → ongoing ≡ true
@@ -33,17 +34,23 @@ same_answer terms r d method id =
     ap (λ (m : ℕ). is_response (class_of (type_field d)) && ((method_of (type_field d) == m) && (id_field d == terms.id))) method
     ∙ ap (λ (i : ℕ). is_response (class_of (type_field d)) && ((method_of (type_field d) == method_of (type_field r)) && (id_field d == i))) id
 
--- what is kept out, by the terms of the request
-same_guard : (terms : Terms) (login : Option Login) (r d : List ℕ) → terms.plan.transport ≡ Udp → terms.signed ≡ signed_by r → terms.protection ≡ protection_of login
-    → option_map_or (discarded terms.plan.transport) (guard_fault terms.protection terms.signed d) (content [] d) ≡ option_map_or (discarded Udp) (guard_fault (protection_of login) (signed_by r) d) (content [] d)
-same_guard terms login r d transport signed protection =
-    ap (λ (t : TransportType). option_map_or (discarded t) (guard_fault terms.protection terms.signed d) (content [] d)) transport
-    ∙ ap (λ (s : Signed). option_map_or (discarded Udp) (guard_fault terms.protection s d) (content [] d)) signed
-    ∙ ap (λ (p : Protection). option_map_or (discarded Udp) (guard_fault p (signed_by r) d) (content [] d)) protection
+-- what is told of one that answers
+abbrev answered : TransportType → Protection → Usage → Signed → List ℕ → Outcome
+answered transport by usage signed d =
+    option_map_or (discarded transport (claim_of d)) (guard_fault by usage signed d) (content (proof_of by usage signed d) [] d)
+
+-- the same, by the terms of the request
+same_guard : (terms : Terms) (login : Option Login) (r d : List ℕ) → terms.plan.transport ≡ Udp → terms.signed ≡ signed_by r → terms.protection ≡ protection_of login → terms.usage ≡ usage
+    → answered terms.plan.transport terms.protection terms.usage terms.signed d ≡ answered Udp (protection_of login) usage (signed_by r) d
+same_guard terms login r d transport signed protection used =
+    ap (λ (t : TransportType). answered t terms.protection terms.usage terms.signed d) transport
+    ∙ ap (λ (s : Signed). answered Udp terms.protection terms.usage s d) signed
+    ∙ ap (λ (p : Protection). answered Udp p terms.usage (signed_by r) d) protection
+    ∙ ap (λ (u : Usage). answered Udp (protection_of login) u (signed_by r) d) used
 
 pub received_told : (terms : Terms) (course : RetransmissionState) (login : Option Login) (r d : List ℕ) → is_open course ≡ true → terms.plan.transport ≡ Udp → terms.method ≡ method_of (type_field r) → terms.id ≡ id_field r
-    → terms.signed ≡ signed_by r → terms.protection ≡ protection_of login → received_outcome terms course [] d ≡ told login r d
-received_told terms course login r d ongoing transport method id signed protection =
-    in_progress (is_open course) (not (is_some (parse_fault d))) (is_answer terms d) (option_map_or (discarded terms.plan.transport) (guard_fault terms.protection terms.signed d) (content [] d)) ongoing
-    ∙ ap (λ (b : Bool). if not (is_some (parse_fault d)) && b then option_map_or (discarded terms.plan.transport) (guard_fault terms.protection terms.signed d) (content [] d) else NotForThis) (same_answer terms r d method id)
-    ∙ ap (λ (o : Outcome). if not (is_some (parse_fault d)) && is_answer_to r d then o else NotForThis) (same_guard terms login r d transport signed protection)
+    → terms.signed ≡ signed_by r → terms.protection ≡ protection_of login → terms.usage ≡ usage → received_outcome terms course [] d ≡ told login r d
+received_told terms course login r d ongoing transport method id signed protection used =
+    in_progress (is_open course) (not (is_some (parse_fault d))) (is_answer terms d) (answered terms.plan.transport terms.protection terms.usage terms.signed d) ongoing
+    ∙ ap (λ (b : Bool). if not (is_some (parse_fault d)) && b then answered terms.plan.transport terms.protection terms.usage terms.signed d else NotForThis) (same_answer terms r d method id)
+    ∙ ap (λ (o : Outcome). if not (is_some (parse_fault d)) && is_answer_to r d then o else NotForThis) (same_guard terms login r d transport signed protection used)

@@ -1,9 +1,10 @@
 -- The binding request, and what a datagram tells of it (RFC 8489, sections 6.1, 6.3.3, 6.3.4 and 9.1).
-use Rattle.std.specs.Prelude.{◌≡◌, ℕ, ◌∷◌, ◌++◌, List, [], Bool, true, not, ◌&&◌, codes, Option, None, Some, Ok, Err, is_some, ◌==◌, if◌then◌else◌}
+use Rattle.std.specs.Prelude.{◌≡◌, ℕ, ◌∷◌, ◌++◌, List, [], Bool, true, false, not, ◌&&◌, codes, Option, None, Some, Ok, Err, is_some, ◌==◌, if◌then◌else◌}
 use Rattle.std.specs.Option.{option_map_or}
 use Rattle.std.specs.Fmt.{decimal}
 use Rattle.std.specs.Net.Text.{socket_text}
 use Rattle.stun_grammar.specs.declared.error.StunParseError.{StunParseError}
+use Rattle.stun_grammar.specs.declared.integrity_algorithm.IntegrityAlgorithm.{IntegrityAlgorithm}
 use Rattle.stun_grammar.specs.declared.integrity_algorithm.IntegrityAlgorithm.TheVariants.{Sha1, Sha256}
 use Rattle.stun_grammar.specs.AttributeTypes.{USERNAME}
 use Rattle.stun_grammar.specs.Headers.{type_field, id_field}
@@ -18,14 +19,16 @@ use Rattle.stun_keys.specs.Keys.{key_bytes}
 use Rattle.stun_attributes.specs.Texts.{text_bytes}
 use Rattle.stun_transactions.specs.declared.guard.Protection.{Protection}
 use Rattle.stun_transactions.specs.declared.guard.Protection.TheVariants.{Unprotected, ShortTerm}
+use Rattle.stun_transactions.specs.declared.usage.Usage.{Usage}
+use Rattle.stun_transactions.specs.declared.received.Claim.{Claim}
 use Rattle.stun_transactions.specs.declared.received.Discard.{Discard}
 use Rattle.stun_transactions.specs.declared.received.Failure.{Failure}
 use Rattle.stun_transactions.specs.declared.received.Outcome.{Outcome}
 use Rattle.stun_transactions.specs.declared.transaction.Transaction.{Transaction}
-use Rattle.stun_transactions.specs.Guards.{signed_by, guard_fault}
+use Rattle.stun_transactions.specs.Guards.{signed_by, proof_of, guard_fault}
 use Rattle.stun_transactions.specs.Mapped.{ReadsMapped}
 use Rattle.stun_transactions.specs.Outcomes.{is_open}
-use Rattle.stun_transactions.specs.Receiving.{content, discarded}
+use Rattle.stun_transactions.specs.Receiving.{content, claim_of, discarded}
 use Rattle.stun_transactions.specs.Transactions.{terms_of, state_of}
 use Rattle.stun_agent.specs.declared.binding.BindingResult.{BindingResult}
 use Rattle.stun_agent.specs.declared.binding.BindingResult.TheVariants.{Mapped, Unmapped, Refused, Failed, NotAuthentic, NotAnswered}
@@ -55,6 +58,11 @@ abbrev pub protection_of : Option Login → Protection
 protection_of None = Unprotected
 protection_of (Some login) = ShortTerm login.key
 
+-- what the usage specifies of the response: a MESSAGE-INTEGRITY-SHA256 has 32 bytes (RFC 8489,
+-- section 14.6), and a FINGERPRINT need not be there
+abbrev pub usage : Usage
+usage = record { shortest = 32; fingerprint = false }
+
 -- ---- What a datagram is
 
 -- whether d is a response to the request r
@@ -67,7 +75,9 @@ is_answer_to r d =
 abbrev pub told : Option Login → List ℕ → List ℕ → Outcome
 told login r d =
     if not (is_some (parse_fault d)) && is_answer_to r d then
-    option_map_or (discarded Udp) (guard_fault (protection_of login) (signed_by r) d) (content [] d)
+    option_map_or (discarded Udp (claim_of d))
+    (guard_fault (protection_of login) usage (signed_by r) d)
+    (content (proof_of (protection_of login) usage (signed_by r) d) [] d)
     else Outcome.NotForThis
 
 -- ---- The transaction
@@ -84,6 +94,7 @@ pub record IsSent (r : List ℕ) (login : Option Login) (transaction : Transacti
   pub id_is : (terms_of transaction).id ≡ id_field r
   pub signed_is : (terms_of transaction).signed ≡ signed_by r
   pub protection_is : (terms_of transaction).protection ≡ protection_of login
+  pub usage_is : (terms_of transaction).usage ≡ usage
   pub ongoing : is_open (state_of transaction) ≡ true
 
 -- ---- The answer
@@ -94,13 +105,19 @@ MapsTo d (Mapped a) = ReadsMapped d (Ok a)
 MapsTo d Unmapped = (e : StunParseError) × ReadsMapped d (Err e)
 MapsTo d _ = ⊥
 
+-- a transaction of the request r takes d as a success response
+abbrev pub Succeeds : Option Login → List ℕ → List ℕ → Type 0
+Succeeds login r d = (proof : Option IntegrityAlgorithm) × (told login r d ≡ Outcome.Success proof)
+
 -- what d tells of the request r
 abbrev pub TellsOf : Option Login → List ℕ → List ℕ → BindingResult → Type 0
-TellsOf login r d (Mapped a) = (told login r d ≡ Outcome.Success) × MapsTo d (Mapped a)
-TellsOf login r d Unmapped = (told login r d ≡ Outcome.Success) × MapsTo d Unmapped
-TellsOf login r d (Refused code) = told login r d ≡ Outcome.Error code
+TellsOf login r d (Mapped a) = Succeeds login r d × MapsTo d (Mapped a)
+TellsOf login r d Unmapped = Succeeds login r d × MapsTo d Unmapped
+TellsOf login r d (Refused code) =
+    (proof : Option IntegrityAlgorithm) × (told login r d ≡ Outcome.Error code proof)
 TellsOf login r d Failed = (failure : Failure) × (told login r d ≡ Outcome.Failed failure)
-TellsOf login r d NotAuthentic = (reason : Discard) × (told login r d ≡ Outcome.Discarded reason)
+TellsOf login r d NotAuthentic =
+    (reason : Discard) × (claim : Claim) × (told login r d ≡ Outcome.Discarded reason claim)
 TellsOf login r d NotAnswered = told login r d ≡ Outcome.NotForThis
 
 abbrev pub Tells : Query → List ℕ → BindingResult → Type 0

@@ -11,7 +11,9 @@ use crate::query::{Login, Query};
 use std::alloc::{AllocError, Global};
 use std::net::SocketAddr;
 use std::time::Duration;
-use stun_transactions::{Action, Protection, Received, Schedule, Transaction, response_address};
+use stun_transactions::{
+    Action, Protection, Received, Schedule, Transaction, Usage, response_address,
+};
 use stun_types::TransportType;
 use stun_types::attribute::AttributeWrite;
 use stun_types::message::{
@@ -114,8 +116,8 @@ fn sent(bytes: &[u8], login: Option<Login>) -> Result<Transaction, AllocError>
     };
     let schedule = Schedule::new_default();
     let protection = protection(login);
-    let now = Duration::ZERO;
-    match Transaction::new(&request, schedule, TransportType::Udp, protection, now) {
+    let (usage, now) = (Usage::default(), Duration::ZERO);
+    match Transaction::new(&request, schedule, TransportType::Udp, protection, usage, now) {
         Ok(transaction) => polled(transaction),
         Err(_) => Err(AllocError),
     }
@@ -144,10 +146,10 @@ pub fn read_response(
     let bytes = request(alloc, &query)?;
     let mut transaction = sent(&bytes, query.login)?;
     match transaction.receive(datagram, &[]) {
-        Received::Success(response) => Ok(mapped(alloc, &response)),
-        Received::Error(_, code) => Ok(BindingResult::Refused(code)),
+        Received::Success(response, _) => Ok(mapped(alloc, &response)),
+        Received::Error(_, code, _) => Ok(BindingResult::Refused(code)),
         Received::Failed(_) => Ok(BindingResult::Failed),
-        Received::Discarded(_) => Ok(BindingResult::NotAuthentic),
+        Received::Discarded(_, _) => Ok(BindingResult::NotAuthentic),
         Received::NotForThis => Ok(BindingResult::NotAnswered),
     }
 }

@@ -12,10 +12,12 @@ use std::alloc::Global;
 use std::net::SocketAddr;
 use stun_authentication::{
     Accepted, Authentication, Demand, KnownNonce, Logins, Nonces, Policy, Refusal,
-    authenticate_long_term, authenticate_short_term, refuse, security_features,
+    authenticate_long_term, authenticate_short_term, refuse_long_term, refuse_short_term,
+    security_features,
 };
 use stun_types::attribute::{
-    KNOWN, Nonce, PasswordAlgorithmValue, PasswordAlgorithms, Realm, XorMappedAddress,
+    AttributeStaticType, Fingerprint, KNOWN, Nonce, PasswordAlgorithmValue, PasswordAlgorithms,
+    Realm, XorMappedAddress,
 };
 use stun_types::message::{
     BINDING, LongTermCredentials, Message, MessageClass, MessageWriteVec, StunWriteError,
@@ -102,8 +104,7 @@ fn reply(
         Some(reply) => reply,
         None => success(alloc, request, source)?,
     };
-    reply.add_message_integrity_with_key(&accepted.key, accepted.reply_algorithm)?;
-    reply.add_fingerprint()?;
+    accepted.finish_reply(true, &mut reply)?;
     Ok(reply.finish())
 }
 
@@ -120,34 +121,80 @@ fn success(
     Ok(reply)
 }
 
-/// The error response to a request that is refused: with what it asks for, where long-term
-/// credentials are asked for.
-fn refusal(
-    alloc: Global,
-    request: &Message<'_>,
-    refusal: Refusal,
-    issued: Option<Issued<'_>>,
-) -> Result<Vec<u8>, StunWriteError>
-    requires { class_of (type_field (message_bytes request.now)) ≡ Request }
-{
-    let demand = match issued {
-        None => None,
-        Some(issued) => {
-            let algorithms = match algorithms_of(issued.fresh.as_bytes()) {
-                [] => None,
-                sent => Some(PasswordAlgorithms::new(alloc, sent)?),
-            };
-            Some(Demand {
-                realm: Realm::new(alloc, REALM)?,
-                nonce: Nonce::new(alloc, issued.fresh)?,
-                algorithms,
-            })
-        }
+/// What a client of long-term credentials is asked for.
+fn demand(alloc: Global, issued: Issued<'_>) -> Result<Demand, StunWriteError> {
+    let promises = security_features(issued.fresh.as_bytes()).is_some_and(
+        |features| features.password_algorithms,
+    );
+    let algorithms = if promises {
+        Some(PasswordAlgorithms::new(alloc, &ALGORITHMS)?)
+    } else {
+        None
     };
-    let vector = MessageWriteVec::new(alloc);
-    let mut reply = refuse(alloc, request, refusal, demand.as_ref(), vector)?;
-    reply.add_fingerprint()?;
+    let realm = Realm::new(alloc, REALM)?;
+    let nonce = Nonce::new(alloc, issued.fresh)?;
+    match Demand::new(realm, nonce, algorithms) {
+        Ok(demand) => Ok(demand),
+        Err(_) => unreachable!(),
+    }
+}
+
+/// A response with a FINGERPRINT at its end. That of a request with a FINGERPRINT has one already.
+fn printed(mut reply: MessageWriteVec) -> Result<Vec<u8>, StunWriteError> {
+    if !reply.has_attribute(Fingerprint::TYPE) {
+        reply.add_fingerprint()?;
+    }
     Ok(reply.finish())
+}
+
+/// Answers a message by short-term credentials.
+fn by_short_term(
+    alloc: Global,
+    policy: Policy,
+    source: SocketAddr,
+    message: &Message<'_>,
+    logins: &Logins<'_>,
+) -> Result<AuthenticatedReply, StunWriteError> {
+    let is_request = message.has_class(MessageClass::Request);
+    match authenticate_short_term(alloc, message, policy, logins) {
+        Err(_) => Err(StunWriteError::OutOfMemory),
+        Ok(Authentication::Accepted(accepted)) if is_request => {
+            let reply = reply(alloc, message, &accepted, source)?;
+            Ok(AuthenticatedReply::Accepted(Some(reply)))
+        }
+        Ok(Authentication::Refused(why)) if is_request => {
+            let reply = refuse_short_term(alloc, message, why, MessageWriteVec::new(alloc))?;
+            Ok(AuthenticatedReply::Refused(printed(reply)?))
+        }
+        Ok(Authentication::Accepted(_)) => Ok(AuthenticatedReply::Accepted(None)),
+        Ok(_) => Ok(AuthenticatedReply::Discarded),
+    }
+}
+
+/// Answers a message by long-term credentials.
+fn by_long_term(
+    alloc: Global,
+    policy: Policy,
+    issued: Issued<'_>,
+    source: SocketAddr,
+    message: &Message<'_>,
+    logins: &Logins<'_>,
+) -> Result<AuthenticatedReply, StunWriteError> {
+    let is_request = message.has_class(MessageClass::Request);
+    match authenticate_long_term(alloc, message, REALM, policy, &issued, logins) {
+        Err(_) => Err(StunWriteError::OutOfMemory),
+        Ok(Authentication::Accepted(accepted)) if is_request => {
+            let reply = reply(alloc, message, &accepted, source)?;
+            Ok(AuthenticatedReply::Accepted(Some(reply)))
+        }
+        Ok(Authentication::Refused(why)) if is_request => {
+            let demand = demand(alloc, issued)?;
+            let vector = MessageWriteVec::new(alloc);
+            let reply = refuse_long_term(alloc, message, why, &demand, vector)?;
+            Ok(AuthenticatedReply::Refused(printed(reply)?))
+        }
+        Ok(_) => Ok(AuthenticatedReply::Discarded),
+    }
 }
 
 /// Answers a datagram that came from `source`, by long-term credentials where there are nonces, and
@@ -172,24 +219,8 @@ pub fn answer_to(
     }
     let users = users(alloc)?;
     let logins = Logins::new(&users);
-    let judged = match issued {
-        Some(issued) => authenticate_long_term(alloc, &message, REALM, policy, &issued, &logins),
-        None => authenticate_short_term(alloc, &message, policy, &logins),
-    };
-    let is_request = message.has_class(MessageClass::Request);
-    match judged {
-        Err(_) => Err(StunWriteError::OutOfMemory),
-        Ok(Authentication::Accepted(accepted)) if is_request => {
-            let reply = reply(alloc, &message, &accepted, source)?;
-            Ok(AuthenticatedReply::Accepted(Some(reply)))
-        }
-        Ok(Authentication::Refused(why)) if is_request => {
-            let refusal = refusal(alloc, &message, why, issued)?;
-            Ok(AuthenticatedReply::Refused(refusal))
-        }
-        Ok(Authentication::Accepted(_)) => Ok(AuthenticatedReply::Accepted(None)),
-        Ok(Authentication::Refused(_) | Authentication::Discarded) => Ok(
-            AuthenticatedReply::Discarded,
-        ),
+    match issued {
+        Some(issued) => by_long_term(alloc, policy, issued, source, &message, &logins),
+        None => by_short_term(alloc, policy, source, &message, &logins),
     }
 }

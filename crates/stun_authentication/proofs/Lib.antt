@@ -1,4 +1,7 @@
 mod AcceptingRowsLemmas
+mod AddedLemmas
 mod CookiesLemmas
 mod EntriesLemmas
-mod RefusingLemmas
+mod FinishingLemmas
+mod NoncesLemmas
+pub mod TypesLemmas

@@ -1,5 +1,5 @@
 -- What a server answers to a message that it authenticates.
-use Rattle.std.specs.Prelude.{◌≡◌, ℕ, List, None}
+use Rattle.std.specs.Prelude.{◌≡◌, ℕ, List, None, codes}
 use Rattle.stun_grammar.specs.declared.integrity_algorithm.IntegrityAlgorithm.{IntegrityAlgorithm}
 use Rattle.stun_base.specs.declared.message_type.MessageClass.{MessageClass}
 use Rattle.stun_base.specs.declared.message_type.MessageClass.TheVariants.{Request}
@@ -8,20 +8,27 @@ use Rattle.stun_authentication.specs.declared.answer.Accepted.{Accepted}
 use Rattle.stun_authentication.specs.declared.answer.Refusal.{Refusal}
 use Rattle.stun_authentication.specs.declared.answer.Refusal.TheVariants.{BadRequest, Unauthenticated, StaleNonce}
 use Rattle.stun_authentication.specs.declared.answer.Authentication.{Authentication}
-use Rattle.stun_authentication.specs.declared.answer.Authentication.TheVariants.{Accepted as AcceptedBy, Refused, Discarded}
+use Rattle.stun_authentication.specs.declared.answer.Authentication.TheVariants.{Accepted as AcceptedBy, Refused, Discarded, NotARequest}
 
 -- accepted, by a key and the algorithm whose HMAC was right, with the algorithm that the reply is
--- signed by; refused; or dropped
+-- signed by; refused; dropped; or none that the mechanism authenticates at a server
 pub data Decision : Type 0 where
   accept : (key : List ℕ) → (algorithm reply_algorithm : IntegrityAlgorithm) → Decision
   refuse : Refusal → Decision
   discard : Decision
+  not_a_request : Decision
 
 -- the code of a refusal
 abbrev pub refusal_code : Refusal → ℕ
 refusal_code BadRequest = 400
 refusal_code Unauthenticated = 401
 refusal_code StaleNonce = 438
+
+-- the reason phrase of its error response (section 14.8)
+abbrev pub refusal_reason : Refusal → List ℕ
+refusal_reason BadRequest = codes "Bad Request"
+refusal_reason Unauthenticated = codes "Unauthenticated"
+refusal_reason StaleNonce = codes "Stale Nonce"
 
 -- an answer tells a decision
 pub record TellsAccept (key : List ℕ) (algorithm reply_algorithm : IntegrityAlgorithm)
@@ -34,6 +41,7 @@ abbrev pub Tells : Decision → Authentication → Type 0
 Tells (accept key algorithm reply) (AcceptedBy told) = TellsAccept key algorithm reply told
 Tells (refuse refusal) (Refused told) = told ≡ refusal
 Tells discard Discarded = Unit {0}
+Tells not_a_request NotARequest = Unit {0}
 Tells _ _ = ⊥
 
 -- how a message of a class is rejected: a request by an error response, and any other silently

@@ -27,14 +27,20 @@ pub record Asked : Type 0 where
   pub algorithm : PasswordAlgorithmValue
   pub anonymous : Bool
 
-abbrev pub asked_by : Challenge → Asked
-asked_by c = record {
-  realm = c.realm.now;
-  nonce = c.nonce.now;
-  list = option_map (λ value. value.now) c.list;
-  algorithm = c.algorithm;
-  anonymous = c.anonymous;
+abbrev pub asked_for : (realm nonce : List ℕ) → (list : Option (List ℕ)) → PasswordAlgorithmValue
+    → (anonymous : Bool) → Asked
+asked_for realm nonce list algorithm anonymous = record {
+  realm = realm;
+  nonce = nonce;
+  list = list;
+  algorithm = algorithm;
+  anonymous = anonymous;
 }
+
+abbrev pub asked_by : Challenge → Asked
+asked_by c =
+    asked_for c.realm.now c.nonce.now (option_map (λ value. value.now) c.list) c.algorithm
+    c.anonymous
 
 -- the algorithm by which the request is signed: SHA-256 alone where there is a list (the last
 -- paragraph), and else SHA-1, for a server of RFC 5389
@@ -55,9 +61,9 @@ is_bid_down d =
     option_map_or (λ nonce. promises_algorithms nonce) (value_of d NONCE) false
     && not (is_some (list_of d))
 
--- whether the challenge before had a list
-abbrev pub had_list : Option Asked → Bool
-had_list before = option_map_or (λ asked. is_some asked.list) before false
+-- a list was seen, and d has none
+abbrev pub lost_list : (seen : Option (List ℕ)) → List ℕ → Bool
+lost_list seen d = is_some seen && not (is_some (list_of d))
 
 -- the text in an attribute of d
 abbrev pub text_in : ℕ → List ℕ → Option (List ℕ)
@@ -72,50 +78,47 @@ abbrev pub selected : List PasswordAlgorithmValue → Option (List ℕ) → Opti
 selected supported None = numbered supported (algorithm_number MD5)
 selected supported (Some list) = first_listed supported list
 
--- whether d refuses the credentials of this realm that the request had (the end of the second
--- paragraph): the password is the same, and the user
-abbrev pub repeats : Option Asked → List ℕ → List ℕ → Bool
-repeats before realm d =
+-- whether d refuses the credentials that were tried in a realm, and asks for them again (the end of
+-- the second paragraph): the password is the same, and the user
+abbrev pub repeats : (tried : Option (List ℕ)) → List ℕ → List ℕ → Bool
+repeats tried realm d =
     is_code 401 (response_code d)
-    && option_map_or (λ asked. pointwise nat_eq asked.realm realm) before false
+    && option_map_or (λ before. pointwise nat_eq before realm) tried false
 
 -- ---- The rows, the last one first
 
 -- the request is not sent again with the credentials that were refused
-abbrev pub by_credentials : Option Asked → Asked → List ℕ → Result Asked NoRetry
-by_credentials before asked d =
-    if repeats before asked.realm d then Err SameCredentials else Ok asked
+abbrev pub by_credentials : (tried : Option (List ℕ)) → Asked → List ℕ → Result Asked NoRetry
+by_credentials tried asked d =
+    if repeats tried asked.realm d then Err SameCredentials else Ok asked
 
 -- an algorithm that is supported
-abbrev pub by_algorithm : List PasswordAlgorithmValue → Option Asked → (realm nonce : List ℕ)
-    → List ℕ → Result Asked NoRetry
-by_algorithm supported before realm nonce d =
+abbrev pub by_algorithm : List PasswordAlgorithmValue → (tried : Option (List ℕ))
+    → (realm nonce : List ℕ) → List ℕ → Result Asked NoRetry
+by_algorithm supported tried realm nonce d =
     option_map_or
-    (λ algorithm. by_credentials before (record {
-      realm = realm;
-      nonce = nonce;
-      list = list_of d;
-      algorithm = algorithm;
-      anonymous = is_anonymous (security_features nonce);
-    }) d)
+    (λ algorithm. by_credentials tried
+    (asked_for realm nonce (list_of d) algorithm (is_anonymous (security_features nonce))) d)
     (selected supported (list_of d)) (Err NoAlgorithm)
 
 -- REALM and NONCE, which the request copies (the second paragraph)
-abbrev pub by_texts : List PasswordAlgorithmValue → Option Asked → List ℕ → Result Asked NoRetry
-by_texts supported before d =
+abbrev pub by_texts : List PasswordAlgorithmValue → (tried : Option (List ℕ)) → List ℕ
+    → Result Asked NoRetry
+by_texts supported tried d =
     option_map_or (λ realm.
-    option_map_or (λ nonce. by_algorithm supported before realm nonce d)
+    option_map_or (λ nonce. by_algorithm supported tried realm nonce d)
     (text_of text_max NONCE d) (Err Incomplete))
     (text_of text_max REALM d) (Err Incomplete)
 
--- a list that was promised, or that the challenge before had, is there (the first paragraph)
-abbrev pub by_list : List PasswordAlgorithmValue → Option Asked → List ℕ → Result Asked NoRetry
-by_list supported before d =
-    if is_bid_down d || (had_list before && not (is_some (list_of d))) then Err BidDown
-    else by_texts supported before d
+-- a list that was promised, or that was seen before, is there (the first paragraph)
+abbrev pub by_list : List PasswordAlgorithmValue → (tried seen : Option (List ℕ)) → List ℕ
+    → Result Asked NoRetry
+by_list supported tried seen d =
+    if is_bid_down d || lost_list seen d then Err BidDown else by_texts supported tried d
 
--- what d asks a client to carry that supports these algorithms, after the challenge before; or why
--- its request isn't sent again
-abbrev pub challenge_of : List PasswordAlgorithmValue → Option Asked → List ℕ → Result Asked NoRetry
-challenge_of supported before d =
-    if is_challenge d then by_list supported before d else Err NotAChallenge
+-- what d asks a client to carry that supports these algorithms; or why its request isn't sent
+-- again. Its credentials were tried in one realm or in none, and it has seen one list or none
+abbrev pub challenge_of : List PasswordAlgorithmValue → (tried seen : Option (List ℕ)) → List ℕ
+    → Result Asked NoRetry
+challenge_of supported tried seen d =
+    if is_challenge d then by_list supported tried seen d else Err NotAChallenge

@@ -7,6 +7,9 @@ pub mod Lists
 pub mod Logins
 pub mod LongTerm
 pub mod Lookups
+pub mod Nonces
 pub mod Policies
 pub mod Refusing
+pub mod Requests
 pub mod ShortTerm
+pub mod Writing

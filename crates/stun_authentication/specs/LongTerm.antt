@@ -18,12 +18,12 @@ use Rattle.stun_authentication.specs.declared.long_term.Hashing.{Hashing}
 use Rattle.stun_authentication.specs.declared.long_term.Hashing.TheVariants.{AsThoughMd5, Chosen}
 use Rattle.stun_authentication.specs.declared.long_term.Names.{Names}
 use Rattle.stun_authentication.specs.declared.policy.Policy.{Policy}
-use Rattle.stun_authentication.specs.Answers.{Decision, accept, refuse, discard}
+use Rattle.stun_authentication.specs.Answers.{Decision, accept, refuse, discard, not_a_request}
 use Rattle.stun_authentication.specs.Cookies.{promises_algorithms}
 use Rattle.stun_authentication.specs.Identities.{Who, who, value_of, identity_of}
 use Rattle.stun_authentication.specs.Lists.{both, first_named, first_listed}
 use Rattle.stun_authentication.specs.Lookups.{Known, valid, invalid}
-use Rattle.stun_authentication.specs.Policies.{is_signed, proof_of}
+use Rattle.stun_authentication.specs.Policies.{is_taken, is_signed, proof_of}
 
 -- ---- By which password algorithm a request is processed
 
@@ -128,9 +128,15 @@ abbrev pub is_request : MessageClass → Bool
 is_request Request = true
 is_request _ = false
 
--- what becomes of d: the mechanism protects requests alone (section 9.2)
+-- the class: the mechanism protects requests alone (section 9.2)
+abbrev pub by_class : Policy → List ℕ → (nonces : List ℕ → Known)
+    → (keys : Who → List ℕ → PasswordAlgorithmValue → Option (List ℕ)) → List ℕ → Decision
+by_class policy realm nonces keys d =
+    if is_request (class_of (type_field d)) then by_attribute policy realm nonces keys d
+    else not_a_request
+
+-- what becomes of d: before all checks, it has the FINGERPRINT that the usage uses (section 6.3)
 abbrev pub long_term : Policy → List ℕ → (nonces : List ℕ → Known)
     → (keys : Who → List ℕ → PasswordAlgorithmValue → Option (List ℕ)) → List ℕ → Decision
 long_term policy realm nonces keys d =
-    if is_request (class_of (type_field d)) then by_attribute policy realm nonces keys d
-    else discard
+    if is_taken policy d then by_class policy realm nonces keys d else discard

@@ -1,16 +1,24 @@
--- Which integrity attributes count, and whether they are right (RFC 8489, sections 9.1.3, 9.2.4 and
--- 14.6).
+-- Which messages are taken, which integrity attributes count, and whether they are right (RFC 8489,
+-- sections 6.3, 7, 9.1.3, 9.2.4 and 14.6).
 use Rattle.std.specs.Prelude.{◌≡◌, ℕ, Bool, true, false, ◌||◌, List, length, Option, Some, None, is_some, Result, Ok, Err, nat_le, if◌then◌else◌}
 use Rattle.std.specs.Option.{option_map_or}
 use Rattle.stun_grammar.specs.declared.error.ValidateError.{ValidateError}
 use Rattle.stun_grammar.specs.declared.integrity_algorithm.IntegrityAlgorithm.{IntegrityAlgorithm}
 use Rattle.stun_grammar.specs.declared.integrity_algorithm.IntegrityAlgorithm.TheVariants.{Sha1, Sha256}
-use Rattle.stun_grammar.specs.AttributeTypes.{MESSAGE_INTEGRITY, MESSAGE_INTEGRITY_SHA256}
+use Rattle.stun_grammar.specs.AttributeTypes.{MESSAGE_INTEGRITY, MESSAGE_INTEGRITY_SHA256, FINGERPRINT}
 use Rattle.stun_grammar.specs.Verdicts.{type_of_algorithm, is_checked_type, verdict}
 use Rattle.stun_keys.specs.declared.keys.integrity_key.IntegrityKey.{IntegrityKey}
 use Rattle.stun_keys.specs.Keys.{IsKey}
 use Rattle.stun_read.specs.LookingUp.{nth}
 use Rattle.stun_authentication.specs.declared.policy.Policy.{Policy}
+
+-- whether d shows a FINGERPRINT
+abbrev pub is_fingerprinted : List ℕ → Bool
+is_fingerprinted d = is_some (nth d FINGERPRINT 0)
+
+-- whether d is taken: with a FINGERPRINT, where the usage uses them (sections 6.3 and 7)
+abbrev pub is_taken : Policy → List ℕ → Bool
+is_taken policy d = if policy.fingerprint then is_fingerprinted d else true
 
 -- whether d shows the integrity attribute of the algorithm that serves, or of one of both
 abbrev pub shows_served : Option IntegrityAlgorithm → List ℕ → Bool
@@ -22,13 +30,16 @@ shows_served (Some algorithm) d = is_some (nth d (type_of_algorithm algorithm) 0
 abbrev pub is_signed : Policy → List ℕ → Bool
 is_signed policy d = shows_served policy.algorithm d
 
--- whether the HMAC of this algorithm has enough bytes in d: only that of a
+-- whether the HMAC of this algorithm has at least so many bytes in d: only that of a
 -- MESSAGE-INTEGRITY-SHA256 may be cut (section 14.6)
+abbrev pub has_least_length : ℕ → IntegrityAlgorithm → List ℕ → Bool
+has_least_length shortest Sha1 d = true
+has_least_length shortest Sha256 d =
+    option_map_or (λ a. nat_le shortest (length a.value)) (nth d MESSAGE_INTEGRITY_SHA256 0) false
+
+-- whether it has as many as the policy asks for
 abbrev pub is_long_enough : Policy → IntegrityAlgorithm → List ℕ → Bool
-is_long_enough policy Sha1 d = true
-is_long_enough policy Sha256 d =
-    option_map_or (λ a. nat_le policy.shortest (length a.value)) (nth d MESSAGE_INTEGRITY_SHA256 0)
-    false
+is_long_enough policy algorithm d = has_least_length policy.shortest algorithm d
 
 -- what a validation of d answers with a key: of the attribute that counts, and of
 -- MESSAGE-INTEGRITY-SHA256 where both do

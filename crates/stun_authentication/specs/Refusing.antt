@@ -1,24 +1,32 @@
 -- The error response to a request that is refused (RFC 8489, sections 9.1.3 and 9.2.4).
-use Rattle.std.specs.Prelude.{◌≡◌, ◌⊎◌, ℕ, List, [], ◌∷◌, ◌++◌, length, Option, None, Some, Result, MatchResult, OnOk}
-use Rattle.std.specs.Option.{option_or}
-use Rattle.stun_grammar.specs.declared.error.StunWriteError.{StunWriteError}
-use Rattle.stun_grammar.specs.declared.error.StunWriteError.TheVariants.{OutOfMemory}
-use Rattle.stun_grammar.specs.Adding.{grown_length, first_of, room_refusal}
-use Rattle.stun_grammar.specs.Steps.{add, barring_types}
+use Rattle.std.specs.Prelude.{ℕ, List, [], ◌∷◌, ◌++◌, Option, None, Some, if◌then◌else◌}
 use Rattle.stun_grammar.specs.Attributes.{Attribute, canonical}
 use Rattle.stun_grammar.specs.AttributeTypes.{REALM, NONCE, PASSWORD_ALGORITHMS}
+use Rattle.stun_grammar.specs.Headers.{id_field}
 use Rattle.stun_grammar.specs.Writing.{message_encoding}
-use Rattle.stun_write.specs.Writers.{Writer}
+use Rattle.stun_base.specs.declared.message_type.MessageClass.TheVariants.{Error as ErrorClass}
 use Rattle.stun_attributes.specs.declared.password_algorithms.PasswordAlgorithms.{PasswordAlgorithms}
-use Rattle.stun_attributes.specs.DefaultReasons.{default_reason}
 use Rattle.stun_attributes.specs.Passwords.{held_algorithms}
 use Rattle.stun_attributes.specs.Texts.{text_bytes}
-use Rattle.stun_types.specs.Replies.{error_attribute}
+use Rattle.stun_types.specs.Replies.{error_attribute, response_type}
 use Rattle.stun_values.specs.Algorithms.{algorithms_encoding}
 use Rattle.stun_authentication.specs.declared.answer.Refusal.{Refusal}
 use Rattle.stun_authentication.specs.declared.answer.Refusal.TheVariants.{BadRequest, Unauthenticated, StaleNonce}
-use Rattle.stun_authentication.specs.declared.refusing.Demand.{Demand}
-use Rattle.stun_authentication.specs.Answers.{refusal_code}
+use Rattle.stun_authentication.specs.declared.demand.Demand.{Demand}
+use Rattle.stun_authentication.specs.declared.demand.Mismatch.{Mismatch}
+use Rattle.stun_authentication.specs.declared.demand.Mismatch.TheVariants.{NoList, NotPromised}
+use Rattle.stun_authentication.specs.Answers.{refusal_code, refusal_reason}
+use Rattle.stun_authentication.specs.Cookies.{promises_algorithms}
+use Rattle.stun_authentication.specs.Policies.{is_fingerprinted}
+use Rattle.stun_authentication.specs.Writing.{finished, print_sizes, sizes}
+
+-- ---- What a client is asked for
+
+-- why a nonce isn't sent with these algorithms, or without a list: its cookie says that there is
+-- one exactly where there is one (section 9.2.4, the first check)
+abbrev pub mismatch : (nonce : List ℕ) → Option PasswordAlgorithms → Option Mismatch
+mismatch nonce None = if promises_algorithms nonce then Some NoList else None
+mismatch nonce (Some algorithms) = if promises_algorithms nonce then None else Some NotPromised
 
 -- PASSWORD-ALGORITHMS, if there are algorithms
 abbrev pub listed : Option PasswordAlgorithms → List Attribute
@@ -26,11 +34,16 @@ listed None = []
 listed (Some algorithms) =
     canonical PASSWORD_ALGORITHMS (algorithms_encoding (held_algorithms algorithms)) ∷ []
 
+-- what a realm, a nonce and algorithms ask for
+abbrev pub asked_for : (realm nonce : List ℕ) → Option PasswordAlgorithms → List Attribute
+asked_for realm nonce algorithms =
+    canonical REALM realm ∷ canonical NONCE nonce ∷ listed algorithms
+
 -- what a 401 and a 438 ask for
 abbrev pub demanded : Demand → List Attribute
-demanded demand =
-    canonical REALM (text_bytes demand.realm) ∷ canonical NONCE (text_bytes demand.nonce)
-    ∷ listed demand.algorithms
+demanded demand = asked_for (text_bytes demand.realm) (text_bytes demand.nonce) demand.algorithms
+
+-- ---- The response
 
 -- what a refusal carries beside its code: a 400 nothing, and under short-term credentials, where
 -- nothing is asked for, no refusal anything
@@ -41,43 +54,20 @@ carried Unauthenticated (Some demand) = demanded demand
 carried StaleNonce None = []
 carried StaleNonce (Some demand) = demanded demand
 
--- the attributes of the response
+-- the attributes of the response, before a FINGERPRINT
 abbrev pub refusal_attributes : Refusal → Option Demand → List Attribute
 refusal_attributes refusal demand =
-    error_attribute (refusal_code refusal) (default_reason (refusal_code refusal))
-    ∷ carried refusal demand
+    error_attribute (refusal_code refusal) (refusal_reason refusal) ∷ carried refusal demand
 
--- ---- Writing them
+-- the response to r, with a FINGERPRINT where r has one
+abbrev pub refusal_of : List ℕ → Refusal → Option Demand → List ℕ
+refusal_of r refusal demand =
+    let kind = response_type ErrorClass r in
+    let id = id_field r in
+    message_encoding kind id
+    (finished (is_fingerprinted r) kind id (refusal_attributes refusal demand))
 
--- why these attributes don't all fit behind a message of len bytes, in a writer that takes at most so
--- many: why the first that doesn't is refused
-abbrev pub overflow : Option ℕ → ℕ → List Attribute → Option StunWriteError
-overflow greatest len [] = None
-overflow greatest len (attribute ∷ more) =
-    option_or (room_refusal len greatest (grown_length len (length attribute.value)))
-    (overflow greatest (grown_length len (length attribute.value)) more)
-
--- an error is the refusal, or tells that an allocation failed
-abbrev pub FailsFor : {T : Type 0} → Option StunWriteError → Result T StunWriteError → Type 0
-FailsFor refusal result =
-    MatchResult result (λ _. refusal ≡ None) (λ e. (e ≡ OutOfMemory) ⊎ (refusal ≡ Some e))
-
--- the length of a message of len bytes with these attributes behind it
-abbrev pub longer_by : ℕ → List Attribute → ℕ
-longer_by len [] = len
-longer_by len (attribute ∷ more) = longer_by (grown_length len (length attribute.value)) more
-
--- nothing is written that bars an ordinary attribute
-abbrev pub IsUnbarred : Writer → Type 0
-IsUnbarred w = first_of (barring_types (add 0 [])) w.types ≡ None
-
--- a message that is written gets these attributes more, behind those that it has
-pub record Lengthens (result : Result (Unit {0}) StunWriteError) (old new : Writer)
-    (more : List Attribute) : Type 0 where
-  pub written : (kind id : ℕ) (before : List Attribute)
-      → old.bytes ≡ message_encoding kind id before
-      → OnOk result (new.bytes ≡ message_encoding kind id (before ++ more))
-  pub answer : IsUnbarred old → FailsFor (overflow old.greatest (length old.bytes) more) result
-  pub unbarred : IsUnbarred old → OnOk result (IsUnbarred new)
-  pub greatest : new.greatest ≡ old.greatest
-  pub size : OnOk result (length new.bytes ≡ longer_by (length old.bytes) more)
+-- the lengths of the values of its attributes
+abbrev pub refusal_sizes : List ℕ → Refusal → Option Demand → List ℕ
+refusal_sizes r refusal demand =
+    sizes (refusal_attributes refusal demand) ++ print_sizes (is_fingerprinted r)

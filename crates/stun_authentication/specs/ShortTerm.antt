@@ -8,9 +8,9 @@ use Rattle.stun_base.specs.MessageTypes.{class_of, is_response}
 use Rattle.stun_authentication.specs.declared.answer.Refusal.{Refusal}
 use Rattle.stun_authentication.specs.declared.answer.Refusal.TheVariants.{BadRequest, Unauthenticated}
 use Rattle.stun_authentication.specs.declared.policy.Policy.{Policy}
-use Rattle.stun_authentication.specs.Answers.{Decision, accept, discard, rejected}
+use Rattle.stun_authentication.specs.Answers.{Decision, accept, discard, not_a_request, rejected}
 use Rattle.stun_authentication.specs.Identities.{value_of}
-use Rattle.stun_authentication.specs.Policies.{is_signed, proof_of}
+use Rattle.stun_authentication.specs.Policies.{is_taken, is_signed, proof_of}
 
 -- how d is rejected
 abbrev pub reject : List ℕ → Refusal → Decision
@@ -35,7 +35,11 @@ by_attributes policy keys d =
     option_map_or (λ user. by_user policy keys user d) (value_of d USERNAME) (reject d BadRequest)
     else reject d BadRequest
 
--- what becomes of d: a response is no server's to check
+-- the class: a response is no server's to check
+abbrev pub by_class : Policy → (keys : List ℕ → Option (List ℕ)) → List ℕ → Decision
+by_class policy keys d =
+    if is_response (class_of (type_field d)) then not_a_request else by_attributes policy keys d
+
+-- what becomes of d: before all checks, it has the FINGERPRINT that the usage uses (section 6.3)
 abbrev pub short_term : Policy → (keys : List ℕ → Option (List ℕ)) → List ℕ → Decision
-short_term policy keys d =
-    if is_response (class_of (type_field d)) then discard else by_attributes policy keys d
+short_term policy keys d = if is_taken policy d then by_class policy keys d else discard

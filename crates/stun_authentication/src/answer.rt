@@ -33,7 +33,7 @@ pub enum Refusal {
 
 impl Refusal {
     ghost use Rattle.std.specs.Prelude.{◌≡◌};
-    ghost use Rattle.stun_authentication.specs.Answers.{refusal_code};
+    ghost use Rattle.stun_authentication.specs.Answers.{refusal_code, refusal_reason};
 
     /// The code of the error response.
     pub fn code(self) -> u16
@@ -43,6 +43,18 @@ impl Refusal {
             Refusal::BadRequest => ErrorCode::BAD_REQUEST,
             Refusal::Unauthenticated => ErrorCode::UNAUTHORIZED,
             Refusal::StaleNonce => ErrorCode::STALE_NONCE,
+        }
+    }
+
+    /// The reason phrase of RFC 8489, section 14.8. That of 401 isn't
+    /// `ErrorCode::default_reason_for_code(401)`, which is the one of RFC 5389.
+    pub fn reason(self) -> &'static str
+        ensures { result.now ≡ refusal_reason self }
+    {
+        match self {
+            Refusal::BadRequest => "Bad Request",
+            Refusal::Unauthenticated => "Unauthenticated",
+            Refusal::StaleNonce => "Stale Nonce",
         }
     }
 }
@@ -56,6 +68,11 @@ pub enum Authentication {
     Refused(Refusal),
     /// It is dropped, and nothing is answered.
     Discarded,
+    /// It isn't authenticated, since the mechanism authenticates no such message at a server: a
+    /// response, and under long-term credentials an indication too (RFC 8489, section 9.2). What
+    /// becomes of it is for the usage to say: a TURN server checks a Send indication by the
+    /// allocation of its source (RFC 8656, section 11.2).
+    NotARequest,
 }
 
 /// How a message is rejected: a request by an error response, and any other silently.

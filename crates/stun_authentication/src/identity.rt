@@ -1,7 +1,7 @@
 //! Who a request says that it comes from.
 
-ghost use Rattle.std.specs.Prelude.{◌≡◌};
-ghost use Rattle.std.specs.Option.{option_map};
+ghost use Rattle.std.specs.Prelude.{◌≡◌, ◌<◌, ◌^◌, length};
+ghost use Rattle.std.specs.Option.{option_map, option_map_or};
 ghost use Rattle.stun_types.specs.Message.{message_bytes};
 ghost use Rattle.stun_authentication.specs.Identities.{value_of, identity_of, who};
 
@@ -21,8 +21,9 @@ pub enum Identity<'a> {
 
 /// The value of the first attribute of a type that a message shows, borrowed from its bytes.
 pub(crate) fn value_of<'a>(message: &Message<'a>, atype: AttributeType) -> Option<&'a [u8]>
-    ensures { value_of (message_bytes message.now) atype.0
+    ensures value { value_of (message_bytes message.now) atype.0
         ≡ option_map (λ value. value.now) result }
+    ensures short { option_map_or (λ value. length value.now) result 0 < 2 ^ 16 }
 {
     match message.raw_attribute(atype)?.into_value() {
         Data::Borrowed(value) => Some(value.take()),

@@ -7,7 +7,7 @@ ghost use Rattle.stun_types.specs.Message.{message_bytes};
 ghost use Rattle.stun_authentication.specs.Answers.{Tells};
 ghost use Rattle.stun_authentication.specs.Identities.{who};
 ghost use Rattle.stun_authentication.specs.Lookups.{known};
-ghost use Rattle.stun_authentication.specs.LongTerm.{names_of, named, is_sent, chosen, hashing_of, password_algorithm, reply_algorithm, by_nonce, by_hmac, by_user, by_algorithms, by_names, long_term};
+ghost use Rattle.stun_authentication.specs.LongTerm.{names_of, named, is_sent, chosen, hashing_of, password_algorithm, reply_algorithm, by_nonce, by_hmac, by_user, by_algorithms, by_names, by_attribute, by_class, long_term};
 
 use crate::algorithms::{BOTH, first_listed, first_named, is_encoding_of};
 use crate::cookie::security_features;
@@ -161,7 +161,9 @@ fn by_algorithms<K: LongTermKeys>(
 /// Authenticates a request by long-term credentials, in the order of RFC 8489, section 9.2.4. The
 /// first of these that applies:
 ///
-/// - What is no request is discarded: the mechanism protects no indications.
+/// - Without a FINGERPRINT it is discarded, if the usage uses them (section 6.3).
+/// - What is no request is [`Authentication::NotARequest`]: the mechanism protects no indications
+///   (section 9.2).
 /// - Without an integrity attribute that counts (see [`Policy`]) it is refused with 401.
 /// - Without REALM, without NONCE, with neither USERNAME nor USERHASH, or with both, it is refused
 ///   with 400.
@@ -180,7 +182,7 @@ fn by_algorithms<K: LongTermKeys>(
 /// The realm makes the key, and not the REALM of the request, which only has to be there. A 401 and
 /// a 438 carry REALM and NONCE, and PASSWORD-ALGORITHMS where the nonce promises it; a 400 carries
 /// none of these. None carries USERNAME, USERHASH or an integrity attribute.
-/// [`refuse`](crate::refuse) writes them.
+/// [`refuse_long_term`](crate::refuse_long_term) writes them.
 ///
 /// # Errors
 ///
@@ -196,8 +198,11 @@ pub fn authenticate_long_term<N: Nonces, K: LongTermKeys>(
     ensures { IfOk result (Tells (long_term policy realm.now (N.state_of nonces.now)
         (K.key_of keys.now) (message_bytes request.now))) }
 {
-    if !request.has_class(MessageClass::Request) {
+    if !policy.is_taken(request) {
         return Ok(Authentication::Discarded);
+    }
+    if !request.has_class(MessageClass::Request) {
+        return Ok(Authentication::NotARequest);
     }
     if !policy.is_signed(request) {
         return Ok(Authentication::Refused(Refusal::Unauthenticated));

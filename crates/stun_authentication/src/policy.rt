@@ -1,15 +1,19 @@
-//! Which integrity attributes count for a server.
+//! Which messages a server takes, and which integrity attributes count for it.
 
 ghost use Rattle.std.specs.Prelude.{◌≡◌};
 ghost use Rattle.stun_types.specs.Message.{message_bytes};
 ghost use Rattle.stun_keys.specs.Keys.{key_bytes, IsKey};
+ghost use Rattle.stun_authentication.specs.Policies.{has_least_length};
 
-use stun_types::attribute::{AttributeStaticType, MessageIntegrity, MessageIntegritySha256};
+use stun_types::attribute::{
+    AttributeStaticType, Fingerprint, MessageIntegrity, MessageIntegritySha256,
+};
 use stun_types::message::{IntegrityAlgorithm, IntegrityKey, Message};
 
-/// Which integrity attributes count for a server.
+/// Which messages a server takes, and which integrity attributes count for it.
 ///
-/// `Policy::default()` takes both algorithms, and a MESSAGE-INTEGRITY-SHA256 of 32 bytes alone.
+/// `Policy::default()` takes both algorithms, a MESSAGE-INTEGRITY-SHA256 of 32 bytes alone, and
+/// messages without a FINGERPRINT.
 #[derive(Clone, Copy, Debug, PartialEq, Eq)]
 pub struct Policy {
     /// The one algorithm that serves, or `None` where both do. The integrity attribute of an
@@ -18,17 +22,43 @@ pub struct Policy {
     /// How many bytes a MESSAGE-INTEGRITY-SHA256 has at least. A usage may say 16, 20, 24 or 28;
     /// otherwise it is 32 (RFC 8489, section 14.6).
     pub shortest: usize,
+    /// Whether the usage uses FINGERPRINT, as ICE does: a message without one is then discarded (RFC
+    /// 8489, sections 6.3 and 7). A message with a wrong one is no message for `Message::from_bytes`.
+    pub fingerprint: bool,
+}
+
+/// Whether the HMAC of an algorithm has at least `shortest` bytes in a message. That of a
+/// MESSAGE-INTEGRITY has 20 always, and only that of a MESSAGE-INTEGRITY-SHA256 may be cut, where the
+/// usage says so (RFC 8489, section 14.6).
+pub fn has_least_length(
+    shortest: usize,
+    algorithm: IntegrityAlgorithm,
+    message: &Message<'_>,
+) -> bool
+    ensures { result ≡ has_least_length shortest algorithm (message_bytes message.now) }
+{
+    match algorithm {
+        IntegrityAlgorithm::Sha1 => true,
+        IntegrityAlgorithm::Sha256 => {
+            match message.raw_attribute(MessageIntegritySha256::TYPE) {
+                Some(raw) => shortest <= raw.value().as_bytes().len(),
+                None => false,
+            }
+        }
+    }
 }
 
 impl Default for Policy {
-    ghost use Rattle.std.specs.Prelude.{◌≡◌, None};
+    ghost use Rattle.std.specs.Prelude.{◌≡◌, None, false};
 
-    ghost is_default = { λ policy. (policy.algorithm ≡ None) × (policy.shortest ≡ 32) };
+    ghost is_default = { λ policy. (policy.algorithm ≡ None)
+        × ((policy.shortest ≡ 32) × (policy.fingerprint ≡ false)) };
 
     fn default() -> Self {
         Policy {
             algorithm: None,
             shortest: 32,
+            fingerprint: false,
         }
     }
 }
@@ -37,7 +67,14 @@ impl Policy {
     ghost use Rattle.std.specs.Prelude.{◌≡◌};
     ghost use Rattle.stun_types.specs.Message.{message_bytes};
     ghost use Rattle.stun_keys.specs.Keys.{key_bytes, IsKey};
-    ghost use Rattle.stun_authentication.specs.Policies.{is_signed, is_long_enough, proof_of, Proves};
+    ghost use Rattle.stun_authentication.specs.Policies.{is_fingerprinted, is_taken, is_signed, proof_of, Proves};
+
+    /// Whether a message is taken: with a FINGERPRINT, where the usage uses them.
+    pub(crate) fn is_taken(self, message: &Message<'_>) -> bool
+        ensures { result ≡ is_taken self (message_bytes message.now) }
+    {
+        !self.fingerprint || message.has_attribute(Fingerprint::TYPE)
+    }
 
     /// Whether a message shows an integrity attribute that counts.
     pub(crate) fn is_signed(self, message: &Message<'_>) -> bool
@@ -49,21 +86,6 @@ impl Policy {
             None => {
                 message.has_attribute(MessageIntegrity::TYPE)
                     || message.has_attribute(MessageIntegritySha256::TYPE)
-            }
-        }
-    }
-
-    /// Whether the HMAC of this algorithm has enough bytes in a message.
-    fn is_long_enough(self, algorithm: IntegrityAlgorithm, message: &Message<'_>) -> bool
-        ensures { result ≡ is_long_enough self algorithm (message_bytes message.now) }
-    {
-        match algorithm {
-            IntegrityAlgorithm::Sha1 => true,
-            IntegrityAlgorithm::Sha256 => {
-                match message.raw_attribute(MessageIntegritySha256::TYPE) {
-                    Some(raw) => self.shortest <= raw.value().as_bytes().len(),
-                    None => false,
-                }
             }
         }
     }
@@ -80,7 +102,7 @@ impl Policy {
     {
         let key = key.made_for(self.algorithm);
         match message.validate_integrity_with_key(&key) {
-            Ok(algorithm) if self.is_long_enough(algorithm, message) => {
+            Ok(algorithm) if has_least_length(self.shortest, algorithm, message) => {
                 Some((key.for_both(), algorithm))
             }
             _ => None,

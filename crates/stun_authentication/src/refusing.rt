@@ -1,56 +1,34 @@
 //! The error response to a request that is refused.
 
-ghost use Rattle.std.specs.Prelude.{◌≡◌, ◌∷◌, ◌<◌, ◌^◌, [], length, IfOk, OnOk};
+ghost use Rattle.std.specs.Prelude.{◌≡◌, ◌≢◌, ◌∷◌, ◌<◌, ◌^◌, [], length, None, Some, IfOk, OnOk, MatchResult};
 ghost use Rattle.std.specs.Option.{option_copied};
 ghost use Rattle.stun_base.specs.MessageTypes.{class_of};
-ghost use Rattle.stun_base.specs.declared.message_type.MessageClass.TheVariants.{Request, Error as ErrorClass};
-ghost use Rattle.stun_attributes.specs.ErrorCodes.{error_code, error_reason};
+ghost use Rattle.stun_base.specs.declared.message_type.MessageClass.TheVariants.{Request};
+ghost use Rattle.stun_attributes.specs.ErrorCodes.{error_code, error_reason, IsError};
 ghost use Rattle.stun_attributes.specs.Passwords.{held_algorithms};
 ghost use Rattle.stun_attributes.specs.Texts.{text_bytes};
 ghost use Rattle.stun_grammar.specs.Adding.{Fits, add_refusal, IsAddAnswer};
 ghost use Rattle.stun_grammar.specs.Attributes.{canonical};
-ghost use Rattle.stun_grammar.specs.AttributeTypes.{IsOrdinary, ERROR_CODE, REALM, NONCE, PASSWORD_ALGORITHMS};
-ghost use Rattle.stun_grammar.specs.Headers.{type_field, id_field};
+ghost use Rattle.stun_grammar.specs.AttributeTypes.{ERROR_CODE, REALM, NONCE, PASSWORD_ALGORITHMS};
+ghost use Rattle.stun_grammar.specs.Headers.{type_field};
 ghost use Rattle.stun_grammar.specs.Steps.{add};
-ghost use Rattle.stun_grammar.specs.Writing.{message_encoding};
 ghost use Rattle.stun_types.specs.Message.{message_bytes};
-ghost use Rattle.stun_types.specs.Replies.{response_type};
 ghost use Rattle.stun_values.specs.Algorithms.{algorithms_encoding};
 ghost use Rattle.stun_values.specs.ErrorValues.{error_value};
 ghost use Rattle.stun_write.specs.Writers.{Allocates, Gains};
-ghost use Rattle.stun_authentication.specs.Refusing.{Lengthens, FailsFor, overflow, demanded, carried, refusal_attributes};
+ghost use Rattle.stun_authentication.specs.declared.answer.Refusal.TheVariants.{StaleNonce};
+ghost use Rattle.stun_authentication.specs.Answers.{refusal_code, refusal_reason};
+ghost use Rattle.stun_authentication.specs.Refusing.{demanded, carried, refusal_of, refusal_sizes};
+ghost use Rattle.stun_authentication.specs.Writing.{Lengthens, FailsFor, no_room};
 
-use crate::Refusal;
+use crate::writing::{add_one, add_print};
+use crate::{Demand, Refusal};
 use std::alloc::Global;
-use stun_types::attribute::{ErrorCode, Nonce, PasswordAlgorithms, Realm};
+use stun_types::attribute::{
+    AttributeStaticType, ErrorCode, Fingerprint, Nonce, PasswordAlgorithms, Realm,
+};
 use stun_types::message::{Message, StunWriteError};
 use stun_types::prelude::*;
-
-/// What a 401 and a 438 ask a client for, under long-term credentials (RFC 8489, section 9.2.4).
-#[derive(Debug, Drop)]
-pub struct Demand {
-    /// The server's realm.
-    pub realm: Realm,
-    /// A nonce that is valid and was sent to nobody else. It begins with a nonce cookie
-    /// ([`nonce_cookie`](crate::nonce_cookie)), which tells whether there are algorithms.
-    pub nonce: Nonce,
-    /// The password algorithms that the server knows, the one that it prefers first; `None` where
-    /// it knows MD5 alone.
-    pub algorithms: Option<PasswordAlgorithms>,
-}
-
-/// Adds an attribute.
-#[tactic(auto, using(crate::proofs::RefusingLemmas::added))]
-fn add_one<B: MessageWrite>(
-    attribute: &dyn AttributeWrite,
-    write: &mut B,
-) -> Result<(), StunWriteError>
-    requires { IsOrdinary (atype attribute.now) }
-    ensures { Lengthens result (B.state write.old) (B.state write.new)
-        (canonical (atype attribute.now) (value attribute.now) ∷ []) }
-{
-    write.add_attribute(attribute)
-}
 
 /// Adds an ERROR-CODE.
 fn add_error<B: MessageWrite>(attribute: &ErrorCode, write: &mut B) -> Result<(), StunWriteError>
@@ -113,7 +91,7 @@ fn add_demand<B: MessageWrite>(demand: &Demand, write: &mut B) -> Result<(), Stu
 }
 
 /// Adds what a refusal carries beside its code.
-#[tactic(auto, using(crate::proofs::RefusingLemmas::nothing_more))]
+#[tactic(auto, using(crate::proofs::AddedLemmas::nothing_more))]
 fn add_carried<B: MessageWrite>(
     refusal: Refusal,
     demand: Option<&Demand>,
@@ -129,25 +107,17 @@ fn add_carried<B: MessageWrite>(
     }
 }
 
-/// Writes the error response to a request that was refused: its ERROR-CODE, with the reason phrase
-/// of RFC 8489; and in a 401 or a 438, under long-term credentials, REALM, NONCE and
-/// PASSWORD-ALGORITHMS, as `demand` has them (section 9.2.4). Under short-term credentials `demand`
-/// is `None`, and the response has the ERROR-CODE alone (section 9.1.3). A 400 has it alone too.
-/// The response isn't signed, and has no USERNAME and no USERHASH. More attributes can be added, as
-/// a FINGERPRINT.
-///
-/// # Requires
-///
-/// `request` is a request, and the writer is as for `Message::builder`.
-///
-/// # Errors
-///
-/// `OutOfMemory` if an allocation failed. Else the first attribute that doesn't fit tells:
-///
-/// - `TooSmall { expected, actual }` where the message would be longer with it than the writer
-///   takes: that length, and [`MessageWrite::max_size`];
-/// - `TooLarge { expected: 65555, actual }` where it would be longer than a message may be.
-pub fn refuse<B: MessageWrite + Drop>(
+/// The ERROR-CODE of a refusal.
+fn error_of(alloc: Global, refusal: Refusal) -> Result<ErrorCode, StunWriteError>
+    ensures { MatchResult result
+        (IsError (refusal_code refusal) (refusal_reason refusal))
+        (λ e. e ≡ StunWriteError.OutOfMemory) }
+{
+    ErrorCode::new(alloc, refusal.code(), refusal.reason())
+}
+
+/// Writes the error response to a request, with what it asks for, if it asks for something.
+fn refuse<B: MessageWrite + Drop>(
     alloc: Global,
     request: &Message<'_>,
     refusal: Refusal,
@@ -158,14 +128,83 @@ pub fn refuse<B: MessageWrite + Drop>(
     requires empty { (B.state write).bytes ≡ [] }
     requires room { Fits (B.state write).greatest 20 }
     ensures text { let r = message_bytes request.now in
-        IfOk result (λ w. (B.state w).bytes ≡ message_encoding (response_type ErrorClass r)
-        (id_field r) (refusal_attributes refusal (option_copied demand.entry))) }
-    ensures answer { FailsFor (overflow (B.state write).greatest 20
-        (refusal_attributes refusal (option_copied demand.entry))) result }
+        IfOk result (λ w. (B.state w).bytes ≡ refusal_of r refusal (option_copied demand.entry)) }
+    ensures answer { let r = message_bytes request.now in
+        FailsFor (no_room (B.state write).greatest 20
+        (refusal_sizes r refusal (option_copied demand.entry))) result }
 {
-    let error = ErrorCode::builder(refusal.code()).build(alloc)?;
+    let error = error_of(alloc, refusal)?;
     let mut write = Message::builder_error(request, write)?;
     add_error(&error, &mut write)?;
     add_carried(refusal, demand, &mut write)?;
+    add_print(request.has_attribute(Fingerprint::TYPE), &mut write)?;
     Ok(write)
+}
+
+/// Writes the error response to a request that was refused under short-term credentials: its
+/// ERROR-CODE, with the reason phrase of RFC 8489, and a FINGERPRINT if the request has one. It
+/// isn't signed, and has no USERNAME (section 9.1.3). More attributes can be added only if there
+/// is no FINGERPRINT.
+///
+/// # Requires
+///
+/// `request` is a request, and the writer is as for `Message::builder`. `refusal` isn't
+/// `StaleNonce`, which [`authenticate_short_term`](crate::authenticate_short_term) never returns:
+/// there are no nonces.
+///
+/// # Errors
+///
+/// `OutOfMemory` if an allocation failed. Else the first attribute that doesn't fit decides:
+///
+/// - `TooSmall { expected, actual }` if the message would be longer with it than the writer takes:
+///   that length, and [`MessageWrite::max_size`];
+/// - `TooLarge { expected: 65555, actual }` if it would be longer than a message may be.
+pub fn refuse_short_term<B: MessageWrite + Drop>(
+    alloc: Global,
+    request: &Message<'_>,
+    refusal: Refusal,
+    write: B,
+) -> Result<B, StunWriteError>
+    requires request { class_of (type_field (message_bytes request.now)) ≡ Request }
+    requires no_nonce { refusal ≢ StaleNonce }
+    requires empty { (B.state write).bytes ≡ [] }
+    requires room { Fits (B.state write).greatest 20 }
+    ensures text { let r = message_bytes request.now in
+        IfOk result (λ w. (B.state w).bytes ≡ refusal_of r refusal None) }
+    ensures answer { let r = message_bytes request.now in
+        FailsFor (no_room (B.state write).greatest 20 (refusal_sizes r refusal None)) result }
+{
+    refuse(alloc, request, refusal, None, write)
+}
+
+/// Writes the error response to a request that was refused under long-term credentials: its
+/// ERROR-CODE, with the reason phrase of RFC 8489; in a 401 or a 438 REALM, NONCE and
+/// PASSWORD-ALGORITHMS, as `demand` has them (section 9.2.4), and in a 400 none of these; and a
+/// FINGERPRINT if the request has one. It isn't signed, and has no USERNAME and no USERHASH. More
+/// attributes can be added only if there is no FINGERPRINT.
+///
+/// # Requires
+///
+/// `request` is a request, and the writer is as for `Message::builder`.
+///
+/// # Errors
+///
+/// As for [`refuse_short_term`].
+pub fn refuse_long_term<B: MessageWrite + Drop>(
+    alloc: Global,
+    request: &Message<'_>,
+    refusal: Refusal,
+    demand: &Demand,
+    write: B,
+) -> Result<B, StunWriteError>
+    requires request { class_of (type_field (message_bytes request.now)) ≡ Request }
+    requires empty { (B.state write).bytes ≡ [] }
+    requires room { Fits (B.state write).greatest 20 }
+    ensures text { let r = message_bytes request.now in
+        IfOk result (λ w. (B.state w).bytes ≡ refusal_of r refusal (Some demand.now)) }
+    ensures answer { let r = message_bytes request.now in
+        FailsFor (no_room (B.state write).greatest 20
+        (refusal_sizes r refusal (Some demand.now))) result }
+{
+    refuse(alloc, request, refusal, Some(demand), write)
 }

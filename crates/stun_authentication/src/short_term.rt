@@ -1,10 +1,10 @@
 //! A server's checks by the short-term credential mechanism (RFC 8489, section 9.1.3).
 
-ghost use Rattle.std.specs.Prelude.{◌≡◌, IfOk};
+ghost use Rattle.std.specs.Prelude.{◌≡◌, ◌≢◌, IfOk};
 ghost use Rattle.stun_keys.specs.Keys.{key_bytes};
 ghost use Rattle.stun_types.specs.Message.{message_bytes};
 ghost use Rattle.stun_authentication.specs.Answers.{Tells};
-ghost use Rattle.stun_authentication.specs.ShortTerm.{short_term, by_hmac};
+ghost use Rattle.stun_authentication.specs.ShortTerm.{short_term, by_class, by_attributes, by_user, by_hmac};
 
 use crate::answer::rejected;
 use crate::identity::value_of;
@@ -27,25 +27,8 @@ fn by_hmac(message: &Message<'_>, policy: Policy, key: IntegrityKey) -> Authenti
     }
 }
 
-/// Authenticates a request or an indication by short-term credentials, in the order of RFC 8489,
-/// section 9.1.3. The first of these that applies:
-///
-/// - A response is discarded: it is the client's to check.
-/// - Without an integrity attribute that counts (see [`Policy`]), or without USERNAME, it is
-///   rejected as a bad request.
-/// - Where `keys` has no key for the USERNAME, it is rejected as unauthenticated.
-/// - Where its last integrity attribute that counts isn't the HMAC under the key, or has fewer
-///   bytes than the policy asks for, it is rejected as unauthenticated.
-/// - Otherwise it is accepted, with the key and the algorithm of that attribute: the reply is
-///   signed by these, and by one integrity attribute alone. It has no USERNAME.
-///
-/// A request is rejected by an error response, 400 or 401, without USERNAME, MESSAGE-INTEGRITY and
-/// MESSAGE-INTEGRITY-SHA256, as [`refuse`](crate::refuse) writes it; an indication is discarded.
-///
-/// # Errors
-///
-/// Only where an allocation failed, while `keys` looked for the key.
-pub fn authenticate_short_term<K: ShortTermKeys>(
+/// The checks, in their order.
+fn checked<K: ShortTermKeys>(
     alloc: Global,
     message: &Message<'_>,
     policy: Policy,
@@ -54,8 +37,11 @@ pub fn authenticate_short_term<K: ShortTermKeys>(
     ensures { IfOk result
         (Tells (short_term policy (K.key_of keys.now) (message_bytes message.now))) }
 {
-    if message.is_response() {
+    if !policy.is_taken(message) {
         return Ok(Authentication::Discarded);
+    }
+    if message.is_response() {
+        return Ok(Authentication::NotARequest);
     }
     if !policy.is_signed(message) {
         return Ok(rejected(message, Refusal::BadRequest));
@@ -67,4 +53,37 @@ pub fn authenticate_short_term<K: ShortTermKeys>(
         Some(key) => Ok(by_hmac(message, policy, key)),
         None => Ok(rejected(message, Refusal::Unauthenticated)),
     }
+}
+
+/// Authenticates a request or an indication by short-term credentials, in the order of RFC 8489,
+/// section 9.1.3. The first of these that applies:
+///
+/// - Without a FINGERPRINT it is discarded, if the usage uses them (section 6.3).
+/// - A response is [`Authentication::NotARequest`]: it is the client's to check.
+/// - Without an integrity attribute that counts (see [`Policy`]), or without USERNAME, it is
+///   rejected as a bad request.
+/// - Where `keys` has no key for the USERNAME, it is rejected as unauthenticated.
+/// - Where its last integrity attribute that counts isn't the HMAC under the key, or has fewer
+///   bytes than the policy asks for, it is rejected as unauthenticated.
+/// - Otherwise it is accepted, with the key and the algorithm of that attribute: the reply is
+///   signed by these, and by one integrity attribute alone. It has no USERNAME.
+///
+/// A request is rejected by an error response, 400 or 401, without USERNAME, MESSAGE-INTEGRITY and
+/// MESSAGE-INTEGRITY-SHA256, as [`refuse_short_term`](crate::refuse_short_term) writes it; an
+/// indication is discarded.
+///
+/// # Errors
+///
+/// Only where an allocation failed, while `keys` looked for the key.
+pub fn authenticate_short_term<K: ShortTermKeys>(
+    alloc: Global,
+    message: &Message<'_>,
+    policy: Policy,
+    keys: &K,
+) -> Result<Authentication, AllocError>
+    ensures decision { IfOk result
+        (Tells (short_term policy (K.key_of keys.now) (message_bytes message.now))) }
+    ensures no_nonce { IfOk result (λ told. told ≢ Authentication.Refused Refusal.StaleNonce) }
+{
+    checked(alloc, message, policy, keys)
 }

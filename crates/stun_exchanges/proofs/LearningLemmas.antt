@@ -79,10 +79,10 @@ abbrev type_of_shown : Shown → AttributeType
 type_of_shown a = record { 0 = a.type }
 
 -- the content of a response that shows no type beyond those of RFC 8489
-content_of : (class : MessageClass) (d : List ℕ) (told : Outcome) → first_beyond [] d ≡ None → class_of (type_field d) ≡ class → content_by_class class d ≡ told → content [] d ≡ told
+content_of : (class : MessageClass) (d : List ℕ) (told : Outcome) → first_beyond [] d ≡ None → class_of (type_field d) ≡ class → content_by_class None class d ≡ told → content None [] d ≡ told
 content_of class d told none is has =
-    ap (λ (o : Option AttributeType). option_map_or (λ (type : AttributeType). Outcome.Failed (Failure.UnknownAttribute type)) o (content_by_class (class_of (type_field d)) d)) none
-    ∙ ap (λ (c : MessageClass). content_by_class c d) is ∙ has
+    ap (λ (o : Option AttributeType). option_map_or (λ (type : AttributeType). Outcome.Failed (Failure.UnknownAttribute type)) o (content_by_class None (class_of (type_field d)) d)) none
+    ∙ ap (λ (c : MessageClass). content_by_class None c d) is ∙ has
 
 within : (d : List ℕ) (attributes : List Attribute) → shown d ≡ placed 20 attributes → find (is_beyond []) (map type_of_shown (placed 20 attributes)) ≡ None → first_beyond [] d ≡ None
 within d attributes shows none = ap (λ (xs : List Shown). find (is_beyond []) (map type_of_shown xs)) shows ∙ none
@@ -104,6 +104,14 @@ no_other : (type : ℕ) (more : List Attribute) → (FINGERPRINT == type) ≡ fa
 no_other type more a (inl e) = rw e refl
 no_other type more a (inr e) = rw (e.1, a) refl
 
+-- a reply to a request with a FINGERPRINT shows one
+printed_in : IsFoundIn → (type id : ℕ) (attributes more : List Attribute) → IsWritable type id (attributes ++ more) → has FINGERPRINT (types attributes) ≡ false → ((value : List ℕ) × (more ≡ canonical FINGERPRINT value ∷ []))
+    → is_some (nth (message_encoding type id (attributes ++ more)) FINGERPRINT 0) ≡ true
+printed_in found type id attributes more so none (value, is) =
+    let writable : IsWritable type id (attributes ++ canonical FINGERPRINT value ∷ []) = subst (λ (xs : List Attribute). IsWritable type id (attributes ++ xs)) is so in
+    ap (λ (xs : List Attribute). is_some (nth (message_encoding type id (attributes ++ xs)) FINGERPRINT 0)) is
+    ∙ ap is_some (found type id attributes [] (canonical FINGERPRINT value) writable none refl).0
+
 pub learns : KeepsClass → HasBits → IsAnswer → IsFoundIn → (source : SocketAddr) (r : List ℕ) → IsBytes r → IsInRange source → IsBindingRequest r → unknown_types [] r ≡ [] → Learns source r
 learns classes bits answering found source r bytes range request none =
     let kind = response_type Success r in
@@ -121,7 +129,8 @@ learns classes bits answering found source r bytes range request none =
     record {
       text = text;
       replied = replied_as source r text request (sym (ap (finished r) plain ∙ done.text_is));
-      taken = received_as Outcome.Success r text parses answers (content_of Success text Outcome.Success (within text all (shown-message kind id all done.writable) (success_within source r done.more done.last)) class refl);
+      taken = received_as (Outcome.Success None) r text parses answers (λ e. printed_in found kind id (success_reply source r) done.more done.writable refl (done.printed e))
+          (content_of Success text (Outcome.Success None) (within text all (shown-message kind id all done.writable) (success_within source r done.more done.last)) class refl);
       address = tells_only source r text (record { offset = length (message_encoding kind id []); type = mapped.type; value = mapped.value }) range parses
           (record { answers = answers; succeeds = class }) there (ap (λ (n : ℕ). xored_value n source) (sym (id-message kind id all id_fits)));
     }
@@ -176,7 +185,8 @@ learns_error classes bits answering found source r (x ∷ xs) bytes request is s
     record {
       text = text;
       replied = replied_as source r text request (sym (ap (finished r) plain ∙ done.text_is));
-      taken = received_as (Outcome.Error 420) r text parses answers (content_of ErrorClass text (Outcome.Error 420) (within text all (shown-message kind id all done.writable) (error_within (x ∷ xs) done.more done.last)) class
-          (ap (λ (o : Option ℕ). option_map_or (λ (n : ℕ). Outcome.Error n) o (Outcome.Failed Failure.NoErrorCode)) code));
+      taken = received_as (Outcome.Error 420 None) r text parses answers (λ e. printed_in found kind id (unknown_reply (x ∷ xs)) done.more done.writable refl (done.printed e))
+          (content_of ErrorClass text (Outcome.Error 420 None) (within text all (shown-message kind id all done.writable) (error_within (x ∷ xs) done.more done.last)) class
+          (ap (λ (o : Option ℕ). option_map_or (λ (n : ℕ). Outcome.Error n None) o (Outcome.Failed Failure.NoErrorCode)) code));
       types = subst (λ (o : Option Shown). IsSomeAnd o (λ (s : Shown). s.value ≡ types_encoding (unknown_types [] r))) (sym types_there) (ap types_encoding (sym is));
     }

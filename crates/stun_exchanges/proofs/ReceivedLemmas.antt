@@ -5,16 +5,20 @@ use Rattle.std.specs.Option.{option_map_or}
 use Rattle.std.proofs.lemmas.Bool.{eq-eqb}
 use Rattle.stun_grammar.specs.Headers.{type_field, id_field}
 use Rattle.stun_grammar.specs.Parsing.{parse_fault}
+use Rattle.stun_grammar.specs.AttributeTypes.{FINGERPRINT}
+use Rattle.stun_read.specs.LookingUp.{nth}
 use Rattle.stun_base.specs.MessageTypes.{class_of, method_of, is_response}
 use Rattle.stun_types.specs.Replies.{Answers}
 use Rattle.stun_transactions.specs.declared.guard.Protection.{Protection}
 use Rattle.stun_transactions.specs.declared.received.Discard.{Discard}
+use Rattle.stun_transactions.specs.declared.received.Discard.TheVariants.{NoFingerprint}
 use Rattle.stun_transactions.specs.declared.received.Outcome.{Outcome}
 use Rattle.stun_transactions.specs.declared.received.Outcome.TheVariants.{NotForThis}
-use Rattle.stun_transactions.specs.Guards.{guard_fault}
+use Rattle.stun_transactions.specs.Guards.{proof_of, guard_fault}
 use Rattle.stun_transactions.specs.Outcomes.{is_open}
-use Rattle.stun_transactions.specs.Receiving.{content, discarded}
+use Rattle.stun_transactions.specs.Receiving.{content, claim_of, discarded}
 use Rattle.stun_transactions.specs.Terms.{is_answer}
+use Rattle.stun_transactions.specs.Usages.{lacks_fingerprint}
 use Rattle.stun_exchanges.specs.Learning.{IsReceivedAs}
 
 told_of : (ongoing parses answers : Bool) (kept : Option Discard) (out : Discard → Outcome) (taken told : Outcome) → ongoing ≡ true → parses ≡ true → answers ≡ true → kept ≡ None → taken ≡ told
@@ -31,17 +35,29 @@ both true true false x y z = absurd cc
 both true false c x y z = absurd cc
 both false b c x y z = absurd cc
 
+-- where the usage sends FINGERPRINT, d shows one if r does
+not_lacking : (used in_r in_d : Bool) → (used && not in_r) ≡ false → (in_r ≡ true → in_d ≡ true) → (used && not in_d) ≡ false
+not_lacking false in_r in_d e same = refl
+not_lacking true true in_d e same = rw (same refl) refl
+not_lacking true false in_d e same = absurd cc
+
+-- an unprotected transaction keeps nothing else out
+unguarded : (lacks : Bool) → lacks ≡ false → (if lacks then Some NoFingerprint else None) ≡ None
+unguarded false e = refl
+unguarded true e = absurd cc
+
 -- a message that answers the request is told by what it has in it
-pub received_as : (told : Outcome) (r d : List ℕ) → parse_fault d ≡ None → Answers d r → content [] d ≡ told → IsReceivedAs told r d
-received_as told r d parses answers has = record {
+pub received_as : (told : Outcome) (r d : List ℕ) → parse_fault d ≡ None → Answers d r → (is_some (nth r FINGERPRINT 0) ≡ true → is_some (nth d FINGERPRINT 0) ≡ true) → content None [] d ≡ told → IsReceivedAs told r d
+received_as told r d parses answers printed has = record {
   parses = parses;
   answers = answers;
   received_is = λ terms state awaits.
-      told_of (is_open state) (not (is_some (parse_fault d))) (is_answer terms d) (guard_fault terms.protection terms.signed d) (discarded terms.plan.transport) (content [] d) told
+      told_of (is_open state) (not (is_some (parse_fault d))) (is_answer terms d) (guard_fault terms.protection terms.usage terms.signed d) (discarded terms.plan.transport (claim_of d)) (content (proof_of terms.protection terms.usage terms.signed d) [] d) told
       awaits.ongoing
       (ap (λ (o : Option _). not (is_some o)) parses)
       (both (is_response (class_of (type_field d))) (method_of (type_field d) == terms.method) (id_field d == terms.id) answers.response
       (eq-eqb (method_of (type_field d)) terms.method (answers.method ∙ sym awaits.method_is)) (eq-eqb (id_field d) terms.id (answers.id ∙ sym awaits.id_is)))
-      (ap (λ (p : Protection). guard_fault p terms.signed d) awaits.unprotected)
-      has;
+      (ap (λ (p : Protection). guard_fault p terms.usage terms.signed d) awaits.unprotected
+      ∙ unguarded (lacks_fingerprint terms.usage d) (not_lacking terms.usage.fingerprint (is_some (nth r FINGERPRINT 0)) (is_some (nth d FINGERPRINT 0)) awaits.fingerprint printed))
+      (ap (λ (p : Protection). content (proof_of p terms.usage terms.signed d) [] d) awaits.unprotected ∙ has);
 }

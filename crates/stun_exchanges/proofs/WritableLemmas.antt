@@ -1,5 +1,5 @@
 -- The replies may be written.
-use Rattle.std.proofs.Common.{◌≡◌, ℕ, zero, suc, ◌+◌, ◌*◌, ◌^◌, ◌<◌, ◌≤◌, List, [], ◌∷◌, ◌++◌, length, take, drop, Option, Some, None, inl, inr, refl, sym, ap, subst, lit<, arith}
+use Rattle.std.proofs.Common.{◌≡◌, ℕ, zero, suc, ◌+◌, ◌*◌, ◌^◌, ◌<◌, ◌≤◌, Bool, true, List, [], ◌∷◌, ◌++◌, length, take, drop, Option, Some, None, inl, inr, refl, sym, ap, subst, lit<, arith}
 use Rattle.std.specs.Prelude.{◌⊎◌, fold, is_some, codes, if◌then◌else◌}
 use Rattle.std.specs.declared.net.socket_addr.SocketAddr.{SocketAddr}
 use Rattle.std.proofs.lemmas.List.{append-nil, length-append, length-take, length-drop}
@@ -115,20 +115,23 @@ error_unfinished r x xs few type_fits id_fits =
 -- ---- With its FINGERPRINT, where it has one
 
 -- a text is written with these attributes, and with a FINGERPRINT or nothing behind them
-pub record IsFinished (type id : ℕ) (attributes : List Attribute) (text : List ℕ) : Type 0 where
+pub record IsFinished (type id : ℕ) (attributes : List Attribute) (wanted : Bool)
+    (text : List ℕ) : Type 0 where
   pub more : List Attribute
   pub text_is : text ≡ message_encoding type id (attributes ++ more)
   pub writable : IsWritable type id (attributes ++ more)
   pub last : (more ≡ []) ⊎ ((value : List ℕ) × (more ≡ canonical FINGERPRINT value ∷ []))
+  pub printed : wanted ≡ true → (value : List ℕ) × (more ≡ canonical FINGERPRINT value ∷ [])
 
 pub finish : {A : Type 0} (shown : Option A) (type id : ℕ) (attributes : List Attribute) → IsUnfinished type id attributes
-    → IsFinished type id attributes (if is_some shown then appended (message_encoding type id attributes) FINGERPRINT (fingerprint_value (message_encoding type id attributes) (length (message_encoding type id attributes))) else message_encoding type id attributes)
+    → IsFinished type id attributes (is_some shown) (if is_some shown then appended (message_encoding type id attributes) FINGERPRINT (fingerprint_value (message_encoding type id attributes) (length (message_encoding type id attributes))) else message_encoding type id attributes)
 unfolding appended_by
 finish None type id attributes so = record {
   more = [];
   text_is = ap (message_encoding type id) (sym (append-nil attributes));
   writable = subst (IsWritable type id) (sym (append-nil attributes)) so.writable;
   last = inl refl;
+  printed = λ e. absurd cc;
 }
 finish (Some x) type id attributes so =
     let text = message_encoding type id attributes in
@@ -139,4 +142,5 @@ finish (Some x) type id attributes so =
       text_is = message_more type id attributes FINGERPRINT value (lit< tt) (omega (arith, four));
       writable = step_writable type id attributes finger so.writable (follows type id attributes finger so.unbarred (omega (arith, so.short))) tt tt;
       last = inr (value, refl);
+      printed = λ e. (value, refl);
     }

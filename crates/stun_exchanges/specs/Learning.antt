@@ -1,5 +1,5 @@
 -- What a client learns of the reply to its request (RFC 8489, sections 6.3.1, 6.3.3, 6.3.4 and 14.2).
-use Rattle.std.specs.Prelude.{◌≡◌, ℕ, List, [], true, Option, None, Some, Result, IsOkAnd, IsSomeAnd}
+use Rattle.std.specs.Prelude.{◌≡◌, ℕ, List, [], true, false, Option, None, Some, Result, IsOkAnd, IsSomeAnd}
 use Rattle.std.specs.Net.Socket.{socket_ip, socket_port}
 use Rattle.std.specs.declared.net.socket_addr.SocketAddr.{SocketAddr}
 use Rattle.stun_grammar.specs.declared.error.StunParseError.{StunParseError}
@@ -21,6 +21,7 @@ use Rattle.stun_transactions.specs.declared.terms.Terms.{Terms}
 use Rattle.stun_transactions.specs.Mapped.{ReadsAnswer}
 use Rattle.stun_transactions.specs.Outcomes.{is_open}
 use Rattle.stun_transactions.specs.Receiving.{received_outcome}
+use Rattle.stun_transactions.specs.Usages.{lacks_fingerprint}
 use Rattle.stun_server.specs.Reply.{reply}
 
 -- r is a message, and a binding request
@@ -33,15 +34,17 @@ pub record IsBindingRequest (r : List ℕ) : Type 0 where
 abbrev pub without_flow : SocketAddr → SocketAddr
 without_flow a = plain_socket (socket_ip a) (socket_port a)
 
--- a transaction of the unsigned request r waits for its response
+-- a transaction of the unsigned request r waits for its response: where the usage sends FINGERPRINT, r
+-- shows one
 pub record Awaits (r : List ℕ) (terms : Terms) (state : RetransmissionState) : Type 0 where
   pub method_is : terms.method ≡ method_of (type_field r)
   pub id_is : terms.id ≡ id_field r
   pub unprotected : terms.protection ≡ Unprotected
+  pub fingerprint : lacks_fingerprint terms.usage r ≡ false
   pub ongoing : is_open state ≡ true
 
 -- d is a message, a response to the request r, and each transaction that waits for one is told this
--- of it
+-- of it; nothing authenticates it
 pub record IsReceivedAs (told : Outcome) (r d : List ℕ) : Type 0 where
   pub parses : parse_fault d ≡ None
   pub answers : Answers d r
@@ -58,13 +61,13 @@ TellsOnly a r d =
 pub record Learns (source : SocketAddr) (r : List ℕ) : Type 0 where
   pub text : List ℕ
   pub replied : reply source r ≡ Some text
-  pub taken : IsReceivedAs Success r text
+  pub taken : IsReceivedAs (Success None) r text
   pub address : TellsOnly (without_flow source) r text
 
 -- the reply to r tells the client which types it may not show
 pub record LearnsError (source : SocketAddr) (r : List ℕ) : Type 0 where
   pub text : List ℕ
   pub replied : reply source r ≡ Some text
-  pub taken : IsReceivedAs (Error 420) r text
+  pub taken : IsReceivedAs (Error 420 None) r text
   pub types : IsSomeAnd (nth text UNKNOWN_ATTRIBUTES 0)
       (λ shown. shown.value ≡ types_encoding (unknown_types [] r))

@@ -1,6 +1,7 @@
 -- The first poll.
 use Rattle.std.proofs.Common.{◌≡◌, ◌+◌, ◌*◌, ◌<◌, ◌≤◌, Bool, true, false, refl, subst, inl, inr, arith}
 use Rattle.std.specs.Prelude.{nat_lt, if◌then◌else◌}
+use Rattle.std.proofs.lemmas.Bool.{ltb-false}
 use Rattle.std.specs.Duration.{as_nanos}
 use Rattle.std.specs.declared.time.Duration.{Duration}
 use Rattle.stun_base.specs.declared.transport.TransportType.{TransportType}
@@ -39,4 +40,4 @@ first_sends plan now (WaitUntil until) state waits =
     subst (λ (at : Duration). as_nanos at < as_nanos now + wait_over plan.schedule plan.transport 0 * 1_000_000) (same_moment now) waits.early in
     absurd (omega arith)
 first_sends plan now (Ended end) state over =
-    elim over [ inl is ↦ absurd (let e = is.end_is in cc e) | inr times ↦ absurd (let some = some_request plan.schedule plan.transport in omega (arith, times.all)) ]
+    elim over [ inl is ↦ absurd (let e = is.end_is in cc e) | inr times ↦ absurd (let some = some_request plan.schedule plan.transport in omega (arith, ltb-false 0 (requests_over plan.schedule plan.transport) times.all)) ]

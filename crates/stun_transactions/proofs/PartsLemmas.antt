@@ -1,6 +1,6 @@
 -- The parts of a transaction: they and its key are all of it, and none of a transaction's are refused.
-use Rattle.std.proofs.Common.{◌≡◌, ℕ, ◌+◌, ◌≤◌, Bool, true, false, List, None, Some, refl, sym, ap, subst, ◌∙◌, inl, inr, arith}
-use Rattle.std.specs.Prelude.{not, is_some, nat_lt, if◌then◌else◌}
+use Rattle.std.proofs.Common.{◌≡◌, ℕ, ◌+◌, ◌<◌, ◌≤◌, Bool, true, false, List, None, Some, refl, sym, ap, subst, ◌∙◌, inl, inr, arith}
+use Rattle.std.specs.Prelude.{not, ◌&&◌, is_some, nat_lt, if◌then◌else◌}
 use Rattle.std.specs.Duration.{as_nanos}
 use Rattle.std.specs.declared.time.Duration.{Duration}
 use Rattle.std.proofs.lemmas.Bool.{cases_Bool, le-ltb, ltb-false, ltb-true}
@@ -13,8 +13,9 @@ use Rattle.stun_transactions.specs.declared.retransmission.Action.{Action}
 use Rattle.stun_transactions.specs.declared.retransmission.Action.TheVariants.{Send, WaitUntil, Ended}
 use Rattle.stun_transactions.specs.declared.retransmission.TransactionEnd.{TransactionEnd}
 use Rattle.stun_transactions.specs.declared.guard.Protection.{Protection}
-use Rattle.stun_transactions.specs.declared.guard.Protection.TheVariants.{Unprotected, ShortTerm, LongTerm}
-use Rattle.stun_transactions.specs.declared.received.Discard.TheVariants.{NotAuthentic, BidDown, UnsignedBadRequest}
+use Rattle.stun_transactions.specs.declared.usage.Usage.{Usage}
+use Rattle.stun_transactions.specs.declared.guard.Protection.TheVariants.{Unprotected, FirstLongTerm, ShortTerm, LongTerm}
+use Rattle.stun_transactions.specs.declared.received.Discard.TheVariants.{NotAuthentic, OtherAlgorithm, BidDown, UnsignedBadRequest, NoFingerprint}
 use Rattle.stun_transactions.specs.declared.received.Outcome.{Outcome}
 use Rattle.stun_transactions.specs.declared.received.Outcome.TheVariants.{NotForThis, Discarded, Failed, Success, Error}
 use Rattle.stun_transactions.specs.declared.parts.PartsError.{PartsError}
@@ -23,17 +24,24 @@ use Rattle.stun_transactions.specs.declared.parts.TransactionParts.{TransactionP
 use Rattle.stun_transactions.specs.declared.terms.BeginError.{BeginError}
 use Rattle.stun_transactions.specs.declared.transaction.Transaction.{Transaction}
 use Rattle.stun_transactions.specs.Schedules.{requests_in}
-use Rattle.stun_transactions.specs.Retransmissions.{later, ended_by, Polls}
+use Rattle.stun_transactions.specs.Retransmissions.{later, ended_by, stopped_by, Polls}
 use Rattle.stun_transactions.specs.Guards.{signed_by, is_signed, protects, IsKeptAs}
 use Rattle.stun_transactions.specs.Outcomes.{after}
 use Rattle.stun_transactions.specs.Terms.{is_request, mismatch, begin_fault}
 use Rattle.stun_transactions.specs.Transactions.{terms_of, state_of, Begins}
-use Rattle.stun_transactions.specs.Parts.{plan_in, state_in, at_state, mechanism_of, key_in, parts_of, key_of, is_signed_otherwise, parts_fault, key_fault, whole_fault}
+use Rattle.stun_transactions.specs.Parts.{plan_in, state_in, at_state, mechanism_of, key_in, parts_of, key_of, signs, is_signed_otherwise, parts_fault, key_fault, whole_fault}
 
 -- ---- The parts and the key are all of a transaction
 
 same_protection : (p q : Protection) → mechanism_of p ≡ mechanism_of q → key_in p ≡ key_in q → p ≡ q
 same_protection Unprotected Unprotected mechanism key = refl
+same_protection Unprotected FirstLongTerm mechanism key = absurd cc
+same_protection FirstLongTerm Unprotected mechanism key = absurd cc
+same_protection FirstLongTerm FirstLongTerm mechanism key = refl
+same_protection FirstLongTerm (ShortTerm k) mechanism key = absurd cc
+same_protection FirstLongTerm (LongTerm k) mechanism key = absurd cc
+same_protection (ShortTerm k) FirstLongTerm mechanism key = absurd cc
+same_protection (LongTerm k) FirstLongTerm mechanism key = absurd cc
 same_protection Unprotected (ShortTerm k) mechanism key = absurd cc
 same_protection Unprotected (LongTerm k) mechanism key = absurd cc
 same_protection (ShortTerm k) Unprotected mechanism key = absurd cc
@@ -52,8 +60,9 @@ all_of_it one other parts key =
         id = (parts i).id;
         signed = record { sha1 = (parts i).sha1; sha256 = (parts i).sha256 };
         protection = protection i;
+        usage = (parts i).usage;
       },
-      λ i. record { sent = (parts i).sent; last = (parts i).last; clock = (parts i).clock; violated = (parts i).violated; end = (parts i).end },
+      λ i. record { sent = (parts i).sent; last = (parts i).last; clock = (parts i).clock; violated = (parts i).violated; stopped = (parts i).stopped; end = (parts i).end },
     )
 
 -- ---- What it means that parts aren't refused
@@ -93,11 +102,16 @@ grows clock now = elim (cases_Bool (nat_lt (as_nanos clock) (as_nanos now))) [
 at : (parts : TransactionParts) (one other : RetransmissionState) → one ≡ other → Sound (at_state parts other) → parts_fault (at_state parts one) ≡ None
 at parts one other e sound = ap (λ (c : RetransmissionState). parts_fault (at_state parts c)) e ∙ sound_none (at_state parts other) sound
 
+-- where a further request is to be sent, there is room for it
+room : (stopped : Bool) (sent requests : ℕ) → (not stopped && nat_lt sent requests) ≡ true → sent < requests
+room false sent requests more = ltb-true sent requests more
+room true sent requests more = absurd cc
+
 pub polled : (parts : TransactionParts) (now : Duration) (action : Action) (state : RetransmissionState) → parts_fault parts ≡ None → Polls (plan_in parts) (state_in parts) now action state → parts_fault (at_state parts state) ≡ None
 polled parts now Send state none polls =
     let sound = sound_if parts none in
     at parts state (record (state_in parts) { sent = parts.sent + 1; last = later parts.clock now; clock = later parts.clock now }) polls.new_is
-    (record { signed = sound.signed; often = omega (arith, polls.more); late = omega arith })
+    (record { signed = sound.signed; often = omega (arith, room parts.stopped parts.sent (requests_in (plan_in parts)) polls.more); late = omega arith })
 polled parts now (WaitUntil until) state none polls =
     let sound = sound_if parts none in
     at parts state (record (state_in parts) { clock = later parts.clock now }) polls.new_is
@@ -110,26 +124,33 @@ polled parts now (Ended end) state none (inr out) =
 
 pub received : (parts : TransactionParts) (outcome : Outcome) → parts_fault parts ≡ None → parts_fault (at_state parts (after outcome (state_in parts))) ≡ None
 received parts NotForThis none = none
-received parts (Discarded NotAuthentic) none = none
-received parts (Discarded BidDown) none = none
-received parts (Discarded UnsignedBadRequest) none = none
+received parts (Discarded NotAuthentic claim) none = none
+received parts (Discarded OtherAlgorithm claim) none = none
+received parts (Discarded BidDown claim) none = none
+received parts (Discarded UnsignedBadRequest claim) none = none
+received parts (Discarded NoFingerprint claim) none = none
 received parts (Failed failure) none = none
-received parts Success none = none
-received parts (Error code) none = none
+received parts (Success proof) none = none
+received parts (Error code proof) none = none
 
 pub ended : (parts : TransactionParts) (end : TransactionEnd) → parts_fault parts ≡ None → parts_fault (at_state parts (ended_by end (state_in parts))) ≡ None
 ended parts end none = elim (cases_Bool (is_some parts.end)) [ inl there ↦ rw there none | inr away ↦ rw away none ]
 
+pub stopped : (parts : TransactionParts) → parts_fault parts ≡ None → parts_fault (at_state parts (stopped_by (state_in parts))) ≡ None
+stopped parts none = elim (cases_Bool (is_some parts.end)) [ inl there ↦ rw there none | inr away ↦ rw away none ]
+
 -- what is kept of a protection
 record Kept (protection kept : Protection) : Type 0 where
-  mechanism : is_some (mechanism_of kept) ≡ protects protection
+  mechanism : signs (mechanism_of kept) ≡ protects protection
   key : key_fault (mechanism_of kept) (key_in kept) ≡ None
 
 kept_is : (protection kept : Protection) → IsKeptAs protection kept → Kept protection kept
+kept_is FirstLongTerm kept is = subst (Kept FirstLongTerm) (sym is) (record { mechanism = refl; key = refl })
 kept_is Unprotected kept is = subst (Kept Unprotected) (sym is) (record { mechanism = refl; key = refl })
 kept_is (ShortTerm key) kept is = subst (Kept (ShortTerm key)) (sym is) (record { mechanism = refl; key = refl })
 kept_is (LongTerm key) (LongTerm kept) is = record { mechanism = refl; key = rw is.algorithm_is refl }
 kept_is (LongTerm key) Unprotected is = absurd is
+kept_is (LongTerm key) FirstLongTerm is = absurd is
 kept_is (LongTerm key) (ShortTerm kept) is = absurd is
 
 matching : (protected signed : Bool) → mismatch protected signed ≡ None → protected ≡ signed
@@ -146,15 +167,15 @@ agree : (s : Bool) → (if s then not s else s) ≡ false
 agree true = refl
 agree false = refl
 
-pub begins : (r : List ℕ) (schedule : Schedule) (transport : TransportType) (protection : Protection) (now : Duration) (transaction : Transaction) → begin_fault protection r ≡ None → Begins r schedule transport protection now transaction
+pub begins : (r : List ℕ) (schedule : Schedule) (transport : TransportType) (protection : Protection) (usage : Usage) (now : Duration) (transaction : Transaction) → begin_fault protection r ≡ None → Begins r schedule transport protection usage now transaction
     → whole_fault (parts_of transaction) (key_of transaction) ≡ None
-begins r schedule transport protection now transaction free so =
+begins r schedule transport protection usage now transaction free so =
     let terms = terms_of transaction in
     let parts = parts_of transaction in
     let kept = kept_is protection terms.protection so.terms.protection_is in
     let same : protects protection ≡ is_signed (signed_by r) = matching (protects protection) (is_signed (signed_by r)) (unrefused (is_request (class_of (type_field r))) (protects protection) (is_signed (signed_by r)) _ free) in
     let shown : is_signed terms.signed ≡ is_signed (signed_by r) = ap is_signed so.terms.signed_is in
-    let mechanism : is_some parts.mechanism ≡ is_signed terms.signed = kept.mechanism ∙ same ∙ sym shown in
+    let mechanism : signs parts.mechanism ≡ is_signed terms.signed = kept.mechanism ∙ same ∙ sym shown in
     let signed : is_signed_otherwise parts ≡ false = ap (λ (b : Bool). if b then not (is_signed terms.signed) else is_signed terms.signed) mechanism ∙ agree (is_signed terms.signed) in
     let sent : parts.sent ≡ 0 = ap (λ (c : RetransmissionState). c.sent) so.state in
     let moment : as_nanos parts.last ≡ as_nanos parts.clock = ap (λ (c : RetransmissionState). as_nanos c.last) so.state ∙ sym (ap (λ (c : RetransmissionState). as_nanos c.clock) so.state) in

@@ -16,6 +16,7 @@ use Rattle.stun_grammar.specs.declared.error.StunParseError.{StunParseError}
 use Rattle.stun_grammar.specs.Headers.{id_field}
 use Rattle.stun_grammar.specs.Parsing.{parse_fault}
 use Rattle.stun_transactions.specs.declared.guard.Protection.{Protection}
+use Rattle.stun_transactions.specs.declared.usage.Usage.{Usage}
 use Rattle.stun_transactions.specs.declared.schedule.Schedule.{Schedule}
 use Rattle.stun_transactions.specs.declared.terms.BeginError.{BeginError}
 use Rattle.stun_transactions.specs.Terms.{begin_fault}
@@ -201,13 +202,13 @@ by_begin (Some reason) x e = absurd cc
 fault_is : (protection : Protection) (r : List ℕ) (id : ℕ) (slots : List (Option Transaction)) → begin_fault protection r ≡ None → id ≡ id_field r → add_fault protection r slots ≡ room_fault id slots
 fault_is protection r id slots none e = by_begin (begin_fault protection r) (room_fault (id_field r) slots) none ∙ ap (λ n. room_fault n slots) (sym e)
 
-pub begun : (r : List ℕ) (schedule : Schedule) (transport : TransportType) (protection : Protection) (now : Duration) (t : Transaction) (old new : List (Option Transaction)) (x : Result Unit AddError)
-    → begin_fault protection r ≡ None → Begins r schedule transport protection now t
+pub begun : (r : List ℕ) (schedule : Schedule) (transport : TransportType) (protection : Protection) (usage : Usage) (now : Duration) (t : Transaction) (old new : List (Option Transaction)) (x : Result Unit AddError)
+    → begin_fault protection r ≡ None → Begins r schedule transport protection usage now t
     → MatchResult x (λ _. (room_fault (id_of t) old ≡ None) × IsAdded t old new) (λ e. (room_fault (id_of t) old ≡ Some e) × (new ≡ old))
-    → MatchResult x (λ _. (add_fault protection r old ≡ None) × Adds r schedule transport protection now old new) (λ e. (add_fault protection r old ≡ Some e) × (new ≡ old))
-begun r schedule transport protection now t old new (Ok x) none begins added =
+    → MatchResult x (λ _. (add_fault protection r old ≡ None) × Adds r schedule transport protection usage now old new) (λ e. (add_fault protection r old ≡ Some e) × (new ≡ old))
+begun r schedule transport protection usage now t old new (Ok x) none begins added =
     (fault_is protection r (id_of t) old none begins.terms.id_is ∙ added.0, record { transaction = t; begins = begins; added = added.1 })
-begun r schedule transport protection now t old new (Err e) none begins same =
+begun r schedule transport protection usage now t old new (Err e) none begins same =
     (fault_is protection r (id_of t) old none begins.terms.id_is ∙ same.0, same.1)
 
 -- the place of the transaction that a message is for

@@ -1,79 +1,182 @@
 -- What is taken is a right response.
-use Rattle.std.proofs.Common.{◌≡◌, ℕ, Bool, true, false, List, Option, None, Some, refl, inl, inr}
-use Rattle.std.specs.Prelude.{Result, Ok, Err, is_ok, is_some, not, ◌&&◌, if◌then◌else◌}
+use Rattle.std.proofs.Common.{◌≡◌, ℕ, ◌⊎◌, Bool, true, false, List, Option, None, Some, refl, sym, ap, subst, ◌∙◌, inl, inr}
+use Rattle.std.specs.Prelude.{Result, Ok, Err, is_some, not, ◌&&◌, if◌then◌else◌}
 use Rattle.std.specs.Option.{option_map_or}
 use Rattle.stun_grammar.specs.declared.attribute_type.AttributeType.{AttributeType}
 use Rattle.stun_grammar.specs.declared.error.StunParseError.{StunParseError}
 use Rattle.stun_grammar.specs.declared.error.ValidateError.{ValidateError}
 use Rattle.stun_grammar.specs.declared.integrity_algorithm.IntegrityAlgorithm.{IntegrityAlgorithm}
+use Rattle.stun_grammar.specs.Headers.{type_field}
 use Rattle.stun_grammar.specs.Numbers.{IsBytes}
 use Rattle.stun_grammar.specs.Parsing.{parse_fault}
 use Rattle.stun_grammar.proofs.AcceptingLemmas.{is_authentic_through}
+use Rattle.stun_base.specs.declared.message_type.MessageClass.{MessageClass}
+use Rattle.stun_base.specs.declared.message_type.MessageClass.TheVariants as Class
 use Rattle.stun_base.specs.declared.transport.TransportType.{TransportType}
 use Rattle.stun_base.specs.declared.transport.TransportType.TheVariants.{Udp, Tcp}
+use Rattle.stun_base.specs.MessageTypes.{class_of}
 use Rattle.stun_keys.specs.declared.keys.integrity_key.IntegrityKey.{IntegrityKey}
 use Rattle.stun_keys.specs.Keys.{key_bytes, key_algorithm}
 use Rattle.stun_authentication.specs.Challenges.{is_bid_down}
-use Rattle.stun_authentication.specs.Codes.{is_challenge}
+use Rattle.stun_authentication.specs.Codes.{is_challenge, shown_code}
+use Rattle.stun_authentication.specs.Policies.{has_least_length}
 use Rattle.stun_transactions.specs.declared.retransmission.RetransmissionState.{RetransmissionState}
 use Rattle.stun_transactions.specs.declared.guard.Protection.{Protection}
-use Rattle.stun_transactions.specs.declared.guard.Protection.TheVariants.{Unprotected, ShortTerm, LongTerm}
+use Rattle.stun_transactions.specs.declared.guard.Protection.TheVariants.{Unprotected, FirstLongTerm, ShortTerm, LongTerm}
 use Rattle.stun_transactions.specs.declared.guard.Signed.{Signed}
+use Rattle.stun_transactions.specs.declared.received.Claim.{Claim}
 use Rattle.stun_transactions.specs.declared.received.Discard.{Discard}
-use Rattle.stun_transactions.specs.declared.received.Discard.TheVariants.{NotAuthentic, BidDown, UnsignedBadRequest}
+use Rattle.stun_transactions.specs.declared.received.Discard.TheVariants.{NotAuthentic, OtherAlgorithm, BidDown, UnsignedBadRequest, NoFingerprint}
+use Rattle.stun_transactions.specs.declared.received.Failure.TheVariants.{UnknownAttribute, NoErrorCode}
 use Rattle.stun_transactions.specs.declared.received.Outcome.{Outcome}
-use Rattle.stun_transactions.specs.declared.received.Outcome.TheVariants.{NotForThis}
+use Rattle.stun_transactions.specs.declared.received.Outcome.TheVariants.{NotForThis, Failed, Error}
 use Rattle.stun_transactions.specs.declared.terms.Terms.{Terms}
-use Rattle.stun_transactions.specs.Guards.{guard_fault, validated, accepts, is_unsigned_bad_request}
+use Rattle.stun_transactions.specs.declared.usage.Usage.{Usage}
+use Rattle.stun_transactions.specs.Guards.{guard_fault, mechanism_fault, proof_of, proved_by, matched_by, signed_by, is_signed, have_common, signs_by, validated, is_unsigned_bad_request}
 use Rattle.stun_transactions.specs.Outcomes.{is_open}
-use Rattle.stun_transactions.specs.Receiving.{received_outcome, discarded, content}
-use Rattle.stun_transactions.specs.Taking.{is_taken, IsAuthenticBy, IsProved, IsRightResponse}
+use Rattle.stun_transactions.specs.Receiving.{received_outcome, claim_of, discarded, content, content_by_class}
+use Rattle.stun_transactions.specs.Responses.{first_beyond}
+use Rattle.stun_transactions.specs.Taking.{is_taken, proof_in, IsAuthenticBy, IsProved, IsFit, IsFitBy, IsRightResponse}
 use Rattle.stun_transactions.specs.Terms.{is_answer}
+use Rattle.stun_transactions.specs.Usages.{lacks_fingerprint}
 
--- what validates is authentic
-by_key : (key : IntegrityKey) (d : List ℕ) (a : IntegrityAlgorithm) → IsBytes d → parse_fault d ≡ None → validated key d ≡ Ok a → IsAuthenticBy key d
-by_key key d a bytes parses e = (a, is_authentic_through (key_algorithm key) (λ _. key_bytes key) d a bytes parses e)
+-- ---- What is authentic
 
-short : (key : IntegrityKey) (signed : Signed) (d : List ℕ) (r : Result IntegrityAlgorithm ValidateError) → IsBytes d → parse_fault d ≡ None → validated key d ≡ r
-    → (if accepts signed r then None else Some NotAuthentic) ≡ None → IsAuthenticBy key d
-short key signed d (Ok a) bytes parses e passes = by_key key d a bytes parses e
-short key signed d (Err x) bytes parses e passes = absurd cc
+-- what validates, with enough bytes, is authentic
+long_enough : (shortest : ℕ) (d : List ℕ) (b a : IntegrityAlgorithm) (long : Bool) → (if long then Some b else None) ≡ Some a → (b ≡ a) × (long ≡ true)
+long_enough shortest d b a true e = (cc, refl)
+long_enough shortest d b a false e = absurd cc
 
-long : (key : IntegrityKey) (d : List ℕ) (asks bid bad : Bool) (r : Result IntegrityAlgorithm ValidateError) → IsBytes d → parse_fault d ≡ None → is_challenge d ≡ asks → validated key d ≡ r
-    → (if asks then None else (if bid then Some BidDown else (if bad then Some UnsignedBadRequest else (if is_ok r then None else Some NotAuthentic)))) ≡ None → IsProved (LongTerm key) d
-long key d true bid bad r bytes parses asked e passes = inl asked
-long key d false true bad r bytes parses asked e passes = absurd cc
-long key d false false true r bytes parses asked e passes = absurd cc
-long key d false false false (Ok a) bytes parses asked e passes = inr (by_key key d a bytes parses e)
-long key d false false false (Err x) bytes parses asked e passes = absurd cc
+proved : (shortest : ℕ) (key : IntegrityKey) (d : List ℕ) (r : Result IntegrityAlgorithm ValidateError) (a : IntegrityAlgorithm) → IsBytes d → parse_fault d ≡ None → validated key d ≡ r
+    → proved_by shortest d r ≡ Some a → IsAuthenticBy shortest key d a
+proved shortest key d (Ok b) a bytes parses e is =
+    let both = long_enough shortest d b a (has_least_length shortest b d) is in
+    let right : validated key d ≡ Ok a = e ∙ ap (λ (x : IntegrityAlgorithm). Ok x) both.0 in
+    record {
+      authentic = is_authentic_through (key_algorithm key) (λ _. key_bytes key) d a bytes parses right;
+      long = sym (ap (λ (x : IntegrityAlgorithm). has_least_length shortest x d) both.0) ∙ both.1;
+    }
+proved shortest key d (Err x) a bytes parses e is = absurd cc
 
--- what isn't kept out is authentic
-guarded : (p : Protection) (signed : Signed) (d : List ℕ) → IsBytes d → parse_fault d ≡ None → guard_fault p signed d ≡ None → IsProved p d
-guarded Unprotected signed d bytes parses passes = tt
-guarded (ShortTerm key) signed d bytes parses passes = short key signed d (validated key d) bytes parses refl passes
-guarded (LongTerm key) signed d bytes parses passes = long key d (is_challenge d) (is_bid_down d) (is_unsigned_bad_request d) (validated key d) bytes parses refl refl passes
+-- one that matches is one, by which the request is signed
+by_signed : (signed : Signed) (b a : IntegrityAlgorithm) (there : Bool) → signs_by signed b ≡ there → (if there then Some b else None) ≡ Some a → (Some b ≡ Some a) × (signs_by signed a ≡ true)
+by_signed signed b a true there e = let same : b ≡ a = cc in (e, sym (ap (signs_by signed) same) ∙ there)
+by_signed signed b a false there e = absurd cc
+
+matched : (signed : Signed) (found : Option IntegrityAlgorithm) (a : IntegrityAlgorithm) → matched_by signed found ≡ Some a → (found ≡ Some a) × (signs_by signed a ≡ true)
+matched signed None a e = absurd cc
+matched signed (Some b) a e = by_signed signed b a (signs_by signed b) refl e
+
+-- ---- What isn't kept out
+
+either_is_some : (b : Bool) (x y : Discard) → (if b then Some x else Some y) ≡ None → ⊥
+either_is_some true x y e = absurd cc
+either_is_some false x y e = absurd cc
+
+-- by a short-term credential it is authentic
+short : (shortest : ℕ) (key : IntegrityKey) (signed : Signed) (d : List ℕ) (other : Bool) (found proof : Option IntegrityAlgorithm) → IsBytes d → parse_fault d ≡ None
+    → proved_by shortest d (validated key d) ≡ found → matched_by signed found ≡ proof
+    → (if is_some proof then None else (if other then Some OtherAlgorithm else Some NotAuthentic)) ≡ None → IsProved (ShortTerm key) shortest signed d proof
+short shortest key signed d other found None bytes parses is matches passes = absurd (either_is_some other OtherAlgorithm NotAuthentic passes)
+short shortest key signed d other found (Some a) bytes parses is matches passes =
+    let both = matched signed found a matches in
+    (proved shortest key d (validated key d) a bytes parses refl (is ∙ both.0), both.1)
+
+-- by a long-term one it is, or it is a challenge
+long : (shortest : ℕ) (key : IntegrityKey) (signed : Signed) (d : List ℕ) (asks bid bad : Bool) (proof : Option IntegrityAlgorithm) → IsBytes d → parse_fault d ≡ None
+    → is_challenge d ≡ asks → proved_by shortest d (validated key d) ≡ proof
+    → (if asks then None else (if bid then Some BidDown else (if bad then Some UnsignedBadRequest else (if is_some proof then None else Some NotAuthentic)))) ≡ None
+    → IsProved (LongTerm key) shortest signed d proof
+long shortest key signed d asks bid bad (Some a) bytes parses asked is passes = proved shortest key d (validated key d) a bytes parses refl is
+long shortest key signed d true bid bad None bytes parses asked is passes = asked
+long shortest key signed d false true bad None bytes parses asked is passes = absurd cc
+long shortest key signed d false false true None bytes parses asked is passes = absurd cc
+long shortest key signed d false false false None bytes parses asked is passes = absurd cc
+
+-- and it is fit
+fit : (d : List ℕ) (authentic asks bid bad : Bool) → is_challenge d ≡ asks → is_bid_down d ≡ bid → is_unsigned_bad_request d ≡ bad
+    → (if asks then None else (if bid then Some BidDown else (if bad then Some UnsignedBadRequest else (if authentic then None else Some NotAuthentic)))) ≡ None
+    → (is_challenge d ≡ true) ⊎ IsFit d
+fit d authentic true bid bad asked p q passes = inl asked
+fit d authentic false true bad asked p q passes = absurd cc
+fit d authentic false false true asked p q passes = absurd cc
+fit d authentic false false false asked p q passes = inr (record { promised = p; not_bad = q })
+
+fit_by : (p : Protection) (authentic : Bool) (signed : Signed) (d : List ℕ) → mechanism_fault p authentic signed d ≡ None → IsFitBy p d
+fit_by Unprotected authentic signed d passes = tt
+fit_by FirstLongTerm authentic signed d passes = fit d true (is_challenge d) (is_bid_down d) (is_unsigned_bad_request d) refl refl refl passes
+fit_by (ShortTerm key) authentic signed d passes = tt
+fit_by (LongTerm key) authentic signed d passes = fit d authentic (is_challenge d) (is_bid_down d) (is_unsigned_bad_request d) refl refl refl passes
+
+proved_as : (p : Protection) (usage : Usage) (signed : Signed) (d : List ℕ) → IsBytes d → parse_fault d ≡ None → mechanism_fault p (is_some (proof_of p usage signed d)) signed d ≡ None
+    → IsProved p usage.shortest signed d (proof_of p usage signed d)
+proved_as Unprotected usage signed d bytes parses passes = refl
+proved_as FirstLongTerm usage signed d bytes parses passes = refl
+proved_as (ShortTerm key) usage signed d bytes parses passes =
+    short usage.shortest key signed d (is_signed (signed_by d) && not (have_common signed (signed_by d))) (proved_by usage.shortest d (validated key d)) (proof_of (ShortTerm key) usage signed d) bytes parses refl refl passes
+proved_as (LongTerm key) usage signed d bytes parses passes =
+    long usage.shortest key signed d (is_challenge d) (is_bid_down d) (is_unsigned_bad_request d) (proof_of (LongTerm key) usage signed d) bytes parses refl refl passes
+
+-- it shows a FINGERPRINT where one must be there
+shown : (lacks : Bool) (fault : Option Discard) → (if lacks then Some NoFingerprint else fault) ≡ None → (lacks ≡ false) × (fault ≡ None)
+shown true fault e = absurd cc
+shown false fault e = (refl, e)
+
+-- ---- What is taken
+
+-- the algorithm that is handed out is the one that authenticates it
+by_code : (proof : Option IntegrityAlgorithm) (code : Option ℕ) → is_taken (option_map_or (λ n. Error n proof) code (Failed NoErrorCode)) ≡ true → proof_in (option_map_or (λ n. Error n proof) code (Failed NoErrorCode)) ≡ proof
+by_code proof None taken = absurd cc
+by_code proof (Some n) taken = refl
+
+by_class : (proof : Option IntegrityAlgorithm) (class : MessageClass) (d : List ℕ) → is_taken (content_by_class proof class d) ≡ true → proof_in (content_by_class proof class d) ≡ proof
+by_class proof Class.Request d taken = refl
+by_class proof Class.Indication d taken = refl
+by_class proof Class.Success d taken = refl
+by_class proof Class.Error d taken = by_code proof (shown_code d) taken
+
+by_types : (proof : Option IntegrityAlgorithm) (beyond : Option AttributeType) (class : MessageClass) (d : List ℕ) → is_taken (option_map_or (λ t. Failed (UnknownAttribute t)) beyond (content_by_class proof class d)) ≡ true
+    → proof_in (option_map_or (λ t. Failed (UnknownAttribute t)) beyond (content_by_class proof class d)) ≡ proof
+by_types proof None class d taken = by_class proof class d taken
+by_types proof (Some t) class d taken = absurd cc
 
 -- what is taken parses, answers, and isn't kept out
-record Passed (fault : Option StunParseError) (answers : Bool) (kept : Option Discard) : Type 0 where
+record Passed (fault : Option StunParseError) (answers : Bool) (kept : Option Discard) (told is : Outcome) : Type 0 where
   parses : fault ≡ None
   right : answers ≡ true
   kept_in : kept ≡ None
+  is_told : is ≡ told
 
-passed : (ongoing : Bool) (fault : Option StunParseError) (answers : Bool) (kept : Option Discard) (transport : TransportType) (told : Outcome)
-    → is_taken (if ongoing && not (is_some fault) then (if answers then option_map_or (discarded transport) kept told else NotForThis) else NotForThis) ≡ true
-    → Passed fault answers kept
-passed true None true None transport told taken = record { parses = refl; right = refl; kept_in = refl }
-passed true None true (Some NotAuthentic) Udp told taken = absurd cc
-passed true None true (Some NotAuthentic) Tcp told taken = absurd cc
-passed true None true (Some BidDown) Udp told taken = absurd cc
-passed true None true (Some BidDown) Tcp told taken = absurd cc
-passed true None true (Some UnsignedBadRequest) Udp told taken = absurd cc
-passed true None true (Some UnsignedBadRequest) Tcp told taken = absurd cc
-passed true None false kept transport told taken = absurd cc
-passed true (Some e) answers kept transport told taken = absurd cc
-passed false fault answers kept transport told taken = absurd cc
+passed : (ongoing : Bool) (fault : Option StunParseError) (answers : Bool) (kept : Option Discard) (transport : TransportType) (claim : Claim) (told : Outcome)
+    → is_taken (if ongoing && not (is_some fault) then (if answers then option_map_or (discarded transport claim) kept told else NotForThis) else NotForThis) ≡ true
+    → Passed fault answers kept told (if ongoing && not (is_some fault) then (if answers then option_map_or (discarded transport claim) kept told else NotForThis) else NotForThis)
+passed true None true None transport claim told taken = record { parses = refl; right = refl; kept_in = refl; is_told = refl }
+passed true None true (Some NotAuthentic) Udp claim told taken = absurd cc
+passed true None true (Some NotAuthentic) Tcp claim told taken = absurd cc
+passed true None true (Some OtherAlgorithm) Udp claim told taken = absurd cc
+passed true None true (Some OtherAlgorithm) Tcp claim told taken = absurd cc
+passed true None true (Some BidDown) Udp claim told taken = absurd cc
+passed true None true (Some BidDown) Tcp claim told taken = absurd cc
+passed true None true (Some UnsignedBadRequest) Udp claim told taken = absurd cc
+passed true None true (Some UnsignedBadRequest) Tcp claim told taken = absurd cc
+passed true None true (Some NoFingerprint) Udp claim told taken = absurd cc
+passed true None true (Some NoFingerprint) Tcp claim told taken = absurd cc
+passed true None false kept transport claim told taken = absurd cc
+passed true (Some e) answers kept transport claim told taken = absurd cc
+passed false fault answers kept transport claim told taken = absurd cc
 
-pub right : (terms : Terms) (state : RetransmissionState) (understood : List AttributeType) (d : List ℕ) → IsBytes d → is_taken (received_outcome terms state understood d) ≡ true → IsRightResponse terms d
+pub right : (terms : Terms) (state : RetransmissionState) (understood : List AttributeType) (d : List ℕ) → IsBytes d → is_taken (received_outcome terms state understood d) ≡ true
+    → IsRightResponse terms d (proof_in (received_outcome terms state understood d))
 right terms state understood d bytes taken =
-    let p = passed (is_open state) (parse_fault d) (is_answer terms d) (guard_fault terms.protection terms.signed d) terms.plan.transport (content understood d) taken in
-    record { parses = p.parses; answers = p.right; proved = guarded terms.protection terms.signed d bytes p.parses p.kept_in }
+    let proof = proof_of terms.protection terms.usage terms.signed d in
+    let p = passed (is_open state) (parse_fault d) (is_answer terms d) (guard_fault terms.protection terms.usage terms.signed d) terms.plan.transport (claim_of d) (content proof understood d) taken in
+    let kept = shown (lacks_fingerprint terms.usage d) (mechanism_fault terms.protection (is_some proof) terms.signed d) p.kept_in in
+    let there : is_taken (content proof understood d) ≡ true = sym (ap is_taken p.is_told) ∙ taken in
+    let same : proof_in (received_outcome terms state understood d) ≡ proof = ap proof_in p.is_told ∙ by_types proof (first_beyond understood d) (class_of (type_field d)) d there in
+    record {
+      parses = p.parses;
+      answers = p.right;
+      fingerprint = kept.0;
+      fit = fit_by terms.protection (is_some proof) terms.signed d kept.1;
+      proved = subst (IsProved terms.protection terms.usage.shortest terms.signed d) (sym same) (proved_as terms.protection terms.usage terms.signed d bytes p.parses kept.1);
+    }

@@ -1,6 +1,6 @@
--- Which responses are discarded, by how the request was protected (RFC 8489, sections 9.1.4 and
--- 9.2.5).
-use Rattle.std.specs.Prelude.{◌≡◌, ℕ, Bool, true, false, not, ◌||◌, ◌&&◌, List, Option, None, Some, is_some, Result, Ok, Err, is_ok, if◌then◌else◌}
+-- Which responses are discarded, by how the request was protected (RFC 8489, sections 6.3, 9.1.4
+-- and 9.2.5).
+use Rattle.std.specs.Prelude.{◌≡◌, ℕ, Bool, true, false, not, ◌||◌, ◌&&◌, List, Option, None, Some, is_some, Result, Ok, Err, if◌then◌else◌}
 use Rattle.stun_grammar.specs.declared.error.ValidateError.{ValidateError}
 use Rattle.stun_grammar.specs.declared.integrity_algorithm.IntegrityAlgorithm.{IntegrityAlgorithm}
 use Rattle.stun_grammar.specs.declared.integrity_algorithm.IntegrityAlgorithm.TheVariants.{Sha1, Sha256}
@@ -11,11 +11,16 @@ use Rattle.stun_keys.specs.Keys.{key_bytes, key_algorithm, IsKey}
 use Rattle.stun_read.specs.LookingUp.{nth}
 use Rattle.stun_authentication.specs.Challenges.{is_bid_down}
 use Rattle.stun_authentication.specs.Codes.{response_code, is_code, is_challenge}
+use Rattle.stun_authentication.specs.Policies.{has_least_length}
 use Rattle.stun_transactions.specs.declared.guard.Protection.{Protection}
-use Rattle.stun_transactions.specs.declared.guard.Protection.TheVariants.{Unprotected, ShortTerm, LongTerm}
+use Rattle.stun_transactions.specs.declared.guard.Protection.TheVariants.{Unprotected, FirstLongTerm, ShortTerm, LongTerm}
 use Rattle.stun_transactions.specs.declared.guard.Signed.{Signed}
 use Rattle.stun_transactions.specs.declared.received.Discard.{Discard}
-use Rattle.stun_transactions.specs.declared.received.Discard.TheVariants.{NotAuthentic, BidDown, UnsignedBadRequest}
+use Rattle.stun_transactions.specs.declared.received.Discard.TheVariants.{NotAuthentic, OtherAlgorithm, BidDown, UnsignedBadRequest, NoFingerprint}
+use Rattle.stun_transactions.specs.declared.usage.Usage.{Usage}
+use Rattle.stun_transactions.specs.Usages.{lacks_fingerprint}
+
+-- ---- How a request is protected
 
 -- which integrity attributes d shows
 abbrev pub signed_by : List ℕ → Signed
@@ -29,16 +34,28 @@ signed_by d =
 abbrev pub is_signed : Signed → Bool
 is_signed signed = signed.sha1 || signed.sha256
 
--- whether a credential protects the request
+-- whether there is that of an algorithm
+abbrev pub signs_by : Signed → IntegrityAlgorithm → Bool
+signs_by signed Sha1 = signed.sha1
+signs_by signed Sha256 = signed.sha256
+
+-- whether there is one that both show
+abbrev pub have_common : Signed → Signed → Bool
+have_common one other = (one.sha1 && other.sha1) || (one.sha256 && other.sha256)
+
+-- whether a credential protects the request: the first one by the long-term mechanism has none
+-- (section 9.2.3.1)
 abbrev pub protects : Protection → Bool
 protects Unprotected = false
+protects FirstLongTerm = false
 protects (ShortTerm key) = true
 protects (LongTerm key) = true
 
 -- what is kept of a protection, to validate responses: a long-term key works with both algorithms
--- (RFC 8489, section 9.2.5)
+-- (section 9.2.5)
 abbrev pub IsKeptAs : Protection → Protection → Type 0
 IsKeptAs Unprotected kept = kept ≡ Unprotected
+IsKeptAs FirstLongTerm kept = kept ≡ FirstLongTerm
 IsKeptAs (ShortTerm key) kept = kept ≡ ShortTerm key
 IsKeptAs (LongTerm key) (LongTerm kept) = IsKey None (key_bytes key) kept
 IsKeptAs (LongTerm key) _ = ⊥
@@ -47,43 +64,73 @@ IsKeptAs (LongTerm key) _ = ⊥
 -- same algorithm
 abbrev pub HasSameKey : Protection → Protection → Type 0
 HasSameKey Unprotected other = other ≡ Unprotected
+HasSameKey FirstLongTerm other = other ≡ FirstLongTerm
 HasSameKey (ShortTerm key) (ShortTerm other) = IsKey (key_algorithm key) (key_bytes key) other
 HasSameKey (ShortTerm key) _ = ⊥
 HasSameKey (LongTerm key) (LongTerm other) = IsKey (key_algorithm key) (key_bytes key) other
 HasSameKey (LongTerm key) _ = ⊥
 
+-- ---- Which attribute authenticates a response
+
 -- what a validation of d with the key answers
 abbrev pub validated : IntegrityKey → List ℕ → Result IntegrityAlgorithm ValidateError
 validated key d = verdict (is_checked_type (key_algorithm key)) (λ _. key_bytes key) d
 
--- whether it answers an algorithm by which the request was signed
-abbrev pub accepts : Signed → Result IntegrityAlgorithm ValidateError → Bool
-accepts signed (Ok Sha1) = signed.sha1
-accepts signed (Ok Sha256) = signed.sha256
-accepts signed (Err e) = false
+-- the algorithm that it answers, where the HMAC has enough bytes (section 14.6)
+abbrev pub proved_by : (shortest : ℕ) → List ℕ → Result IntegrityAlgorithm ValidateError
+    → Option IntegrityAlgorithm
+proved_by shortest d (Ok algorithm) =
+    if has_least_length shortest algorithm d then Some algorithm else None
+proved_by shortest d (Err e) = None
 
--- by a short-term credential: what doesn't validate by an algorithm of the request is discarded
--- (RFC 8489, section 9.1.4)
-abbrev pub short_term_fault : IntegrityKey → Signed → List ℕ → Option Discard
-short_term_fault key signed d =
-    if accepts signed (validated key d) then None else Some NotAuthentic
+-- the same, where the request was signed by it (section 9.1.4)
+abbrev pub matched_by : Signed → Option IntegrityAlgorithm → Option IntegrityAlgorithm
+matched_by signed None = None
+matched_by signed (Some algorithm) = if signs_by signed algorithm then Some algorithm else None
+
+-- the algorithm of the attribute that authenticates d, as a response to a request that was protected
+-- so, if one does
+abbrev pub proof_of : Protection → Usage → Signed → List ℕ → Option IntegrityAlgorithm
+proof_of Unprotected usage signed d = None
+proof_of FirstLongTerm usage signed d = None
+proof_of (ShortTerm key) usage signed d =
+    matched_by signed (proved_by usage.shortest d (validated key d))
+proof_of (LongTerm key) usage signed d = proved_by usage.shortest d (validated key d)
+
+-- ---- Which responses are discarded
+
+-- by a short-term credential what isn't authentic, by an algorithm of the request: one that is
+-- signed, and by none of these, is told apart (section 9.1.4)
+abbrev pub short_term_fault : (authentic : Bool) → Signed → List ℕ → Option Discard
+short_term_fault authentic signed d =
+    if authentic then None
+    else (if is_signed (signed_by d) && not (have_common signed (signed_by d))
+    then Some OtherAlgorithm else Some NotAuthentic)
 
 -- whether d says that the request is bad, and is not signed
 abbrev pub is_unsigned_bad_request : List ℕ → Bool
 is_unsigned_bad_request d = is_code 400 (response_code d) && not (is_signed (signed_by d))
 
--- by a long-term credential: a challenge is taken, signed or not; discarded are then a response
--- whose nonce promises PASSWORD-ALGORITHMS and that shows none, an unsigned 400, and what doesn't
--- validate (RFC 8489, section 9.2.5)
-abbrev pub long_term_fault : IntegrityKey → List ℕ → Option Discard
-long_term_fault key d =
+-- by the long-term mechanism a challenge is taken, signed or not; discarded are then a response
+-- whose nonce promises PASSWORD-ALGORITHMS and that shows none, an unsigned 400, and what isn't
+-- authentic (section 9.2.5)
+abbrev pub long_term_fault : (authentic : Bool) → List ℕ → Option Discard
+long_term_fault authentic d =
     if is_challenge d then None
     else (if is_bid_down d then Some BidDown
     else (if is_unsigned_bad_request d then Some UnsignedBadRequest
-    else (if is_ok (validated key d) then None else Some NotAuthentic)))
+    else (if authentic then None else Some NotAuthentic)))
 
--- why d is discarded as a response to a request that was protected so
-abbrev pub guard_fault : Protection → Signed → List ℕ → Option Discard
-guard_fault Unprotected signed d = None
-guard_fault (ShortTerm key) signed d = short_term_fault key signed d
-guard_fault (LongTerm key) signed d = long_term_fault key d
+-- by the mechanism in use: where the first request has no key, nothing is to be authenticated
+abbrev pub mechanism_fault : Protection → (authentic : Bool) → Signed → List ℕ → Option Discard
+mechanism_fault Unprotected authentic signed d = None
+mechanism_fault FirstLongTerm authentic signed d = long_term_fault true d
+mechanism_fault (ShortTerm key) authentic signed d = short_term_fault authentic signed d
+mechanism_fault (LongTerm key) authentic signed d = long_term_fault authentic d
+
+-- why d is discarded as a response to a request that was protected so: a FINGERPRINT is missing
+-- where the usage sends them (section 6.3), or the mechanism keeps it out
+abbrev pub guard_fault : Protection → Usage → Signed → List ℕ → Option Discard
+guard_fault protection usage signed d =
+    if lacks_fingerprint usage d then Some NoFingerprint
+    else mechanism_fault protection (is_some (proof_of protection usage signed d)) signed d

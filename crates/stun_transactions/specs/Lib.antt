@@ -2,6 +2,7 @@ pub mod Rows
 pub mod Schedules
 pub mod Retransmissions
 pub mod Responses
+pub mod Usages
 pub mod Guards
 pub mod Mapped
 pub mod Outcomes

@@ -1,5 +1,5 @@
 -- A transaction taken apart, and what can be put together to one.
-use Rattle.std.specs.Prelude.{Bool, ◌||◌, not, Option, None, Some, is_some, nat_lt, if◌then◌else◌}
+use Rattle.std.specs.Prelude.{Bool, true, false, ◌||◌, not, Option, None, Some, is_some, nat_lt, if◌then◌else◌}
 use Rattle.std.specs.Duration.{as_nanos}
 use Rattle.std.specs.Option.{option_or}
 use Rattle.stun_keys.specs.declared.keys.integrity_key.IntegrityKey.{IntegrityKey}
@@ -7,9 +7,9 @@ use Rattle.stun_keys.specs.Keys.{key_algorithm}
 use Rattle.stun_transactions.specs.declared.plan.Plan.{Plan}
 use Rattle.stun_transactions.specs.declared.retransmission.RetransmissionState.{RetransmissionState}
 use Rattle.stun_transactions.specs.declared.guard.Protection.{Protection}
-use Rattle.stun_transactions.specs.declared.guard.Protection.TheVariants.{Unprotected, ShortTerm as ByShortTerm, LongTerm as ByLongTerm}
+use Rattle.stun_transactions.specs.declared.guard.Protection.TheVariants.{Unprotected, FirstLongTerm as ByNone, ShortTerm as ByShortTerm, LongTerm as ByLongTerm}
 use Rattle.stun_transactions.specs.declared.parts.Mechanism.{Mechanism}
-use Rattle.stun_transactions.specs.declared.parts.Mechanism.TheVariants.{ShortTerm, LongTerm}
+use Rattle.stun_transactions.specs.declared.parts.Mechanism.TheVariants.{ShortTerm, FirstLongTerm, LongTerm}
 use Rattle.stun_transactions.specs.declared.parts.PartsError.{PartsError}
 use Rattle.stun_transactions.specs.declared.parts.PartsError.TheVariants.{SignedOtherwise, SentTooOften, SentTooLate, NoKey, NoUseForKey, KeyForOneAlgorithm}
 use Rattle.stun_transactions.specs.declared.parts.TransactionParts.{TransactionParts}
@@ -29,6 +29,7 @@ state_in parts = record {
   last = parts.last;
   clock = parts.clock;
   violated = parts.violated;
+  stopped = parts.stopped;
   end = parts.end;
 }
 
@@ -39,17 +40,20 @@ at_state parts state = record parts {
   last = state.last;
   clock = state.clock;
   violated = state.violated;
+  stopped = state.stopped;
   end = state.end;
 }
 
 -- by which mechanism a request is protected, and with which key
 abbrev pub mechanism_of : Protection → Option Mechanism
 mechanism_of Unprotected = None
+mechanism_of ByNone = Some FirstLongTerm
 mechanism_of (ByShortTerm key) = Some ShortTerm
 mechanism_of (ByLongTerm key) = Some LongTerm
 
 abbrev pub key_in : Protection → Option IntegrityKey
 key_in Unprotected = None
+key_in ByNone = None
 key_in (ByShortTerm key) = Some key
 key_in (ByLongTerm key) = Some key
 
@@ -63,10 +67,12 @@ parts_of transaction = record {
   sha1 = (terms_of transaction).signed.sha1;
   sha256 = (terms_of transaction).signed.sha256;
   mechanism = mechanism_of (terms_of transaction).protection;
+  usage = (terms_of transaction).usage;
   sent = (state_of transaction).sent;
   last = (state_of transaction).last;
   clock = (state_of transaction).clock;
   violated = (state_of transaction).violated;
+  stopped = (state_of transaction).stopped;
   end = (state_of transaction).end;
 }
 
@@ -75,10 +81,17 @@ key_of transaction = key_in (terms_of transaction).protection
 
 -- ---- Why they aren't those of a transaction
 
+-- whether a request is signed, by the mechanism in use
+abbrev pub signs : Option Mechanism → Bool
+signs None = false
+signs (Some FirstLongTerm) = false
+signs (Some ShortTerm) = true
+signs (Some LongTerm) = true
+
 -- a request is signed exactly where a credential protects it
 abbrev pub is_signed_otherwise : TransactionParts → Bool
 is_signed_otherwise parts =
-    if is_some parts.mechanism then not (parts.sha1 || parts.sha256) else parts.sha1 || parts.sha256
+    if signs parts.mechanism then not (parts.sha1 || parts.sha256) else parts.sha1 || parts.sha256
 
 -- why these parts are no transaction's: the request is signed otherwise than it is protected, or was
 -- sent more often than the schedule says, or later than the latest moment that was told
@@ -93,8 +106,11 @@ parts_fault parts =
 abbrev pub key_fault : Option Mechanism → Option IntegrityKey → Option PartsError
 key_fault None None = None
 key_fault None (Some key) = Some NoUseForKey
-key_fault (Some mechanism) None = Some NoKey
+key_fault (Some FirstLongTerm) None = None
+key_fault (Some FirstLongTerm) (Some key) = Some NoUseForKey
+key_fault (Some ShortTerm) None = Some NoKey
 key_fault (Some ShortTerm) (Some key) = None
+key_fault (Some LongTerm) None = Some NoKey
 key_fault (Some LongTerm) (Some key) =
     if is_some (key_algorithm key) then Some KeyForOneAlgorithm else None
 

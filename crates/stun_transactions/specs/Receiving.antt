@@ -1,8 +1,9 @@
 -- What a received message is for a transaction (RFC 8489, sections 6.3, 6.3.3, 6.3.4, 9.1.4 and
 -- 9.2.5).
-use Rattle.std.specs.Prelude.{ℕ, List, not, ◌&&◌, is_some, if◌then◌else◌}
+use Rattle.std.specs.Prelude.{ℕ, List, Option, not, ◌&&◌, is_some, if◌then◌else◌}
 use Rattle.std.specs.Option.{option_map_or}
 use Rattle.stun_grammar.specs.declared.attribute_type.AttributeType.{AttributeType}
+use Rattle.stun_grammar.specs.declared.integrity_algorithm.IntegrityAlgorithm.{IntegrityAlgorithm}
 use Rattle.stun_grammar.specs.Headers.{type_field}
 use Rattle.stun_grammar.specs.Parsing.{parse_fault}
 use Rattle.stun_base.specs.declared.message_type.MessageClass.{MessageClass}
@@ -10,45 +11,54 @@ use Rattle.stun_base.specs.declared.message_type.MessageClass.TheVariants.{Error
 use Rattle.stun_base.specs.declared.transport.TransportType.{TransportType}
 use Rattle.stun_base.specs.declared.transport.TransportType.TheVariants.{Udp, Tcp}
 use Rattle.stun_base.specs.MessageTypes.{class_of}
-use Rattle.stun_authentication.specs.Codes.{shown_code}
+use Rattle.stun_authentication.specs.Codes.{shown_code, response_code}
+use Rattle.stun_transactions.specs.declared.received.Claim.{Claim}
 use Rattle.stun_transactions.specs.declared.received.Discard.{Discard}
-use Rattle.stun_transactions.specs.declared.received.Discard.TheVariants.{NotAuthentic, BidDown, UnsignedBadRequest}
+use Rattle.stun_transactions.specs.declared.received.Discard.TheVariants.{NotAuthentic, OtherAlgorithm, BidDown, UnsignedBadRequest, NoFingerprint}
 use Rattle.stun_transactions.specs.declared.received.Failure.TheVariants.{IntegrityViolated, UnknownAttribute, NoErrorCode}
 use Rattle.stun_transactions.specs.declared.received.Outcome.{Outcome}
 use Rattle.stun_transactions.specs.declared.received.Outcome.TheVariants.{NotForThis, Discarded, Failed, Success, Error}
 use Rattle.stun_transactions.specs.declared.retransmission.RetransmissionState.{RetransmissionState}
 use Rattle.stun_transactions.specs.declared.terms.Terms.{Terms}
 use Rattle.stun_transactions.specs.Responses.{first_beyond}
-use Rattle.stun_transactions.specs.Guards.{guard_fault}
+use Rattle.stun_transactions.specs.Guards.{proof_of, guard_fault}
 use Rattle.stun_transactions.specs.Terms.{is_answer}
 use Rattle.stun_transactions.specs.Outcomes.{is_open}
 
--- what is told of a response that is kept out: over a reliable transport one that isn't authentic
--- ends the transaction
-abbrev pub discarded : TransportType → Discard → Outcome
-discarded Tcp NotAuthentic = Failed IntegrityViolated
-discarded Tcp BidDown = Discarded BidDown
-discarded Tcp UnsignedBadRequest = Discarded UnsignedBadRequest
-discarded Udp reason = Discarded reason
+-- what a response that is kept out claims: its code, if it is an error response
+abbrev pub claim_of : List ℕ → Claim
+claim_of d = record { code = response_code d }
+
+-- what is told of a response that is kept out: over a reliable transport one whose HMAC is wrong or
+-- missing ends the transaction
+abbrev pub discarded : TransportType → Claim → Discard → Outcome
+discarded Tcp claim NotAuthentic = Failed (IntegrityViolated claim)
+discarded Tcp claim OtherAlgorithm = Discarded OtherAlgorithm claim
+discarded Tcp claim BidDown = Discarded BidDown claim
+discarded Tcp claim UnsignedBadRequest = Discarded UnsignedBadRequest claim
+discarded Tcp claim NoFingerprint = Discarded NoFingerprint claim
+discarded Udp claim reason = Discarded reason claim
 
 -- a response of this class that shows only types that are understood: an error response tells a
 -- code
-abbrev pub content_by_class : MessageClass → List ℕ → Outcome
-content_by_class ErrorClass d = option_map_or (λ code. Error code) (shown_code d) (Failed NoErrorCode)
-content_by_class _ d = Success
+abbrev pub content_by_class : Option IntegrityAlgorithm → MessageClass → List ℕ → Outcome
+content_by_class proof ErrorClass d =
+    option_map_or (λ code. Error code proof) (shown_code d) (Failed NoErrorCode)
+content_by_class proof _ d = Success proof
 
--- what a response that isn't kept out tells
-abbrev pub content : List AttributeType → List ℕ → Outcome
-content understood d =
+-- what a response that isn't kept out tells, with the algorithm that authenticates it
+abbrev pub content : Option IntegrityAlgorithm → List AttributeType → List ℕ → Outcome
+content proof understood d =
     option_map_or (λ type. Failed (UnknownAttribute type)) (first_beyond understood d)
-    (content_by_class (class_of (type_field d)) d)
+    (content_by_class proof (class_of (type_field d)) d)
 
 -- what a message is for a transaction in progress
 abbrev pub outcome : Terms → List AttributeType → List ℕ → Outcome
 outcome terms understood d =
     if is_answer terms d then
-    option_map_or (discarded terms.plan.transport) (guard_fault terms.protection terms.signed d)
-    (content understood d)
+    option_map_or (discarded terms.plan.transport (claim_of d))
+    (guard_fault terms.protection terms.usage terms.signed d)
+    (content (proof_of terms.protection terms.usage terms.signed d) understood d)
     else NotForThis
 
 -- what received bytes are for a transaction: nothing where it isn't in progress, or they are no

@@ -1,6 +1,6 @@
 -- How a transaction goes on in time (RFC 8489, sections 6.2.1 and 6.2.2). Moments are nanoseconds
 -- from the beginning of the caller's clock.
-use Rattle.std.specs.Prelude.{◌≡◌, ℕ, ◌+◌, ◌*◌, ◌<◌, ◌≤◌, Bool, true, false, ◌⊎◌, Option, None, Some, is_some, min, nat_lt, nat_le, ◌-◌, ◌&&◌, ◌||◌, ◌==◌, MatchOption, if◌then◌else◌}
+use Rattle.std.specs.Prelude.{◌≡◌, ℕ, ◌+◌, ◌*◌, ◌<◌, ◌≤◌, Bool, true, false, ◌⊎◌, Option, None, Some, is_some, min, nat_lt, nat_le, not, ◌-◌, ◌&&◌, ◌||◌, ◌==◌, MatchOption, if◌then◌else◌}
 use Rattle.std.specs.Duration.{as_nanos, max_nanos}
 use Rattle.std.specs.declared.time.Duration.{Duration}
 use Rattle.stun_transactions.specs.declared.plan.Plan.{Plan}
@@ -8,8 +8,8 @@ use Rattle.stun_transactions.specs.declared.retransmission.RetransmissionState.{
 use Rattle.stun_transactions.specs.declared.retransmission.Action.{Action}
 use Rattle.stun_transactions.specs.declared.retransmission.Action.TheVariants.{Send, WaitUntil, Ended}
 use Rattle.stun_transactions.specs.declared.retransmission.TransactionEnd.{TransactionEnd}
-use Rattle.stun_transactions.specs.declared.retransmission.TransactionEnd.TheVariants.{Answered, TimedOut, IntegrityViolated}
-use Rattle.stun_transactions.specs.Schedules.{requests_in, wait_in}
+use Rattle.stun_transactions.specs.declared.retransmission.TransactionEnd.TheVariants.{Answered, TimedOut, IntegrityViolated, Cancelled}
+use Rattle.stun_transactions.specs.Schedules.{requests_in, wait_in, rest_in}
 
 -- the moment of a call: a clock that steps back stands still
 abbrev pub later : Duration → Duration → Duration
@@ -17,11 +17,27 @@ later clock now = if nat_lt (as_nanos clock) (as_nanos now) then now else clock
 
 -- the state of a transaction that begins now
 abbrev pub begun : Duration → RetransmissionState
-begun now = record { sent = 0; last = now; clock = now; violated = false; end = None }
+begun now = record {
+  sent = 0;
+  last = now;
+  clock = now;
+  violated = false;
+  stopped = false;
+  end = None;
+}
 
--- when something is to be done: an interval after the last request was handed out
+-- how many milliseconds nothing is done after the last request was handed out: until the next one,
+-- or until the end where the caller has stopped sending
+abbrev pub wait_of : Plan → RetransmissionState → ℕ
+wait_of plan state = if state.stopped then rest_in plan state.sent else wait_in plan state.sent
+
+-- when something is to be done
 abbrev pub due : Plan → RetransmissionState → ℕ
-due plan state = as_nanos state.last + wait_in plan state.sent * 1_000_000
+due plan state = as_nanos state.last + wait_of plan state * 1_000_000
+
+-- whether a further request is to be sent
+abbrev pub has_more : Plan → RetransmissionState → Bool
+has_more plan state = not state.stopped && nat_lt state.sent (requests_in plan)
 
 -- whether a poll hands out the request, or tells an end
 abbrev pub is_ready : Plan → RetransmissionState → Duration → Bool
@@ -29,16 +45,19 @@ is_ready plan state now =
     is_some state.end || nat_le (due plan state) (as_nanos (later state.clock now))
 
 -- how a transaction ends when its time is up: where responses were discarded since they weren't
--- authentic, that is told instead (RFC 8489, sections 9.1.4 and 9.2.5)
+-- authentic, that is told instead (RFC 8489, sections 9.1.4 and 9.2.5); where the caller has stopped
+-- sending, that no response came is no failure (RFC 8445, section 7.3.1.4)
 abbrev pub end_of : RetransmissionState → TransactionEnd
-end_of state = if state.violated then IntegrityViolated else TimedOut
+end_of state =
+    if state.stopped then Cancelled
+    else (if state.violated then IntegrityViolated else TimedOut)
 
 -- a request is handed out: its moment has come, and not all were sent
 pub record Sends (plan : Plan) (old : RetransmissionState) (at : Duration)
     (new : RetransmissionState) : Type 0 where
   pub ongoing : old.end ≡ None
   pub due_is : due plan old ≤ as_nanos at
-  pub more : old.sent < requests_in plan
+  pub more : has_more plan old ≡ true
   pub new_is : new ≡ record old { sent = old.sent + 1; last = at; clock = at }
 
 -- nothing is done before a moment, which is still to come; no moment is told past the greatest
@@ -50,12 +69,12 @@ pub record Waits (plan : Plan) (old : RetransmissionState) (at until : Duration)
   pub until_is : as_nanos until ≡ min (due plan old) max_nanos
   pub new_is : new ≡ record old { clock = at }
 
--- time is up: all requests were sent, and the wait after the last one is over
+-- time is up: no further request is to be sent, and the wait after the last one is over
 pub record TimesOut (plan : Plan) (old : RetransmissionState) (at : Duration) (end : TransactionEnd)
     (new : RetransmissionState) : Type 0 where
   pub ongoing : old.end ≡ None
   pub due_is : due plan old ≤ as_nanos at
-  pub all : requests_in plan ≤ old.sent
+  pub all : has_more plan old ≡ false
   pub end_is : end ≡ end_of old
   pub new_is : new ≡ record old { clock = at; end = Some end }
 
@@ -75,6 +94,11 @@ Polls plan old now (Ended end) new =
 -- the state of a transaction that is ended, unless it has ended before
 abbrev pub ended_by : TransactionEnd → RetransmissionState → RetransmissionState
 ended_by end state = if is_some state.end then state else record state { end = Some end }
+
+-- the state of a transaction that sends nothing more, unless it has ended before (RFC 8445, section
+-- 7.3.1.4)
+abbrev pub stopped_by : RetransmissionState → RetransmissionState
+stopped_by state = if is_some state.end then state else record state { stopped = true }
 
 -- whether a response was taken
 abbrev pub is_answered : Option TransactionEnd → Bool

@@ -1,6 +1,6 @@
 -- When a request is sent over an unreliable transport, and when its transaction ends (RFC 8489,
 -- section 6.2.1). Times are milliseconds, counted from when the first request is sent.
-use Rattle.std.specs.Prelude.{ℕ, ◌+◌, ◌-◌, ◌*◌, ◌^◌, List, map, nat_lt, ◌==◌, if◌then◌else◌}
+use Rattle.std.specs.Prelude.{ℕ, ◌+◌, ◌-◌, ◌*◌, ◌^◌, List, map, min, nat_lt, ◌==◌, if◌then◌else◌}
 use Rattle.std.specs.List.{range_with_len}
 
 -- when request number k, counted from 0, is sent: the first interval is RTO, and each further one
@@ -22,3 +22,9 @@ abbrev pub row_wait : (rto requests last_wait_factor sent : ℕ) → ℕ
 row_wait rto requests last_wait_factor sent =
     if sent == 0 then 0
     else (if nat_lt sent requests then rto * 2 ^ (sent - 1) else rto * last_wait_factor)
+
+-- how long it is from the last of so many requests to the end: all the waits that are still to come
+abbrev pub row_rest : (rto requests last_wait_factor sent : ℕ) → ℕ
+row_rest rto requests last_wait_factor sent =
+    if sent == 0 then 0
+    else row_end rto requests last_wait_factor - moment rto (min sent requests - 1)

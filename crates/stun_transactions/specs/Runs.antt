@@ -9,10 +9,12 @@ use Rattle.stun_transactions.specs.declared.retransmission.Action.TheVariants.{S
 use Rattle.stun_transactions.specs.Schedules.{requests_in, wait_in}
 use Rattle.stun_transactions.specs.Retransmissions.{Polls}
 
--- what any call but a poll leaves: what was sent stays so, and an end stays
+-- what any call but a poll leaves: what was sent stays so, and so does an end, and that nothing more
+-- is sent
 pub record Stays (old new : RetransmissionState) : Type 0 where
   pub sent : new.sent ≡ old.sent
   pub last : new.last ≡ old.last
+  pub stopped : old.stopped ≡ true → new.stopped ≡ true
   pub ended : is_some old.end ≡ true → new ≡ old
 
 -- a call: of a poll its moment and its answer, and of each call the state that it leaves

@@ -6,7 +6,7 @@ use Rattle.stun_transactions.specs.declared.schedule.Schedule.{Schedule}
 use Rattle.stun_transactions.specs.declared.plan.Plan.{Plan}
 use Rattle.stun_transactions.specs.declared.schedule.ScheduleError.{ScheduleError}
 use Rattle.stun_transactions.specs.declared.schedule.ScheduleError.TheVariants.{Zero, TooLong}
-use Rattle.stun_transactions.specs.Rows.{row_end, row_wait}
+use Rattle.stun_transactions.specs.Rows.{row_end, row_wait, row_rest}
 
 -- why no schedule has these numbers: one of them is 0, or the end is no number of 64 bits
 abbrev pub schedule_fault : (rto requests last_wait_factor : ℕ) → Option ScheduleError
@@ -33,9 +33,18 @@ abbrev pub wait_over : Schedule → TransportType → ℕ → ℕ
 wait_over schedule Udp sent = row_wait schedule.rto schedule.max_requests schedule.last_wait_factor sent
 wait_over schedule Tcp sent = if sent == 0 then 0 else schedule.reliable_timeout
 
+-- how many milliseconds a response is still waited for once so many requests were sent over a
+-- transport, and no further one is sent: the transaction ends when it would have ended
+abbrev pub rest_over : Schedule → TransportType → ℕ → ℕ
+rest_over schedule Udp sent = row_rest schedule.rto schedule.max_requests schedule.last_wait_factor sent
+rest_over schedule Tcp sent = if sent == 0 then 0 else schedule.reliable_timeout
+
 -- the same by a plan
 abbrev pub requests_in : Plan → ℕ
 requests_in plan = requests_over plan.schedule plan.transport
 
 abbrev pub wait_in : Plan → ℕ → ℕ
 wait_in plan sent = wait_over plan.schedule plan.transport sent
+
+abbrev pub rest_in : Plan → ℕ → ℕ
+rest_in plan sent = rest_over plan.schedule plan.transport sent

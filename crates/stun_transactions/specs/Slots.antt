@@ -12,6 +12,7 @@ use Rattle.stun_transactions.specs.declared.retransmission.Action.{Action}
 use Rattle.stun_transactions.specs.declared.retransmission.RetransmissionState.{RetransmissionState}
 use Rattle.stun_transactions.specs.declared.retransmission.TransactionEnd.{TransactionEnd}
 use Rattle.stun_transactions.specs.declared.guard.Protection.{Protection}
+use Rattle.stun_transactions.specs.declared.usage.Usage.{Usage}
 use Rattle.stun_transactions.specs.declared.received.Received.{Received}
 use Rattle.stun_transactions.specs.declared.schedule.Schedule.{Schedule}
 use Rattle.stun_transactions.specs.declared.slots.Task.{Task}
@@ -19,7 +20,7 @@ use Rattle.stun_transactions.specs.declared.slots.Task.TheVariants.{Send, Ended,
 use Rattle.stun_transactions.specs.declared.slots.AddError.{AddError}
 use Rattle.stun_transactions.specs.declared.slots.AddError.TheVariants.{Begin, InUse, Full}
 use Rattle.stun_transactions.specs.declared.transaction.Transaction.{Transaction}
-use Rattle.stun_transactions.specs.Retransmissions.{Polls, is_ready, due, ended_by}
+use Rattle.stun_transactions.specs.Retransmissions.{Polls, is_ready, due, ended_by, stopped_by}
 use Rattle.stun_transactions.specs.Outcomes.{outcome_of, Holds, after}
 use Rattle.stun_transactions.specs.Receiving.{received_outcome}
 use Rattle.stun_transactions.specs.Terms.{begin_fault}
@@ -82,9 +83,10 @@ IsAdded transaction old new =
 
 -- a transaction of the request r begins in the first free slot
 pub record Adds (r : List ℕ) (schedule : Schedule) (transport : TransportType)
-    (protection : Protection) (now : Duration) (old new : List (Option Transaction)) : Type 0 where
+    (protection : Protection) (usage : Usage) (now : Duration)
+    (old new : List (Option Transaction)) : Type 0 where
   pub transaction : Transaction
-  pub begins : Begins r schedule transport protection now transaction
+  pub begins : Begins r schedule transport protection usage now transaction
   pub added : IsAdded transaction old new
 
 -- whether a poll of the transaction in a slot hands out its request, or tells an end
@@ -148,6 +150,10 @@ after_receiving understood d t =
 -- a transaction that is ended so, unless it has ended
 abbrev pub ending : TransactionEnd → Transaction → Transaction
 ending end t = record t { state = ended_by end (state_of t) }
+
+-- a transaction that sends nothing more, unless it has ended
+abbrev pub stopping : Transaction → Transaction
+stopping t = record t { state = stopped_by (state_of t) }
 
 -- what is told of d for a transaction: its ID, and what d is for it alone
 pub record IsFor (t : Transaction) (understood : List AttributeType) (d : List ℕ)

@@ -6,6 +6,7 @@ use Rattle.stun_base.specs.declared.message_type.MessageClass.TheVariants.{Reque
 use Rattle.stun_base.specs.MessageTypes.{class_of, method_of, is_response}
 use Rattle.stun_transactions.specs.declared.plan.Plan.{Plan}
 use Rattle.stun_transactions.specs.declared.guard.Protection.{Protection}
+use Rattle.stun_transactions.specs.declared.usage.Usage.{Usage}
 use Rattle.stun_transactions.specs.declared.terms.Terms.{Terms}
 use Rattle.stun_transactions.specs.declared.terms.BeginError.{BeginError}
 use Rattle.stun_transactions.specs.declared.terms.BeginError.TheVariants.{NotARequest, NotSigned, Signed}
@@ -31,13 +32,14 @@ begin_fault protection r =
     else Some NotARequest
 
 -- the terms of the request r
-pub record AreTerms (r : List ℕ) (plan : Plan) (protection : Protection)
+pub record AreTerms (r : List ℕ) (plan : Plan) (protection : Protection) (usage : Usage)
     (terms : Terms) : Type 0 where
   pub plan_is : terms.plan ≡ plan
   pub method_is : terms.method ≡ method_of (type_field r)
   pub id_is : terms.id ≡ id_field r
   pub signed_is : terms.signed ≡ signed_by r
   pub protection_is : IsKeptAs protection terms.protection
+  pub usage_is : terms.usage ≡ usage
 
 -- the same terms: those of the same request, protected by the same key
 pub record AreSameTerms (terms other : Terms) : Type 0 where
@@ -46,6 +48,7 @@ pub record AreSameTerms (terms other : Terms) : Type 0 where
   pub id_is : other.id ≡ terms.id
   pub signed_is : other.signed ≡ terms.signed
   pub protection_is : HasSameKey terms.protection other.protection
+  pub usage_is : other.usage ≡ terms.usage
 
 -- whether d is a response to the request: it has the request's method and transaction ID
 abbrev pub is_answer : Terms → List ℕ → Bool

@@ -2,25 +2,29 @@
 
 ghost use Rattle.std.specs.Prelude.{◌≡◌};
 ghost use Rattle.stun_types.specs.Message.{message_bytes};
-ghost use Rattle.stun_transactions.specs.Guards.{signed_by, is_signed, accepts, short_term_fault, long_term_fault};
+ghost use Rattle.stun_transactions.specs.Guards.{signed_by, is_signed, signs_by, have_common, validated, proved_by, matched_by, short_term_fault, long_term_fault};
 
 use crate::parting::check_key;
 use crate::parts::{Mechanism, PartsError};
 use crate::received::Discard;
+use crate::usage::Usage;
 use std::alloc::Global;
-use stun_authentication::{is_bid_down, is_challenge, response_code};
+use stun_authentication::{has_least_length, is_bid_down, is_challenge, response_code};
 use stun_types::attribute::{
     AttributeStaticType, ErrorCode, MessageIntegrity, MessageIntegritySha256,
 };
-use stun_types::message::{
-    IntegrityAlgorithm, IntegrityKey, Message, StunWriteError, ValidateError,
-};
+use stun_types::message::{IntegrityAlgorithm, IntegrityKey, Message, StunWriteError};
 
 /// How a request is protected, and with which key (RFC 8489, section 9).
 #[derive(Debug, Drop)]
 pub enum Protection {
     /// It isn't signed, and no response is validated.
     Unprotected,
+    /// It is the first request of a client that uses the long-term mechanism: it isn't signed
+    /// (section 9.2.3.1), and no response is validated. A response is discarded whose nonce promises
+    /// PASSWORD-ALGORITHMS and that shows none, and so is a 400 with no integrity attribute (section
+    /// 9.2.5).
+    FirstLongTerm,
     /// It is signed by a short-term credential (section 9.1). A key that was made for one algorithm
     /// validates by that algorithm's attribute alone, a key with no algorithm by either.
     ShortTerm(IntegrityKey),
@@ -45,6 +49,33 @@ impl Signed {
     {
         self.sha1 || self.sha256
     }
+
+    /// Whether there is that of an algorithm.
+    fn signs_by(self, algorithm: IntegrityAlgorithm) -> bool
+        ensures { result ≡ signs_by self algorithm }
+    {
+        match algorithm {
+            IntegrityAlgorithm::Sha1 => self.sha1,
+            IntegrityAlgorithm::Sha256 => self.sha256,
+        }
+    }
+
+    /// Whether there is one that both show.
+    fn have_common(self, other: Signed) -> bool
+        ensures { result ≡ have_common self other }
+    {
+        (self.sha1 && other.sha1) || (self.sha256 && other.sha256)
+    }
+
+    /// An algorithm, where there is its attribute.
+    fn matched_by(self, proof: Option<IntegrityAlgorithm>) -> Option<IntegrityAlgorithm>
+        ensures { result ≡ matched_by self proof }
+    {
+        match proof {
+            Some(algorithm) if self.signs_by(algorithm) => proof,
+            _ => None,
+        }
+    }
 }
 
 /// Which integrity attributes a message shows.
@@ -57,31 +88,39 @@ pub(crate) fn signed_by(message: &Message<'_>) -> Signed
     }
 }
 
-/// Whether a validation answered with an algorithm by which the request was signed.
-fn accepts(signed: Signed, verdict: Result<IntegrityAlgorithm, ValidateError>) -> bool
-    ensures { result ≡ accepts signed verdict }
+/// The algorithm whose HMAC in a message is right under a key, and has enough bytes.
+fn proved_by(
+    key: &IntegrityKey,
+    shortest: usize,
+    message: &Message<'_>,
+) -> Option<IntegrityAlgorithm>
+    ensures { let d = message_bytes message.now in
+        result ≡ proved_by shortest d (validated key.now d) }
 {
-    match verdict {
-        Ok(IntegrityAlgorithm::Sha1) => signed.sha1,
-        Ok(IntegrityAlgorithm::Sha256) => signed.sha256,
-        Err(_) => false,
+    match message.validate_integrity_with_key(key) {
+        Ok(algorithm) if has_least_length(shortest, algorithm, message) => Some(algorithm),
+        _ => None,
     }
 }
 
 /// Why a response to a request that a short-term credential protects is discarded.
-fn short_term_fault(key: &IntegrityKey, signed: Signed, message: &Message<'_>) -> Option<Discard>
-    ensures { result ≡ short_term_fault key.now signed (message_bytes message.now) }
+fn short_term_fault(authentic: bool, signed: Signed, message: &Message<'_>) -> Option<Discard>
+    ensures { result ≡ short_term_fault authentic signed (message_bytes message.now) }
 {
-    if accepts(signed, message.validate_integrity_with_key(key)) {
-        None
+    if authentic {
+        return None;
+    }
+    let shown = signed_by(message);
+    if shown.is_signed() && !signed.have_common(shown) {
+        Some(Discard::OtherAlgorithm)
     } else {
         Some(Discard::NotAuthentic)
     }
 }
 
-/// Why a response to a request that a long-term credential protects is discarded.
-fn long_term_fault(key: &IntegrityKey, message: &Message<'_>) -> Option<Discard>
-    ensures { result ≡ long_term_fault key.now (message_bytes message.now) }
+/// Why a response to a request by the long-term mechanism is discarded.
+fn long_term_fault(authentic: bool, message: &Message<'_>) -> Option<Discard>
+    ensures { result ≡ long_term_fault authentic (message_bytes message.now) }
 {
     if is_challenge(message) {
         return None;
@@ -92,16 +131,17 @@ fn long_term_fault(key: &IntegrityKey, message: &Message<'_>) -> Option<Discard>
     if response_code(message) == Some(ErrorCode::BAD_REQUEST) && !signed_by(message).is_signed() {
         return Some(Discard::UnsignedBadRequest);
     }
-    match message.validate_integrity_with_key(key) {
-        Ok(_) => None,
-        Err(_) => Some(Discard::NotAuthentic),
+    if authentic {
+        None
+    } else {
+        Some(Discard::NotAuthentic)
     }
 }
 
 impl Protection {
     ghost use Rattle.std.specs.Prelude.{◌≡◌, None, Some, IfErr, MatchResult};
     ghost use Rattle.stun_types.specs.Message.{message_bytes};
-    ghost use Rattle.stun_transactions.specs.Guards.{guard_fault, protects, IsKeptAs, HasSameKey};
+    ghost use Rattle.stun_transactions.specs.Guards.{proof_of, mechanism_fault, guard_fault, protects, IsKeptAs, HasSameKey};
     ghost use Rattle.stun_transactions.specs.Parts.{mechanism_of, key_in, key_fault};
 
     /// What a transaction keeps of it, to validate responses: a long-term key works with both
@@ -122,6 +162,7 @@ impl Protection {
     {
         match self {
             Protection::Unprotected => (None, None),
+            Protection::FirstLongTerm => (Some(Mechanism::FirstLongTerm), None),
             Protection::ShortTerm(key) => (Some(Mechanism::ShortTerm), Some(key)),
             Protection::LongTerm(key) => (Some(Mechanism::LongTerm), Some(key)),
         }
@@ -139,6 +180,7 @@ impl Protection {
     {
         check_key(mechanism, &key)?;
         match (mechanism, key) {
+            (Some(Mechanism::FirstLongTerm), None) => Ok(Protection::FirstLongTerm),
             (Some(Mechanism::ShortTerm), Some(key)) => Ok(Protection::ShortTerm(key)),
             (Some(Mechanism::LongTerm), Some(key)) => Ok(Protection::LongTerm(key)),
             _ => Ok(Protection::Unprotected),
@@ -157,7 +199,7 @@ impl Protection {
         ensures err { IfErr result (λ e. e ≡ StunWriteError.OutOfMemory) }
     {
         match self {
-            Protection::Unprotected => Ok(()),
+            Protection::Unprotected | Protection::FirstLongTerm => Ok(()),
             Protection::ShortTerm(key) => key.prepare(alloc),
             Protection::LongTerm(key) => key.prepare(alloc),
         }
@@ -168,19 +210,60 @@ impl Protection {
         ensures { result ≡ protects self.now }
     {
         match self {
-            Protection::Unprotected => false,
+            Protection::Unprotected | Protection::FirstLongTerm => false,
             Protection::ShortTerm(_) | Protection::LongTerm(_) => true,
         }
     }
 
-    /// Why a response is discarded.
-    pub(crate) fn fault(&self, signed: Signed, message: &Message<'_>) -> Option<Discard>
-        ensures { result ≡ guard_fault self.now signed (message_bytes message.now) }
+    /// The algorithm of the attribute that authenticates a response, if one does.
+    pub(crate) fn proof_of(
+        &self,
+        usage: Usage,
+        signed: Signed,
+        message: &Message<'_>,
+    ) -> Option<IntegrityAlgorithm>
+        ensures { result ≡ proof_of self.now usage signed (message_bytes message.now) }
+    {
+        match self {
+            Protection::Unprotected | Protection::FirstLongTerm => None,
+            Protection::ShortTerm(key) => {
+                signed.matched_by(proved_by(key, usage.shortest, message))
+            }
+            Protection::LongTerm(key) => proved_by(key, usage.shortest, message),
+        }
+    }
+
+    /// Why a response is discarded, that is authentic or not.
+    fn mechanism_fault(
+        &self,
+        authentic: bool,
+        signed: Signed,
+        message: &Message<'_>,
+    ) -> Option<Discard>
+        ensures { result ≡ mechanism_fault self.now authentic signed (message_bytes message.now) }
     {
         match self {
             Protection::Unprotected => None,
-            Protection::ShortTerm(key) => short_term_fault(key, signed, message),
-            Protection::LongTerm(key) => long_term_fault(key, message),
+            Protection::FirstLongTerm => long_term_fault(true, message),
+            Protection::ShortTerm(_) => short_term_fault(authentic, signed, message),
+            Protection::LongTerm(_) => long_term_fault(authentic, message),
         }
+    }
+
+    /// Why a response is discarded, with the proof that it has.
+    pub(crate) fn fault(
+        &self,
+        usage: Usage,
+        signed: Signed,
+        proof: Option<IntegrityAlgorithm>,
+        message: &Message<'_>,
+    ) -> Option<Discard>
+        requires { proof ≡ proof_of self.now usage signed (message_bytes message.now) }
+        ensures { result ≡ guard_fault self.now usage signed (message_bytes message.now) }
+    {
+        if usage.lacks_fingerprint(message) {
+            return Some(Discard::NoFingerprint);
+        }
+        self.mechanism_fault(proof.is_some(), signed, message)
     }
 }

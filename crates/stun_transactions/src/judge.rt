@@ -6,15 +6,15 @@ ghost use Rattle.stun_grammar.specs.Headers.{type_field};
 ghost use Rattle.stun_grammar.specs.ScannedOrder.{has};
 ghost use Rattle.stun_types.specs.Message.{message_bytes};
 ghost use Rattle.stun_transactions.specs.Responses.{own_types, is_beyond, first_beyond};
-ghost use Rattle.stun_transactions.specs.Receiving.{outcome, content, content_by_class, discarded};
+ghost use Rattle.stun_transactions.specs.Receiving.{outcome, content, content_by_class, claim_of, discarded};
 
-use crate::received::{Discard, Failure, Outcome};
+use crate::received::{Claim, Discard, Failure, Outcome};
 use crate::terms::Terms;
-use stun_authentication::shown_code;
+use stun_authentication::{response_code, shown_code};
 use stun_types::TransportType;
 use stun_types::attribute::{AttributeType, KNOWN};
 use stun_types::message::write::is_among;
-use stun_types::message::{Message, MessageClass};
+use stun_types::message::{IntegrityAlgorithm, Message, MessageClass};
 
 /// Whether RFC 8489 defines this type, and it must be understood (section 18.3).
 fn is_own(atype: AttributeType) -> bool
@@ -43,29 +43,44 @@ fn first_beyond(message: &Message<'_>, understood: &[AttributeType]) -> Option<A
     None
 }
 
-/// What an authentic response is for its transaction.
-fn content(message: &Message<'_>, understood: &[AttributeType]) -> Outcome
-    ensures { result ≡ content understood.now (message_bytes message.now) }
+/// What a response that is taken is for its transaction, with the proof that it has.
+fn content(
+    proof: Option<IntegrityAlgorithm>,
+    understood: &[AttributeType],
+    message: &Message<'_>,
+) -> Outcome
+    ensures { result ≡ content proof understood.now (message_bytes message.now) }
 {
     if let Some(atype) = first_beyond(message, understood) {
         return Outcome::Failed(Failure::UnknownAttribute(atype));
     }
     match message.class() {
         MessageClass::Error => match shown_code(message) {
-            Some(code) => Outcome::Error(code),
+            Some(code) => Outcome::Error(code, proof),
             None => Outcome::Failed(Failure::NoErrorCode),
         },
-        _ => Outcome::Success,
+        _ => Outcome::Success(proof),
+    }
+}
+
+/// What a response claims that is kept out.
+fn claim_of(message: &Message<'_>) -> Claim
+    ensures { result ≡ claim_of (message_bytes message.now) }
+{
+    Claim {
+        code: response_code(message),
     }
 }
 
 /// What a response that is kept out is for its transaction.
-fn discarded(transport: TransportType, reason: Discard) -> Outcome
-    ensures { result ≡ discarded transport reason }
+fn discarded(transport: TransportType, claim: Claim, reason: Discard) -> Outcome
+    ensures { result ≡ discarded transport claim reason }
 {
     match (transport, reason) {
-        (TransportType::Tcp, Discard::NotAuthentic) => Outcome::Failed(Failure::IntegrityViolated),
-        _ => Outcome::Discarded(reason),
+        (TransportType::Tcp, Discard::NotAuthentic) => {
+            Outcome::Failed(Failure::IntegrityViolated(claim))
+        }
+        _ => Outcome::Discarded(reason, claim),
     }
 }
 
@@ -76,8 +91,10 @@ pub(crate) fn outcome(terms: &Terms, understood: &[AttributeType], message: &Mes
     if !terms.is_answer(message) {
         return Outcome::NotForThis;
     }
-    match terms.protection.fault(terms.signed, message) {
-        Some(reason) => discarded(terms.plan.transport, reason),
-        None => content(message, understood),
+    let (usage, signed) = (terms.usage, terms.signed);
+    let proof = terms.protection.proof_of(usage, signed, message);
+    match terms.protection.fault(usage, signed, proof, message) {
+        Some(reason) => discarded(terms.plan.transport, claim_of(message), reason),
+        None => content(proof, understood, message),
     }
 }

@@ -8,17 +8,18 @@ ghost use Rattle.stun_transactions.specs.declared.retransmission.RetransmissionS
 ghost use Rattle.stun_transactions.specs.declared.retransmission.TransactionEnd.{TransactionEnd};
 ghost use Rattle.stun_transactions.specs.declared.terms.Terms.{Terms};
 ghost use Rattle.stun_transactions.specs.declared.received.Outcome.{Outcome};
-ghost use Rattle.stun_transactions.specs.Rows.{moment, row_end, row_wait};
-ghost use Rattle.stun_transactions.specs.Retransmissions.{begun, ended_by, Polls};
+ghost use Rattle.stun_transactions.specs.Rows.{moment, row_end, row_wait, row_rest};
+ghost use Rattle.stun_transactions.specs.Retransmissions.{begun, ended_by, stopped_by, Polls};
 ghost use Rattle.std.specs.declared.time.Duration.{Duration};
 ghost use Rattle.stun_transactions.specs.declared.retransmission.Action.{Action};
 ghost use Rattle.stun_transactions.specs.Outcomes.{after};
 ghost use Rattle.stun_transactions.specs.Receiving.{received_outcome};
 ghost use Rattle.stun_grammar.specs.Numbers.{IsBytes};
-ghost use Rattle.stun_transactions.specs.Taking.{is_taken, IsRightResponse};
+ghost use Rattle.stun_transactions.specs.Taking.{is_taken, proof_in, IsRightResponse};
 ghost use Rattle.stun_base.specs.declared.transport.TransportType.{TransportType};
 ghost use Rattle.stun_transactions.specs.declared.schedule.Schedule.{Schedule};
 ghost use Rattle.stun_transactions.specs.declared.guard.Protection.{Protection};
+ghost use Rattle.stun_transactions.specs.declared.usage.Usage.{Usage};
 ghost use Rattle.stun_transactions.specs.declared.parts.TransactionParts.{TransactionParts};
 ghost use Rattle.stun_transactions.specs.declared.transaction.Transaction.{Transaction};
 ghost use Rattle.stun_transactions.specs.Terms.{begin_fault, AreSameTerms};
@@ -74,7 +75,23 @@ pub fn ends_are_final()
         → state.end ≡ Some end → received_outcome terms state understood d ≡ Outcome.NotForThis }
 {}
 
-/// What is received, cancelled or failed neither hands out a request nor moves the next one.
+/// Once the caller has stopped sending, no request is handed out, whatever is called. What is received
+/// is taken as before, and the transaction ends at the moment at which it would have ended: the wait
+/// that is left after request number `k`, counted from 0, ends there.
+pub fn stopping_sends_nothing()
+    ensures sends { (plan : Plan) (state : RetransmissionState) (calls : List Call)
+        → state.stopped ≡ true → IsRun plan state calls → sends calls ≡ [] }
+    ensures received { (terms : Terms) (state : RetransmissionState)
+        (understood : List AttributeType) (d : List ℕ)
+        → received_outcome terms (stopped_by state) understood d
+        ≡ received_outcome terms state understood d }
+    ensures end { (rto requests last_wait_factor k : ℕ) → k < requests
+        → moment rto k + row_rest rto requests last_wait_factor (k + 1)
+        ≡ row_end rto requests last_wait_factor }
+{}
+
+/// What is received, cancelled or failed, and that sending is stopped, neither hands out a request
+/// nor moves the next one.
 #[tactic(auto, using(crate::proofs::RunsLemmas::receiving_stays))]
 pub fn other_calls_stay()
     ensures receiving { (terms : Terms) (state : RetransmissionState)
@@ -82,15 +99,19 @@ pub fn other_calls_stay()
         (d : List ℕ) → Stays state (after (received_outcome terms state understood d) state) }
     ensures ending { (end : TransactionEnd) (state : RetransmissionState) → Stays state
         (ended_by end state) }
+    ensures stopping { (state : RetransmissionState) → Stays state (stopped_by state) }
 {}
 
-/// What is taken is a message, a response to the request, and authentic by the request's protection.
+/// What is taken is a message, a response to the request, and authentic by the request's protection:
+/// by the algorithm that is handed out with it, with an HMAC that is long enough. It shows a
+/// FINGERPRINT where the usage sends them. So a 300 that answers a protected request is taken only if
+/// it is authentic.
 #[tactic(auto, using(crate::proofs::TakingLemmas::right))]
 pub fn taken_is_right()
     ensures { (terms : Terms) (state : RetransmissionState) (understood : List AttributeType)
         (d : List ℕ)
         → IsBytes d → is_taken (received_outcome terms state understood d) ≡ true
-        → IsRightResponse terms d }
+        → IsRightResponse terms d (proof_in (received_outcome terms state understood d)) }
 {}
 
 /// Its parts and its key are all of a transaction: one that is taken apart and put together again
@@ -104,9 +125,9 @@ pub fn parts_are_the_whole()
 /// No parts of a transaction are refused: not where it begins, nor after any call.
 pub fn no_parts_are_refused()
     ensures begins { (r : List ℕ) (schedule : Schedule) (transport : TransportType)
-        (protection : Protection) (now : Duration) (transaction : Transaction)
+        (protection : Protection) (usage : Usage) (now : Duration) (transaction : Transaction)
         → begin_fault protection r ≡ None
-        → Begins r schedule transport protection now transaction
+        → Begins r schedule transport protection usage now transaction
         → whole_fault (parts_of transaction) (key_of transaction) ≡ None }
     ensures polls { (parts : TransactionParts) (now : Duration) (action : Action)
         (state : RetransmissionState)
@@ -116,4 +137,6 @@ pub fn no_parts_are_refused()
         → parts_fault (at_state parts (after outcome (state_in parts))) ≡ None }
     ensures ends { (parts : TransactionParts) (end : TransactionEnd) → parts_fault parts ≡ None
         → parts_fault (at_state parts (ended_by end (state_in parts))) ≡ None }
+    ensures stops { (parts : TransactionParts) → parts_fault parts ≡ None
+        → parts_fault (at_state parts (stopped_by (state_in parts))) ≡ None }
 {}

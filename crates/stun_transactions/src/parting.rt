@@ -12,7 +12,7 @@ use stun_types::message::IntegrityKey;
 impl TransactionParts {
     ghost use Rattle.std.specs.Prelude.{◌≡◌, None, Some, MatchResult, MatchOption, true, is_some, min};
     ghost use Rattle.std.specs.Duration.{as_nanos, max_nanos};
-    ghost use Rattle.stun_transactions.specs.Retransmissions.{due, ended_by, Polls};
+    ghost use Rattle.stun_transactions.specs.Retransmissions.{due, ended_by, stopped_by, Polls, TellsTime};
     ghost use Rattle.stun_transactions.specs.Parts.{plan_in, state_in, at_state, is_signed_otherwise, parts_fault};
 
     /// How long the transaction waits.
@@ -34,6 +34,7 @@ impl TransactionParts {
             last: self.last,
             clock: self.clock,
             violated: self.violated,
+            stopped: self.stopped,
             end: self.end,
         }
     }
@@ -47,12 +48,14 @@ impl TransactionParts {
             last,
             clock,
             violated,
+            stopped,
             end,
         } = state;
         self.sent = sent;
         self.last = last;
         self.clock = clock;
         self.violated = violated;
+        self.stopped = stopped;
         self.end = end;
     }
 
@@ -62,8 +65,8 @@ impl TransactionParts {
     {
         let signed = self.sha1 || self.sha256;
         match self.mechanism {
-            Some(_) => !signed,
-            None => signed,
+            Some(Mechanism::ShortTerm | Mechanism::LongTerm) => !signed,
+            Some(Mechanism::FirstLongTerm) | None => signed,
         }
     }
 
@@ -117,6 +120,24 @@ impl TransactionParts {
         action
     }
 
+    /// Sends the request no more, as
+    /// [`Transaction::stop_sending`](crate::Transaction::stop_sending) does.
+    pub fn stop_sending(&mut self)
+        ensures { self.new ≡ at_state self.old (stopped_by (state_in self.old)) }
+    {
+        let mut state = self.state();
+        state.stop_sending();
+        self.go_on(state);
+    }
+
+    /// How long the response took, as
+    /// [`Transaction::round_trip`](crate::Transaction::round_trip) tells.
+    pub fn round_trip(&self, now: Duration) -> Option<Duration>
+        ensures { TellsTime (state_in self.now) now result }
+    {
+        self.state().round_trip(now)
+    }
+
     /// Ends the transaction, unless it has ended.
     fn end_by(&mut self, end: TransactionEnd)
         ensures { self.new ≡ at_state self.old (ended_by end (state_in self.old)) }
@@ -145,7 +166,7 @@ impl TransactionParts {
     }
 }
 
-/// Tests that a key is that of a transaction whose request a mechanism protects, or none.
+/// Tests that a key is that of a transaction by a mechanism, or by none.
 pub(crate) fn check_key(
     mechanism: Option<Mechanism>,
     key: &Option<IntegrityKey>,
@@ -154,9 +175,9 @@ pub(crate) fn check_key(
         (λ e. key_fault mechanism key.now ≡ Some e) }
 {
     match (mechanism, key) {
-        (None, None) => Ok(()),
-        (None, Some(_)) => Err(PartsError::NoUseForKey),
-        (Some(_), None) => Err(PartsError::NoKey),
+        (None | Some(Mechanism::FirstLongTerm), None) => Ok(()),
+        (None | Some(Mechanism::FirstLongTerm), Some(_)) => Err(PartsError::NoUseForKey),
+        (Some(Mechanism::ShortTerm | Mechanism::LongTerm), None) => Err(PartsError::NoKey),
         (Some(Mechanism::ShortTerm), Some(_)) => Ok(()),
         (Some(Mechanism::LongTerm), Some(key)) => match key.algorithm() {
             None => Ok(()),

@@ -2,16 +2,19 @@
 
 use crate::retransmission::TransactionEnd;
 use crate::schedule::Schedule;
+use crate::usage::Usage;
 use std::time::Duration;
 use stun_types::TransportType;
 use stun_types::message::{Method, TransactionId};
 use thiserror::Error;
 
-/// A mechanism by which a credential protects a request (RFC 8489, section 9).
+/// A mechanism by which credentials protect requests (RFC 8489, section 9).
 #[derive(Clone, Copy, Debug, PartialEq, Eq)]
 pub enum Mechanism {
     /// By a short-term credential (section 9.1).
     ShortTerm,
+    /// By a long-term credential that the first request doesn't use yet (section 9.2.3.1).
+    FirstLongTerm,
     /// By a long-term credential (section 9.2).
     LongTerm,
 }
@@ -19,7 +22,7 @@ pub enum Mechanism {
 /// Why no transaction has certain parts.
 #[derive(Clone, Copy, Debug, PartialEq, Eq, Error)]
 pub enum PartsError {
-    /// A mechanism protects the request and it shows no integrity attribute, or none does and it
+    /// A credential protects the request and it shows no integrity attribute, or none does and it
     /// shows one.
     #[error("the request is signed otherwise than it is protected")]
     SignedOtherwise,
@@ -29,10 +32,10 @@ pub enum PartsError {
     /// The request was sent after the latest moment that was told.
     #[error("the request was sent after the latest moment")]
     SentTooLate,
-    /// A mechanism protects the request, and there is no key.
+    /// A credential protects the request, and there is no key.
     #[error("there is no key")]
     NoKey,
-    /// Nothing protects the request, and there is a key.
+    /// No credential protects the request, and there is a key.
     #[error("there is no use for a key")]
     NoUseForKey,
     /// The key of a long-term credential was made for one algorithm; `IntegrityKey::for_both` makes
@@ -57,8 +60,10 @@ pub struct TransactionParts {
     pub sha1: bool,
     /// Whether the request shows a MESSAGE-INTEGRITY-SHA256.
     pub sha256: bool,
-    /// The mechanism that protects the request, if one does.
+    /// The mechanism in use, if one is.
     pub mechanism: Option<Mechanism>,
+    /// What the usage specifies of responses.
+    pub usage: Usage,
     /// How many times the request was handed out.
     pub sent: u32,
     /// When it last was, and before the first time when the transaction began.
@@ -67,6 +72,8 @@ pub struct TransactionParts {
     pub clock: Duration,
     /// Whether a response was discarded that wasn't authentic.
     pub violated: bool,
+    /// Whether the caller has stopped sending.
+    pub stopped: bool,
     /// How the transaction ended, if it has.
     pub end: Option<TransactionEnd>,
 }

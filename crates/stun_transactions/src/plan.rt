@@ -1,7 +1,7 @@
 //! How long a transaction waits.
 
 ghost use Rattle.std.specs.Prelude.{◌≡◌};
-ghost use Rattle.stun_transactions.specs.Schedules.{requests_in, wait_in};
+ghost use Rattle.stun_transactions.specs.Schedules.{requests_in, wait_in, rest_in};
 
 use crate::schedule::Schedule;
 use stun_types::TransportType;
@@ -26,5 +26,13 @@ impl Plan {
         ensures { result ≡ wait_in self.now sent }
     {
         self.schedule.wait_over(self.transport, sent)
+    }
+
+    /// How many milliseconds a response is still waited for once `sent` requests were sent, and no
+    /// further one is.
+    pub(crate) fn rest(&self, sent: u32) -> u64
+        ensures { result ≡ rest_in self.now sent }
+    {
+        self.schedule.rest_over(self.transport, sent)
     }
 }

@@ -5,27 +5,41 @@ ghost use Rattle.stun_types.specs.Message.{message_bytes};
 ghost use Rattle.stun_transactions.specs.Outcomes.{outcome_of, Holds};
 
 use stun_types::attribute::AttributeType;
-use stun_types::message::Message;
+use stun_types::message::{IntegrityAlgorithm, Message};
 
 /// Why a response was discarded, as if it had never been received.
 #[derive(Clone, Copy, Debug, PartialEq, Eq)]
 pub enum Discard {
     /// It isn't authentic (RFC 8489, sections 9.1.4 and 9.2.5).
     NotAuthentic,
-    /// Its nonce promises PASSWORD-ALGORITHMS, and it shows none, to a request that a long-term
-    /// credential protects: somebody on the way may have taken it out. A 401 or a 438 is not
-    /// discarded so (RFC 8489, section 9.2.5).
+    /// It is signed, but by no algorithm by which the request was signed, to a request that a
+    /// short-term credential protects (RFC 8489, section 9.1.4).
+    OtherAlgorithm,
+    /// Its nonce promises PASSWORD-ALGORITHMS, and it shows none, to a request by the long-term
+    /// mechanism: somebody on the way may have taken it out. A 401 or a 438 is not discarded so (RFC
+    /// 8489, section 9.2.5).
     BidDown,
-    /// It is an error response with the code 400 and with no integrity attribute, to a request that
-    /// a long-term credential protects (RFC 8489, section 9.2.5).
+    /// It is an error response with the code 400 and with no integrity attribute, to a request by the
+    /// long-term mechanism (RFC 8489, section 9.2.5).
     UnsignedBadRequest,
+    /// It shows no FINGERPRINT, and the usage sends them (RFC 8489, sections 6.3 and 7).
+    NoFingerprint,
+}
+
+/// What a response claims that isn't taken. It isn't authentic: whoever can send the client a
+/// message may have written it. It may explain to a person why an exchange doesn't go on; nothing
+/// else follows from it, and a claimed 300 is never followed (RFC 8489, section 14.8).
+#[derive(Clone, Copy, Debug, PartialEq, Eq)]
+pub struct Claim {
+    /// The code, of 300 to 699, if it is an error response that has one.
+    pub code: Option<u16>,
 }
 
 /// Why a response ended its transaction, though it wasn't taken.
 #[derive(Clone, Copy, Debug, PartialEq, Eq)]
 pub enum Failure {
     /// It isn't authentic, and came over a reliable transport (RFC 8489, sections 9.1.4 and 9.2.5).
-    IntegrityViolated,
+    IntegrityViolated(Claim),
     /// It shows an attribute of this type, which must be understood and isn't (RFC 8489, sections
     /// 6.3.3 and 6.3.4).
     UnknownAttribute(AttributeType),
@@ -39,28 +53,34 @@ pub enum Outcome {
     /// As [`Received::NotForThis`].
     NotForThis,
     /// As [`Received::Discarded`].
-    Discarded(Discard),
+    Discarded(Discard, Claim),
     /// As [`Received::Failed`].
     Failed(Failure),
     /// As [`Received::Success`].
-    Success,
+    Success(Option<IntegrityAlgorithm>),
     /// As [`Received::Error`].
-    Error(u16),
+    Error(u16, Option<IntegrityAlgorithm>),
 }
 
 /// What a received message is for a transaction.
+///
+/// A response comes with the algorithm of the integrity attribute that authenticates it: later
+/// requests to the same server are signed by this one (RFC 8489, sections 9.1.5 and 9.2.3.2). It is
+/// `None` where nothing was validated, since no credential protects the request, and for a challenge
+/// (401 or 438) to a request by a long-term credential that isn't signed.
 #[derive(Clone, Copy, Debug)]
 pub enum Received<'m> {
     /// It is no message, or no response to the request, or the transaction has ended.
     NotForThis,
     /// It is discarded, and the transaction goes on.
-    Discarded(Discard),
+    Discarded(Discard, Claim),
     /// It ends the transaction, which has failed.
     Failed(Failure),
-    /// The success response.
-    Success(Message<'m>),
-    /// The error response, and its code, of 300 to 699.
-    Error(Message<'m>, u16),
+    /// The success response, and what authenticates it.
+    Success(Message<'m>, Option<IntegrityAlgorithm>),
+    /// The error response, its code, of 300 to 699, and what authenticates it. A 300 (Try Alternate)
+    /// that nothing authenticates must not be followed (RFC 8489, sections 10 and 14.8).
+    Error(Message<'m>, u16, Option<IntegrityAlgorithm>),
 }
 
 /// An outcome with the message that has it.
@@ -70,9 +90,9 @@ pub(crate) fn with_message<'m>(outcome: Outcome, message: Message<'m>) -> Receiv
 {
     match outcome {
         Outcome::NotForThis => Received::NotForThis,
-        Outcome::Discarded(reason) => Received::Discarded(reason),
+        Outcome::Discarded(reason, claim) => Received::Discarded(reason, claim),
         Outcome::Failed(failure) => Received::Failed(failure),
-        Outcome::Success => Received::Success(message),
-        Outcome::Error(code) => Received::Error(message, code),
+        Outcome::Success(proof) => Received::Success(message, proof),
+        Outcome::Error(code, proof) => Received::Error(message, code, proof),
     }
 }

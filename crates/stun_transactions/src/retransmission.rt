@@ -2,7 +2,7 @@
 
 ghost use Rattle.std.specs.Prelude.{◌≡◌, ◌↔◌, ◌+◌, ◌≤◌, IsTrue, min};
 ghost use Rattle.std.specs.Duration.{as_nanos, max_nanos};
-ghost use Rattle.stun_transactions.specs.Retransmissions.{later, begun, due, is_ready, ended_by, Polls, TellsTime};
+ghost use Rattle.stun_transactions.specs.Retransmissions.{later, begun, wait_of, due, has_more, is_ready, end_of, ended_by, stopped_by, Polls, TellsTime};
 ghost use Rattle.stun_transactions.specs.Outcomes.{after, is_open, end_of_failure};
 
 use crate::plan::Plan;
@@ -21,7 +21,8 @@ pub enum TransactionEnd {
     IntegrityViolated,
     /// A response was received that the client can't take (RFC 8489, sections 6.3.3 and 6.3.4).
     Refused,
-    /// The caller cancelled it.
+    /// The caller cancelled it; or it stopped sending, and no response was taken until the time was
+    /// up.
     Cancelled,
     /// The transport failed.
     TransportFailed,
@@ -49,6 +50,8 @@ pub struct RetransmissionState {
     pub(crate) clock: Duration,
     /// Whether a response was discarded that wasn't authentic.
     pub(crate) violated: bool,
+    /// Whether the caller has stopped sending.
+    pub(crate) stopped: bool,
     /// How it ended.
     pub(crate) end: Option<TransactionEnd>,
 }
@@ -58,7 +61,7 @@ fn end_of_failure(failure: Failure) -> TransactionEnd
     ensures { result ≡ end_of_failure failure }
 {
     match failure {
-        Failure::IntegrityViolated => TransactionEnd::IntegrityViolated,
+        Failure::IntegrityViolated(_) => TransactionEnd::IntegrityViolated,
         Failure::UnknownAttribute(_) | Failure::NoErrorCode => TransactionEnd::Refused,
     }
 }
@@ -94,7 +97,19 @@ impl RetransmissionState {
             last: now,
             clock: now,
             violated: false,
+            stopped: false,
             end: None,
+        }
+    }
+
+    /// How many milliseconds nothing is done after the last request was handed out.
+    fn wait(&self, plan: &Plan) -> u64
+        ensures { result ≡ wait_of plan.now self.now }
+    {
+        if self.stopped {
+            plan.rest(self.sent)
+        } else {
+            plan.wait(self.sent)
         }
     }
 
@@ -102,7 +117,7 @@ impl RetransmissionState {
     pub(crate) fn due(&self, plan: &Plan) -> Duration
         ensures { as_nanos result ≡ min (due plan.now self.now) max_nanos }
     {
-        let wait = Duration::from_millis(plan.wait(self.sent));
+        let wait = Duration::from_millis(self.wait(plan));
         self.last.saturating_add(wait)
     }
 
@@ -110,7 +125,7 @@ impl RetransmissionState {
     fn is_due(&self, plan: &Plan, at: Duration) -> bool
         ensures { IsTrue result ↔ (due plan.now self.now ≤ as_nanos at) }
     {
-        let wait = Duration::from_millis(plan.wait(self.sent));
+        let wait = Duration::from_millis(self.wait(plan));
         has_passed(self.last, wait, at)
     }
 
@@ -119,6 +134,26 @@ impl RetransmissionState {
         ensures { result ≡ is_ready plan.now self.now now }
     {
         self.end.is_some() || self.is_due(plan, later(self.clock, now))
+    }
+
+    /// Whether a further request is to be sent.
+    fn has_more(&self, plan: &Plan) -> bool
+        ensures { result ≡ has_more plan.now self.now }
+    {
+        !self.stopped && self.sent < plan.requests()
+    }
+
+    /// How the transaction ends when its time is up.
+    fn end_of(&self) -> TransactionEnd
+        ensures { result ≡ end_of self.now }
+    {
+        if self.stopped {
+            TransactionEnd::Cancelled
+        } else if self.violated {
+            TransactionEnd::IntegrityViolated
+        } else {
+            TransactionEnd::TimedOut
+        }
     }
 
     /// What is to be done now.
@@ -133,16 +168,12 @@ impl RetransmissionState {
         if !self.is_due(plan, now) {
             return Action::WaitUntil(self.due(plan));
         }
-        if self.sent < plan.requests() {
+        if self.has_more(plan) {
             self.sent += 1;
             self.last = now;
             return Action::Send;
         }
-        let end = if self.violated {
-            TransactionEnd::IntegrityViolated
-        } else {
-            TransactionEnd::TimedOut
-        };
+        let end = self.end_of();
         self.end = Some(end);
         Action::Ended(end)
     }
@@ -154,6 +185,15 @@ impl RetransmissionState {
         match (self.end, self.sent) {
             (Some(TransactionEnd::Answered), 1) => Some(now.saturating_sub(self.last)),
             _ => None,
+        }
+    }
+
+    /// Sends nothing more, unless it has ended.
+    pub(crate) fn stop_sending(&mut self)
+        ensures { self.new ≡ stopped_by self.old }
+    {
+        if self.end.is_none() {
+            self.stopped = true;
         }
     }
 
@@ -179,10 +219,17 @@ impl RetransmissionState {
     {
         match outcome {
             Outcome::NotForThis
-            | Outcome::Discarded(Discard::BidDown | Discard::UnsignedBadRequest) => {}
-            Outcome::Discarded(Discard::NotAuthentic) => self.violated = true,
+            | Outcome::Discarded(
+                Discard::BidDown | Discard::UnsignedBadRequest | Discard::NoFingerprint,
+                _,
+            ) => {}
+            Outcome::Discarded(Discard::NotAuthentic | Discard::OtherAlgorithm, _) => {
+                self.violated = true;
+            }
             Outcome::Failed(failure) => self.end = Some(end_of_failure(failure)),
-            Outcome::Success | Outcome::Error(_) => self.end = Some(TransactionEnd::Answered),
+            Outcome::Success(_) | Outcome::Error(_, _) => {
+                self.end = Some(TransactionEnd::Answered);
+            }
         }
     }
 }

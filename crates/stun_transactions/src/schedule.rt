@@ -61,7 +61,7 @@ fn end_of_row(rto: u64, max_requests: u32, last_wait_factor: u32) -> Option<u64>
 impl Schedule {
     ghost use Rattle.std.specs.Prelude.{◌≡◌, ◌<◌, ◌≤◌, MatchResult, MatchOption, None, Some, slice_index};
     ghost use Rattle.stun_transactions.specs.Rows.{moment, moments, row_end};
-    ghost use Rattle.stun_transactions.specs.Schedules.{schedule_fault, IsSchedule, requests_over, wait_over};
+    ghost use Rattle.stun_transactions.specs.Schedules.{schedule_fault, IsSchedule, requests_over, wait_over, rest_over};
 
     /// The numbers that RFC 8489 recommends: an RTO of 500 ms, 7 requests, a last wait of 16 RTO,
     /// and over a reliable transport 39500 ms (sections 6.2.1 and 6.2.2).
@@ -173,6 +173,17 @@ impl Schedule {
         }
     }
 
+    /// When request number `n`, counted from 0, is sent, which is not after the end.
+    #[tactic(auto, using(crate::proofs::RowsLemmas::moment_fits, crate::proofs::RowsLemmas::pow_fits, crate::proofs::RowsLemmas::no_later))]
+    fn sent_at(&self, n: u32) -> u64
+        requires { n < self.now.max_requests }
+        ensures at { result ≡ moment self.now.rto n }
+        ensures before { result
+            ≤ row_end self.now.rto self.now.max_requests self.now.last_wait_factor }
+    {
+        self.rto * (2u64.pow(n) - 1)
+    }
+
     /// When the transaction ends over an unreliable transport if every poll is in time: in
     /// milliseconds from the first request.
     #[tactic(auto, using(crate::proofs::RowsLemmas::pow_fits))]
@@ -205,6 +216,23 @@ impl Schedule {
             TransportType::Tcp => self.reliable_timeout,
             TransportType::Udp if sent < self.max_requests => self.rto * 2u64.pow(sent - 1),
             TransportType::Udp => self.rto * u64::from(self.last_wait_factor),
+        }
+    }
+
+    /// How many milliseconds a response is still waited for once `sent` requests were sent, and no
+    /// further one is: as long as the transaction would have gone on, and 0 before the first.
+    pub fn rest_over(&self, transport: TransportType, sent: u32) -> u64
+        ensures { result ≡ rest_over self.now transport sent }
+    {
+        if sent == 0 {
+            return 0;
+        }
+        match transport {
+            TransportType::Tcp => self.reliable_timeout,
+            TransportType::Udp => {
+                let last = sent.min(self.max_requests) - 1;
+                self.end() - self.sent_at(last)
+            }
         }
     }
 }

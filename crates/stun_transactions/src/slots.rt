@@ -4,7 +4,7 @@ ghost use Rattle.std.specs.Prelude.{◌≡◌, None, Some, true, is_some, option
 ghost use Rattle.std.specs.List.{position};
 ghost use Rattle.std.specs.Duration.{as_nanos};
 ghost use Rattle.stun_types.specs.Message.{message_bytes};
-ghost use Rattle.stun_transactions.specs.Slots.{id_of, has_id, is_free, place_of, held, changed, room_fault, IsAdded, has_turn, wake, sooner, soonest, PollsSlot, PollsSlots, after_receiving, ending, addressee, Tells};
+ghost use Rattle.stun_transactions.specs.Slots.{id_of, has_id, is_free, place_of, held, changed, room_fault, IsAdded, has_turn, wake, sooner, soonest, PollsSlot, PollsSlots, after_receiving, ending, stopping, addressee, Tells};
 
 use crate::received::Received;
 use crate::retransmission::{Action, TransactionEnd};
@@ -229,6 +229,21 @@ pub(crate) fn receive<'m>(
         Ok(message) => receive_for(slots, message.transaction_id(), message, understood),
         Err(_) => None,
     }
+}
+
+/// Sends the request with this ID no more, unless its transaction has ended, and tells whether there
+/// is one.
+pub(crate) fn stop_sending(slots: &mut [Option<Transaction>], id: TransactionId) -> bool
+    ensures found { result ≡ is_some (place_of id slots.old) }
+    ensures slots { slots.new ≡ changed stopping (place_of id slots.old) slots.old }
+{
+    let Some(place) = place_of(slots, id) else {
+        return false;
+    };
+    if let Some(transaction) = &mut slots[place] {
+        transaction.stop_sending();
+    }
+    true
 }
 
 /// Ends the transaction with this ID, unless it has ended, and tells whether there is one.

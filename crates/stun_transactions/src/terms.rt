@@ -8,6 +8,7 @@ ghost use Rattle.stun_transactions.specs.Terms.{is_request, begin_fault, AreTerm
 
 use crate::guard::{Protection, Signed, signed_by};
 use crate::plan::Plan;
+use crate::usage::Usage;
 use stun_types::message::{Message, MessageClass, Method, TransactionId};
 use thiserror::Error;
 
@@ -20,7 +21,7 @@ pub enum BeginError {
     /// A credential is to protect the request, but it shows no integrity attribute.
     #[error("the request isn't signed")]
     NotSigned,
-    /// Nothing is to protect the request, but it shows an integrity attribute.
+    /// No credential is to protect the request, but it shows an integrity attribute.
     #[error("the request is signed")]
     Signed,
 }
@@ -33,6 +34,7 @@ pub struct Terms {
     pub(crate) id: TransactionId,
     pub(crate) signed: Signed,
     pub(crate) protection: Protection,
+    pub(crate) usage: Usage,
 }
 
 /// Whether a class is that of a request.
@@ -52,10 +54,11 @@ impl Terms {
         request: &Message<'_>,
         plan: Plan,
         protection: Protection,
+        usage: Usage,
     ) -> Result<Terms, BeginError>
         ensures { MatchResult result
             (λ terms. (begin_fault protection (message_bytes request.now) ≡ None)
-            × AreTerms (message_bytes request.now) plan protection terms)
+            × AreTerms (message_bytes request.now) plan protection usage terms)
             (λ e. begin_fault protection (message_bytes request.now) ≡ Some e) }
     {
         let signed = signed_by(request);
@@ -71,6 +74,7 @@ impl Terms {
                 id: request.transaction_id(),
                 signed,
                 protection: protection.for_responses(),
+                usage,
             }),
         }
     }

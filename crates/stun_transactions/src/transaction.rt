@@ -8,6 +8,7 @@ use crate::received::{Received, with_message};
 use crate::retransmission::{Action, RetransmissionState, TransactionEnd};
 use crate::schedule::Schedule;
 use crate::terms::{BeginError, Terms};
+use crate::usage::Usage;
 use std::alloc::Global;
 use std::time::Duration;
 use stun_types::TransportType;
@@ -30,7 +31,7 @@ pub struct Transaction {
 impl Transaction {
     ghost use Rattle.std.specs.Prelude.{◌≡◌, None, Some, IfErr, MatchResult};
     ghost use Rattle.stun_types.specs.Message.{message_bytes};
-    ghost use Rattle.stun_transactions.specs.Retransmissions.{Polls, is_ready, ended_by, TellsTime};
+    ghost use Rattle.stun_transactions.specs.Retransmissions.{Polls, is_ready, ended_by, stopped_by, TellsTime};
     ghost use Rattle.stun_transactions.specs.Outcomes.{outcome_of, Holds, after};
     ghost use Rattle.stun_transactions.specs.Terms.{begin_fault, AreSameTerms};
     ghost use Rattle.stun_transactions.specs.Receiving.{received_outcome};
@@ -38,7 +39,8 @@ impl Transaction {
     ghost use Rattle.stun_transactions.specs.Parts.{parts_of, key_of, whole_fault};
 
     /// A transaction of a request, which is to be sent over a transport, by a schedule. Its first
-    /// poll hands the request out.
+    /// poll hands the request out. `usage` is what the STUN usage specifies of responses:
+    /// `Usage::default()` where it specifies nothing.
     ///
     /// # Errors
     ///
@@ -49,18 +51,19 @@ impl Transaction {
         schedule: Schedule,
         transport: TransportType,
         protection: Protection,
+        usage: Usage,
         now: Duration,
     ) -> Result<Transaction, BeginError>
         ensures { MatchResult result
             (λ transaction. (begin_fault protection (message_bytes request.now) ≡ None)
-            × Begins (message_bytes request.now) schedule transport protection now transaction)
+            × Begins (message_bytes request.now) schedule transport protection usage now transaction)
             (λ e. begin_fault protection (message_bytes request.now) ≡ Some e) }
     {
         let plan = Plan {
             schedule,
             transport,
         };
-        let terms = Terms::new(request, plan, protection)?;
+        let terms = Terms::new(request, plan, protection, usage)?;
         let state = RetransmissionState::new(now);
         Ok(Transaction { terms, state })
     }
@@ -99,6 +102,7 @@ impl Transaction {
             id,
             signed,
             protection,
+            usage,
         } = terms;
         let (mechanism, key) = protection.into_parts();
         let parts = TransactionParts {
@@ -109,10 +113,12 @@ impl Transaction {
             sha1: signed.sha1,
             sha256: signed.sha256,
             mechanism,
+            usage,
             sent: state.sent,
             last: state.last,
             clock: state.clock,
             violated: state.violated,
+            stopped: state.stopped,
             end: state.end,
         };
         (parts, key)
@@ -148,6 +154,7 @@ impl Transaction {
                 sha256: parts.sha256,
             },
             protection,
+            usage: parts.usage,
         };
         let state = parts.state();
         Ok(Transaction { terms, state })
@@ -251,6 +258,17 @@ impl Transaction {
         self.state.round_trip(now)
     }
 
+    /// Sends the request no more, unless the transaction has ended. A response is still taken, until
+    /// the moment at which the transaction would have ended; then it ends as cancelled, since that no
+    /// response came is no failure. It is how ICE cancels a check (RFC 8445, section 7.3.1.4). A
+    /// transaction whose request was not sent ends at the next poll.
+    pub fn stop_sending(&mut self)
+        ensures state { state_of self.new ≡ stopped_by (state_of self.old) }
+        ensures terms { terms_of self.new ≡ terms_of self.old }
+    {
+        self.state.stop_sending();
+    }
+
     /// Ends the transaction, unless it has ended.
     pub(crate) fn end_by(&mut self, end: TransactionEnd)
         ensures state { state_of self.new ≡ ended_by end (state_of self.old) }
@@ -259,7 +277,8 @@ impl Transaction {
         self.state.end_by(end);
     }
 
-    /// Ends the transaction, unless it has ended: the caller wants no response any more.
+    /// Ends the transaction, unless it has ended: the caller wants no response any more. One that
+    /// still wants it, and only sends no more, calls [`Transaction::stop_sending`].
     pub fn cancel(&mut self)
         ensures state { state_of self.new ≡ ended_by TransactionEnd.Cancelled (state_of self.old) }
         ensures terms { terms_of self.new ≡ terms_of self.old }

@@ -7,6 +7,7 @@ use crate::schedule::Schedule;
 use crate::slots;
 use crate::slots::{AddError, Task};
 use crate::transaction::Transaction;
+use crate::usage::Usage;
 use std::array;
 use std::marker::Model;
 use std::time::Duration;
@@ -43,7 +44,7 @@ impl<const N: usize> Transactions<N> {
     ghost use Rattle.std.specs.List.{All};
     ghost use Rattle.std.specs.Duration.{as_nanos};
     ghost use Rattle.stun_types.specs.Message.{message_bytes};
-    ghost use Rattle.stun_transactions.specs.Slots.{HasDistinctIds, place_of, held, changed, add_fault, Adds, soonest, PollsSlots, after_receiving, ending, addressee, Tells};
+    ghost use Rattle.stun_transactions.specs.Slots.{HasDistinctIds, place_of, held, changed, add_fault, Adds, soonest, PollsSlots, after_receiving, ending, stopping, addressee, Tells};
 
     /// No transactions.
     pub fn new() -> Transactions<N>
@@ -71,15 +72,17 @@ impl<const N: usize> Transactions<N> {
         schedule: Schedule,
         transport: TransportType,
         protection: Protection,
+        usage: Usage,
         now: Duration,
     ) -> Result<(), AddError>
         ensures { MatchResult result
             (λ _. (add_fault protection (message_bytes request.now) self.old ≡ None)
-            × Adds (message_bytes request.now) schedule transport protection now self.old self.new)
+            × Adds (message_bytes request.now) schedule transport protection usage now self.old
+            self.new)
             (λ e. (add_fault protection (message_bytes request.now) self.old ≡ Some e)
             × (self.new ≡ self.old)) }
     {
-        match Transaction::new(request, schedule, transport, protection, now) {
+        match Transaction::new(request, schedule, transport, protection, usage, now) {
             Ok(transaction) => slots::add(&mut self.slots, transaction),
             Err(error) => Err(AddError::Begin(error)),
         }
@@ -134,6 +137,15 @@ impl<const N: usize> Transactions<N> {
             (addressee bytes.now self.old) self.old }
     {
         slots::receive(&mut self.slots, bytes, understood)
+    }
+
+    /// Sends the request with this ID no more, as [`Transaction::stop_sending`] does, and tells
+    /// whether there is such a transaction.
+    pub fn stop_sending(&mut self, id: TransactionId) -> bool
+        ensures found { result ≡ is_some (place_of id self.old) }
+        ensures slots { self.new ≡ changed stopping (place_of id self.old) self.old }
+    {
+        slots::stop_sending(&mut self.slots, id)
     }
 
     /// Ends the transaction with this ID, as [`Transaction::cancel`] does, and tells whether there

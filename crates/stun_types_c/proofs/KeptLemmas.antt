@@ -1,6 +1,6 @@
 -- A transaction that C keeps as numbers.
 use Rattle.std.proofs.Common.{◌≡◌, ℕ, zero, suc, ◌+◌, ◌-◌, ◌/◌, ◌%◌, ◌^◌, ◌<◌, ◌≤◌, Bool, true, false, List, Option, None, Some, refl, sym, ap, subst, ◌∙◌, inl, inr, arith}
-use Rattle.std.specs.Prelude.{is_some, nat_lt, min, not, ◌==◌, if◌then◌else◌}
+use Rattle.std.specs.Prelude.{is_some, nat_lt, min, not, ◌&&◌, ◌==◌, if◌then◌else◌}
 use Rattle.std.specs.Int.{from_bool}
 use Rattle.std.specs.Duration.{as_nanos}
 use Rattle.std.specs.declared.time.Duration.{Duration}
@@ -15,21 +15,21 @@ use Rattle.stun_transactions.specs.declared.retransmission.RetransmissionState.{
 use Rattle.stun_transactions.specs.declared.retransmission.TransactionEnd.{TransactionEnd}
 use Rattle.stun_transactions.specs.declared.retransmission.TransactionEnd.TheVariants.{Answered, TimedOut, IntegrityViolated, Refused, Cancelled, TransportFailed}
 use Rattle.stun_transactions.specs.declared.guard.Protection.{Protection}
-use Rattle.stun_transactions.specs.declared.guard.Protection.TheVariants.{Unprotected, ShortTerm, LongTerm}
+use Rattle.stun_transactions.specs.declared.guard.Protection.TheVariants.{Unprotected, FirstLongTerm, ShortTerm, LongTerm}
 use Rattle.stun_transactions.specs.declared.guard.Signed.{Signed}
 use Rattle.stun_transactions.specs.declared.terms.BeginError.TheVariants.{NotARequest}
 use Rattle.stun_transactions.specs.declared.parts.PartsError.{PartsError}
 use Rattle.stun_transactions.specs.declared.parts.PartsError.TheVariants.{SignedOtherwise, SentTooOften, SentTooLate}
 use Rattle.stun_transactions.specs.declared.parts.TransactionParts.{TransactionParts}
 use Rattle.stun_transactions.specs.declared.plan.Plan.{Plan}
-use Rattle.stun_transactions.specs.declared.received.Discard.TheVariants.{NotAuthentic, BidDown, UnsignedBadRequest}
+use Rattle.stun_transactions.specs.declared.received.Discard.TheVariants.{NotAuthentic, OtherAlgorithm, BidDown, UnsignedBadRequest, NoFingerprint}
 use Rattle.stun_transactions.specs.declared.received.Outcome.{Outcome}
 use Rattle.stun_transactions.specs.declared.received.Outcome.TheVariants.{NotForThis, Discarded, Failed, Success, Error}
 use Rattle.stun_transactions.specs.declared.schedule.Schedule.{Schedule}
 use Rattle.stun_transactions.specs.declared.transaction.Transaction.{Transaction}
-use Rattle.stun_transactions.specs.Retransmissions.{later, ended_by, Polls}
+use Rattle.stun_transactions.specs.Retransmissions.{later, ended_by, stopped_by, Polls}
 use Rattle.stun_transactions.specs.Outcomes.{after}
-use Rattle.stun_transactions.specs.Parts.{plan_in, state_in, at_state, mechanism_of, parts_of, is_signed_otherwise, parts_fault}
+use Rattle.stun_transactions.specs.Parts.{plan_in, state_in, at_state, mechanism_of, signs, parts_of, is_signed_otherwise, parts_fault}
 use Rattle.stun_transactions.specs.Schedules.{requests_in}
 use Rattle.stun_transactions.specs.Guards.{signed_by, is_signed, protects, IsKeptAs}
 use Rattle.stun_transactions.specs.Terms.{is_request, mismatch, begin_fault}
@@ -40,7 +40,7 @@ use Rattle.stun_types_c.specs.declared.transactions.Waits.{Waits}
 use Rattle.stun_types_c.specs.declared.transactions.Wanted.{Wanted}
 use Rattle.stun_types_c.specs.CallResults.{plain}
 use Rattle.stun_types_c.specs.Codes.{OK}
-use Rattle.stun_types_c.specs.Transactions.{transport_numbered, mechanism_numbered, number_of_end, signed_number, IsAt, millis_of, Schedules, Keeps, AreSame, with_state, GoesOn, Ends, PollsKept, wanted_of, begun_in_c}
+use Rattle.stun_types_c.specs.Transactions.{transport_numbered, mechanism_numbered, number_of_end, signed_number, IsAt, millis_of, Schedules, usage_in, Keeps, AreSame, with_state, GoesOn, Ends, StopsKept, PollsKept, wanted_of, begun_in_c}
 
 -- ---- Numbers
 
@@ -114,10 +114,12 @@ same_parts kept one other of_one of_other =
       sha1 = shown.0 ∙ sym told.0;
       sha256 = shown.1 ∙ sym told.1;
       mechanism = cc (a.mechanism, b.mechanism);
+      usage = a.usage ∙ sym b.usage;
       sent = a.state.sent ∙ sym b.state.sent;
       last = a.state.last.nanos ∙ sym b.state.last.nanos;
       clock = a.state.clock.nanos ∙ sym b.state.clock.nanos;
       violated = sym (bit_back one.violated) ∙ ap (λ (n : ℕ). n == 1) (sym a.state.violated ∙ b.state.violated) ∙ bit_back other.violated;
+      stopped = sym (bit_back one.stopped) ∙ ap (λ (n : ℕ). n == 1) (sym a.state.stopped ∙ b.state.stopped) ∙ bit_back other.stopped;
       end = sym (end_back one.end) ∙ ap end_numbered (sym a.state.end ∙ b.state.end) ∙ end_back other.end;
     }
 
@@ -128,6 +130,11 @@ grows clock now = elim (cases_Bool (nat_lt (as_nanos clock) (as_nanos now))) [
   | inl less ↦ rw less (omega (arith, ltb-true (as_nanos clock) (as_nanos now) less))
   | inr not_less ↦ rw not_less (omega arith)
 ]
+
+-- where a further request is to be sent, there is room for it
+room : (stopped : Bool) (sent requests : ℕ) → (not stopped && nat_lt sent requests) ≡ true → sent < requests
+room false sent requests more = ltb-true sent requests more
+room true sent requests more = absurd cc
 
 -- no test fails
 no_test : (a b c : Bool) (x y z : PartsError) → (if a then Some x else (if b then Some y else (if c then Some z else None))) ≡ None → (a ≡ false) × (b ≡ false) × (c ≡ false)
@@ -153,7 +160,7 @@ module _ (parts : TransactionParts) (none : parts_fault parts ≡ None) where
   sound_polled : (now : Duration) (action : Action) (state : RetransmissionState) → Polls (plan_in parts) (state_in parts) now action state → parts_fault (at_state parts state) ≡ None
   sound_polled now Send state polls =
       let new = record (state_in parts) { sent = parts.sent + 1; last = later parts.clock now; clock = later parts.clock now } in
-      ap (λ (c : RetransmissionState). parts_fault (at_state parts c)) polls.new_is ∙ sound_at new (omega (arith, polls.more)) (omega arith)
+      ap (λ (c : RetransmissionState). parts_fault (at_state parts c)) polls.new_is ∙ sound_at new (omega (arith, room parts.stopped parts.sent (requests_in (plan_in parts)) polls.more)) (omega arith)
   sound_polled now (WaitUntil until) state polls =
       let new = record (state_in parts) { clock = later parts.clock now } in
       ap (λ (c : RetransmissionState). parts_fault (at_state parts c)) polls.new_is ∙ sound_at new often (omega (arith, late, grows parts.clock now))
@@ -165,14 +172,19 @@ module _ (parts : TransactionParts) (none : parts_fault parts ≡ None) where
   sound_ended : (end : TransactionEnd) → parts_fault (at_state parts (ended_by end (state_in parts))) ≡ None
   sound_ended end = elim (cases_Bool (is_some parts.end)) [ inl there ↦ rw there none | inr away ↦ rw away none ]
 
+  sound_stopped : parts_fault (at_state parts (stopped_by (state_in parts))) ≡ None
+  sound_stopped = elim (cases_Bool (is_some parts.end)) [ inl there ↦ rw there none | inr away ↦ rw away none ]
+
   sound_received : (outcome : Outcome) → parts_fault (at_state parts (after outcome (state_in parts))) ≡ None
   sound_received NotForThis = none
-  sound_received (Discarded NotAuthentic) = none
-  sound_received (Discarded BidDown) = none
-  sound_received (Discarded UnsignedBadRequest) = none
+  sound_received (Discarded NotAuthentic claim) = none
+  sound_received (Discarded OtherAlgorithm claim) = none
+  sound_received (Discarded BidDown claim) = none
+  sound_received (Discarded UnsignedBadRequest claim) = none
+  sound_received (Discarded NoFingerprint claim) = none
   sound_received (Failed failure) = none
-  sound_received Success = none
-  sound_received (Error code) = none
+  sound_received (Success proof) = none
+  sound_received (Error code proof) = none
 
 abbrev IsWhole : Duration → Type 0
 IsWhole moment = IsAt (millis_of moment) moment
@@ -206,14 +218,22 @@ ended_whole end state from = elim (cases_Bool (is_some state.end)) [
   | inr away ↦ rw away (record { last = from.last; clock = from.clock })
 ]
 
+stopped_whole : (state : RetransmissionState) → IsWholeState state → IsWholeState (stopped_by state)
+stopped_whole state from = elim (cases_Bool (is_some state.end)) [
+  | inl there ↦ rw there from
+  | inr away ↦ rw away (record { last = from.last; clock = from.clock })
+]
+
 received_whole : (outcome : Outcome) (state : RetransmissionState) → IsWholeState state → IsWholeState (after outcome state)
 received_whole NotForThis state from = from
-received_whole (Discarded NotAuthentic) state from = record { last = from.last; clock = from.clock }
-received_whole (Discarded BidDown) state from = from
-received_whole (Discarded UnsignedBadRequest) state from = from
+received_whole (Discarded NotAuthentic claim) state from = record { last = from.last; clock = from.clock }
+received_whole (Discarded OtherAlgorithm claim) state from = record { last = from.last; clock = from.clock }
+received_whole (Discarded BidDown claim) state from = from
+received_whole (Discarded UnsignedBadRequest claim) state from = from
+received_whole (Discarded NoFingerprint claim) state from = from
 received_whole (Failed failure) state from = record { last = from.last; clock = from.clock }
-received_whole Success state from = record { last = from.last; clock = from.clock }
-received_whole (Error code) state from = record { last = from.last; clock = from.clock }
+received_whole (Success proof) state from = record { last = from.last; clock = from.clock }
+received_whole (Error code proof) state from = record { last = from.last; clock = from.clock }
 
 module _ (kept : KeptTransaction) (parts : TransactionParts) (keeps : Keeps kept parts) where
   kept_whole : IsWholeState (state_in parts)
@@ -234,7 +254,8 @@ module _ (kept : KeptTransaction) (parts : TransactionParts) (keeps : Keeps kept
         id = keeps.tells.id;
         signed = keeps.tells.signed;
         mechanism = keeps.tells.mechanism;
-        state = record { sent = refl; last = is.last; clock = is.clock; violated = refl; end = refl };
+        usage = keeps.tells.usage;
+        state = record { sent = refl; last = is.last; clock = is.clock; violated = refl; stopped = refl; end = refl };
       };
       sound = sound;
     };
@@ -248,6 +269,9 @@ module _ (kept : KeptTransaction) (parts : TransactionParts) (keeps : Keeps kept
   pub ended : (end : TransactionEnd) → GoesOn parts (ended_by end (state_in parts)) kept (with_state kept (ended_by end (state_in parts)))
   ended end = goes_on (ended_by end (state_in parts)) (ended_whole end (state_in parts) kept_whole) (sound_ended parts keeps.sound end)
 
+  pub stopped : GoesOn parts (stopped_by (state_in parts)) kept (with_state kept (stopped_by (state_in parts)))
+  stopped = goes_on (stopped_by (state_in parts)) (stopped_whole (state_in parts) kept_whole) (sound_stopped parts keeps.sound)
+
   pub received : (outcome : Outcome) → GoesOn parts (after outcome (state_in parts)) kept (with_state kept (after outcome (state_in parts)))
   received outcome = goes_on (after outcome (state_in parts)) (received_whole outcome (state_in parts) kept_whole) (sound_received parts keeps.sound outcome)
 
@@ -258,6 +282,12 @@ pub ends : (old new : KeptTransaction) (parts ended_parts : TransactionParts) (e
 ends old new parts ended_parts end result keeps parts-is new-is ok =
     let new-as = new-is ∙ ap (λ (p : TransactionParts). with_state old (state_in p)) parts-is in
     inr (parts, keeps, (ok, subst (GoesOn parts (ended_by end (state_in parts)) old) (sym new-as) (ended old parts keeps end)))
+
+pub stops : (old new : KeptTransaction) (parts stopped_parts : TransactionParts) (result : CallResult) → Keeps old parts → stopped_parts ≡ at_state parts (stopped_by (state_in parts)) → new ≡ with_state old (state_in stopped_parts) → result ≡ plain OK
+    → StopsKept result old new
+stops old new parts stopped_parts result keeps parts-is new-is ok =
+    let new-as = new-is ∙ ap (λ (p : TransactionParts). with_state old (state_in p)) parts-is in
+    inr (parts, keeps, (ok, subst (GoesOn parts (stopped_by (state_in parts)) old) (sym new-as) (stopped old parts keeps)))
 
 pub polls : (now : ℕ) (moment : Duration) (old new : KeptTransaction) (before wanted : Wanted) (parts polled_parts : TransactionParts) (action : Action) (result : CallResult) → IsAt now moment → Keeps old parts
     → Polls (plan_in parts) (state_in parts) moment action (state_in polled_parts) → new ≡ with_state old (state_in polled_parts) → wanted ≡ wanted_of action → result ≡ plain OK
@@ -291,23 +321,27 @@ gone_on old new same = rw same refl
 
 same_mechanism : (by kept : Protection) → IsKeptAs by kept → mechanism_of kept ≡ mechanism_of by
 same_mechanism Unprotected kept is = ap mechanism_of is
+same_mechanism FirstLongTerm kept is = ap mechanism_of is
 same_mechanism (ShortTerm key) kept is = ap mechanism_of is
 same_mechanism (LongTerm key) (LongTerm kept) is = refl
 same_mechanism (LongTerm key) Unprotected is = absurd is
+same_mechanism (LongTerm key) FirstLongTerm is = absurd is
 same_mechanism (LongTerm key) (ShortTerm kept) is = absurd is
 
 -- a request that is no fault is signed exactly where it is protected
-as_signed : (request signed : Bool) (by : Protection) → (if request then mismatch (protects by) signed else Some NotARequest) ≡ None → (if is_some (mechanism_of by) then not signed else signed) ≡ false
+as_signed : (request signed : Bool) (by : Protection) → (if request then mismatch (protects by) signed else Some NotARequest) ≡ None → (if signs (mechanism_of by) then not signed else signed) ≡ false
 as_signed false signed by free = absurd cc
 as_signed true true Unprotected free = absurd cc
 as_signed true false Unprotected free = refl
+as_signed true true FirstLongTerm free = absurd cc
+as_signed true false FirstLongTerm free = refl
 as_signed true true (ShortTerm key) free = refl
 as_signed true false (ShortTerm key) free = absurd cc
 as_signed true true (LongTerm key) free = refl
 as_signed true false (LongTerm key) free = absurd cc
 
 pub begun_keeps : (d : List ℕ) (waits : Waits) (transport protection now : ℕ) (schedule : Schedule) (over : TransportType) (by : Protection) (moment : Duration) (transaction : Transaction)
-    → Schedules waits schedule → transport_numbered transport ≡ Some over → mechanism_numbered protection ≡ Some (mechanism_of by) → IsAt now moment → begin_fault by d ≡ None → Begins d schedule over by moment transaction
+    → Schedules waits schedule → transport_numbered transport ≡ Some over → mechanism_numbered protection ≡ Some (mechanism_of by) → IsAt now moment → begin_fault by d ≡ None → Begins d schedule over by (usage_in waits) moment transaction
     → Keeps (begun_in_c d waits transport protection now) (parts_of transaction)
 begun_keeps d waits transport protection now schedule over by moment transaction scheduled moves protected at free begins =
     let parts = parts_of transaction in
@@ -326,11 +360,13 @@ begun_keeps d waits transport protection now schedule over by moment transaction
         id = begins.terms.id_is;
         signed = ap (λ (s : Signed). signed_number s.sha1 s.sha256) (sym begins.terms.signed_is);
         mechanism = protected ∙ ap Some (sym mechanism);
+        usage = begins.terms.usage_is;
         state = record {
           sent = sent;
           last = subst (IsAt now) (sym (ap (λ (c : RetransmissionState). c.last) begins.state)) at;
           clock = subst (IsAt now) (sym (ap (λ (c : RetransmissionState). c.clock) begins.state)) at;
           violated = ap (λ (c : RetransmissionState). from_bool c.violated) (sym begins.state);
+          stopped = ap (λ (c : RetransmissionState). from_bool c.stopped) (sym begins.state);
           end = ap (λ (c : RetransmissionState). number_of_end c.end) (sym begins.state);
         };
       };

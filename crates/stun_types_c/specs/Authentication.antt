@@ -1,12 +1,12 @@
 -- What a server in C is told of a message that it authenticates (RFC 8489, sections 9.1.3 and
 -- 9.2.4).
-use Rattle.std.specs.Prelude.{◌≡◌, ◌⊎◌, ℕ, List, [], Option, None, Some, MatchOption, option_and_then, ◌==◌, if◌then◌else◌}
+use Rattle.std.specs.Prelude.{◌≡◌, ◌⊎◌, ℕ, List, [], Option, None, Some, MatchOption, not, option_and_then, ◌==◌, if◌then◌else◌}
 use Rattle.std.specs.Option.{option_map}
 use Rattle.stun_grammar.specs.declared.integrity_algorithm.IntegrityAlgorithm.{IntegrityAlgorithm}
 use Rattle.stun_grammar.specs.Parsing.{parse_fault}
 use Rattle.stun_keys.specs.declared.keys.integrity_key.IntegrityKey.{IntegrityKey}
 use Rattle.stun_authentication.specs.declared.policy.Policy.{Policy}
-use Rattle.stun_authentication.specs.Answers.{Decision, accept, refuse, discard, refusal_code}
+use Rattle.stun_authentication.specs.Answers.{Decision, accept, refuse, discard, not_a_request, refusal_code}
 use Rattle.stun_authentication.specs.Lookups.{Known}
 use Rattle.stun_authentication.specs.LongTerm.{long_term}
 use Rattle.stun_authentication.specs.ShortTerm.{short_term}
@@ -29,7 +29,11 @@ algorithms_counted number =
 -- the policy of C's numbers
 abbrev pub policy_named : CountedIntegrity → Option Policy
 policy_named counted =
-    option_map (λ a. record { algorithm = a; shortest = counted.shortest })
+    option_map (λ a. record {
+      algorithm = a;
+      shortest = counted.shortest;
+      fingerprint = not (counted.fingerprint == 0);
+    })
     (algorithms_counted counted.algorithm)
 
 -- what C knows of a nonce, by the number of its state, and the numbers of the algorithms that it
@@ -54,7 +58,7 @@ by_long_term counted nonce md5 sha256 d =
 
 -- ---- What C is told
 
--- a decision in C's numbers: accepted, refused or dropped
+-- a decision in C's numbers: accepted, refused, dropped or not authenticated
 abbrev pub in_c : Decision → Authenticated
 in_c (accept key algorithm reply) = record {
   kind = 0;
@@ -69,6 +73,7 @@ in_c (refuse refusal) = record {
   reply_algorithm = 0;
 }
 in_c discard = record { kind = 2; error_code = 0; algorithm = 0; reply_algorithm = 0 }
+in_c not_a_request = record { kind = 3; error_code = 0; algorithm = 0; reply_algorithm = 0 }
 
 -- a decision is told; or an allocation failed, and nothing is told
 abbrev pub TellsDecision : Decision → CallResult → (old new : Authenticated) → Type 0

@@ -57,7 +57,15 @@ abbrev pub challenge_before : List PasswordAlgorithmValue → List ℕ → Optio
 challenge_before supported before =
     if length before == 0 then Some None else (
     if is_some (parse_fault before) then None
-    else option_map (λ asked. Some asked) (result_ok (challenge_of supported None before)))
+    else option_map (λ asked. Some asked) (result_ok (challenge_of supported None None before)))
+
+-- what a client knows from the challenge before: the realm that its credentials were tried in, and
+-- the list that it has seen
+abbrev pub tried_before : Option Asked → Option (List ℕ)
+tried_before before = option_map (λ asked. asked.realm) before
+
+abbrev pub seen_before : Option Asked → Option (List ℕ)
+seen_before before = option_and_then (λ asked. asked.list) before
 
 -- what d asks for is told, or why the request isn't sent again
 abbrev pub TellsChallenge : List ℕ → Result Asked NoRetry → CallResult → (old new : AskedInC)
@@ -74,7 +82,8 @@ abbrev pub ReadsFor : List PasswordAlgorithmValue → (before : Option Asked) �
     → (old new : AskedInC) → Type 0
 ReadsFor supported before d result old new =
     MatchOption (parse_fault d)
-    (TellsChallenge d (challenge_of supported before d) result old new)
+    (TellsChallenge d (challenge_of supported (tried_before before) (seen_before before) d)
+    result old new)
     (λ e. (result ≡ parse_result e) × (new ≡ old))
 
 -- the algorithms that a client supports and the challenge before, by what C hands in

@@ -6,6 +6,8 @@ use Rattle.std.specs.Option.{option_map_or, option_or}
 use Rattle.std.specs.Duration.{as_nanos}
 use Rattle.std.specs.declared.time.Duration.{Duration}
 use Rattle.stun_grammar.specs.declared.attribute_type.AttributeType.{AttributeType}
+use Rattle.stun_grammar.specs.declared.integrity_algorithm.IntegrityAlgorithm.{IntegrityAlgorithm}
+use Rattle.stun_grammar.specs.declared.integrity_algorithm.IntegrityAlgorithm.TheVariants.{Sha1, Sha256}
 use Rattle.stun_grammar.specs.Headers.{type_field}
 use Rattle.stun_grammar.specs.Numbers.{number}
 use Rattle.stun_grammar.specs.Parsing.{parse_fault}
@@ -20,9 +22,11 @@ use Rattle.stun_transactions.specs.declared.retransmission.RetransmissionState.{
 use Rattle.stun_transactions.specs.declared.retransmission.TransactionEnd.{TransactionEnd}
 use Rattle.stun_transactions.specs.declared.retransmission.TransactionEnd.TheVariants.{Answered, TimedOut, IntegrityViolated, Refused, Cancelled, TransportFailed}
 use Rattle.stun_transactions.specs.declared.parts.Mechanism.{Mechanism}
-use Rattle.stun_transactions.specs.declared.parts.Mechanism.TheVariants.{ShortTerm, LongTerm}
+use Rattle.stun_transactions.specs.declared.parts.Mechanism.TheVariants.{ShortTerm, FirstLongTerm, LongTerm}
 use Rattle.stun_transactions.specs.declared.parts.TransactionParts.{TransactionParts}
-use Rattle.stun_transactions.specs.declared.received.Discard.TheVariants.{NotAuthentic, BidDown, UnsignedBadRequest}
+use Rattle.stun_transactions.specs.declared.received.Claim.{Claim}
+use Rattle.stun_transactions.specs.declared.received.Discard.{Discard}
+use Rattle.stun_transactions.specs.declared.received.Discard.TheVariants.{NotAuthentic, OtherAlgorithm, BidDown, UnsignedBadRequest, NoFingerprint}
 use Rattle.stun_transactions.specs.declared.received.Failure.TheVariants.{IntegrityViolated as Violated, UnknownAttribute, NoErrorCode}
 use Rattle.stun_transactions.specs.declared.received.Outcome.{Outcome}
 use Rattle.stun_transactions.specs.declared.received.Outcome.TheVariants.{NotForThis, Discarded, Failed, Success, Error}
@@ -31,10 +35,11 @@ use Rattle.stun_transactions.specs.declared.schedule.ScheduleError.{ScheduleErro
 use Rattle.stun_transactions.specs.declared.terms.BeginError.{BeginError}
 use Rattle.stun_transactions.specs.declared.terms.BeginError.TheVariants.{NotARequest, NotSigned, Signed}
 use Rattle.stun_transactions.specs.declared.transaction.Transaction.{Transaction}
-use Rattle.stun_transactions.specs.Retransmissions.{Polls, ended_by}
+use Rattle.stun_transactions.specs.declared.usage.Usage.{Usage}
+use Rattle.stun_transactions.specs.Retransmissions.{Polls, ended_by, stopped_by}
 use Rattle.stun_transactions.specs.Guards.{signed_by, is_signed}
 use Rattle.stun_transactions.specs.Outcomes.{after}
-use Rattle.stun_transactions.specs.Parts.{plan_in, state_in, at_state, parts_of, key_of, parts_fault}
+use Rattle.stun_transactions.specs.Parts.{plan_in, state_in, at_state, signs, parts_of, key_of, parts_fault}
 use Rattle.stun_transactions.specs.Receiving.{received_outcome}
 use Rattle.stun_transactions.specs.Schedules.{schedule_fault, IsSchedule}
 use Rattle.stun_transactions.specs.Terms.{is_request, mismatch}
@@ -60,7 +65,8 @@ abbrev pub mechanism_numbered : ℕ → Option (Option Mechanism)
 mechanism_numbered number =
     if number == 0 then Some None else (
     if number == 1 then Some (Some ShortTerm) else (
-    if number == 2 then Some (Some LongTerm) else None))
+    if number == 2 then Some (Some LongTerm) else (
+    if number == 3 then Some (Some FirstLongTerm) else None)))
 
 -- the number of an end, and of no end
 abbrev pub end_number : TransactionEnd → ℕ
@@ -97,6 +103,13 @@ pub record Schedules (waits : Waits) (schedule : Schedule) : Type 0 where
   pub numbers :
       IsSchedule waits.rto waits.requests waits.last_wait waits.reliable_wait schedule
 
+-- what the usage specifies of responses: where C says nothing, an HMAC-SHA256 has 32 bytes
+abbrev pub usage_in : Waits → Usage
+usage_in waits = record {
+  shortest = if waits.shortest == 0 then 32 else waits.shortest;
+  fingerprint = not (waits.fingerprint == 0);
+}
+
 -- ---- Which transaction C keeps
 
 -- how far it has come
@@ -105,6 +118,7 @@ pub record TellsState (kept : KeptTransaction) (state : RetransmissionState) : T
   pub last : IsAt kept.last state.last
   pub clock : IsAt kept.clock state.clock
   pub violated : kept.violated ≡ from_bool state.violated
+  pub stopped : kept.stopped ≡ from_bool state.stopped
   pub end : kept.end ≡ number_of_end state.end
 
 -- its parts
@@ -116,6 +130,7 @@ pub record TellsParts (kept : KeptTransaction) (parts : TransactionParts) : Type
   pub id : parts.id ≡ number kept.id.bytes
   pub signed : kept.signed_by ≡ signed_number parts.sha1 parts.sha256
   pub mechanism : mechanism_numbered kept.protection ≡ Some parts.mechanism
+  pub usage : parts.usage ≡ usage_in kept.schedule
   pub state : TellsState kept (state_in parts)
 
 -- the numbers keep a transaction of these parts
@@ -142,10 +157,12 @@ pub record AreSame (one other : TransactionParts) : Type 0 where
   pub sha1 : one.sha1 ≡ other.sha1
   pub sha256 : one.sha256 ≡ other.sha256
   pub mechanism : one.mechanism ≡ other.mechanism
+  pub usage : one.usage ≡ other.usage
   pub sent : one.sent ≡ other.sent
   pub last : as_nanos one.last ≡ as_nanos other.last
   pub clock : as_nanos one.clock ≡ as_nanos other.clock
   pub violated : one.violated ≡ other.violated
+  pub stopped : one.stopped ≡ other.stopped
   pub end : one.end ≡ other.end
 
 -- ---- What calls leave
@@ -157,6 +174,7 @@ with_state kept state = record kept {
   last = millis_of state.last;
   clock = millis_of state.clock;
   violated = from_bool state.violated;
+  stopped = from_bool state.stopped;
   end = number_of_end state.end;
 }
 
@@ -171,6 +189,12 @@ abbrev pub Ends : TransactionEnd → CallResult → KeptTransaction → KeptTran
 Ends end result old new =
     MatchKept old ((result ≡ plain BAD_ARGUMENT) × (new ≡ old))
     (λ parts. (result ≡ plain OK) × GoesOn parts (ended_by end (state_in parts)) old new)
+
+-- the transaction that C keeps sends nothing more, unless it has ended
+abbrev pub StopsKept : CallResult → KeptTransaction → KeptTransaction → Type 0
+StopsKept result old new =
+    MatchKept old ((result ≡ plain BAD_ARGUMENT) × (new ≡ old))
+    (λ parts. (result ≡ plain OK) × GoesOn parts (stopped_by (state_in parts)) old new)
 
 -- what is wanted, in C's numbers
 abbrev pub wanted_of : Action → Wanted
@@ -221,8 +245,8 @@ abbrev pub terms_answer : Waits → Option Mechanism → Option IntegrityKey →
     → Option CallResult
 terms_answer waits mechanism held d =
     if is_some (waits_fault waits) then Some (plain OUT_OF_RANGE)
-    else option_or (option_map request_answer (request_fault (is_some mechanism) d))
-    (if is_some mechanism && not (is_some held) then Some (plain NO_KEY) else None)
+    else option_or (option_map request_answer (request_fault (signs mechanism) d))
+    (if signs mechanism && not (is_some held) then Some (plain NO_KEY) else None)
 
 -- why none begins with the bytes d: they are no message, or a number has no meaning, or by the terms
 abbrev pub begin_answer : Waits → (transport protection : ℕ) → Option IntegrityKey → List ℕ
@@ -248,7 +272,7 @@ begun_in_c d waits transport protection now = record {
   signed_by = signed_in d;
   violated = 0;
   end = 0;
-  reserved = 0;
+  stopped = 0;
 }
 
 -- a transaction of the request d begins, or it is told why none does, and nothing changes
@@ -261,17 +285,38 @@ BeginsKept d waits transport protection now held result old new =
 
 -- ---- What is received
 
+-- the number of a reason to discard a response, of the code that it claims, and of the algorithm that
+-- authenticates one
+abbrev pub discard_kind : Discard → ℕ
+discard_kind NotAuthentic = 1
+discard_kind BidDown = 2
+discard_kind UnsignedBadRequest = 3
+discard_kind OtherAlgorithm = 4
+discard_kind NoFingerprint = 5
+
+abbrev pub claim_number : Claim → ℕ
+claim_number claim = option_map_or (λ code. code) claim.code 0
+
+abbrev pub algorithm_number : IntegrityAlgorithm → ℕ
+algorithm_number Sha1 = 1
+algorithm_number Sha256 = 2
+
+abbrev pub proof_number : Option IntegrityAlgorithm → ℕ
+proof_number proof = option_map_or algorithm_number proof 0
+
 -- what a message is for a transaction, in C's numbers
 abbrev pub outcome_in_c : Outcome → ReceivedOutcome
-outcome_in_c NotForThis = record { kind = 0; number = 0 }
-outcome_in_c (Discarded NotAuthentic) = record { kind = 1; number = 0 }
-outcome_in_c (Discarded BidDown) = record { kind = 2; number = 0 }
-outcome_in_c (Discarded UnsignedBadRequest) = record { kind = 3; number = 0 }
-outcome_in_c (Failed Violated) = record { kind = 4; number = 0 }
-outcome_in_c (Failed (UnknownAttribute type)) = record { kind = 5; number = type.0 }
-outcome_in_c (Failed NoErrorCode) = record { kind = 6; number = 0 }
-outcome_in_c Success = record { kind = 7; number = 0 }
-outcome_in_c (Error code) = record { kind = 8; number = code }
+outcome_in_c NotForThis = record { kind = 0; number = 0; algorithm = 0 }
+outcome_in_c (Discarded reason claim) =
+    record { kind = discard_kind reason; number = claim_number claim; algorithm = 0 }
+outcome_in_c (Failed (Violated claim)) =
+    record { kind = 6; number = claim_number claim; algorithm = 0 }
+outcome_in_c (Failed (UnknownAttribute type)) =
+    record { kind = 7; number = type.0; algorithm = 0 }
+outcome_in_c (Failed NoErrorCode) = record { kind = 8; number = 0; algorithm = 0 }
+outcome_in_c (Success proof) = record { kind = 9; number = 0; algorithm = proof_number proof }
+outcome_in_c (Error code proof) =
+    record { kind = 10; number = code; algorithm = proof_number proof }
 
 -- what C keeps, and what received bytes are
 pub record ReceivedState : Type 0 where
@@ -282,13 +327,15 @@ pub record ReceivedState : Type 0 where
 -- algorithms (RFC 8489, section 9.2.5)
 abbrev pub IsCopyFor : Mechanism → (held copy : IntegrityKey) → Type 0
 IsCopyFor ShortTerm held copy = IsKey (key_algorithm held) (key_bytes held) copy
+IsCopyFor FirstLongTerm held copy = IsKey (key_algorithm held) (key_bytes held) copy
 IsCopyFor LongTerm held copy = IsKey None (key_bytes held) copy
 
--- the key of a transaction: none where nothing protects its request, and else a copy of the one that a
--- handle holds; or the handle holds none, or an allocation failed
+-- the key of a transaction: none where no credential protects its request, and else a copy of the one
+-- that a handle holds; or the handle holds none, or an allocation failed
 abbrev pub Copies : Option Mechanism → Option IntegrityKey → Result (Option IntegrityKey) CallResult
     → Type 0
 Copies None held made = made ≡ Ok None
+Copies (Some FirstLongTerm) held made = made ≡ Ok None
 Copies (Some mechanism) None made = made ≡ Err (plain NO_KEY)
 Copies (Some mechanism) (Some held) made =
     MatchResult made (λ key. IsSomeAnd key (IsCopyFor mechanism held))

@@ -22,7 +22,7 @@ use stun_types::attribute::PasswordAlgorithmValue;
 use stun_types::message::Message;
 use stun_types::message::keys::IntegrityKey;
 
-/// Which integrity attributes count.
+/// Which messages are taken, and which integrity attributes count.
 #[repr(C)]
 #[derive(Clone, Copy, Drop)]
 pub struct CountedIntegrity {
@@ -30,13 +30,15 @@ pub struct CountedIntegrity {
     pub algorithm: u32,
     /// How many bytes a MESSAGE-INTEGRITY-SHA256 has at least.
     pub shortest: u32,
+    /// 0, unless the usage uses FINGERPRINT: a message without one is then discarded.
+    pub fingerprint: u32,
 }
 
 /// What becomes of a message that a server authenticates.
 #[repr(C)]
 #[derive(Clone, Copy, Drop)]
 pub struct Authenticated {
-    /// 0: accepted; 1: refused; 2: discarded.
+    /// 0: accepted; 1: refused; 2: discarded; 3: not authenticated.
     pub kind: u32,
     /// The code of the error response, where it is refused.
     pub error_code: u32,
@@ -143,6 +145,7 @@ fn policy_of(counted: &CountedIntegrity) -> Option<Policy>
     Some(Policy {
         algorithm,
         shortest: counted.shortest as usize,
+        fingerprint: counted.fingerprint != 0,
     })
 }
 
@@ -165,6 +168,12 @@ fn in_c(answer: &Authentication) -> Authenticated
         },
         Authentication::Discarded => Authenticated {
             kind: 2,
+            error_code: 0,
+            algorithm: 0,
+            reply_algorithm: 0,
+        },
+        Authentication::NotARequest => Authenticated {
+            kind: 3,
             error_code: 0,
             algorithm: 0,
             reply_algorithm: 0,

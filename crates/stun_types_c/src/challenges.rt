@@ -95,7 +95,7 @@ fn challenge_before<'a>(
         return Some(None);
     }
     let earlier = Message::from_bytes(before).ok()?;
-    match challenge_of(&earlier, supported.as_slice(), None) {
+    match challenge_of(&earlier, supported.as_slice(), None, None) {
         Ok(challenge) => Some(Some(challenge)),
         Err(_) => None,
     }
@@ -115,7 +115,9 @@ fn asked_by(
         Ok(message) => message,
         Err(error) => return parse_result(error),
     };
-    match challenge_of(&message, supported.as_slice(), before) {
+    let tried = before.map(|earlier| earlier.realm());
+    let seen = before.and_then(|earlier| earlier.password_algorithms());
+    match challenge_of(&message, supported.as_slice(), tried, seen) {
         Ok(challenge) => {
             *asked = in_c(response, &challenge);
             plain(codes::OK)

@@ -16,7 +16,7 @@ pub fn found_value_stands_where_it_is_told(bytes: &[u8])
 
 /// So do the texts and the list that a challenge asks for.
 pub fn asked_texts_stand_where_they_are_told(response: &[u8])
-    ensures { (supported : List PasswordAlgorithmValue) (before : Option Asked) (asked : Asked)
-        → challenge_of supported before response.now ≡ Ok asked
+    ensures { (supported : List PasswordAlgorithmValue) (tried seen : Option (List ℕ)) (asked : Asked)
+        → challenge_of supported tried seen response.now ≡ Ok asked
         → StandsWhereTold response.now asked (asked_in_c response.now asked) }
 {}

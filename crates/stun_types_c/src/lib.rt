@@ -60,7 +60,8 @@ pub use streams::{KeptStream, stun_types_stream_push};
 pub use transactions::{
     KeptTransaction, ReceivedOutcome, Waits, Wanted, numbers_keep_one_transaction,
     stun_types_transaction_begin, stun_types_transaction_cancel, stun_types_transaction_fail,
-    stun_types_transaction_poll, stun_types_transaction_receive, what_begins_is_kept,
+    stun_types_transaction_poll, stun_types_transaction_receive,
+    stun_types_transaction_stop_sending, what_begins_is_kept,
 };
 pub use type_list::{stun_types_read_types, stun_types_unknown_types};
 pub use values::stun_types_read_error;

@@ -6,11 +6,11 @@ ghost use Rattle.stun_types.specs.Message.{message_bytes};
 ghost use Rattle.stun_transactions.specs.declared.received.Outcome.{Outcome};
 ghost use Rattle.stun_transactions.specs.Outcomes.{outcome_of, after};
 ghost use Rattle.stun_transactions.specs.declared.guard.Protection.{Protection};
-ghost use Rattle.stun_transactions.specs.Parts.{state_in, at_state, mechanism_of, parts_of, whole_fault};
+ghost use Rattle.stun_transactions.specs.Parts.{state_in, at_state, mechanism_of, signs, parts_of, whole_fault};
 ghost use Rattle.stun_transactions.specs.Terms.{begin_fault};
 ghost use Rattle.stun_transactions.specs.Transactions.{Begins};
 ghost use Rattle.stun_types_c.specs.KeyHandles.{shared_key};
-ghost use Rattle.stun_types_c.specs.Transactions.{transport_numbered, mechanism_numbered, end_number, number_of_end, IsAt, millis_of, waits_fault, Schedules, Keeps, KeepsNone, AreSame, with_state, Ends, PollsKept, request_fault, request_answer, signed_in, begun_in_c, BeginsKept, outcome_in_c, IsCopyFor, Copies, IsOutcome, ReceivesKept};
+ghost use Rattle.stun_types_c.specs.Transactions.{transport_numbered, mechanism_numbered, end_number, number_of_end, IsAt, millis_of, waits_fault, Schedules, usage_in, Keeps, KeepsNone, AreSame, with_state, Ends, StopsKept, PollsKept, request_fault, request_answer, signed_in, begun_in_c, BeginsKept, discard_kind, claim_number, proof_number, outcome_in_c, IsCopyFor, Copies, IsOutcome, ReceivesKept};
 
 use crate::call_result::{CallResult, parse_result, plain};
 use crate::codes;
@@ -20,17 +20,17 @@ use crate::type_list::types_of;
 use std::alloc::Global;
 use std::time::Duration;
 use stun_transactions::{
-    Action, Discard, Failure, Mechanism, PartsError, Received, Schedule, Transaction,
-    TransactionEnd, TransactionParts,
+    Action, Claim, Discard, Failure, Mechanism, PartsError, Received, Schedule, Transaction,
+    TransactionEnd, TransactionParts, Usage,
 };
 use stun_types::TransportType;
 use stun_types::attribute::{
     AttributeStaticType, AttributeType, MessageIntegrity, MessageIntegritySha256,
 };
 use stun_types::message::keys::IntegrityKey;
-use stun_types::message::{Message, MessageClass, Method, TransactionId};
+use stun_types::message::{IntegrityAlgorithm, Message, MessageClass, Method, TransactionId};
 
-/// When a request is sent again and given up, in milliseconds.
+/// When a request is sent again and given up, in milliseconds, and which responses the usage takes.
 #[repr(C)]
 #[derive(Clone, Copy, Drop)]
 pub struct Waits {
@@ -43,6 +43,11 @@ pub struct Waits {
     /// How many times the first interval to wait after the last request (Rm of RFC 8489, section
     /// 6.2.1).
     pub last_wait: u32,
+    /// How many bytes a MESSAGE-INTEGRITY-SHA256 of a response has at least; 0 for 32 (RFC 8489,
+    /// section 14.6).
+    pub shortest: u32,
+    /// Whether the usage sends FINGERPRINT (RFC 8489, section 7): 0 where it doesn't.
+    pub fingerprint: u32,
 }
 
 /// A transaction, as C keeps it.
@@ -63,7 +68,8 @@ pub struct KeptTransaction {
     pub method: u16,
     /// 0 over UDP, 1 over TCP.
     pub transport: u8,
-    /// 0 for no protection, 1 by a short-term credential, 2 by a long-term one.
+    /// 0 for no protection, 1 by a short-term credential, 2 by a long-term one, and 3 for the first
+    /// request by the long-term mechanism.
     pub protection: u8,
     /// 1 for a MESSAGE-INTEGRITY that the request shows, and 2 more for a MESSAGE-INTEGRITY-SHA256.
     pub signed_by: u8,
@@ -71,8 +77,8 @@ pub struct KeptTransaction {
     pub violated: u8,
     /// How it ended, 1 to 6, or 0.
     pub end: u8,
-    /// 0.
-    pub reserved: u8,
+    /// 1 where the caller has stopped sending.
+    pub stopped: u8,
 }
 
 /// What a transaction wants done.
@@ -91,10 +97,13 @@ pub struct Wanted {
 #[repr(C)]
 #[derive(Clone, Copy, Drop)]
 pub struct ReceivedOutcome {
-    /// 0 to 8, as `c/stun_types.h` lists them.
+    /// 0 to 10, as `c/stun_types.h` lists them.
     pub kind: u32,
-    /// The type of an attribute, or the code of an error.
+    /// The type of an attribute, or the code of an error, or that which a response claims that is
+    /// discarded.
     pub number: u32,
+    /// The algorithm by which a response is authenticated, or 0.
+    pub algorithm: u32,
 }
 
 /// The transport of a number.
@@ -116,8 +125,16 @@ fn mechanism_of(number: u32) -> Option<Option<Mechanism>>
         0 => Some(None),
         1 => Some(Some(Mechanism::ShortTerm)),
         2 => Some(Some(Mechanism::LongTerm)),
+        3 => Some(Some(Mechanism::FirstLongTerm)),
         _ => None,
     }
+}
+
+/// Whether a request is protected with a key.
+fn has_key(mechanism: Option<Mechanism>) -> bool
+    ensures { result ≡ signs mechanism }
+{
+    matches!(mechanism, Some(Mechanism::ShortTerm | Mechanism::LongTerm))
 }
 
 /// The end of a number, if it is the number of one or of none.
@@ -159,6 +176,21 @@ fn schedule_of(waits: &Waits) -> Option<Schedule>
     Some(schedule.with_reliable_timeout(waits.reliable_wait))
 }
 
+/// What C says of responses.
+fn usage_of(waits: &Waits) -> Usage
+    ensures { result ≡ usage_in waits.now }
+{
+    let shortest = if waits.shortest == 0 {
+        32
+    } else {
+        waits.shortest as usize
+    };
+    Usage {
+        shortest,
+        fingerprint: waits.fingerprint != 0,
+    }
+}
+
 /// The moment that is so many milliseconds.
 fn moment_of(millis: u64) -> Duration
     ensures { IsAt millis result }
@@ -177,7 +209,10 @@ fn millis(moment: Duration) -> u64
 fn parts_of(kept: &KeptTransaction) -> Option<TransactionParts>
     ensures { MatchOption result (KeepsNone kept.now) (Keeps kept.now) }
 {
-    if kept.signed_by > 3 || kept.violated > 1 || !Method::is_valid(kept.method) {
+    if kept.signed_by > 3 || kept.violated > 1 || kept.stopped > 1 {
+        return None;
+    }
+    if !Method::is_valid(kept.method) {
         return None;
     }
     let parts = TransactionParts {
@@ -188,10 +223,12 @@ fn parts_of(kept: &KeptTransaction) -> Option<TransactionParts>
         sha1: kept.signed_by % 2 == 1,
         sha256: kept.signed_by > 1,
         mechanism: mechanism_of(u32::from(kept.protection))?,
+        usage: usage_of(&kept.schedule),
         sent: kept.sent,
         last: moment_of(kept.last),
         clock: moment_of(kept.clock),
         violated: kept.violated == 1,
+        stopped: kept.stopped == 1,
         end: end_of(kept.end)?,
     };
     parts.check().ok()?;
@@ -206,6 +243,7 @@ fn store(kept: &mut KeptTransaction, parts: &TransactionParts)
     kept.last = millis(parts.last);
     kept.clock = millis(parts.clock);
     kept.violated = u8::from(parts.violated);
+    kept.stopped = u8::from(parts.stopped);
     kept.end = parts.end.map_or(0, end_number);
 }
 
@@ -256,11 +294,12 @@ pub extern "C" fn stun_types_transaction_begin(
     if schedule_of(schedule).is_none() {
         return plain(codes::OUT_OF_RANGE);
     }
-    let signed_by = match signed_request(&message, mechanism.is_some()) {
+    let protected = has_key(mechanism);
+    let signed_by = match signed_request(&message, protected) {
         Ok(signed_by) => signed_by,
         Err(answer) => return answer,
     };
-    if mechanism.is_some() && key.key().is_none() {
+    if protected && key.key().is_none() {
         return plain(codes::NO_KEY);
     }
     let mut id = [0; 12];
@@ -277,7 +316,7 @@ pub extern "C" fn stun_types_transaction_begin(
         signed_by,
         violated: 0,
         end: 0,
-        reserved: 0,
+        stopped: 0,
     };
     plain(codes::OK)
 }
@@ -318,22 +357,58 @@ pub extern "C" fn stun_types_transaction_poll(
     plain(codes::OK)
 }
 
+/// The number of a reason to discard a response.
+fn discard_kind(reason: Discard) -> u32
+    ensures { result ≡ discard_kind reason }
+{
+    match reason {
+        Discard::NotAuthentic => 1,
+        Discard::BidDown => 2,
+        Discard::UnsignedBadRequest => 3,
+        Discard::OtherAlgorithm => 4,
+        Discard::NoFingerprint => 5,
+    }
+}
+
+/// The code that a response claims, or 0.
+fn claim_number(claim: Claim) -> u32
+    ensures { result ≡ claim_number claim }
+{
+    match claim.code {
+        Some(code) => u32::from(code),
+        None => 0,
+    }
+}
+
+/// The number of an algorithm, or 0.
+fn proof_number(proof: Option<IntegrityAlgorithm>) -> u32
+    ensures { result ≡ proof_number proof }
+{
+    match proof {
+        None => 0,
+        Some(IntegrityAlgorithm::Sha1) => 1,
+        Some(IntegrityAlgorithm::Sha256) => 2,
+    }
+}
+
 /// What received bytes are, as C's numbers.
 fn outcome_of(received: &Received<'_>) -> ReceivedOutcome
     ensures { result ≡ outcome_in_c (outcome_of received.now) }
 {
-    let (kind, number) = match received {
-        Received::NotForThis => (0, 0),
-        Received::Discarded(Discard::NotAuthentic) => (1, 0),
-        Received::Discarded(Discard::BidDown) => (2, 0),
-        Received::Discarded(Discard::UnsignedBadRequest) => (3, 0),
-        Received::Failed(Failure::IntegrityViolated) => (4, 0),
-        Received::Failed(Failure::UnknownAttribute(atype)) => (5, u32::from(atype.0)),
-        Received::Failed(Failure::NoErrorCode) => (6, 0),
-        Received::Success(_) => (7, 0),
-        Received::Error(_, code) => (8, u32::from(*code)),
+    let (kind, number, algorithm) = match received {
+        Received::NotForThis => (0, 0, 0),
+        Received::Discarded(reason, claim) => (discard_kind(*reason), claim_number(*claim), 0),
+        Received::Failed(Failure::IntegrityViolated(claim)) => (6, claim_number(*claim), 0),
+        Received::Failed(Failure::UnknownAttribute(atype)) => (7, u32::from(atype.0), 0),
+        Received::Failed(Failure::NoErrorCode) => (8, 0, 0),
+        Received::Success(_, proof) => (9, 0, proof_number(*proof)),
+        Received::Error(_, code, proof) => (10, u32::from(*code), proof_number(*proof)),
     };
-    ReceivedOutcome { kind, number }
+    ReceivedOutcome {
+        kind,
+        number,
+        algorithm,
+    }
 }
 
 /// A copy of the key that a transaction of this mechanism validates with: a long-term key works with
@@ -343,8 +418,8 @@ fn copy_for(alloc: Global, mechanism: Mechanism, key: &IntegrityKey) -> Option<I
 {
     let copy = key.clone(alloc).ok()?;
     match mechanism {
-        Mechanism::ShortTerm => Some(copy),
         Mechanism::LongTerm => Some(copy.for_both()),
+        Mechanism::ShortTerm | Mechanism::FirstLongTerm => Some(copy),
     }
 }
 
@@ -359,6 +434,9 @@ fn key_for(
     let Some(mechanism) = mechanism else {
         return Ok(None);
     };
+    if mechanism == Mechanism::FirstLongTerm {
+        return Ok(None);
+    }
     let Some(key) = key.key() else {
         return Err(plain(codes::NO_KEY));
     };
@@ -421,6 +499,19 @@ pub extern "C" fn stun_types_transaction_receive(
     }
 }
 
+/// Sends the request of a transaction no more, unless it has ended.
+#[unsafe(no_mangle)]
+pub extern "C" fn stun_types_transaction_stop_sending(kept: &mut KeptTransaction) -> CallResult
+    ensures { StopsKept result kept.old kept.new }
+{
+    let Some(mut parts) = parts_of(kept) else {
+        return plain(codes::BAD_ARGUMENT);
+    };
+    parts.stop_sending();
+    store(kept, &parts);
+    plain(codes::OK)
+}
+
 /// Ends a transaction, unless it has ended: the caller wants no response.
 #[unsafe(no_mangle)]
 pub extern "C" fn stun_types_transaction_cancel(kept: &mut KeptTransaction) -> CallResult
@@ -461,6 +552,7 @@ pub fn what_begins_is_kept()
         (over : TransportType) (by : Protection) (moment : Duration) (transaction : Transaction)
         → Schedules waits schedule → transport_numbered transport ≡ Some over
         → mechanism_numbered protection ≡ Some (mechanism_of by) → IsAt now moment
-        → begin_fault by d ≡ None → Begins d schedule over by moment transaction
+        → begin_fault by d ≡ None
+        → Begins d schedule over by (usage_in waits) moment transaction
         → Keeps (begun_in_c d waits transport protection now) (parts_of transaction) }
 {}

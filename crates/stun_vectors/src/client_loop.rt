@@ -4,7 +4,7 @@ use std::alloc::Global;
 use std::net::{IpAddr, Ipv4Addr, SocketAddr};
 use std::test::Fail;
 use std::time::Duration;
-use stun_transactions::{Action, Protection, Received, Schedule, Transaction};
+use stun_transactions::{Action, Protection, Received, Schedule, Transaction, Usage};
 use stun_types::TransportType;
 use stun_types::attribute::XorMappedAddress;
 use stun_types::message::Message;
@@ -42,6 +42,7 @@ pub fn mapped_address<C: Carrier>(
         schedule,
         udp,
         unprotected,
+        Usage::default(),
         carrier.now(),
     ).ok()?;
     let mut buffer = [0; 1500];
@@ -58,7 +59,7 @@ pub fn mapped_address<C: Carrier>(
         let Some(datagram) = buffer.get(..length) else {
             continue;
         };
-        if let Received::Success(response) = transaction.receive(datagram, &[]) {
+        if let Received::Success(response, _) = transaction.receive(datagram, &[]) {
             let mapped = response.attribute::<XorMappedAddress>(alloc).ok()?;
             return Some(mapped.addr(response.transaction_id()));
         }

@@ -8,7 +8,7 @@ use stun_transactions::PartsError::{
 };
 use stun_transactions::{
     Action, Mechanism, PartsError, Protection, Received, Schedule, Transaction, TransactionEnd,
-    TransactionParts,
+    TransactionParts, Usage,
 };
 use stun_types::TransportType::Udp;
 use stun_types::message::{IntegrityAlgorithm, IntegrityKey, Message, StunWriteError};
@@ -46,7 +46,8 @@ fn parted(alloc: Global) -> Result<(TransactionParts, Option<IntegrityKey>), Fai
     let protection = Protection::LongTerm(secret);
     let begun = Duration::from_secs(3);
     let schedule = Schedule::new(1000, 7, 16)?;
-    let mut transaction = Transaction::new(&request, schedule, Udp, protection, begun)?;
+    let usage = Usage::default();
+    let mut transaction = Transaction::new(&request, schedule, Udp, protection, usage, begun)?;
     let first = transaction.poll(begun);
     let second = transaction.poll(Duration::from_secs(4));
     if first != Action::Send || second != Action::Send {
@@ -69,7 +70,7 @@ fn goes_on(rt: HostRuntime) -> Result<(), Fail> {
     let mut transaction = Transaction::from_parts(parts, key)?;
     assert!(rt; transaction.next_wake() == Some(Duration::from_secs(10)));
     let taken = transaction.receive(&SUCCESS_SHA1, &[]);
-    assert!(rt; matches!(taken, Received::Success(_)));
+    assert!(rt; matches!(taken, Received::Success(_, Some(IntegrityAlgorithm::Sha1))));
     let (mut parts, _key) = transaction.into_parts();
     assert!(rt; parts.end == Some(TransactionEnd::Answered));
     parts.cancel();

@@ -3,7 +3,7 @@ use Rattle.stun_attributes.specs.Texts.{text_bytes}
 use Rattle.stun_grammar.specs.Attributes.{canonical}
 use Rattle.stun_grammar.specs.AttributeTypes.{IsOrdinary, REALM, NONCE}
 use Rattle.stun_authentication.specs.Refusing.{listed}
-use Rattle.stun_authentication.proofs.RefusingLemmas.{added, in_turn, failed}
+use Rattle.stun_authentication.proofs.AddedLemmas.{added, in_turn, failed}
 use Rattle.stun_authentication.proofs.refusing.add_demand.Goals as goal
 
 realm_is_ordinary : IsOrdinary REALM

@@ -12,11 +12,13 @@ returns c = record {
     id = search rules;
     signed = signed_told c.args.kept.now.signed_by c.if-kept-gt3.false;
     mechanism = search rules;
+    usage = search rules;
     state = record {
       sent = refl;
       last = c.moment_of.ensures;
       clock = c.moment_of-2.ensures;
       violated = bit_told c.args.kept.now.violated c.if-kept-gt1.false;
+      stopped = bit_told c.args.kept.now.stopped c.if-kept-gt1-2.false;
       end = c.in_ok-end_of.ensures;
     };
   };

@@ -15,7 +15,7 @@ returns-in-Ok g c =
     let r = message_bytes c.args.request.now in
     let P : List (Option Transaction) → Type 0 = λ old.
     MatchResult c.add.result
-    (λ _. (add_fault c.args.protection r old ≡ None) × Adds r c.args.schedule c.args.transport c.args.protection c.args.now old c.add.new.slots)
+    (λ _. (add_fault c.args.protection r old ≡ None) × Adds r c.args.schedule c.args.transport c.args.protection c.args.usage c.args.now old c.add.new.slots)
     (λ e. (add_fault c.args.protection r old ≡ Some e) × (c.add.new.slots ≡ old)) in
     subst P c.self.view_is
-    (begun r c.args.schedule c.args.transport c.args.protection c.args.now c.in-Ok.transaction c.self.inside.slots c.add.new.slots c.add.result c.in-Ok.ensures.0 c.in-Ok.ensures.1 c.add.ensures)
+    (begun r c.args.schedule c.args.transport c.args.protection c.args.usage c.args.now c.in-Ok.transaction c.self.inside.slots c.add.new.slots c.add.result c.in-Ok.ensures.0 c.in-Ok.ensures.1 c.add.ensures)

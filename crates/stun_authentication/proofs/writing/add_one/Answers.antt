@@ -1,5 +1,5 @@
-use Rattle.stun_authentication.proofs.RefusingLemmas.{added}
-use Rattle.stun_authentication.proofs.refusing.add_one.Goals as goal
+use Rattle.stun_authentication.proofs.AddedLemmas.{added}
+use Rattle.stun_authentication.proofs.writing.add_one.Goals as goal
 
 pub returns : goal.returns
 returns g c =

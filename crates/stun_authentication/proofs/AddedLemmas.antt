@@ -1,32 +1,23 @@
--- A response, attribute by attribute.
-use Rattle.std.proofs.Common.{◌≡◌, ℕ, ◌^◌, ◌<◌, List, [], ◌∷◌, ◌++◌, length, Option, None, Some, Result, Ok, Err, inl, inr, refl, sym, ap, ◌∙◌, subst, append_assoc}
-use Rattle.std.specs.Prelude.{find, OnOk}
+-- A message, attribute by attribute.
+use Rattle.std.proofs.Common.{◌≡◌, ℕ, ◌^◌, ◌<◌, Bool, false, List, [], ◌∷◌, ◌++◌, length, Option, None, Some, Result, Ok, Err, inl, inr, refl, sym, ap, ◌∙◌, subst, append_assoc}
+use Rattle.std.specs.Prelude.{OnOk, if◌then◌else◌}
 use Rattle.std.specs.Result.{IsErr, IsErrAnd}
 use Rattle.std.specs.Option.{option_or, option_map}
-use Rattle.std.proofs.lemmas.Bool.{ne_eqb}
-use Rattle.std.proofs.lemmas.List.Folds.{find-append}
+use Rattle.std.proofs.lemmas.List.{map-append}
 use Rattle.stun_grammar.specs.declared.error.StunWriteError.{StunWriteError}
-use Rattle.stun_grammar.specs.Adding.{appended, grown_length, first_of, exists_refusal, order_refusal, room_refusal, add_refusal, IsAddAnswer}
+use Rattle.stun_grammar.specs.declared.error.StunWriteError.TheVariants.{EndingType}
+use Rattle.stun_grammar.specs.Adding.{appended, grown_length, first_of, exists_refusal, order_refusal, room_refusal, add_refusal, any_refusal, IsAddAnswer}
+use Rattle.std.specs.List.{list_any}
 use Rattle.stun_grammar.specs.Attributes.{Attribute, canonical}
-use Rattle.stun_grammar.specs.AttributeTypes.{IsOrdinary, MESSAGE_INTEGRITY, MESSAGE_INTEGRITY_SHA256, FINGERPRINT}
-use Rattle.stun_grammar.specs.ScannedOrder.{has}
+use Rattle.stun_grammar.specs.AttributeTypes.{IsOrdinary, is_ending}
 use Rattle.stun_grammar.specs.Steps.{add, barring_types}
 use Rattle.stun_grammar.specs.Writing.{message_encoding}
 use Rattle.stun_grammar.proofs.AddingLemmas.{message_more}
 use Rattle.stun_write.specs.Writers.{Writer, Gains, Allocates}
-use Rattle.stun_authentication.specs.Refusing.{overflow, FailsFor, longer_by, IsUnbarred, Lengthens}
+use Rattle.stun_authentication.specs.Writing.{no_room, longer, sizes, FailsFor, IsUnended, Lengthens}
+use Rattle.stun_authentication.proofs.TypesLemmas.{free, ending_none, unended_more}
 
 -- ---- One attribute
-
-abbrev endings : List ℕ
-endings = barring_types (add 0 [])
-
--- an ordinary attribute bars none
-stays_unbarred : (type : ℕ) (types : List ℕ) → IsOrdinary type → first_of endings types ≡ None → first_of endings (types ++ type ∷ []) ≡ None
-stays_unbarred type types ordinary free =
-    find-append (λ t. has t endings) types (type ∷ [])
-    ∙ ap (λ (o : Option ℕ). option_or o (find (λ t. has t endings) (type ∷ []))) free
-    ∙ rw (ne_eqb MESSAGE_INTEGRITY type (λ e. ordinary.0 (sym e)), ne_eqb MESSAGE_INTEGRITY_SHA256 type (λ e. ordinary.1 (sym e)), ne_eqb FINGERPRINT type (λ e. ordinary.2 (sym e))) refl
 
 -- what isn't barred is refused for want of room alone
 answers : (room : Option StunWriteError) (P : Type 0) (result : Result (Unit {0}) StunWriteError) → IsAddAnswer room P result → FailsFor (option_or room None) result
@@ -39,7 +30,7 @@ answers (Some x) P (Err e) told = inr (ap (λ r. Some (error_of x r)) (sym told)
     error_of other (Ok done) = other
     error_of other (Err e) = e
 
-only_room : (type : ℕ) (value types : List ℕ) (len : ℕ) (greatest : Option ℕ) → first_of endings types ≡ None → add_refusal (add type value) types len greatest ≡ room_refusal len greatest (grown_length len (length value))
+only_room : (type : ℕ) (value types : List ℕ) (len : ℕ) (greatest : Option ℕ) → first_of (barring_types (add type value)) types ≡ None → add_refusal (add type value) types len greatest ≡ room_refusal len greatest (grown_length len (length value))
 unfolding order_refusal
 only_room type value types len greatest free = ap (λ (o : Option ℕ). option_or (option_map (exists_refusal (add type value)) o) (room_refusal len greatest (grown_length len (length value)))) free
 
@@ -49,8 +40,8 @@ pub added : (result : Result (Unit {0}) StunWriteError) (old new : Writer) (type
     → Lengthens result old new (canonical type value ∷ [])
 added result old new type value gains kept told ordinary t v = record {
   written = written result gains;
-  answer = λ free. answers room (Allocates old (length value)) result (subst (λ (r : Option StunWriteError). IsAddAnswer r (Allocates old (length value)) result) (only_room type value old.types (length old.bytes) old.greatest free) told);
-  unbarred = λ free. stays result gains free;
+  answer = λ none. answers room (Allocates old (length value)) result (subst (λ (r : Option StunWriteError). IsAddAnswer r (Allocates old (length value)) result) (only_room type value old.types (length old.bytes) old.greatest (free (add type value) old.types none)) told);
+  unended = λ none. stays result gains none;
   greatest = kept;
   size = sized result gains;
 }
@@ -63,30 +54,40 @@ added result old new type value gains kept told ordinary t v = record {
     written (Ok done) gained kind id before so_far = gained.bytes ∙ ap (λ (b : List ℕ). appended b type value) so_far ∙ message_more kind id before type value t v
     written (Err e) gained kind id before so_far = tt
 
-    stays : (r : Result (Unit {0}) StunWriteError) → OnOk r (Gains old new type value) → IsUnbarred old → OnOk r (IsUnbarred new)
-    stays (Ok done) gained free = ap (first_of endings) gained.types ∙ stays_unbarred type old.types ordinary free
-    stays (Err e) gained free = tt
+    stays : (r : Result (Unit {0}) StunWriteError) → OnOk r (Gains old new type value) → IsUnended old → OnOk r (IsUnended new)
+    stays (Ok done) gained none = ap (list_any is_ending) gained.types ∙ unended_more type old.types (ending_none type ordinary) none
+    stays (Err e) gained none = tt
 
-    sized : (r : Result (Unit {0}) StunWriteError) → OnOk r (Gains old new type value) → OnOk r (length new.bytes ≡ longer_by (length old.bytes) (canonical type value ∷ []))
+    sized : (r : Result (Unit {0}) StunWriteError) → OnOk r (Gains old new type value) → OnOk r (length new.bytes ≡ longer (length old.bytes) (sizes (canonical type value ∷ [])))
     sized (Ok done) gained = gained.size
     sized (Err e) gained = tt
 
+-- an attribute by its type and its value
+pub by_value : (type : ℕ) (value types : List ℕ) (len : ℕ) (greatest : Option ℕ) → is_ending type ≡ false → any_refusal type value types len greatest ≡ add_refusal (add type value) types len greatest
+by_value type value types len greatest plain = ap (λ (b : Bool). if b then Some (EndingType (record { 0 = type })) else add_refusal (add type value) types len greatest) plain
+
 -- ---- Many
 
-overflow-append : (greatest : Option ℕ) (len : ℕ) (first second : List Attribute)
-    → overflow greatest len (first ++ second) ≡ option_or (overflow greatest len first) (overflow greatest (longer_by len first) second)
-overflow-append greatest len [] second = refl
-overflow-append greatest len (a ∷ first) second =
-    let room = room_refusal len greatest (grown_length len (length a.value)) in
-    ap (option_or room) (overflow-append greatest (grown_length len (length a.value)) first second) ∙ regrouped room (overflow greatest (grown_length len (length a.value)) first) _
+pub no_room-append : (greatest : Option ℕ) (len : ℕ) (first second : List ℕ) → no_room greatest len (first ++ second) ≡ option_or (no_room greatest len first) (no_room greatest (longer len first) second)
+no_room-append greatest len [] second = refl
+no_room-append greatest len (n ∷ first) second =
+    let room = room_refusal len greatest (grown_length len n) in
+    ap (option_or room) (no_room-append greatest (grown_length len n) first second) ∙ regrouped room (no_room greatest (grown_length len n) first) _
   where
     regrouped : (o p q : Option StunWriteError) → option_or o (option_or p q) ≡ option_or (option_or o p) q
     regrouped None p q = refl
     regrouped (Some x) p q = refl
 
-longer_by-append : (len : ℕ) (first second : List Attribute) → longer_by len (first ++ second) ≡ longer_by (longer_by len first) second
-longer_by-append len [] second = refl
-longer_by-append len (a ∷ first) second = longer_by-append (grown_length len (length a.value)) first second
+longer-append : (len : ℕ) (first second : List ℕ) → longer len (first ++ second) ≡ longer (longer len first) second
+longer-append len [] second = refl
+longer-append len (n ∷ first) second = longer-append (grown_length len n) first second
+
+sizes-append : (first second : List Attribute) → sizes (first ++ second) ≡ sizes first ++ sizes second
+sizes-append first second = map-append (λ (a : Attribute). length a.value) first second
+
+-- why attributes in two parts don't fit
+both_parts : (greatest : Option ℕ) (len : ℕ) (first second : List Attribute) → no_room greatest len (sizes (first ++ second)) ≡ option_or (no_room greatest len (sizes first)) (no_room greatest (longer len (sizes first)) (sizes second))
+both_parts greatest len first second = ap (no_room greatest len) (sizes-append first second) ∙ no_room-append greatest len (sizes first) (sizes second)
 
 -- what `?` returns of an error is that error
 passed_on : (result : Result (Unit {0}) StunWriteError) (e : StunWriteError) → IsErr result × IsErrAnd result (λ made. made ≡ e) → result ≡ Err e
@@ -100,9 +101,9 @@ failed result old new e first second one told = subst (λ (r : Result (Unit {0})
   written = λ kind id before so_far. tt;
   answer = λ free. elim (one.answer free) [
     | inl memory ↦ inl memory
-    | inr is ↦ inr (overflow-append old.greatest (length old.bytes) first second ∙ ap (λ (o : Option StunWriteError). option_or o (overflow old.greatest (longer_by (length old.bytes) first) second)) is)
+    | inr is ↦ inr (both_parts old.greatest (length old.bytes) first second ∙ ap (λ (o : Option StunWriteError). option_or o (no_room old.greatest (longer (length old.bytes) (sizes first)) (sizes second))) is)
   ];
-  unbarred = λ free. tt;
+  unended = λ free. tt;
   greatest = one.greatest;
   size = tt;
 })
@@ -112,25 +113,25 @@ pub in_turn : (done : Unit {0}) (result : Result (Unit {0}) StunWriteError) (old
     → Lengthens result old new (first ++ second)
 in_turn done result old mid new first second one two = record {
   written = written result two;
-  answer = λ free. subst (λ (o : Option StunWriteError). FailsFor o result) (sym (behind (one.answer free))) (two.answer (one.unbarred free));
-  unbarred = λ free. two.unbarred (one.unbarred free);
+  answer = λ free. subst (λ (o : Option StunWriteError). FailsFor o result) (sym (behind (one.answer free))) (two.answer (one.unended free));
+  unended = λ free. two.unended (one.unended free);
   greatest = two.greatest ∙ one.greatest;
   size = sized result two;
 }
   where
-    behind : overflow old.greatest (length old.bytes) first ≡ None → overflow old.greatest (length old.bytes) (first ++ second) ≡ overflow mid.greatest (length mid.bytes) second
+    behind : no_room old.greatest (length old.bytes) (sizes first) ≡ None → no_room old.greatest (length old.bytes) (sizes (first ++ second)) ≡ no_room mid.greatest (length mid.bytes) (sizes second)
     behind none =
-        overflow-append old.greatest (length old.bytes) first second
-        ∙ ap (λ (o : Option StunWriteError). option_or o (overflow old.greatest (longer_by (length old.bytes) first) second)) none
-        ∙ ap (λ (n : ℕ). overflow old.greatest n second) (sym one.size) ∙ ap (λ (g : Option ℕ). overflow g (length mid.bytes) second) (sym one.greatest)
+        both_parts old.greatest (length old.bytes) first second
+        ∙ ap (λ (o : Option StunWriteError). option_or o (no_room old.greatest (longer (length old.bytes) (sizes first)) (sizes second))) none
+        ∙ ap (λ (n : ℕ). no_room old.greatest n (sizes second)) (sym one.size) ∙ ap (λ (g : Option ℕ). no_room g (length mid.bytes) (sizes second)) (sym one.greatest)
 
     written : (r : Result (Unit {0}) StunWriteError) → Lengthens r mid new second → (kind id : ℕ) (before : List Attribute) → old.bytes ≡ message_encoding kind id before
         → OnOk r (new.bytes ≡ message_encoding kind id (before ++ (first ++ second)))
     written (Ok u) behind kind id before so_far = behind.written kind id (before ++ first) (one.written kind id before so_far) ∙ ap (message_encoding kind id) (append_assoc before first second)
     written (Err e) behind kind id before so_far = tt
 
-    sized : (r : Result (Unit {0}) StunWriteError) → Lengthens r mid new second → OnOk r (length new.bytes ≡ longer_by (length old.bytes) (first ++ second))
-    sized (Ok u) behind = behind.size ∙ ap (λ (n : ℕ). longer_by n second) one.size ∙ sym (longer_by-append (length old.bytes) first second)
+    sized : (r : Result (Unit {0}) StunWriteError) → Lengthens r mid new second → OnOk r (length new.bytes ≡ longer (length old.bytes) (sizes (first ++ second)))
+    sized (Ok u) behind = behind.size ∙ ap (λ (n : ℕ). longer n (sizes second)) one.size ∙ sym (ap (longer (length old.bytes)) (sizes-append first second) ∙ longer-append (length old.bytes) (sizes first) (sizes second))
     sized (Err e) behind = tt
 
 -- nothing more is added
@@ -138,7 +139,7 @@ pub nothing_more : (old : Writer) (done : Unit {0}) → Lengthens (Ok done) old 
 nothing_more old done = record {
   written = λ kind id before so_far. so_far ∙ ap (message_encoding kind id) (append-none before);
   answer = λ free. refl;
-  unbarred = λ free. free;
+  unended = λ free. free;
   greatest = refl;
   size = refl;
 }

@@ -1,0 +1,69 @@
+//! What a refusal asks a client for, under long-term credentials.
+
+ghost use Rattle.std.specs.Prelude.{◌≡◌, is_some};
+ghost use Rattle.stun_attributes.specs.Texts.{text_bytes};
+ghost use Rattle.stun_authentication.specs.Cookies.{promises_algorithms};
+
+use crate::security_features;
+use stun_types::attribute::{Nonce, PasswordAlgorithms, Realm};
+
+/// What a 401 and a 438 ask a client for, under long-term credentials (RFC 8489, section 9.2.4): a
+/// realm, a nonce, and the password algorithms that the server knows, if it sends a list. The nonce
+/// begins with a nonce cookie that promises the list, exactly if there is one.
+#[derive(Debug, Drop)]
+pub struct Demand {
+    pub(crate) realm: Realm,
+    pub(crate) nonce: Nonce,
+    pub(crate) algorithms: Option<PasswordAlgorithms>,
+    ghost agrees: { promises_algorithms (text_bytes nonce) ≡ is_some algorithms },
+}
+
+/// Why a nonce isn't sent with a list of password algorithms, or without one.
+#[derive(Clone, Copy, Debug, PartialEq, Eq)]
+pub enum Mismatch {
+    /// The nonce promises PASSWORD-ALGORITHMS, and there is no list: a client would take the
+    /// response for the work of an attacker who removed it (RFC 8489, section 9.2.5).
+    NoList,
+    /// There is a list, and the nonce doesn't promise it: it begins with no nonce cookie, or with
+    /// one whose bit is 0. The server would process the client's next request as though with MD5.
+    NotPromised,
+}
+
+impl Demand {
+    ghost use Rattle.std.specs.Prelude.{◌≡◌, Err, IsOkAnd, MatchOption};
+    ghost use Rattle.stun_attributes.specs.Texts.{text_bytes};
+    ghost use Rattle.stun_authentication.specs.Refusing.{mismatch, demanded, asked_for};
+
+    /// A demand of this realm, with this nonce, which is valid and was sent to nobody else, and with
+    /// these algorithms, the one that the server prefers first; `None` if it knows MD5 alone.
+    /// [`nonce_cookie`](crate::nonce_cookie) makes the beginning of the nonce.
+    ///
+    /// # Errors
+    ///
+    /// `NoList` if the nonce promises a list and there is none; `NotPromised` if there is a list,
+    /// and the nonce doesn't promise it.
+    pub fn new(
+        realm: Realm,
+        nonce: Nonce,
+        algorithms: Option<PasswordAlgorithms>,
+    ) -> Result<Self, Mismatch>
+        ensures { MatchOption (mismatch (text_bytes nonce) algorithms)
+            (IsOkAnd result (λ made. demanded made
+            ≡ asked_for (text_bytes realm) (text_bytes nonce) algorithms))
+            (λ why. result ≡ Err why) }
+    {
+        let promises = match security_features(nonce.nonce().as_bytes()) {
+            Some(features) => features.password_algorithms,
+            None => false,
+        };
+        match (promises, &algorithms) {
+            (true, None) => Err(Mismatch::NoList),
+            (false, Some(_)) => Err(Mismatch::NotPromised),
+            _ => Ok(Demand {
+                realm,
+                nonce,
+                algorithms,
+            }),
+        }
+    }
+}

@@ -1,0 +1,36 @@
+//! The end of a reply to a message that is accepted.
+
+ghost use Rattle.std.specs.Prelude.{◌∷◌};
+ghost use Rattle.stun_grammar.specs.Hmac.{digest_length};
+ghost use Rattle.stun_keys.specs.Keys.{key_bytes};
+ghost use Rattle.stun_authentication.specs.Writing.{Finishes, finished, signed, print_sizes};
+
+use crate::Accepted;
+use crate::writing::finish;
+use stun_types::message::StunWriteError;
+use stun_types::prelude::*;
+
+impl Accepted {
+    /// Finishes the reply to a request that is accepted: signs it with the user's key, by the
+    /// algorithm of RFC 8489, section 9.1.3 or 9.2.4 ([`Accepted::reply_algorithm`]), and adds a
+    /// FINGERPRINT if `fingerprint` is `true`. A reply has one if its request has one (section 7).
+    /// Nothing can be added after it.
+    ///
+    /// # Errors
+    ///
+    /// `OutOfMemory` if an allocation failed. Else, if the message isn't signed yet and has no
+    /// FINGERPRINT, the first of the two that doesn't fit decides: `TooSmall` or `TooLarge`, as for
+    /// `add_message_integrity_with_key`. What was written before an error stays.
+    pub fn finish_reply<B: MessageWrite>(
+        &self,
+        fingerprint: bool,
+        write: &mut B,
+    ) -> Result<(), StunWriteError>
+        ensures { let a = self.now.reply_algorithm in let key = key_bytes self.now.key in
+            Finishes result (B.state write.old) (B.state write.new)
+            (λ kind id before. finished fingerprint kind id (signed kind id before a key))
+            (digest_length a ∷ print_sizes fingerprint) }
+    {
+        finish(&self.key, self.reply_algorithm, fingerprint, write)
+    }
+}

@@ -1,0 +1,253 @@
+//! Nonces that a server makes and recognizes without keeping any (RFC 8489, sections 9.2 and 9.2.4).
+
+ghost use Rattle.std.specs.Prelude.{◌≡◌, ◌*◌, ◌++◌, ◌<◌, ◌≤◌, ◌%◌, ◌^◌, IfOk, IfErr, drop, length, map};
+ghost use Rattle.std.specs.List.{concat};
+ghost use Rattle.stun_attributes.specs.Texts.{text_bytes};
+ghost use Rattle.stun_keys.specs.Keys.{key_bytes};
+ghost use Rattle.stun_values.specs.Addresses.{address_value};
+ghost use Rattle.stun_authentication.specs.Nonces.{digit, digits, digit_of, hexed, minted, minted_mac, minting, told_time, minting_of, freshness, aged, known_as, state_of};
+
+use crate::{KnownNonce, Nonces, SecurityFeatures, nonce_cookie};
+use std::alloc::Global;
+use std::net::SocketAddr;
+use stun_integrity::same_bytes;
+use stun_types::attribute::{Nonce, PasswordAlgorithmValue};
+use stun_types::message::{IntegrityKey, StunWriteError};
+use stun_values::{address_length, write_address};
+
+/// How many bytes a nonce of a [`NonceMaker`] has.
+const LENGTH: usize = 93;
+
+/// Makes nonces that need no memory, and recognizes them: a nonce has the time at which it was made,
+/// and an HMAC-SHA256 under the server's secret over its nonce cookie, that time, and the address
+/// and port of the client.
+///
+/// A nonce is 93 characters: the cookie, 13; the time in seconds, 16 hexadecimal digits; and the
+/// HMAC, 64. It is valid for its client alone, until its window is over, and for any number of
+/// requests. A server that changes its secret keeps the maker of the old one for as long as a
+/// window, and asks both.
+#[derive(Debug, Drop)]
+pub struct NonceMaker {
+    secret: IntegrityKey,
+    features: SecurityFeatures,
+    window: u64,
+}
+
+/// What a server knows of a nonce that it may have made.
+#[derive(Clone, Copy, Debug, PartialEq, Eq)]
+pub enum Freshness {
+    /// It is valid.
+    Fresh,
+    /// The server made it for this client, and its window is over; or its time is still to come.
+    Stale,
+    /// The server didn't make it, or made it for another client, under another secret, or with
+    /// other features.
+    Unknown,
+}
+
+/// The nonces of a [`NonceMaker`] at a time, for one client, as
+/// [`authenticate_long_term`](crate::authenticate_long_term) asks for them.
+#[derive(Clone, Copy, Debug)]
+pub struct NoncesOf<'a> {
+    maker: &'a NonceMaker,
+    now: u64,
+    client: SocketAddr,
+    algorithms: &'a [PasswordAlgorithmValue],
+}
+
+/// The hexadecimal digit of a number below 16, in lower case.
+fn digit(number: u8) -> u8
+    requires { number < 16 }
+    ensures { result ≡ digit number }
+{
+    if number < 10 {
+        0x30 + number
+    } else {
+        0x57 + number
+    }
+}
+
+/// Writes the two hexadecimal digits of a byte at the start of `dest`.
+fn write_byte(byte: u8, dest: &mut [u8])
+    requires { 2 ≤ length dest.old }
+    ensures { dest.new ≡ digits byte ++ drop 2 dest.old }
+{
+    dest[0] = digit(byte / 16);
+    dest[1] = digit(byte % 16);
+}
+
+/// Writes bytes in hexadecimal.
+fn write_hex(bytes: &[u8], dest: &mut [u8])
+    requires { length dest.old ≡ 2 * length bytes.now }
+    ensures { dest.new ≡ hexed bytes.now }
+{
+    for i in 0..bytes.len() {
+        write_byte(bytes[i], &mut dest[2 * i..]);
+    }
+}
+
+/// The number of a hexadecimal digit; of any other character some number.
+fn digit_of(character: u8) -> u64
+    ensures value { result ≡ digit_of character }
+    ensures bound { result < 256 }
+{
+    if character < 0x3A {
+        u64::from(character.saturating_sub(0x30))
+    } else {
+        u64::from(character.saturating_sub(0x57))
+    }
+}
+
+/// The time in a nonce, if it is one of a `NonceMaker`; else some number.
+fn told_time(nonce: &[u8]) -> u64
+    requires { length nonce.now ≡ 93 }
+    ensures { result ≡ told_time nonce.now % 2 ^ 64 }
+{
+    let mut time = 0u64;
+    for i in 0..8 {
+        let byte = 16 * digit_of(nonce[13 + 2 * i]) + digit_of(nonce[14 + 2 * i]);
+        time = time.wrapping_mul(256).wrapping_add(byte);
+    }
+    time
+}
+
+/// What the HMAC of a nonce covers, in pieces.
+fn covered<'a>(cookie: &'a [u8], time: &'a [u8; 8], place: &'a [u8]) -> [&'a [u8]; 3]
+    ensures { concat (map (λ piece. piece.now) result) ≡ cookie.now ++ (time.now ++ place.now) }
+{
+    [cookie, time.as_slice(), place]
+}
+
+impl NonceMaker {
+    ghost use Rattle.std.specs.Prelude.{◌≡◌, IfOk, IfErr};
+    ghost use Rattle.stun_attributes.specs.Texts.{text_bytes};
+    ghost use Rattle.stun_keys.specs.Keys.{key_bytes};
+    ghost use Rattle.stun_values.specs.Addresses.{address_value};
+    ghost use Rattle.stun_authentication.specs.Nonces.{minted, minted_mac, minting, minting_of, freshness, aged, state_of, known_as};
+
+    /// A maker with this secret, which nobody else has and nobody can guess: at least 32 random
+    /// bytes ([`IntegrityKey::new`]). `features` are what its nonces say of the server, and
+    /// `window` is for how many seconds a nonce is valid.
+    pub fn new(secret: IntegrityKey, features: SecurityFeatures, window: u64) -> Self
+        ensures { minting_of result ≡ minting (key_bytes secret) features window }
+    {
+        NonceMaker {
+            secret,
+            features,
+            window,
+        }
+    }
+
+    /// The HMAC of a nonce.
+    fn mac(&self, time: u64, client: &SocketAddr) -> [u8; 32]
+        ensures { result ≡ minted_mac (minting_of self.now) time (address_value client.now) }
+    {
+        let length = address_length(client) as usize;
+        let mut place = [0u8; 20];
+        write_address(client, &mut place);
+        let time = time.to_be_bytes();
+        let cookie = nonce_cookie(self.features);
+        self.secret
+            .hmac_sha256(&covered(cookie.as_bytes(), &time, &place[..length]))
+    }
+
+    /// The text of a nonce.
+    fn text(&self, time: u64, client: &SocketAddr) -> [u8; LENGTH]
+        ensures { result ≡ minted (minting_of self.now) time (address_value client.now) }
+    {
+        let mut text = [0u8; LENGTH];
+        let (cookie, rest) = text.split_at_mut(13);
+        cookie.copy_from_slice(nonce_cookie(self.features).as_bytes());
+        let (digits, mac) = rest.split_at_mut(16);
+        write_hex(time.to_be_bytes().as_slice(), digits);
+        write_hex(self.mac(time, client).as_slice(), mac);
+        text
+    }
+
+    /// The nonce for a client at a time, `now`, in seconds since any moment that stays the same.
+    /// `client` is the address and port that the request came from: two clients get different
+    /// nonces (RFC 8489, section 9.2.4). It is copied into memory from `alloc`.
+    ///
+    /// # Errors
+    ///
+    /// `OutOfMemory` alone.
+    pub fn make(
+        &self,
+        alloc: Global,
+        now: u64,
+        client: &SocketAddr,
+    ) -> Result<Nonce, StunWriteError>
+        ensures nonce { IfOk result (λ nonce. text_bytes nonce
+            ≡ minted (minting_of self.now) now (address_value client.now)) }
+        ensures err { IfErr result (λ e. e ≡ StunWriteError.OutOfMemory) }
+    {
+        let text = self.text(now, client);
+        match str::from_utf8(&text) {
+            Ok(text) => Nonce::new(alloc, text),
+            Err(_) => unreachable!(),
+        }
+    }
+
+    /// What is known at a time, `now`, of a nonce that came from a client. It takes one HMAC and no
+    /// memory, whatever the nonce is, and every byte is compared, even after a difference; constant
+    /// time is not claimed.
+    pub fn freshness(&self, now: u64, client: &SocketAddr, nonce: &[u8]) -> Freshness
+        ensures { result
+            ≡ freshness (minting_of self.now) now (address_value client.now) nonce.now }
+    {
+        if nonce.len() != LENGTH {
+            return Freshness::Unknown;
+        }
+        let time = told_time(nonce);
+        let made = self.text(time, client);
+        if same_bytes(nonce, &made) {
+            self.aged(now, time)
+        } else {
+            Freshness::Unknown
+        }
+    }
+
+    /// What is known of a nonce by the time at which it was made.
+    fn aged(&self, now: u64, time: u64) -> Freshness
+        ensures { result ≡ aged (minting_of self.now) now time }
+    {
+        if time <= now && now - time <= self.window {
+            Freshness::Fresh
+        } else {
+            Freshness::Stale
+        }
+    }
+
+    /// The nonces at a time, `now`, for one client, to authenticate its requests. With each nonce
+    /// the server sends these algorithms; none, if it sends no list.
+    pub fn nonces<'a>(
+        &'a self,
+        now: u64,
+        client: SocketAddr,
+        algorithms: &'a [PasswordAlgorithmValue],
+    ) -> NoncesOf<'a>
+        ensures { state_of result ≡ (λ nonce. known_as algorithms.now
+            (freshness (minting_of self.now) now (address_value client) nonce)) }
+    {
+        NoncesOf {
+            maker: self,
+            now,
+            client,
+            algorithms,
+        }
+    }
+}
+
+impl Nonces for NoncesOf<'_> {
+    ghost use Rattle.stun_authentication.specs.Nonces.{state_of};
+
+    ghost state_of = { state_of };
+
+    fn nonce(&self, nonce: &[u8]) -> KnownNonce<'_> {
+        match self.maker.freshness(self.now, &self.client, nonce) {
+            Freshness::Fresh => KnownNonce::Valid(self.algorithms),
+            Freshness::Stale => KnownNonce::Stale,
+            Freshness::Unknown => KnownNonce::Unknown,
+        }
+    }
+}

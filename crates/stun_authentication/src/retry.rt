@@ -1,0 +1,131 @@
+//! A client's half of the long-term credential mechanism: whether a request is sent again with
+//! credentials, and what an error response asks for (RFC 8489, section 9.2.5).
+
+ghost use Rattle.std.specs.Prelude.{◌≡◌, ◌≤◌, Ok, Err, IfSome, MatchResult, length};
+ghost use Rattle.std.specs.Option.{option_map};
+ghost use Rattle.stun_types.specs.Message.{message_bytes};
+ghost use Rattle.stun_authentication.specs.Challenges.{asked_by, is_bid_down, text_of, selected, repeats, challenge_of};
+
+use crate::algorithms::{first_listed, numbered};
+use crate::codes::{is_challenge, response_code};
+use crate::cookie::security_features;
+use crate::identity::value_of;
+use crate::{Challenge, NoRetry};
+use stun_types::attribute::{
+    AttributeStaticType, AttributeType, ErrorCode, Nonce, PasswordAlgorithmValue,
+    PasswordAlgorithms, Realm,
+};
+use stun_types::message::Message;
+use stun_values::{NONCE_MAX, REALM_MAX, read_text};
+
+/// Whether the nonce of a response promises PASSWORD-ALGORITHMS, and the response shows none:
+/// somebody on the way may have taken it out (RFC 8489, sections 9.2.1 and 9.2.5). A client that
+/// uses long-term credentials ignores such a response, and doesn't retry after such a 401 or 438.
+pub fn is_bid_down(response: &Message<'_>) -> bool
+    ensures { result ≡ is_bid_down (message_bytes response.now) }
+{
+    match value_of(response, Nonce::TYPE) {
+        Some(nonce) => {
+            security_features(nonce).is_some_and(|features| features.password_algorithms)
+                && !response.has_attribute(PasswordAlgorithms::TYPE)
+        }
+        None => false,
+    }
+}
+
+/// The text in the first attribute of a type that a message shows.
+fn text_of<'a>(message: &Message<'a>, atype: AttributeType, most: u16) -> Option<&'a str>
+    ensures text { text_of most atype.0 (message_bytes message.now)
+        ≡ option_map (λ text. text.now) result }
+    ensures short { IfSome result (λ text. length text.now ≤ most) }
+{
+    read_text(value_of(message, atype)?, most).ok()
+}
+
+/// The algorithm of the key: the first one on the list that is supported, or MD5 without a list.
+fn selected(
+    supported: &[PasswordAlgorithmValue],
+    list: Option<&[u8]>,
+) -> Option<PasswordAlgorithmValue>
+    ensures { result ≡ selected supported.now (option_map (λ value. value.now) list.entry) }
+{
+    match list {
+        Some(list) => first_listed(supported, list),
+        None => numbered(supported, 1),
+    }
+}
+
+/// Whether a 401 refuses the credentials that were tried in a realm, and asks for them again.
+fn repeats(response: &Message<'_>, tried: Option<&str>, realm: &str) -> bool
+    ensures { result ≡ repeats (option_map (λ text. text.now) tried.entry) realm.now
+        (message_bytes response.now) }
+{
+    if response_code(response) != Some(ErrorCode::UNAUTHORIZED) {
+        return false;
+    }
+    match tried {
+        Some(tried) => tried.as_bytes() == realm.as_bytes(),
+        None => false,
+    }
+}
+
+/// What a 401 or a 438 asks the next request to carry, or why the request isn't sent again (RFC
+/// 8489, section 9.2.5).
+///
+/// `supported` are the password algorithms that the client supports. Two more arguments say what
+/// the client knows from earlier challenges; both are `None` for the first:
+///
+/// - `tried` is the realm in which the refused request had these credentials
+///   ([`Challenge::realm`] of the challenge that it answered); `None` if it had none, or if the
+///   user's name or password has changed since.
+/// - `seen` is the list that the server sent before ([`Challenge::password_algorithms`]); `None` if
+///   it sent none. A client that knows that the server was replaced, and that the new one sends no
+///   list, passes `None` too.
+///
+/// The request is sent again in a new transaction: [`answer_challenge`](crate::answer_challenge)
+/// writes what it carries.
+///
+/// # Errors
+///
+/// The first of these that applies:
+///
+/// - `NotAChallenge` where the response is no error response with the code 401 or 438;
+/// - `BidDown` if [`is_bid_down`] says so, or if a list was seen and this response has none;
+/// - `Incomplete` where it shows no REALM or no NONCE, or one that is no text;
+/// - `NoAlgorithm` where none of the algorithms on the list is supported, or MD5 isn't where there
+///   is no list;
+/// - `SameCredentials` if it is a 401, and the credentials were tried in its realm.
+pub fn challenge_of<'a>(
+    response: &Message<'a>,
+    supported: &[PasswordAlgorithmValue],
+    tried: Option<&str>,
+    seen: Option<&[u8]>,
+) -> Result<Challenge<'a>, NoRetry>
+    ensures { let asked = challenge_of supported.now (option_map (λ text. text.now) tried.entry)
+        (option_map (λ value. value.now) seen.entry) (message_bytes response.now) in
+        MatchResult result (λ told. asked ≡ Ok (asked_by told)) (λ e. asked ≡ Err e) }
+{
+    if !is_challenge(response) {
+        return Err(NoRetry::NotAChallenge);
+    }
+    let list = value_of(response, PasswordAlgorithms::TYPE);
+    if is_bid_down(response) || (seen.is_some() && list.is_none()) {
+        return Err(NoRetry::BidDown);
+    }
+    let Some(realm) = text_of(response, Realm::TYPE, REALM_MAX) else {
+        return Err(NoRetry::Incomplete);
+    };
+    let Some(nonce) = text_of(response, Nonce::TYPE, NONCE_MAX) else {
+        return Err(NoRetry::Incomplete);
+    };
+    let Some(algorithm) = selected(supported, list) else {
+        return Err(NoRetry::NoAlgorithm);
+    };
+    if repeats(response, tried, realm) {
+        return Err(NoRetry::SameCredentials);
+    }
+    let anonymous = security_features(nonce.as_bytes()).is_some_and(
+        |features| features.username_anonymity,
+    );
+    Ok(Challenge::new(realm, nonce, list, algorithm, anonymous))
+}

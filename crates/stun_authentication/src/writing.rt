@@ -1,0 +1,70 @@
+//! Adding attributes to a message, and its end: the integrity attribute and the FINGERPRINT.
+
+ghost use Rattle.std.specs.Prelude.{◌≡◌, ◌≤◌, ◌<◌, ◌^◌, ◌∷◌, [], false, length};
+ghost use Rattle.stun_grammar.specs.Attributes.{canonical};
+ghost use Rattle.stun_grammar.specs.AttributeTypes.{IsOrdinary, is_ending};
+ghost use Rattle.stun_grammar.specs.Hmac.{digest_length};
+ghost use Rattle.stun_keys.specs.Keys.{key_bytes};
+ghost use Rattle.stun_authentication.specs.Writing.{Lengthens, Finishes, finished, signed, print_sizes};
+
+use stun_types::attribute::AttributeType;
+use stun_types::message::{IntegrityAlgorithm, IntegrityKey, StunWriteError};
+use stun_types::prelude::*;
+
+/// Adds an attribute.
+#[tactic(auto, using(crate::proofs::AddedLemmas::added))]
+pub(crate) fn add_one<B: MessageWrite>(
+    attribute: &dyn AttributeWrite,
+    write: &mut B,
+) -> Result<(), StunWriteError>
+    requires { IsOrdinary (atype attribute.now) }
+    ensures { Lengthens result (B.state write.old) (B.state write.new)
+        (canonical (atype attribute.now) (value attribute.now) ∷ []) }
+{
+    write.add_attribute(attribute)
+}
+
+/// Adds an attribute of an ordinary type, by its type and its value.
+pub(crate) fn add_bytes<B: MessageWrite>(
+    atype: AttributeType,
+    value: &[u8],
+    write: &mut B,
+) -> Result<(), StunWriteError>
+    requires ordinary { is_ending atype.0 ≡ false }
+    requires number { atype.0 < 2 ^ 16 }
+    requires short { length value.now ≤ 65535 }
+    ensures { Lengthens result (B.state write.old) (B.state write.new)
+        (canonical atype.0 value.now ∷ []) }
+{
+    write.add_value(atype, value)
+}
+
+/// Adds a FINGERPRINT, if one is wanted.
+pub(crate) fn add_print<B: MessageWrite>(wanted: bool, write: &mut B) -> Result<(), StunWriteError>
+    ensures { Finishes result (B.state write.old) (B.state write.new) (finished wanted)
+        (print_sizes wanted) }
+{
+    if wanted {
+        return write.add_fingerprint();
+    }
+    Ok(())
+}
+
+/// Signs a message, and adds a FINGERPRINT, if one is wanted.
+pub(crate) fn finish<B: MessageWrite>(
+    key: &IntegrityKey,
+    algorithm: IntegrityAlgorithm,
+    fingerprint: bool,
+    write: &mut B,
+) -> Result<(), StunWriteError>
+    ensures { let key = key_bytes key.now in
+        Finishes result (B.state write.old) (B.state write.new)
+        (λ kind id before. finished fingerprint kind id (signed kind id before algorithm key))
+        (digest_length algorithm ∷ print_sizes fingerprint) }
+{
+    write.add_message_integrity_with_key(key, algorithm)?;
+    if fingerprint {
+        write.add_fingerprint()?;
+    }
+    Ok(())
+}

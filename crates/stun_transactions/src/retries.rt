@@ -1,0 +1,58 @@
+//! How often a request is sent again since a server asks for credentials.
+
+/// How often a client sends one request again, each time in a new transaction, since the server asks
+/// for credentials. A server, or whoever is on the way, may answer 438 without end, and each time RFC
+/// 8489, section 9.2.5, has the client send again: this says when it is enough.
+///
+/// ```
+/// let mut retries = Retries::default();
+/// if !retries.take() {
+///     return Err(Error::TooManyChallenges);
+/// }
+/// ```
+#[derive(Clone, Copy, Debug, PartialEq, Eq)]
+pub struct Retries {
+    left: u32,
+}
+
+impl Default for Retries {
+    ghost use Rattle.std.specs.Prelude.{◌≡◌};
+
+    ghost is_default = { λ retries. retries.left ≡ 3 };
+
+    /// Three: for the 401 that brings a nonce, for one 438, and for one more.
+    fn default() -> Self {
+        Retries { left: 3 }
+    }
+}
+
+impl Retries {
+    ghost use Rattle.std.specs.Prelude.{◌≡◌, ◌-◌, nat_lt};
+
+    /// At most so many.
+    pub fn new(most: u32) -> Retries
+        ensures { result.left ≡ most }
+    {
+        Retries { left: most }
+    }
+
+    /// How many are left.
+    pub fn left(&self) -> u32
+        ensures { result ≡ self.now.left }
+    {
+        self.left
+    }
+
+    /// Takes one, if one is left, and returns whether there was one: only then the request is sent
+    /// again.
+    pub fn take(&mut self) -> bool
+        ensures taken { result ≡ nat_lt 0 self.old.left }
+        ensures left { self.new.left ≡ self.old.left - 1 }
+    {
+        if self.left == 0 {
+            return false;
+        }
+        self.left -= 1;
+        true
+    }
+}

@@ -1,0 +1,53 @@
+//! What a STUN usage specifies.
+
+ghost use Rattle.std.specs.Prelude.{◌≡◌};
+ghost use Rattle.stun_types.specs.Message.{message_bytes};
+ghost use Rattle.stun_transactions.specs.Usages.{lacks_fingerprint};
+
+use stun_types::attribute::{AttributeStaticType, Fingerprint};
+use stun_types::message::Message;
+
+/// What a STUN usage specifies of the responses that a client takes: that of ICE's checks, of TURN,
+/// or of NAT discovery.
+///
+/// `Usage::default()` is what RFC 8489 says where a usage says nothing: a MESSAGE-INTEGRITY-SHA256 of
+/// 32 bytes alone, and no need of FINGERPRINT.
+///
+/// ```
+/// let ice = Usage { fingerprint: true, ..Usage::default() };
+/// ```
+#[derive(Clone, Copy, Debug, PartialEq, Eq)]
+pub struct Usage {
+    /// How many bytes a MESSAGE-INTEGRITY-SHA256 has at least. A usage may say 16, 20, 24 or 28;
+    /// otherwise it is 32 (section 14.6).
+    pub shortest: usize,
+    /// Whether the usage sends FINGERPRINT, as ICE does: a response without one is discarded
+    /// (sections 6.3 and 7).
+    pub fingerprint: bool,
+}
+
+impl Default for Usage {
+    ghost use Rattle.std.specs.Prelude.{◌≡◌, false};
+
+    ghost is_default = { λ usage. (usage.shortest ≡ 32) × (usage.fingerprint ≡ false) };
+
+    fn default() -> Self {
+        Usage {
+            shortest: 32,
+            fingerprint: false,
+        }
+    }
+}
+
+impl Usage {
+    ghost use Rattle.std.specs.Prelude.{◌≡◌};
+    ghost use Rattle.stun_types.specs.Message.{message_bytes};
+    ghost use Rattle.stun_transactions.specs.Usages.{lacks_fingerprint};
+
+    /// Whether the usage sends FINGERPRINT, and a message shows none.
+    pub(crate) fn lacks_fingerprint(self, message: &Message<'_>) -> bool
+        ensures { result ≡ lacks_fingerprint self (message_bytes message.now) }
+    {
+        self.fingerprint && !message.has_attribute(Fingerprint::TYPE)
+    }
+}
