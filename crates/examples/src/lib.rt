@@ -2,9 +2,11 @@
 #![tactic(auto)]
 
 pub mod client;
+pub mod ice;
 pub mod login;
 pub mod own;
 pub mod printer;
 pub mod stream;
 #[cfg(test)]
 mod tests;
+pub mod turn;

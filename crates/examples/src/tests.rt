@@ -1,19 +1,24 @@
 //! The examples at work, on bytes that other implementations wrote: one test a module.
 
+mod exchanges;
 mod vectors;
 
 use crate::client::{mapped_address, request_in, signed_request};
+use crate::ice::Agent;
 use crate::login::login_request;
 use crate::own::{Location, Session, Version};
-use crate::printer;
 use crate::stream::{first_message, requests_in};
+use crate::turn::{Received, Server};
+use crate::{ice, printer, turn};
+use ice_attrs::{Role, Ufrag};
 use std::net::{IpAddr, Ipv4Addr, SocketAddr};
 use std::test::Fail;
-use stun_authentication::challenge_of;
-use stun_framing::MessageStream;
+use stun_authentication::{NonceMaker, SecurityFeatures, challenge_of};
+use stun_framing::{Carries, MessageStream};
 use stun_types::attribute::PasswordAlgorithmValue;
 use stun_types::message::{
-    BINDING, Message, MessageClass, MessageType, MessageWriteVec, StunWriteError, TransactionId,
+    BINDING, IntegrityKey, LongTermCredentials, Message, MessageClass, MessageType,
+    MessageWriteVec, StunWriteError, TransactionId,
 };
 use stun_types::prelude::*;
 
@@ -140,5 +145,115 @@ fn stream_is_cut_into_messages(rt: HostRuntime) -> Result<(), Fail> {
     }
     assert!(rt; requests == 2 && messages.pending().is_empty());
     assert!(rt; requests_in(&mut messages, b"\xFF").is_err());
+    Ok(())
+}
+
+/// The agents of a session, each as it sees both; `evtj` has the greater tiebreaker.
+fn agents() -> Option<(Agent<'static>, Agent<'static>)> {
+    let first = (Ufrag::new("evtj")?, "VOkJxbRl1RmTxUk/WvJxBt");
+    let second = (Ufrag::new("h6vY")?, "KPKLPQPlb6g8DVIXiyRPqZ");
+    let tiebreaker = 0x932F_F9B1_5126_3B36;
+    let role = Role::Controlling;
+    let (own, peer) = (second, first);
+    let sender = Agent {
+        own,
+        peer,
+        role,
+        tiebreaker,
+    };
+    let receiver = Agent {
+        own: peer,
+        peer: own,
+        role: Role::Controlled,
+        tiebreaker: u64::MAX,
+    };
+    Some((sender, receiver))
+}
+
+#[test]
+fn agents_check_each_other(rt: HostRuntime) -> Result<(), Fail> {
+    let alloc = rt.alloc();
+    let (sender, mut receiver) = agents().ok_or("no agents")?;
+    let check = ice::check(alloc, 0xE51, &sender, 0x6EFF_FFFF, true)?;
+    assert!(rt; check.as_slice() == exchanges::CHECK.as_slice());
+    let check = Message::from_bytes(&exchanges::CHECK)?;
+    let reply = ice::answer(alloc, &mut receiver, &check, source())?;
+    assert!(rt; reply.is_some_and(|it| it.as_slice() == exchanges::CHECK_ANSWER.as_slice()));
+    receiver.role = Role::Controlling;
+    let reply = ice::answer(alloc, &mut receiver, &check, source())?;
+    assert!(rt; reply.is_some_and(|it| it.as_slice() == exchanges::CONFLICT.as_slice()));
+    assert!(rt; receiver.role == Role::Controlling);
+    receiver.tiebreaker = 1;
+    let reply = ice::answer(alloc, &mut receiver, &check, source())?;
+    assert!(rt; reply.is_some_and(|it| it.as_slice() == exchanges::CHECK_ANSWER.as_slice()));
+    assert!(rt; receiver.role == Role::Controlled);
+    Ok(())
+}
+
+#[test]
+fn client_allocates(rt: HostRuntime) -> Result<(), Fail> {
+    let alloc = rt.alloc();
+    let copy = |text| String::from_str(alloc, text);
+    let users = vec![in alloc; LongTermCredentials::new(copy("user")?, copy("pass")?)]?;
+    let secret = IntegrityKey::new(alloc, b"a secret that nobody else knows.", None)?;
+    let features = SecurityFeatures {
+        password_algorithms: true,
+        username_anonymity: false,
+    };
+    let nonces = NonceMaker::new(secret, features, 600);
+    let mut server = Server {
+        users: &users,
+        nonces: &nonces,
+        now: 1000,
+    };
+    let relayed = SocketAddr::new(IpAddr::V4(Ipv4Addr::new(192, 0, 2, 15)), 49152);
+    let login = ("user", "pass");
+    let first = turn::allocate_request(alloc, 0x7501, 600, None, login)?;
+    assert!(rt; first.as_slice() == exchanges::ALLOCATE.as_slice());
+    let first = Message::from_bytes(&exchanges::ALLOCATE)?;
+    let reply = turn::answer(alloc, &server, &first, source(), relayed)?;
+    assert!(rt; reply.is_some_and(|it| it.as_slice() == exchanges::CHALLENGED.as_slice()));
+    let response = Message::from_bytes(&exchanges::CHALLENGED)?;
+    let challenge = challenge_of(&response, &turn::ALGORITHMS, None, None);
+    let challenge = challenge.ok().ok_or("no challenge")?;
+    let second = turn::allocate_request(alloc, 0x7502, 600, Some(&challenge), login)?;
+    assert!(rt; second.as_slice() == exchanges::ALLOCATE_SIGNED.as_slice());
+    let second = Message::from_bytes(&exchanges::ALLOCATE_SIGNED)?;
+    server.now = 1600;
+    let reply = turn::answer(alloc, &server, &second, source(), relayed)?;
+    assert!(rt; reply.is_some_and(|it| it.as_slice() == exchanges::ALLOCATED.as_slice()));
+    server.now = 1601;
+    let reply = turn::answer(alloc, &server, &second, source(), relayed)?.ok_or("no reply")?;
+    assert!(rt; stun_authentication::response_code(&Message::from_bytes(&reply)?) == Some(438));
+    Ok(())
+}
+
+#[test]
+fn client_receives_both(rt: HostRuntime) -> Result<(), Fail> {
+    let mut bytes = Vec::from_slice(rt.alloc(), &exchanges::ALLOCATED)?;
+    bytes.extend_from_slice(b"\x40\x01\x00\x03abc\x00")?;
+    let mut buffer = [0; 128];
+    let mut stream = MessageStream::carrying(Carries::ChannelDataToo, &mut buffer);
+    let mut messages: usize = 0;
+    for piece in bytes.chunks(5) {
+        let mut rest = piece;
+        while !rest.is_empty() {
+            let taken = stream.push(rest)?;
+            rest = &rest[taken..];
+            match stream.message().and_then(turn::received) {
+                Some(Received::Message(message)) => {
+                    assert!(rt; message.as_bytes() == exchanges::ALLOCATED.as_slice());
+                    messages = messages.saturating_add(1);
+                }
+                Some(Received::Data(read)) => {
+                    assert!(rt; messages == 1 && read.channel().number() == 0x4001);
+                    assert!(rt; read.data() == b"abc".as_slice());
+                    messages = messages.saturating_add(1);
+                }
+                None => {}
+            }
+        }
+    }
+    assert!(rt; messages == 2 && stream.pending().is_empty());
     Ok(())
 }

@@ -1,2 +1,3 @@
 mod AddressErrorsLemmas
 mod ProtocolsLemmas
+pub mod FramedLemmas

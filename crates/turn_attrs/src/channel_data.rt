@@ -120,7 +120,8 @@ impl<'a> ChannelData<'a> {
     }
 
     /// Reads the message in a datagram, whose data it borrows. Up to three bytes may follow it, as
-    /// padding, and are ignored. On a stream cut it to [`channel_data_length`] first.
+    /// padding, and are ignored. On a stream `stun_framing::MessageStream::carrying` cuts it, or the
+    /// caller does, by [`channel_data_length`].
     ///
     /// # Errors
     ///

@@ -2,15 +2,19 @@
 //! that what is written is read back (`stun_kinds::fields_are_read_back`). Each function does
 //! nothing: its contract is the law.
 
-ghost use Rattle.std.specs.Prelude.{◌≡◌, ◌≤◌, ◌<◌, ◌^◌, ℕ, Bool, Some, Result, MatchResult};
+ghost use Rattle.std.specs.Prelude.{◌≡◌, ◌≤◌, ◌<◌, ◌^◌, ◌+◌, ℕ, Bool, List, length, None, Some, Result, IsTrue, MatchResult};
+ghost use Rattle.stun_framing.specs.Framing.{IsChannelData, begins_channel, channel_length};
 ghost use Rattle.stun_grammar.specs.declared.error.StunParseError.{StunParseError};
 ghost use Rattle.stun_grammar.specs.declared.error.StunParseError.TheVariants.{OutOfMemory};
 ghost use Rattle.stun_base.specs.declared.transport.AddressFamily.{AddressFamily};
 ghost use Rattle.stun_attributes.specs.ErrorCodes.{error_code, error_reason, IsError};
 ghost use Rattle.turn_attrs.specs.declared.address_error_code.AddressErrorCode.{AddressErrorCode};
+ghost use Rattle.turn_attrs.specs.declared.channel_data.ChannelData.{ChannelData};
 ghost use Rattle.turn_attrs.specs.declared.family.OnlyIpv6.{OnlyIpv6};
 ghost use Rattle.turn_attrs.specs.declared.icmp.IcmpError.{IcmpError};
-ghost use Rattle.turn_attrs.specs.Channels.{channel_in, channel_number};
+ghost use Rattle.stun_grammar.specs.Numbers.{padded_length};
+ghost use Rattle.turn_attrs.specs.ChannelMessages.{channel_fault, data_of, padded_bytes};
+ghost use Rattle.turn_attrs.specs.Channels.{channel_in, channel_number, begin_fault, data_length};
 ghost use Rattle.turn_attrs.specs.Turn.{address_error_value, failed_error, failed_family, family_in, family_number, icmp_in, icmp_number, ipv6_in, ipv6_number, protocol_in, protocol_number, reserve_in, reserve_number, ReadsAddressError};
 
 /// The number of a channel, a family, a flag, a protocol and an ICMP error holds it.
@@ -35,4 +39,16 @@ pub fn address_error_is_read_back()
         × IsError (error_code (failed_error attribute)) (error_reason (failed_error attribute))
         (failed_error read))
         (λ e. e ≡ OutOfMemory) }
+{}
+
+/// What a stream between a TURN client and its server cuts as ChannelData is read
+/// (`ChannelData::from_bytes`), and is as long as `channel_data_length` says; both know it by the
+/// same first byte; and what is written with its padding is ChannelData of such a stream.
+pub fn channel_data_is_framed()
+    ensures read { (size : ℕ) (m : List ℕ) → IsChannelData size m → channel_fault m ≡ None }
+    ensures long { (b : List ℕ) → channel_length b ≡ padded_length (4 + data_length b) }
+    ensures begins { (b : List ℕ) → begin_fault b ≡ None → IsTrue (begins_channel b) }
+    ensures written { (message : ChannelData) (size : ℕ) → 0x4000 ≤ message.channel
+        → message.channel ≤ 0x4FFF → length (data_of message) ≤ 65535
+        → length (padded_bytes message) ≤ size → IsChannelData size (padded_bytes message) }
 {}

@@ -31,7 +31,7 @@ pub use kinds::{
     RequestedAddressFamily, RequestedAddressFamilyKind, RequestedTransport, RequestedTransportKind,
     ReservationToken, ReservationTokenKind, XorRelayedAddress, XorRelayedAddressKind,
 };
-pub use laws::{address_error_is_read_back, fields_are_held};
+pub use laws::{address_error_is_read_back, channel_data_is_framed, fields_are_held};
 pub use protocols::{Protocol, protocol_of, stun_begins_low};
 pub use third_party::ThirdPartyAuthorization;
 pub use turn_basics::{DataKind, Lifetime, PeerData, XorPeerAddress, XorPeerAddressKind};
