@@ -147,7 +147,7 @@ pub fn answer(
 }
 
 /// What a client receives from its server over TCP, one after the other.
-pub enum Received<'a> {
+pub enum Incoming<'a> {
     /// A response or an indication.
     Message(Message<'a>),
     /// What a peer sent, on a channel.
@@ -155,11 +155,11 @@ pub enum Received<'a> {
 }
 
 /// What the bytes are that `MessageStream` cuts. `None` if they are neither.
-pub fn received(bytes: &[u8]) -> Option<Received<'_>> {
+pub fn received(bytes: &[u8]) -> Option<Incoming<'_>> {
     match ChannelData::from_bytes(bytes) {
-        Ok(read) => Some(Received::Data(read)),
+        Ok(read) => Some(Incoming::Data(read)),
         Err(_) => match Message::from_bytes(bytes) {
-            Ok(message) => Some(Received::Message(message)),
+            Ok(message) => Some(Incoming::Message(message)),
             Err(_) => None,
         },
     }
