@@ -10,10 +10,7 @@ use Rattle.discovery_attrs.specs.declared.change.Change.{Change}
 use Rattle.discovery_attrs.specs.declared.transmissions.Transmissions.{Transmissions}
 use Rattle.discovery_attrs.specs.declared.response_port.ResponsePort.{ResponsePort}
 
--- ---- Numbers of types
-
-abbrev pub MAPPED_ADDRESS : ℕ
-MAPPED_ADDRESS = 0x0001
+-- ---- Numbers of types. That of MAPPED-ADDRESS is in `AttributeTypes` of `stun_grammar`
 
 abbrev pub CHANGE_REQUEST : ℕ
 CHANGE_REQUEST = 0x0003

@@ -1,10 +1,11 @@
 //! The attribute types of this crate: their numbers (RFC 8489, section 18.3.1; RFC 5780, section
 //! 9.1; RFC 7982, section 4), a list of them, and their registration.
 
+use stun_grammar::attribute_types;
 use stun_types::attribute::AttributeType;
 
 /// MAPPED-ADDRESS.
-pub const MAPPED_ADDRESS: u16 = 0x0001;
+pub const MAPPED_ADDRESS: u16 = attribute_types::MAPPED_ADDRESS;
 
 /// CHANGE-REQUEST.
 pub const CHANGE_REQUEST: u16 = 0x0003;

@@ -14,7 +14,7 @@ pub enum MappedAddressKind {}
 
 impl AttributeKind for MappedAddressKind {
     ghost use Rattle.std.specs.Prelude.{codes};
-    ghost use Rattle.discovery_attrs.specs.Discovery.{MAPPED_ADDRESS};
+    ghost use Rattle.stun_grammar.specs.AttributeTypes.{MAPPED_ADDRESS};
 
     ghost NUMBER = { MAPPED_ADDRESS };
 

@@ -8,7 +8,7 @@ use crate::ice::Agent;
 use crate::login::login_request;
 use crate::own::{Location, Session, Version};
 use crate::stream::{first_message, requests_in};
-use crate::turn::{Received, Server};
+use crate::turn::{Incoming, Server};
 use crate::{ice, printer, turn};
 use ice_attrs::{Role, Ufrag};
 use std::net::{IpAddr, Ipv4Addr, SocketAddr};
@@ -241,11 +241,11 @@ fn client_receives_both(rt: HostRuntime) -> Result<(), Fail> {
             let taken = stream.push(rest)?;
             rest = &rest[taken..];
             match stream.message().and_then(turn::received) {
-                Some(Received::Message(message)) => {
+                Some(Incoming::Message(message)) => {
                     assert!(rt; message.as_bytes() == exchanges::ALLOCATED.as_slice());
                     messages = messages.saturating_add(1);
                 }
-                Some(Received::Data(read)) => {
+                Some(Incoming::Data(read)) => {
                     assert!(rt; messages == 1 && read.channel().number() == 0x4001);
                     assert!(rt; read.data() == b"abc".as_slice());
                     messages = messages.saturating_add(1);

@@ -1,6 +1,12 @@
 //! An allocation of TURN: a client that logs in, its server, which keeps no nonces (RFC 8656, sections
 //! 7.1 to 7.4), and what the client receives over TCP (section 12.5).
 
+ghost use Rattle.std.specs.Prelude.{◌≡◌};
+ghost use Rattle.stun_base.specs.MessageTypes.{class_of};
+ghost use Rattle.stun_base.specs.declared.message_type.MessageClass.TheVariants.{Request};
+ghost use Rattle.stun_grammar.specs.Headers.{type_field};
+ghost use Rattle.stun_types.specs.Message.{message_bytes};
+
 use std::alloc::Global;
 use std::net::SocketAddr;
 use stun_authentication::{
@@ -16,7 +22,8 @@ use stun_types::message::{
 };
 use stun_types::prelude::*;
 use turn_attrs::{
-    ChannelData, Lifetime, RequestedTransport, XorRelayedAddress, error_codes, methods,
+    ChannelData, Lifetime, RequestedTransport, XorRelayedAddress, allocation_lifetime, error_codes,
+    methods,
 };
 
 /// The password algorithms of client and server, the one that both prefer first.
@@ -27,6 +34,9 @@ pub const ALGORITHMS: [PasswordAlgorithmValue; 2] = [
 
 /// The realm of the server.
 const REALM: &str = "example.org";
+
+/// The most seconds for which the server keeps an allocation.
+const LIMIT: u32 = 3600;
 
 /// The number of UDP.
 const UDP: u8 = 17;
@@ -69,7 +79,9 @@ fn refused(
     request: &Message<'_>,
     client: SocketAddr,
     refusal: Refusal,
-) -> Result<Vec<u8>, StunWriteError> {
+) -> Result<Vec<u8>, StunWriteError>
+    requires { class_of (type_field (message_bytes request.now)) ≡ Request }
+{
     let nonce = server.nonces.make(alloc, server.now, &client)?;
     let algorithms = PasswordAlgorithms::new(alloc, &ALGORITHMS)?;
     let Ok(demand) = Demand::new(Realm::new(alloc, REALM)?, nonce, Some(algorithms)) else {
@@ -95,7 +107,9 @@ fn allocated(
     accepted: &Accepted,
     client: SocketAddr,
     relayed: SocketAddr,
-) -> Result<Vec<u8>, StunWriteError> {
+) -> Result<Vec<u8>, StunWriteError>
+    requires { class_of (type_field (message_bytes request.now)) ≡ Request }
+{
     let vector = MessageWriteVec::new(alloc);
     let id = request.transaction_id();
     let mut reply = match allocation_fault(alloc, request) {
@@ -108,7 +122,9 @@ fn allocated(
         None => {
             let mut reply = Message::builder_success(request, vector)?;
             reply.add_attribute(&XorRelayedAddress::new(relayed, id))?;
-            reply.add_attribute(&Lifetime::new(600))?;
+            let requested = request.attribute::<Lifetime>(alloc).ok();
+            let seconds = allocation_lifetime(requested.map(|it| it.seconds()), LIMIT);
+            reply.add_attribute(&Lifetime::new(seconds))?;
             reply.add_attribute(&XorMappedAddress::new(client, id))?;
             reply
         }
@@ -147,7 +163,7 @@ pub fn answer(
 }
 
 /// What a client receives from its server over TCP, one after the other.
-pub enum Received<'a> {
+pub enum Incoming<'a> {
     /// A response or an indication.
     Message(Message<'a>),
     /// What a peer sent, on a channel.
@@ -155,11 +171,11 @@ pub enum Received<'a> {
 }
 
 /// What the bytes are that `MessageStream` cuts. `None` if they are neither.
-pub fn received(bytes: &[u8]) -> Option<Received<'_>> {
+pub fn received(bytes: &[u8]) -> Option<Incoming<'_>> {
     match ChannelData::from_bytes(bytes) {
-        Ok(read) => Some(Received::Data(read)),
+        Ok(read) => Some(Incoming::Data(read)),
         Err(_) => match Message::from_bytes(bytes) {
-            Ok(message) => Some(Received::Message(message)),
+            Ok(message) => Some(Incoming::Message(message)),
             Err(_) => None,
         },
     }

@@ -3,3 +3,4 @@ pub mod Channels
 pub mod Protocols
 pub mod Reasons
 pub mod Turn
+pub mod Lifetimes

@@ -14,6 +14,7 @@ mod family;
 mod icmp;
 mod kinds;
 mod laws;
+mod lifetimes;
 pub mod methods;
 mod protocols;
 mod third_party;
@@ -32,6 +33,7 @@ pub use kinds::{
     ReservationToken, ReservationTokenKind, XorRelayedAddress, XorRelayedAddressKind,
 };
 pub use laws::{address_error_is_read_back, channel_data_is_framed, fields_are_held};
+pub use lifetimes::{DEFAULT_LIFETIME, allocation_lifetime, refresh_lifetime};
 pub use protocols::{Protocol, protocol_of, stun_begins_low};
 pub use third_party::ThirdPartyAuthorization;
 pub use turn_basics::{DataKind, Lifetime, PeerData, XorPeerAddress, XorPeerAddressKind};
