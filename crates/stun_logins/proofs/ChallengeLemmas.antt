@@ -35,7 +35,7 @@ use Rattle.stun_attributes.specs.Passwords.{held_algorithms}
 use Rattle.stun_attributes.specs.Texts.{text_bytes}
 use Rattle.stun_authentication.specs.declared.challenge.NoRetry.TheVariants.{NotAChallenge, BidDown, Incomplete, NoAlgorithm, SameCredentials}
 use Rattle.stun_authentication.specs.Answers.{refusal_code, refusal_reason}
-use Rattle.stun_authentication.specs.Challenges.{Asked, list_of, is_bid_down, lost_list, text_in, text_of, selected, repeats, by_credentials, by_algorithm, by_texts, by_list, challenge_of, asked_for}
+use Rattle.stun_authentication.specs.Challenges.{list_of, is_bid_down, lost_list, text_in, text_of, selected, repeats, by_credentials, by_algorithm, by_texts, by_list, challenge_of}
 use Rattle.stun_authentication.specs.Codes.{value_code, code_by_class, response_code, is_code, is_challenge}
 use Rattle.stun_authentication.specs.Cookies.{promises_algorithms, security_features, is_anonymous}
 use Rattle.stun_authentication.specs.Identities.{value_of}
@@ -133,8 +133,8 @@ listed_is (Some a) = refl
 pub same_written : (refusal : Refusal) (demand : Demand) → asks refusal ≡ true → refusal_attributes refusal (Some demand) ≡ written (code_value refusal) (text_bytes demand.realm) (text_bytes demand.nonce) (offered_list (offer_of demand))
 unfolding code_value
 same_written BadRequest demand e = absurd cc
-same_written Unauthenticated demand e = ap (λ (l : List Attribute). canonical ERROR_CODE (error_value 401 (default_reason 401)) ∷ canonical REALM (text_bytes demand.realm) ∷ canonical NONCE (text_bytes demand.nonce) ∷ l) (listed_is demand.algorithms)
-same_written StaleNonce demand e = ap (λ (l : List Attribute). canonical ERROR_CODE (error_value 438 (default_reason 438)) ∷ canonical REALM (text_bytes demand.realm) ∷ canonical NONCE (text_bytes demand.nonce) ∷ l) (listed_is demand.algorithms)
+same_written Unauthenticated demand e = ap (λ (l : List Attribute). canonical ERROR_CODE (error_value 401 (refusal_reason Unauthenticated)) ∷ canonical REALM (text_bytes demand.realm) ∷ canonical NONCE (text_bytes demand.nonce) ∷ l) (listed_is demand.algorithms)
+same_written StaleNonce demand e = ap (λ (l : List Attribute). canonical ERROR_CODE (error_value 438 (refusal_reason StaleNonce)) ∷ canonical REALM (text_bytes demand.realm) ∷ canonical NONCE (text_bytes demand.nonce) ∷ l) (listed_is demand.algorithms)
 
 -- ---- What is read
 

@@ -1,19 +1,16 @@
 -- A message with credentials may be written.
-use Rattle.std.proofs.Common.{◌≡◌, ℕ, ◌^◌, ◌<◌, Bool, true, false, eqb, ◌||◌, List, [], ◌∷◌, ◌++◌, length, Option, Some, None, refl, sym, ap, subst, ◌∙◌, append_assoc, arith}
-use Rattle.std.specs.Prelude.{find}
+use Rattle.std.proofs.Common.{◌≡◌, ℕ, ◌^◌, ◌<◌, Bool, true, false, eqb, List, [], ◌∷◌, ◌++◌, length, None, refl, sym, ap, subst, ◌∙◌, append_assoc, arith}
 use Rattle.std.specs.List.{AllByRecursion, list_any}
-use Rattle.std.specs.Option.{option_or}
-use Rattle.std.proofs.lemmas.Bool.{or_parts, or_from, cond-false, eq-eqb, ne_eqb}
+use Rattle.std.proofs.lemmas.Bool.{or_parts, or_from, ne_eqb}
 use Rattle.std.proofs.lemmas.List.{length-append, map-append, append-nil}
-use Rattle.std.proofs.lemmas.List.Folds.{list_any-append, find-append}
+use Rattle.std.proofs.lemmas.List.Folds.{list_any-append}
 use Rattle.std.proofs.lemmas.List.Concat.{flat_map-append}
-use Rattle.stun_grammar.specs.declared.integrity_algorithm.IntegrityAlgorithm.TheVariants.{Sha1, Sha256}
 use Rattle.stun_grammar.specs.Adding.{first_of}
 use Rattle.stun_grammar.specs.Attributes.{Attribute, canonical, encoding, encodings, types}
-use Rattle.stun_grammar.specs.AttributeTypes.{MESSAGE_INTEGRITY, MESSAGE_INTEGRITY_SHA256, FINGERPRINT, is_ending, IsOrdinary}
+use Rattle.stun_grammar.specs.AttributeTypes.{is_ending}
 use Rattle.stun_grammar.specs.ScannedOrder.{has}
 use Rattle.stun_grammar.specs.Writing.{message_encoding, IsWritable}
-use Rattle.stun_grammar.specs.Steps.{Step, add, sign, finger, appended_by, with_step, barring_types, IsEncodable, IsOrdinaryStep}
+use Rattle.stun_grammar.specs.Steps.{Step, add, appended_by, with_step, barring_types, IsEncodable, IsOrdinaryStep}
 use Rattle.stun_grammar.proofs.AddingRefusedLemmas.{accepted_unbounded}
 use Rattle.stun_grammar.proofs.StepsLemmas.{length-with_step, step_writable}
 use Rattle.stun_grammar.proofs.WritingLemmas.{length-message}
