@@ -7,7 +7,7 @@ use Rattle.stun_grammar.specs.declared.integrity_algorithm.IntegrityAlgorithm.Th
 use Rattle.stun_grammar.specs.AttributeTypes.{MESSAGE_INTEGRITY, MESSAGE_INTEGRITY_SHA256}
 use Rattle.stun_grammar.specs.Verdicts.{is_checked_type, verdict}
 use Rattle.stun_keys.specs.declared.keys.integrity_key.IntegrityKey.{IntegrityKey}
-use Rattle.stun_keys.specs.Keys.{key_bytes, key_algorithm, IsKey}
+use Rattle.stun_keys.specs.Keys.{key_bytes, key_algorithm, is_prepared, IsKey}
 use Rattle.stun_read.specs.LookingUp.{nth}
 use Rattle.stun_authentication.specs.Challenges.{is_bid_down}
 use Rattle.stun_authentication.specs.Codes.{response_code, is_code, is_challenge}
@@ -69,6 +69,13 @@ HasSameKey (ShortTerm key) (ShortTerm other) = IsKey (key_algorithm key) (key_by
 HasSameKey (ShortTerm key) _ = ⊥
 HasSameKey (LongTerm key) (LongTerm other) = IsKey (key_algorithm key) (key_bytes key) other
 HasSameKey (LongTerm key) _ = ⊥
+
+-- whether the key, if there is one, keeps what its HMACs begin with
+abbrev pub has_prepared_key : Protection → Bool
+has_prepared_key Unprotected = true
+has_prepared_key FirstLongTerm = true
+has_prepared_key (ShortTerm key) = is_prepared key
+has_prepared_key (LongTerm key) = is_prepared key
 
 -- ---- Which attribute authenticates a response
 

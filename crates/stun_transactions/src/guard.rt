@@ -139,9 +139,9 @@ fn long_term_fault(authentic: bool, message: &Message<'_>) -> Option<Discard>
 }
 
 impl Protection {
-    ghost use Rattle.std.specs.Prelude.{◌≡◌, None, Some, IfErr, MatchResult};
+    ghost use Rattle.std.specs.Prelude.{◌≡◌, true, None, Some, IfErr, OnOk, MatchResult};
     ghost use Rattle.stun_types.specs.Message.{message_bytes};
-    ghost use Rattle.stun_transactions.specs.Guards.{proof_of, mechanism_fault, guard_fault, protects, IsKeptAs, HasSameKey};
+    ghost use Rattle.stun_transactions.specs.Guards.{proof_of, mechanism_fault, guard_fault, protects, IsKeptAs, HasSameKey, has_prepared_key};
     ghost use Rattle.stun_transactions.specs.Parts.{mechanism_of, key_in, key_fault};
 
     /// What a transaction keeps of it, to validate responses: a long-term key works with both
@@ -196,6 +196,7 @@ impl Protection {
     /// `OutOfMemory` alone. The protection works as before.
     pub fn prepare(&mut self, alloc: Global) -> Result<(), StunWriteError>
         ensures same { HasSameKey self.old self.new }
+        ensures prepared { OnOk result (has_prepared_key self.new ≡ true) }
         ensures err { IfErr result (λ e. e ≡ StunWriteError.OutOfMemory) }
     {
         match self {

@@ -29,7 +29,8 @@ pub struct Transaction {
 }
 
 impl Transaction {
-    ghost use Rattle.std.specs.Prelude.{◌≡◌, None, Some, IfErr, MatchResult};
+    ghost use Rattle.std.specs.Prelude.{◌≡◌, true, None, Some, IfErr, OnOk, MatchResult};
+    ghost use Rattle.stun_transactions.specs.Guards.{has_prepared_key};
     ghost use Rattle.stun_types.specs.Message.{message_bytes};
     ghost use Rattle.stun_transactions.specs.Retransmissions.{Polls, is_ready, ended_by, stopped_by, TellsTime};
     ghost use Rattle.stun_transactions.specs.Outcomes.{outcome_of, Holds, after};
@@ -78,6 +79,7 @@ impl Transaction {
     pub fn prepare(&mut self, alloc: Global) -> Result<(), StunWriteError>
         ensures terms { AreSameTerms (terms_of self.old) (terms_of self.new) }
         ensures state { state_of self.new ≡ state_of self.old }
+        ensures prepared { OnOk result (has_prepared_key (terms_of self.new).protection ≡ true) }
         ensures err { IfErr result (λ e. e ≡ StunWriteError.OutOfMemory) }
     {
         self.terms.protection.prepare(alloc)
