@@ -33,10 +33,6 @@ pub stated_is : (room : Room) (m : List ℕ) → IsMessage room m → length m �
 stated_is room m (inl is) = is.whole ∙ sym (stun_length m (stun_apart room.size m is))
 stated_is room m (inr (there, is)) = is.whole ∙ sym (channel_stated m is.channel)
 
-message_fits : (room : Room) (m : List ℕ) → IsMessage room m → length m ≤ room.size
-message_fits room m (inl is) = is.fits
-message_fits room m (inr (there, is)) = is.fits
-
 either_in : (room : Room) (m : List ℕ) → IsMessage room m → begins_either room.carries m ≡ true
 either_in room m (inl is) = either_stun room.carries m (stun_begins room.size m is)
 either_in room m (inr (there, is)) = either_channel room.carries m there is.channel

@@ -58,10 +58,6 @@ channel_high (x ∷ b) e = elim (cases_lt x 64) [
   | inr high ↦ rw (le-ltb x 64 high) refl
 ]
 
-channel_some : (b : List ℕ) → begins_channel b ≡ true → 1 ≤ length b
-channel_some [] e = absurd cc
-channel_some (x ∷ b) e = omega arith
-
 pub begun_is_stun : (b : List ℕ) → begins b ≡ true → begins_channel b ≡ false
 begun_is_stun b begun = elim (cases_Bool (begins_channel b)) [
   | inr stun ↦ stun

@@ -6,9 +6,9 @@ use Rattle.std.proofs.Math.Seq.{take-append-add}
 use Rattle.stun_framing.specs.declared.error.StreamFault.{StreamFault}
 use Rattle.stun_framing.specs.declared.gather.Kept.{Kept}
 use Rattle.stun_framing.specs.declared.carries.Carries.{Carries}
-use Rattle.stun_framing.specs.Framing.{Room, room_of, stream_fault}
-use Rattle.stun_framing.specs.Gathering.{wanted_for, IsKept, HoldsStart, HoldsFirst, Refuses}
-use Rattle.stun_framing.proofs.FramingLemmas.{fault_grows, wanted_four, wanted_stays, first_sound, kept_of}
+use Rattle.stun_framing.specs.Framing.{room_of, stream_fault}
+use Rattle.stun_framing.specs.Gathering.{wanted_for, HoldsStart, HoldsFirst, Refuses}
+use Rattle.stun_framing.proofs.FramingLemmas.{fault_grows, wanted_four, first_sound, kept_of}
 
 -- bytes between the first ones of a list and its last ones
 pub behind_first : (old bytes rest : List ℕ) (held count : ℕ) → held ≤ length old → length bytes ≡ count → take (held + count) (take held old ++ bytes ++ rest) ≡ take held old ++ bytes
@@ -59,12 +59,6 @@ first_refused carries old new piece held count n fault bytes kept e =
       fault_is = ap (stream_fault room) (sym (take-append-drop n b)) ∙ fault_grows room (take n b) (drop n b) fault (ap (stream_fault room) (sym bytes) ∙ e);
       kept = kept;
     }
-
--- how many bytes are wanted doesn't change by a piece
-pub wanted_goes_on : (room : Room) (old piece : List ℕ) (held wanted : ℕ) → 4 ≤ held → held ≤ length old → IsKept room (take held old) wanted
-    → wanted ≡ wanted_for (take held old ++ piece)
-wanted_goes_on room old piece held wanted least within kept =
-    kept.wanted_is ∙ sym (wanted_stays (take held old) piece (omega (arith, length-take held old)))
 
 -- what is wanted of b is there, as far as b has it
 pub gathered : (carries : Carries) (old new piece : List ℕ) (held wanted now : ℕ) → length new ≡ length old → wanted ≡ wanted_for (take held old ++ piece)
