@@ -154,9 +154,6 @@ record IsProcessed (state : Known) (nonce d : List ℕ) (list : Option (List ℕ
   key_by : password_algorithm hashing ≡ a
   reply_by : reply_algorithm hashing ≡ signing_by list
 
-encoded_of : Option (List PasswordAlgorithmValue) → Option (List ℕ)
-encoded_of algorithms = option_map (λ xs. algorithms_encoding xs) algorithms
-
 processed : IsFirst → (supported : List PasswordAlgorithmValue) (d : List ℕ) (before : List Attribute) (who : Who) (realm nonce : List ℕ) (algorithms : Option (List PasswordAlgorithmValue)) (a : PasswordAlgorithmValue)
     → Shows d before (parts who realm nonce (option_map (λ xs. algorithms_encoding xs) algorithms) a) → promises_algorithms nonce ≡ is_some algorithms → selected supported (option_map (λ xs. algorithms_encoding xs) algorithms) ≡ Some a
     → IsProcessed (valid (sent_with algorithms)) nonce d (option_map (λ xs. algorithms_encoding xs) algorithms) a
