@@ -264,7 +264,7 @@ static void check_validation(const uint8_t *bytes, size_t length) {
 
 static void check_login(const uint8_t *bytes, size_t length, const model_list *shown,
                         stun_types_answer parsed) {
-    static const stun_types_policy policy = {STUN_TYPES_ANY, 16};
+    static const stun_types_policy policy = {STUN_TYPES_ANY, 16, 0};
     stun_types_authentication told;
     uint32_t algorithm = 0;
     size_t i;
@@ -279,7 +279,8 @@ static void check_login(const uint8_t *bytes, size_t length, const model_list *s
     HOLDS((told.kind == STUN_TYPES_ACCEPTED) == (is_named && is_authentic && !is_response));
     if (told.kind == STUN_TYPES_ACCEPTED)
         HOLDS(told.algorithm == algorithm && told.reply_algorithm == algorithm);
-    else if (is_response || (bytes[1] & 0x10) != 0) HOLDS(told.kind == STUN_TYPES_DISCARDED);
+    else if (is_response) HOLDS(told.kind == STUN_TYPES_NOT_A_REQUEST);
+    else if ((bytes[1] & 0x10) != 0) HOLDS(told.kind == STUN_TYPES_DISCARDED);
     else
         HOLDS(told.kind == STUN_TYPES_REFUSED
               && (told.error_code == 400 || told.error_code == 401));

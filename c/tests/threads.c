@@ -71,7 +71,7 @@ static void validate(signed_message *made) {
 }
 
 static void serve(signed_message *made, const stun_types_key *key) {
-    const stun_types_policy policy = {STUN_TYPES_ANY, 16};
+    const stun_types_policy policy = {STUN_TYPES_ANY, 16, 0};
     const uint16_t no_algorithms[1] = {0};
     made->short_term = stun_types_authenticate_short_term(made->message, made->length, &policy, key,
                                                           &made->by_short_term);

@@ -55,17 +55,19 @@ static size_t user_of(slice message) {
     return COUNT(users);
 }
 
-/* The policy of `ALGORITHM:LENGTH`. */
+/* The policy of `ALGORITHM:LENGTH` or `ALGORITHM:LENGTH:fingerprint`. */
 static stun_types_policy call_policy(void) {
     char *word = call_word();
     char *algorithm = next_part(&word, ':');
-    stun_types_policy policy = {0, 0};
-    if (word == NULL) {
+    char *length = word == NULL ? NULL : next_part(&word, ':');
+    stun_types_policy policy = {0, 0, 0};
+    if (length == NULL) {
         answer_unknown();
         return policy;
     }
     policy.algorithm = algorithm_of(algorithm);
-    policy.shortest = (uint32_t)strtoul(word, NULL, 10);
+    policy.shortest = (uint32_t)strtoul(length, NULL, 10);
+    policy.fingerprint = word != NULL;
     return policy;
 }
 
@@ -100,7 +102,7 @@ static void answer_accepted(slice request, const stun_types_key *key, uint32_t a
 /* The reply to a request that is refused. A 401 and a 438 of long-term credentials carry the realm
    and a nonce. */
 static void answer_refused(slice request, uint32_t code, const slice *fresh) {
-    const char *reason = code == 400 ? "Bad Request" : code == 401 ? "Unauthorized" : "Stale Nonce";
+    const char *reason = code == 400 ? "Bad Request" : code == 401 ? "Unauthenticated" : "Stale Nonce";
     draft to;
     ANSWERS(draft_reply(&to, ROOM, request, STUN_TYPES_ERROR), OK_ANSWER);
     ANSWERS(stun_types_add_error(to.room, to.size, &to.written, (uint16_t)code, reason,
@@ -122,6 +124,7 @@ static void answer_refused(slice request, uint32_t code, const slice *fresh) {
 static void answer_decision(slice message, const stun_types_authentication *decision,
                             const stun_types_key *key, const slice *fresh) {
     if (decision->kind == STUN_TYPES_DISCARDED) answer_text("discarded");
+    else if (decision->kind == STUN_TYPES_NOT_A_REQUEST) answer_text("not-a-request");
     else if (decision->kind == STUN_TYPES_REFUSED) {
         answer_text("refused %u ", (unsigned)decision->error_code);
         answer_refused(message, decision->error_code, fresh);

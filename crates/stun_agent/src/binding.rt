@@ -117,7 +117,14 @@ fn sent(bytes: &[u8], login: Option<Login>) -> Result<Transaction, AllocError>
     let schedule = Schedule::new_default();
     let protection = protection(login);
     let (usage, now) = (Usage::default(), Duration::ZERO);
-    match Transaction::new(&request, schedule, TransportType::Udp, protection, usage, now) {
+    match Transaction::new(
+        &request,
+        schedule,
+        TransportType::Udp,
+        protection,
+        usage,
+        now,
+    ) {
         Ok(transaction) => polled(transaction),
         Err(_) => Err(AllocError),
     }

@@ -21,7 +21,7 @@ use Rattle.std.proofs.lemmas.List.Sums.{fold-append}
 use Rattle.stun_grammar.specs.Numbers.{be64, number, IsBytes}
 use Rattle.stun_authentication.specs.Cookies.{cookie, four_characters}
 use Rattle.stun_authentication.specs.declared.nonces.Freshness.TheVariants.{Fresh, Stale, Unknown}
-use Rattle.stun_authentication.specs.Nonces.{digit, digits, digit_of, hexed, unhexed, Minting, minted, minted_mac, told_time, aged, freshness, is_qdtext}
+use Rattle.stun_authentication.specs.Nonces.{digit, digit_of, hexed, unhexed, Minting, minted, minted_mac, told_time, aged, freshness, is_qdtext}
 
 -- ---- Hexadecimal
 

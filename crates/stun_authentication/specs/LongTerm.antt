@@ -1,6 +1,6 @@
 -- A server's checks by the long-term credential mechanism, in their order (RFC 8489, section
 -- 9.2.4). Each row answers, or hands on to the next.
-use Rattle.std.specs.Prelude.{ℕ, Bool, true, false, List, ◌∷◌, [], Option, None, Some, nat_eq, if◌then◌else◌, option_and_then}
+use Rattle.std.specs.Prelude.{ℕ, Bool, true, false, ◌&&◌, is_some, List, ◌∷◌, [], Option, None, Some, nat_eq, if◌then◌else◌, option_and_then}
 use Rattle.std.specs.Cmp.Lexicographic.{pointwise}
 use Rattle.std.specs.Option.{option_map, option_map_or}
 use Rattle.stun_grammar.specs.declared.integrity_algorithm.IntegrityAlgorithm.{IntegrityAlgorithm}
@@ -127,6 +127,13 @@ by_attribute policy realm nonces keys d =
 abbrev pub is_request : MessageClass → Bool
 is_request Request = true
 is_request _ = false
+
+-- whether the checks come to the user, so that a key is looked up
+abbrev pub needs_key : Policy → (nonces : List ℕ → Known) → List ℕ → Bool
+needs_key policy nonces d =
+    is_taken policy d && (is_request (class_of (type_field d)) && (is_signed policy d
+    && option_map_or (λ names. is_some (hashing_of (nonces names.nonce) names.nonce d)) (names_of d)
+    false))
 
 -- the class: the mechanism protects requests alone (section 9.2)
 abbrev pub by_class : Policy → List ℕ → (nonces : List ℕ → Known)

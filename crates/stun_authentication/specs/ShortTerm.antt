@@ -1,6 +1,6 @@
 -- A server's checks by the short-term credential mechanism, in their order (RFC 8489, section
 -- 9.1.3). Each row answers, or hands on to the next.
-use Rattle.std.specs.Prelude.{ℕ, List, Option, if◌then◌else◌}
+use Rattle.std.specs.Prelude.{ℕ, Bool, ◌&&◌, not, is_some, List, Option, if◌then◌else◌}
 use Rattle.std.specs.Option.{option_map_or}
 use Rattle.stun_grammar.specs.AttributeTypes.{USERNAME}
 use Rattle.stun_grammar.specs.Headers.{type_field}
@@ -34,6 +34,12 @@ by_attributes policy keys d =
     if is_signed policy d then
     option_map_or (λ user. by_user policy keys user d) (value_of d USERNAME) (reject d BadRequest)
     else reject d BadRequest
+
+-- whether the checks come to the user, so that a key is looked up
+abbrev pub needs_key : Policy → List ℕ → Bool
+needs_key policy d =
+    is_taken policy d && (not (is_response (class_of (type_field d))) && (is_signed policy d
+    && is_some (value_of d USERNAME)))
 
 -- the class: a response is no server's to check
 abbrev pub by_class : Policy → (keys : List ℕ → Option (List ℕ)) → List ℕ → Decision

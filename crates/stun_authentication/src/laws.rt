@@ -1,6 +1,7 @@
 //! Laws of authentication. Each function does nothing: its contract is the law.
 
-ghost use Rattle.std.specs.Prelude.{◌≡◌, ℕ, ◌++◌, List, Option, Some, None};
+ghost use Rattle.std.specs.Prelude.{◌≡◌, ◌≢◌, ◌<◌, ◌≤◌, ◌+◌, ◌^◌, ℕ, ◌++◌, List, length, true, Option, Some, None};
+ghost use Rattle.std.specs.List.{AllByRecursion};
 ghost use Rattle.stun_grammar.specs.declared.integrity_algorithm.IntegrityAlgorithm.{IntegrityAlgorithm};
 ghost use Rattle.stun_grammar.specs.Accepting.{IsAuthentic, IsAuthenticThrough};
 ghost use Rattle.stun_grammar.specs.Numbers.{IsBytes};
@@ -8,6 +9,10 @@ ghost use Rattle.stun_grammar.specs.Parsing.{parse_fault};
 ghost use Rattle.stun_values.specs.declared.algorithm.PasswordAlgorithmValue.{PasswordAlgorithmValue};
 ghost use Rattle.stun_authentication.specs.declared.cookie.SecurityFeatures.{SecurityFeatures};
 ghost use Rattle.stun_authentication.specs.declared.policy.Policy.{Policy};
+ghost use Rattle.stun_authentication.specs.declared.nonces.Freshness.TheVariants.{Fresh, Stale, Unknown};
+ghost use Rattle.stun_values.specs.TextValues.{text_max, text_fault};
+ghost use Rattle.stun_authentication.specs.Nonces.{Minting, minted, minted_mac, told_time, freshness, is_qdtext};
+ghost use Rattle.stun_authentication.specs.Accepted.{IsUsers, IsLogin};
 ghost use Rattle.stun_authentication.specs.Answers.{accept};
 ghost use Rattle.stun_authentication.specs.Cookies.{cookie, security_features};
 ghost use Rattle.stun_authentication.specs.Identities.{Who};
@@ -23,8 +28,19 @@ pub fn cookie_is_read()
 
 /// A message that is accepted is its sender's: type, transaction ID and what is shown are authentic
 /// under the key of the user whom the look-up names, by the algorithm that was answered. Where only
-/// one algorithm serves, this holds of what is shown through its integrity attribute.
+/// one algorithm serves, this holds of what is shown through its integrity attribute. The key is the
+/// one that the look-up has for the user whom the message names, its HMAC is as long as the policy
+/// asks, and under long-term credentials its nonce is valid, and its password algorithm one of those
+/// that were sent with the nonce.
 pub fn accepted_is_authentic()
+    ensures users { (policy : Policy) (keys : List ℕ → Option (List ℕ)) (d key : List ℕ)
+        (a reply : IntegrityAlgorithm)
+        → short_term policy keys d ≡ accept key a reply → IsUsers policy keys d key a }
+    ensures login { (policy : Policy) (realm : List ℕ) (nonces : List ℕ → Known)
+        (keys : Who → List ℕ → PasswordAlgorithmValue → Option (List ℕ)) (d key : List ℕ)
+        (a reply : IntegrityAlgorithm)
+        → long_term policy realm nonces keys d ≡ accept key a reply
+        → IsLogin policy realm nonces keys d key a reply }
     ensures short_term { (policy : Policy) (keys : List ℕ → Option (List ℕ)) (d key : List ℕ)
         (a reply : IntegrityAlgorithm)
         → IsBytes d → parse_fault d ≡ None → short_term policy keys d ≡ accept key a reply
@@ -45,4 +61,42 @@ pub fn accepted_is_authentic()
         (a reply : IntegrityAlgorithm)
         → IsBytes d → parse_fault d ≡ None → policy.algorithm ≡ None
         → long_term policy realm nonces keys d ≡ accept key a reply → IsAuthentic (λ _. key) d a }
+{}
+
+/// A nonce of a [`NonceMaker`](crate::NonceMaker) has 93 bytes, which are characters that a NONCE may
+/// have (RFC 8489, section 14.10), begins with the cookie of its server's features, and has the time
+/// at which it was made.
+pub fn nonces_are_texts()
+    ensures size { (minting : Minting) (time : ℕ) (place : List ℕ)
+        → length (minted minting time place) ≡ 93 }
+    ensures characters { (minting : Minting) (time : ℕ) (place : List ℕ)
+        → AllByRecursion (λ c. is_qdtext c ≡ true) (minted minting time place) }
+    ensures text { (minting : Minting) (time : ℕ) (place : List ℕ)
+        → text_fault text_max (minted minting time place) ≡ None }
+    ensures features { (minting : Minting) (time : ℕ) (place : List ℕ)
+        → security_features (minted minting time place) ≡ Some minting.features }
+    ensures time { (minting : Minting) (time : ℕ) (place : List ℕ)
+        → time < 2 ^ 64 → told_time (minted minting time place) ≡ time }
+{
+    cookie_is_read();
+}
+
+/// A nonce is valid from the time at which it was made until its window is over, for the client that
+/// it was made for, and stale afterwards. What is valid or stale is the nonce that the server made
+/// for that client at that time; so one that was made under another secret, with other features or
+/// for another client is unknown, unless the two HMACs are equal.
+pub fn nonces_are_timed()
+    ensures valid { (minting : Minting) (time now : ℕ) (place : List ℕ)
+        → time < 2 ^ 64 → time ≤ now → now ≤ time + minting.window
+        → freshness minting now place (minted minting time place) ≡ Fresh }
+    ensures over { (minting : Minting) (time now : ℕ) (place : List ℕ)
+        → time < 2 ^ 64 → time + minting.window < now
+        → freshness minting now place (minted minting time place) ≡ Stale }
+    ensures own { (minting : Minting) (now : ℕ) (place nonce : List ℕ)
+        → freshness minting now place nonce ≢ Unknown
+        → nonce ≡ minted minting (told_time nonce) place }
+    ensures other { (minting other : Minting) (time now : ℕ) (place there : List ℕ)
+        → time < 2 ^ 64
+        → freshness other now there (minted minting time place) ≢ Unknown
+        → minted_mac other time there ≡ minted_mac minting time place }
 {}

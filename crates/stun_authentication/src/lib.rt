@@ -35,7 +35,7 @@ pub use codes::{is_challenge, response_code, shown_code};
 pub use cookie::{SecurityFeatures, nonce_cookie, security_features};
 pub use demand::{Demand, Mismatch};
 pub use identity::Identity;
-pub use laws::{accepted_is_authentic, cookie_is_read};
+pub use laws::{accepted_is_authentic, cookie_is_read, nonces_are_texts, nonces_are_timed};
 pub use login::{answer_challenge, key_for};
 pub use logins::Logins;
 pub use long_term::authenticate_long_term;

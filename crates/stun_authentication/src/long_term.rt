@@ -1,13 +1,13 @@
 //! A server's checks by the long-term credential mechanism (RFC 8489, section 9.2.4).
 
-ghost use Rattle.std.specs.Prelude.{◌≡◌, IfOk, is_some};
+ghost use Rattle.std.specs.Prelude.{◌≡◌, false, IfOk, IsOk, is_some};
 ghost use Rattle.std.specs.Option.{option_map};
 ghost use Rattle.stun_keys.specs.Keys.{key_bytes};
 ghost use Rattle.stun_types.specs.Message.{message_bytes};
 ghost use Rattle.stun_authentication.specs.Answers.{Tells};
 ghost use Rattle.stun_authentication.specs.Identities.{who};
 ghost use Rattle.stun_authentication.specs.Lookups.{known};
-ghost use Rattle.stun_authentication.specs.LongTerm.{names_of, named, is_sent, chosen, hashing_of, password_algorithm, reply_algorithm, by_nonce, by_hmac, by_user, by_algorithms, by_names, by_attribute, by_class, long_term};
+ghost use Rattle.stun_authentication.specs.LongTerm.{names_of, named, is_sent, chosen, hashing_of, password_algorithm, reply_algorithm, by_nonce, by_hmac, by_user, by_algorithms, by_names, by_attribute, by_class, needs_key, long_term};
 
 use crate::algorithms::{BOTH, first_listed, first_named, is_encoding_of};
 use crate::cookie::security_features;
@@ -146,8 +146,10 @@ fn by_algorithms<K: LongTermKeys>(
     names: Names<'_>,
     keys: &K,
 ) -> Result<Authentication, AllocError>
-    ensures { IfOk result (Tells (by_algorithms policy realm.now (K.key_of keys.now)
+    ensures decision { IfOk result (Tells (by_algorithms policy realm.now (K.key_of keys.now)
         (known state.entry) (named names.entry) (message_bytes request.now))) }
+    ensures memory { is_some (hashing_of (known state.entry) (named names.entry).nonce
+        (message_bytes request.now)) ≡ false → IsOk result }
 {
     let Some(hashing) = hashing_of(state, names.nonce, request) else {
         return Ok(Authentication::Refused(Refusal::BadRequest));
@@ -186,7 +188,8 @@ fn by_algorithms<K: LongTermKeys>(
 ///
 /// # Errors
 ///
-/// Only where an allocation failed, while `keys` looked for the key.
+/// Only where an allocation failed, while `keys` looked for the key: the third check and those before
+/// it take no memory.
 pub fn authenticate_long_term<N: Nonces, K: LongTermKeys>(
     alloc: Global,
     request: &Message<'_>,
@@ -195,8 +198,10 @@ pub fn authenticate_long_term<N: Nonces, K: LongTermKeys>(
     nonces: &N,
     keys: &K,
 ) -> Result<Authentication, AllocError>
-    ensures { IfOk result (Tells (long_term policy realm.now (N.state_of nonces.now)
+    ensures decision { IfOk result (Tells (long_term policy realm.now (N.state_of nonces.now)
         (K.key_of keys.now) (message_bytes request.now))) }
+    ensures memory { needs_key policy (N.state_of nonces.now) (message_bytes request.now) ≡ false
+        → IsOk result }
 {
     if !policy.is_taken(request) {
         return Ok(Authentication::Discarded);

@@ -1,10 +1,10 @@
 //! A server's checks by the short-term credential mechanism (RFC 8489, section 9.1.3).
 
-ghost use Rattle.std.specs.Prelude.{◌≡◌, ◌≢◌, IfOk};
+ghost use Rattle.std.specs.Prelude.{◌≡◌, ◌≢◌, false, IfOk, IsOk};
 ghost use Rattle.stun_keys.specs.Keys.{key_bytes};
 ghost use Rattle.stun_types.specs.Message.{message_bytes};
 ghost use Rattle.stun_authentication.specs.Answers.{Tells};
-ghost use Rattle.stun_authentication.specs.ShortTerm.{short_term, by_class, by_attributes, by_user, by_hmac};
+ghost use Rattle.stun_authentication.specs.ShortTerm.{needs_key, short_term, by_class, by_attributes, by_user, by_hmac};
 
 use crate::answer::rejected;
 use crate::identity::value_of;
@@ -34,8 +34,9 @@ fn checked<K: ShortTermKeys>(
     policy: Policy,
     keys: &K,
 ) -> Result<Authentication, AllocError>
-    ensures { IfOk result
+    ensures decision { IfOk result
         (Tells (short_term policy (K.key_of keys.now) (message_bytes message.now))) }
+    ensures memory { needs_key policy (message_bytes message.now) ≡ false → IsOk result }
 {
     if !policy.is_taken(message) {
         return Ok(Authentication::Discarded);
@@ -83,6 +84,7 @@ pub fn authenticate_short_term<K: ShortTermKeys>(
 ) -> Result<Authentication, AllocError>
     ensures decision { IfOk result
         (Tells (short_term policy (K.key_of keys.now) (message_bytes message.now))) }
+    ensures memory { needs_key policy (message_bytes message.now) ≡ false → IsOk result }
     ensures no_nonce { IfOk result (λ told. told ≢ Authentication.Refused Refusal.StaleNonce) }
 {
     checked(alloc, message, policy, keys)

@@ -8,6 +8,7 @@ use Rattle.std.proofs.Math.Nat.{mul-div_cancel, min-eq_left}
 use Rattle.std.proofs.lemmas.Bool.{cases_Bool, ltb-true, ltb-false, le-ltb}
 use Rattle.stun_grammar.specs.Headers.{type_field}
 use Rattle.stun_base.specs.declared.transport.TransportType.{TransportType}
+use Rattle.stun_base.specs.declared.transport.TransportType.TheVariants.{Udp, Tcp}
 use Rattle.stun_base.specs.MessageTypes.{class_of}
 use Rattle.stun_transactions.specs.declared.retransmission.Action.{Action}
 use Rattle.stun_transactions.specs.declared.retransmission.Action.TheVariants.{Send, WaitUntil, Ended}
@@ -30,7 +31,7 @@ use Rattle.stun_transactions.specs.declared.transaction.Transaction.{Transaction
 use Rattle.stun_transactions.specs.Retransmissions.{later, ended_by, stopped_by, Polls}
 use Rattle.stun_transactions.specs.Outcomes.{after}
 use Rattle.stun_transactions.specs.Parts.{plan_in, state_in, at_state, mechanism_of, signs, parts_of, is_signed_otherwise, parts_fault}
-use Rattle.stun_transactions.specs.Schedules.{requests_in}
+use Rattle.stun_transactions.specs.Schedules.{requests_over, requests_in}
 use Rattle.stun_transactions.specs.Guards.{signed_by, is_signed, protects, IsKeptAs}
 use Rattle.stun_transactions.specs.Terms.{is_request, mismatch, begin_fault}
 use Rattle.stun_transactions.specs.Transactions.{terms_of, state_of, Begins}
@@ -40,7 +41,7 @@ use Rattle.stun_types_c.specs.declared.transactions.Waits.{Waits}
 use Rattle.stun_types_c.specs.declared.transactions.Wanted.{Wanted}
 use Rattle.stun_types_c.specs.CallResults.{plain}
 use Rattle.stun_types_c.specs.Codes.{OK}
-use Rattle.stun_types_c.specs.Transactions.{transport_numbered, mechanism_numbered, number_of_end, signed_number, IsAt, millis_of, Schedules, usage_in, Keeps, AreSame, with_state, GoesOn, Ends, StopsKept, PollsKept, wanted_of, begun_in_c}
+use Rattle.stun_types_c.specs.Transactions.{transport_numbered, mechanism_numbered, number_of_end, signed_number, IsAt, millis_of, Schedules, usage_in, TellsParts, Keeps, AreSame, with_state, GoesOn, Ends, StopsKept, PollsKept, wanted_of, begun_in_c}
 
 -- ---- Numbers
 
@@ -95,10 +96,8 @@ bit_back false = refl
 
 -- ---- Two transactions of the same numbers
 
-pub same_parts : (kept : KeptTransaction) (one other : TransactionParts) → Keeps kept one → Keeps kept other → AreSame one other
-same_parts kept one other of_one of_other =
-    let a = of_one.tells in
-    let b = of_other.tells in
+same_meant : (kept : KeptTransaction) (one other : TransactionParts) → TellsParts kept one → TellsParts kept other → AreSame one other
+same_meant kept one other a b =
     let shown = signed_is kept.signed_by one.sha1 one.sha256 a.signed in
     let told = signed_is kept.signed_by other.sha1 other.sha256 b.signed in
     record {
@@ -122,6 +121,33 @@ same_parts kept one other of_one of_other =
       stopped = sym (bit_back one.stopped) ∙ ap (λ (n : ℕ). n == 1) (sym a.state.stopped ∙ b.state.stopped) ∙ bit_back other.stopped;
       end = sym (end_back one.end) ∙ ap end_numbered (sym a.state.end ∙ b.state.end) ∙ end_back other.end;
     }
+
+pub same_parts : (kept : KeptTransaction) (one other : TransactionParts) → Keeps kept one → Keeps kept other → AreSame one other
+same_parts kept one other of_one of_other = same_meant kept one other of_one.tells of_other.tells
+
+same_requests : (one other : Schedule) (transport : TransportType) → one.max_requests ≡ other.max_requests → requests_over one transport ≡ requests_over other transport
+same_requests one other Udp same = same
+same_requests one other Tcp same = refl
+
+same_fault : (one other : TransactionParts) → AreSame one other → parts_fault one ≡ parts_fault other
+same_fault one other same =
+    rw (
+      same.mechanism,
+      same.sha1,
+      same.sha256,
+      same_requests one.schedule other.schedule one.transport same.schedule.max_requests_is,
+      same.transport,
+      same.sent,
+      same.clock,
+      same.last,
+    ) refl
+
+-- numbers whose parts are no transaction's keep none
+pub unsound : (kept : KeptTransaction) (parts other : TransactionParts) (e : PartsError) → TellsParts kept parts → parts_fault parts ≡ Some e → Keeps kept other → ⊥
+unsound kept parts other e tells fault keeps =
+    let same : parts_fault parts ≡ parts_fault other = same_fault parts other (same_meant kept parts other tells keeps.tells) in
+    let none : parts_fault other ≡ None = keeps.sound in
+    absurd (let sound : parts_fault parts ≡ None = same ∙ none in cc (sound, fault))
 
 -- ---- A transaction that goes on
 

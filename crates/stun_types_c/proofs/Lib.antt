@@ -1,3 +1,4 @@
+mod AuthenticatedLemmas
 mod TwoWords
 mod SharedLemmas
 mod WalksLemmas

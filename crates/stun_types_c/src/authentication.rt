@@ -1,11 +1,13 @@
 //! A server's checks by credentials (RFC 8489, sections 9.1.3 and 9.2.4).
 
-ghost use Rattle.std.specs.Prelude.{◌≡◌, None, IfOk};
+ghost use Rattle.std.specs.Prelude.{◌≡◌, [], None, IfOk};
 ghost use Rattle.std.specs.Option.{option_map};
 ghost use Rattle.stun_authentication.specs.Answers.{Decision, Tells};
 ghost use Rattle.stun_authentication.specs.Lookups.{IsKeyOf};
+ghost use Rattle.stun_authentication.specs.LongTerm.{long_term};
+ghost use Rattle.stun_types.specs.Message.{message_bytes};
 ghost use Rattle.stun_types_c.specs.KeyHandles.{shared_key};
-ghost use Rattle.stun_types_c.specs.Users.{bytes_of, borrowed_bytes, known_of};
+ghost use Rattle.stun_types_c.specs.Users.{bytes_of, borrowed_bytes, long_term_key_of, known_of};
 ghost use Rattle.stun_types_c.specs.Authentication.{policy_named, nonce_named, in_c, by_short_term, by_long_term, TellsDecision, Authenticates};
 
 use crate::call_result::{CallResult, parse_result, plain};
@@ -228,6 +230,21 @@ pub extern "C" fn stun_types_authenticate_short_term(
     tell(authenticate_short_term(alloc, &message, policy, &user), out)
 }
 
+/// What becomes of a message by long-term credentials, whose keys are made with the realm already.
+fn long_term_decision(
+    alloc: Global,
+    message: &Message<'_>,
+    policy: Policy,
+    nonce: &OneNonce,
+    user: &OneUser<'_>,
+) -> Result<Authentication, AllocError>
+    ensures { IfOk result (Tells (long_term policy [] (λ _. known_of nonce.now)
+        (λ _ _. long_term_key_of (borrowed_bytes user.now.md5) (borrowed_bytes user.now.sha256))
+        (message_bytes message.now))) }
+{
+    authenticate_long_term(alloc, message, "", policy, nonce, user)
+}
+
 /// Authenticates a request by long-term credentials.
 #[unsafe(no_mangle)]
 pub extern "C" fn stun_types_authenticate_long_term(
@@ -256,6 +273,6 @@ pub extern "C" fn stun_types_authenticate_long_term(
         md5: key_in(md5_key),
         sha256: key_in(sha256_key),
     };
-    let answer = authenticate_long_term(alloc, &message, "", policy, &nonce, &user);
+    let answer = long_term_decision(alloc, &message, policy, &nonce, &user);
     tell(answer, out)
 }

@@ -10,7 +10,7 @@ ghost use Rattle.stun_transactions.specs.Parts.{state_in, at_state, mechanism_of
 ghost use Rattle.stun_transactions.specs.Terms.{begin_fault};
 ghost use Rattle.stun_transactions.specs.Transactions.{Begins};
 ghost use Rattle.stun_types_c.specs.KeyHandles.{shared_key};
-ghost use Rattle.stun_types_c.specs.Transactions.{transport_numbered, mechanism_numbered, end_number, number_of_end, IsAt, millis_of, waits_fault, Schedules, usage_in, Keeps, KeepsNone, AreSame, with_state, Ends, StopsKept, PollsKept, request_fault, request_answer, signed_in, begun_in_c, BeginsKept, discard_kind, claim_number, proof_number, outcome_in_c, IsCopyFor, Copies, IsOutcome, ReceivesKept};
+ghost use Rattle.stun_types_c.specs.Transactions.{transport_numbered, mechanism_numbered, end_number, number_of_end, IsAt, millis_of, waits_fault, Schedules, usage_in, TellsParts, Keeps, KeepsNone, AreSame, with_state, Ends, StopsKept, PollsKept, request_fault, request_answer, signed_in, begun_in_c, BeginsKept, discard_kind, claim_number, proof_number, outcome_in_c, IsCopyFor, Copies, IsOutcome, ReceivesKept};
 
 use crate::call_result::{CallResult, parse_result, plain};
 use crate::codes;
@@ -205,9 +205,10 @@ fn millis(moment: Duration) -> u64
     u64::try_from(moment.as_millis()).unwrap_or(u64::MAX)
 }
 
-/// The transaction that C keeps; `None` where its numbers are those of none.
-fn parts_of(kept: &KeptTransaction) -> Option<TransactionParts>
-    ensures { MatchOption result (KeepsNone kept.now) (Keeps kept.now) }
+/// The parts that C's numbers mean; `None` where one of them means nothing.
+fn meant_parts(kept: &KeptTransaction) -> Option<TransactionParts>
+    ensures { MatchOption result ((parts : TransactionParts) → ¬ TellsParts kept.now parts)
+        (TellsParts kept.now) }
 {
     if kept.signed_by > 3 || kept.violated > 1 || kept.stopped > 1 {
         return None;
@@ -215,7 +216,7 @@ fn parts_of(kept: &KeptTransaction) -> Option<TransactionParts>
     if !Method::is_valid(kept.method) {
         return None;
     }
-    let parts = TransactionParts {
+    Some(TransactionParts {
         schedule: schedule_of(&kept.schedule)?,
         transport: transport_of(u32::from(kept.transport))?,
         method: Method::new(kept.method),
@@ -230,7 +231,15 @@ fn parts_of(kept: &KeptTransaction) -> Option<TransactionParts>
         violated: kept.violated == 1,
         stopped: kept.stopped == 1,
         end: end_of(kept.end)?,
-    };
+    })
+}
+
+/// The transaction that C keeps; `None` where its numbers are those of none.
+#[tactic(auto, using(crate::proofs::KeptLemmas::unsound))]
+fn parts_of(kept: &KeptTransaction) -> Option<TransactionParts>
+    ensures { MatchOption result (KeepsNone kept.now) (Keeps kept.now) }
+{
+    let parts = meant_parts(kept)?;
     parts.check().ok()?;
     Some(parts)
 }

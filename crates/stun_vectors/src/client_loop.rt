@@ -44,7 +44,8 @@ pub fn mapped_address<C: Carrier>(
         unprotected,
         Usage::default(),
         carrier.now(),
-    ).ok()?;
+    )
+    .ok()?;
     let mut buffer = [0; 1500];
     for _ in 0..u64::MAX {
         let until = match transaction.poll(carrier.now()) {

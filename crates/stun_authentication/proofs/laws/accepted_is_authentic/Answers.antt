@@ -1,6 +1,12 @@
 use Rattle.stun_grammar.proofs.AcceptingLemmas.{is_authentic, is_authentic_through}
-use Rattle.stun_authentication.proofs.AcceptingRowsLemmas.{proved, proved_by_both, short_term_proof, long_term_proof}
+use Rattle.stun_authentication.proofs.AcceptingRowsLemmas.{proved, proved_by_both, short_term_proof, long_term_proof, users_login, long_term_login}
 use Rattle.stun_authentication.proofs.laws.accepted_is_authentic.Goals as goal
+
+pub returns-clause-users : goal.returns-clause-users
+returns-clause-users c = users_login
+
+pub returns-clause-login : goal.returns-clause-login
+returns-clause-login c = long_term_login
 
 pub returns-clause-short_term : goal.returns-clause-short_term
 returns-clause-short_term c = λ policy keys d key a reply bytes parsed e.

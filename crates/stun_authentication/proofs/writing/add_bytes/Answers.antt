@@ -1,4 +1,4 @@
-use Rattle.std.proofs.Common.{ℕ, length, Option, Result, subst, arith}
+use Rattle.std.proofs.Common.{length, Option, subst, arith}
 use Rattle.stun_grammar.specs.declared.error.StunWriteError.{StunWriteError}
 use Rattle.stun_grammar.specs.Adding.{IsAddAnswer}
 use Rattle.stun_write.specs.Writers.{Allocates}

@@ -1,0 +1,246 @@
+-- A challenge is read as it was written.
+use Rattle.std.proofs.Common.{◌≡◌, ℕ, zero, suc, ◌^◌, ◌<◌, ◌≤◌, Bool, true, false, eqb, ltb, ltb-true, inl, inr, List, [], ◌∷◌, ◌++◌, length, nat_eq, Option, Some, None, Ok, Err, refl, sym, ap, subst, ◌∙◌, lit<, arith}
+use Rattle.std.specs.Prelude.{◌||◌, ◌&&◌, codes, is_some, not, option_and_then, nat_lt, if◌then◌else◌}
+use Rattle.std.specs.Cmp.Lexicographic.{pointwise}
+use Rattle.std.specs.List.{AllByRecursion, list_any}
+use Rattle.std.specs.Option.{option_map, option_map_or, option_or}
+use Rattle.std.specs.Str.{IsAscii, is_utf8}
+use Rattle.std.proofs.lemmas.Str.{IsUtf8-from_ascii, is_utf8-from_IsUtf8}
+use Rattle.std.proofs.lemmas.Bool.{cases_lt, lt-ltb}
+use Rattle.stun_grammar.specs.declared.error.StunParseError.{StunParseError}
+use Rattle.stun_grammar.specs.declared.error.StunParseError.TheVariants.{InvalidAttributeData}
+use Rattle.stun_grammar.specs.Attributes.{Attribute, canonical, types}
+use Rattle.stun_grammar.specs.AttributeTypes.{ERROR_CODE, REALM, NONCE, PASSWORD_ALGORITHMS, is_ending}
+use Rattle.stun_grammar.specs.Chains.{Shown, placed}
+use Rattle.stun_grammar.specs.Headers.{type_field}
+use Rattle.stun_grammar.specs.ScannedOrder.{has}
+use Rattle.stun_grammar.specs.Showing.{shown}
+use Rattle.stun_grammar.specs.Steps.{finger}
+use Rattle.stun_grammar.specs.Writing.{message_encoding, IsWritable}
+use Rattle.stun_grammar.proofs.StepsLemmas.{none_writable}
+use Rattle.stun_grammar.proofs.WritingLemmas.{shown-message, type-message}
+use Rattle.stun_base.specs.declared.message_type.MessageClass.{MessageClass}
+use Rattle.stun_base.specs.declared.message_type.MessageClass.TheVariants.{Error as ErrorClass}
+use Rattle.stun_base.specs.MessageTypes.{class_of}
+use Rattle.stun_values.specs.declared.algorithm.PasswordAlgorithmValue.{PasswordAlgorithmValue}
+use Rattle.stun_values.specs.Algorithms.{algorithms_encoding}
+use Rattle.stun_values.specs.ErrorValues.{error_value}
+use Rattle.stun_values.specs.TextValues.{text_max, text_fault}
+use Rattle.stun_authentication.specs.declared.answer.Refusal.{Refusal}
+use Rattle.stun_authentication.specs.declared.answer.Refusal.TheVariants.{BadRequest, Unauthenticated, StaleNonce}
+use Rattle.stun_authentication.specs.declared.demand.Demand.{Demand}
+use Rattle.stun_authentication.specs.Refusing.{listed, refusal_attributes}
+use Rattle.stun_attributes.specs.declared.password_algorithms.PasswordAlgorithms.{PasswordAlgorithms}
+use Rattle.stun_attributes.specs.Passwords.{held_algorithms}
+use Rattle.stun_attributes.specs.Texts.{text_bytes}
+use Rattle.stun_authentication.specs.declared.challenge.NoRetry.TheVariants.{NotAChallenge, BidDown, Incomplete, NoAlgorithm, SameCredentials}
+use Rattle.stun_authentication.specs.Answers.{refusal_code, refusal_reason}
+use Rattle.stun_authentication.specs.Challenges.{list_of, is_bid_down, lost_list, text_in, text_of, selected, repeats, by_credentials, by_algorithm, by_texts, by_list, challenge_of}
+use Rattle.stun_authentication.specs.Codes.{value_code, code_by_class, response_code, is_code, is_challenge}
+use Rattle.stun_authentication.specs.Cookies.{promises_algorithms, security_features, is_anonymous}
+use Rattle.stun_authentication.specs.Identities.{value_of}
+use Rattle.stun_logins.specs.Offers.{Offer, offered_list, asked_of, Takes, IsLawful, Retries, asks, offer_of, refused, refused_attributes}
+use Rattle.stun_logins.specs.Premises.{HasRoom}
+use Rattle.stun_authentication.specs.Writing.{finished}
+use Rattle.stun_logins.proofs.EndedLemmas.{IsFirst, IsMissing, Ended, ended_none, ended_finished, value_there, value_missing}
+use Rattle.stun_logins.proofs.ShortTermLemmas.{finished_writable}
+use Rattle.stun_logins.proofs.WritableLemmas.{any-append, IsAdded, adds, room_down}
+use Rattle.stun_authentication.proofs.TypesLemmas.{free}
+
+-- ---- The code
+
+small : List ℕ → Bool
+small [] = true
+small (b ∷ bs) = ltb b 128 && small bs
+
+first_true : (a b : Bool) → (a && b) ≡ true → (a ≡ true) × (b ≡ true)
+first_true true b e = (refl, e)
+first_true false b e = absurd cc
+
+ascii : (bs : List ℕ) → small bs ≡ true → IsAscii bs
+unfolding small
+ascii [] e i = omega arith
+ascii (b ∷ bs) e zero = ltb-true b 128 (first_true (ltb b 128) (small bs) e).0
+ascii (b ∷ bs) e (suc i) = ascii bs (first_true (ltb b 128) (small bs) e).1 i
+
+-- the value of an ERROR-CODE tells the code of the refusal
+pub code_value : Refusal → List ℕ
+code_value refusal = error_value (refusal_code refusal) (refusal_reason refusal)
+
+utf8_of : (bs : List ℕ) → small bs ≡ true → is_utf8 bs ≡ true
+utf8_of bs e = is_utf8-from_IsUtf8 bs (IsUtf8-from_ascii bs (ascii bs e))
+
+code_told : (refusal : Refusal) → asks refusal ≡ true → value_code (code_value refusal) ≡ Some (refusal_code refusal)
+unfolding code_value small
+code_told BadRequest e = absurd cc
+code_told Unauthenticated e = ap (λ (b : Bool). if is_some (option_or None (if true && b then None else Some InvalidAttributeData)) then None else Some 401) (utf8_of (codes "Unauthenticated") refl)
+code_told StaleNonce e = ap (λ (b : Bool). if is_some (option_or None (if true && b then None else Some InvalidAttributeData)) then None else Some 438) (utf8_of (codes "Stale Nonce") refl)
+
+code_short : (refusal : Refusal) → asks refusal ≡ true → length (code_value refusal) < 2 ^ 16
+unfolding code_value
+code_short BadRequest e = absurd cc
+code_short Unauthenticated e = lit< tt
+code_short StaleNonce e = lit< tt
+
+challenges : (refusal : Refusal) (code : Option ℕ) → asks refusal ≡ true → code ≡ Some (refusal_code refusal) → (is_code 401 code || is_code 438 code) ≡ true
+challenges BadRequest code e is = absurd cc
+challenges Unauthenticated code e is = ap (λ (o : Option ℕ). is_code 401 o || is_code 438 o) is
+challenges StaleNonce code e is = ap (λ (o : Option ℕ). is_code 401 o || is_code 438 o) is
+
+-- ---- What is written
+
+pub list_attributes : Option (List ℕ) → List Attribute
+list_attributes None = []
+list_attributes (Some value) = canonical PASSWORD_ALGORITHMS value ∷ []
+
+abbrev pub written : (code realm nonce : List ℕ) → Option (List ℕ) → List Attribute
+written code realm nonce list = canonical ERROR_CODE code ∷ canonical REALM realm ∷ canonical NONCE nonce ∷ list_attributes list
+
+written_plain : (code realm nonce : List ℕ) (list : Option (List ℕ)) → list_any is_ending (types (written code realm nonce list)) ≡ false
+unfolding list_attributes
+written_plain code realm nonce None = refl
+written_plain code realm nonce (Some value) = refl
+
+added : (type : ℕ) (value : List ℕ) → type < 2 ^ 16 → length value < 2 ^ 16 → is_ending type ≡ false → IsAdded (canonical type value)
+added type value t v plain = record { written = refl; type_fits = t; value_fits = v; plain = plain }
+
+list_added : (list : Option (List ℕ)) → ((value : List ℕ) → list ≡ Some value → length value < 2 ^ 16) → AllByRecursion IsAdded (list_attributes list)
+unfolding list_attributes
+list_added None fits = tt
+list_added (Some value) fits = (added PASSWORD_ALGORITHMS value (lit< tt) (fits value refl) refl, tt)
+
+-- a text is not longer than its attribute may be
+short_step : (most n : ℕ) (b : Bool) (x y : StunParseError) → option_or (if nat_lt n 0 then Some x else (if nat_lt most n then Some y else None)) (if b then None else Some InvalidAttributeData) ≡ None → n ≤ most
+short_step most n b x y e = elim (cases_lt most n) [
+  | inl long ↦ absurd (longer (nat_lt n 0) (nat_lt most n) b (lt-ltb most n long) e)
+  | inr fits ↦ fits
+]
+  where
+    longer : (s t b : Bool) → t ≡ true → option_or (if s then Some x else (if t then Some y else None)) (if b then None else Some InvalidAttributeData) ≡ None → ⊥
+    longer true t b is none = cc
+    longer false true b is none = cc
+    longer false false b is none = cc
+
+pub text_short : (value : List ℕ) → text_fault text_max value ≡ None → length value < 2 ^ 16
+text_short value e = omega (arith, short_step text_max (length value) (is_utf8 value) _ _ e)
+
+-- what `refuse` writes is this
+listed_is : (o : Option PasswordAlgorithms) → listed o ≡ list_attributes (option_map (λ (xs : List PasswordAlgorithmValue). algorithms_encoding xs) (option_map (λ (a : PasswordAlgorithms). held_algorithms a) o))
+unfolding list_attributes
+listed_is None = refl
+listed_is (Some a) = refl
+
+pub same_written : (refusal : Refusal) (demand : Demand) → asks refusal ≡ true → refusal_attributes refusal (Some demand) ≡ written (code_value refusal) (text_bytes demand.realm) (text_bytes demand.nonce) (offered_list (offer_of demand))
+unfolding code_value
+same_written BadRequest demand e = absurd cc
+same_written Unauthenticated demand e = ap (λ (l : List Attribute). canonical ERROR_CODE (error_value 401 (refusal_reason Unauthenticated)) ∷ canonical REALM (text_bytes demand.realm) ∷ canonical NONCE (text_bytes demand.nonce) ∷ l) (listed_is demand.algorithms)
+same_written StaleNonce demand e = ap (λ (l : List Attribute). canonical ERROR_CODE (error_value 438 (refusal_reason StaleNonce)) ∷ canonical REALM (text_bytes demand.realm) ∷ canonical NONCE (text_bytes demand.nonce) ∷ l) (listed_is demand.algorithms)
+
+-- ---- What is read
+
+-- a message shows these, and then ending ones
+record Shows (d code realm nonce : List ℕ) (list : Option (List ℕ)) : Type 0 where
+  more : List Attribute
+  shows : shown d ≡ placed 20 (written code realm nonce list ++ more)
+  ending : (c : ℕ) → is_ending c ≡ false → has c (types more) ≡ false
+
+list_there : IsFirst → IsMissing → (d code realm nonce : List ℕ) (list : Option (List ℕ)) → Shows d code realm nonce list → list_of d ≡ list
+unfolding list_attributes
+list_there first missing d code realm nonce (Some value) s =
+    value_there first d (canonical ERROR_CODE code ∷ canonical REALM realm ∷ canonical NONCE nonce ∷ []) s.more (canonical PASSWORD_ALGORITHMS value) s.shows refl
+list_there first missing d code realm nonce None s =
+    value_missing missing d PASSWORD_ALGORITHMS (written code realm nonce None ++ s.more) s.shows (any-append (λ t. eqb t PASSWORD_ALGORITHMS) (written code realm nonce None) s.more refl (s.ending PASSWORD_ALGORITHMS refl))
+
+-- nothing is missing that was promised
+not_down : (algorithms : Option (List PasswordAlgorithmValue)) (promised : Bool) → promised ≡ is_some algorithms → (promised && not (is_some (option_map (λ (xs : List PasswordAlgorithmValue). algorithms_encoding xs) algorithms))) ≡ false
+not_down None true e = absurd cc
+not_down None false e = refl
+not_down (Some xs) true e = refl
+not_down (Some xs) false e = refl
+
+or_both : (a b : Bool) → a ≡ false → b ≡ false → (a || b) ≡ false
+or_both false b x y = y
+or_both true b x y = absurd (cc x)
+
+kept_list : (tried seen : Option (List ℕ)) (refusal : Refusal) (offer : Offer) → Retries tried seen refusal offer → (is_some seen && not (is_some (offered_list offer))) ≡ false
+kept_list tried seen refusal offer r = by_lists seen offer.algorithms r.listed
+  where
+    by_lists : (one : Option (List ℕ)) (two : Option (List PasswordAlgorithmValue)) → (is_some one ≡ true → is_some two ≡ true) → (is_some one && not (is_some (option_map (λ (xs : List PasswordAlgorithmValue). algorithms_encoding xs) two))) ≡ false
+    by_lists None two h = refl
+    by_lists (Some x) (Some xs) h = refl
+    by_lists (Some x) None h = absurd (cc (h refl))
+
+and_false : (x : Bool) → (x && false) ≡ false
+and_false true = refl
+and_false false = refl
+
+no_repeat : (tried seen : Option (List ℕ)) (refusal : Refusal) (offer : Offer) (code : Option ℕ) → asks refusal ≡ true → code ≡ Some (refusal_code refusal) → Retries tried seen refusal offer
+    → (is_code 401 code && option_map_or (λ (before : List ℕ). pointwise nat_eq before offer.realm) tried false) ≡ false
+no_repeat tried seen BadRequest offer code e is r = absurd cc
+no_repeat tried seen Unauthenticated offer code e is r = ap (λ (b : Bool). is_code 401 code && b) (r.untried refl) ∙ and_false (is_code 401 code)
+no_repeat tried seen StaleNonce offer code e is r = ap (λ (o : Option ℕ). is_code 401 o && option_map_or (λ (before : List ℕ). pointwise nat_eq before offer.realm) tried false) is
+
+told_text : (value : List ℕ) (o : Option (List ℕ)) → o ≡ Some value → text_fault text_max value ≡ None → option_and_then (λ (v : List ℕ). text_in text_max v) o ≡ Some value
+told_text value o is none =
+    ap (λ (p : Option (List ℕ)). option_and_then (λ (v : List ℕ). text_in text_max v) p) is
+    ∙ ap (λ (f : Option StunParseError). if is_some f then None else Some value) none
+
+rows : (supported : List PasswordAlgorithmValue) (tried seen : Option (List ℕ)) (offer : Offer) (a : PasswordAlgorithmValue) (d : List ℕ)
+    → is_challenge d ≡ true → (is_bid_down d || lost_list seen d) ≡ false → text_of text_max REALM d ≡ Some offer.realm → text_of text_max NONCE d ≡ Some offer.nonce → list_of d ≡ offered_list offer
+    → Takes supported offer a → repeats tried offer.realm d ≡ false → challenge_of supported tried seen d ≡ Ok (asked_of offer a)
+rows supported tried seen offer a d asked down realm-is nonce-is list-is takes fresh =
+    ap (λ (b : Bool). if b then by_list supported tried seen d else Err NotAChallenge) asked
+    ∙ ap (λ (b : Bool). if b then Err BidDown else by_texts supported tried d) down
+    ∙ ap (λ (o : Option (List ℕ)). option_map_or (λ (realm : List ℕ). option_map_or (λ (nonce : List ℕ). by_algorithm supported tried realm nonce d) (text_of text_max NONCE d) (Err Incomplete)) o (Err Incomplete)) realm-is
+    ∙ ap (λ (o : Option (List ℕ)). option_map_or (λ (nonce : List ℕ). by_algorithm supported tried offer.realm nonce d) o (Err Incomplete)) nonce-is
+    ∙ ap (λ (l : Option (List ℕ)). option_map_or (λ (algorithm : PasswordAlgorithmValue). by_credentials tried (record { realm = offer.realm; nonce = offer.nonce; list = l; algorithm = algorithm; anonymous = is_anonymous (security_features offer.nonce) }) d) (selected supported l) (Err NoAlgorithm)) list-is
+    ∙ ap (λ (o : Option PasswordAlgorithmValue). option_map_or (λ (algorithm : PasswordAlgorithmValue). by_credentials tried (asked_of offer algorithm) d) o (Err NoAlgorithm)) takes
+    ∙ ap (λ (b : Bool). if b then Err SameCredentials else Ok (asked_of offer a)) fresh
+
+read_of : IsFirst → IsMissing → (refusal : Refusal) (offer : Offer) (supported : List PasswordAlgorithmValue) (a : PasswordAlgorithmValue) (tried seen : Option (List ℕ)) (d : List ℕ) → asks refusal ≡ true → class_of (type_field d) ≡ ErrorClass → IsLawful offer
+    → promises_algorithms offer.nonce ≡ is_some offer.algorithms → Takes supported offer a → Retries tried seen refusal offer → Shows d (code_value refusal) offer.realm offer.nonce (offered_list offer) → challenge_of supported tried seen d ≡ Ok (asked_of offer a)
+read_of first missing refusal offer supported a tried seen d asking class lawful agrees takes retries s =
+    let code = canonical ERROR_CODE (code_value refusal) in
+    let list = offered_list offer in
+    let rest = canonical REALM offer.realm ∷ canonical NONCE offer.nonce ∷ list_attributes list in
+    let code-is : response_code d ≡ Some (refusal_code refusal) =
+    ap (λ (c : MessageClass). code_by_class c d) class
+    ∙ ap (λ (o : Option Shown). option_and_then (λ (x : Shown). value_code x.value) o) (first d [] (rest ++ s.more) code s.shows refl)
+    ∙ code_told refusal asking in
+    let list-is = list_there first missing d (code_value refusal) offer.realm offer.nonce list s in
+    let nonce-is : value_of d NONCE ≡ Some offer.nonce = value_there first d (code ∷ canonical REALM offer.realm ∷ []) (list_attributes list ++ s.more) (canonical NONCE offer.nonce) s.shows refl in
+    let realm-is : value_of d REALM ≡ Some offer.realm = value_there first d (code ∷ []) ((canonical NONCE offer.nonce ∷ list_attributes list) ++ s.more) (canonical REALM offer.realm) s.shows refl in
+    rows supported tried seen offer a d (challenges refusal (response_code d) asking code-is)
+    (or_both (is_bid_down d) (lost_list seen d)
+    (ap (λ (o : Option (List ℕ)). option_map_or (λ (n : List ℕ). promises_algorithms n) o false && not (is_some (list_of d))) nonce-is
+    ∙ ap (λ (l : Option (List ℕ)). promises_algorithms offer.nonce && not (is_some l)) list-is ∙ not_down offer.algorithms (promises_algorithms offer.nonce) agrees)
+    (ap (λ (l : Option (List ℕ)). is_some seen && not (is_some l)) list-is ∙ kept_list tried seen refusal offer retries))
+    (told_text offer.realm (value_of d REALM) realm-is lawful.realm_is) (told_text offer.nonce (value_of d NONCE) nonce-is lawful.nonce_is) list-is takes
+    (no_repeat tried seen refusal offer (response_code d) asking code-is retries)
+
+-- for the attributes that `refuse` writes, under an equation
+written_read : IsFirst → IsMissing → (attributes : List Attribute) (refusal : Refusal) (offer : Offer) (supported : List PasswordAlgorithmValue) (a : PasswordAlgorithmValue) (tried seen : Option (List ℕ)) (fingerprint : Bool) (kind id : ℕ)
+    → attributes ≡ written (code_value refusal) offer.realm offer.nonce (offered_list offer) → asks refusal ≡ true → kind < 2 ^ 14 → id < 2 ^ 96 → class_of kind ≡ ErrorClass → IsLawful offer
+    → promises_algorithms offer.nonce ≡ is_some offer.algorithms → Takes supported offer a → Retries tried seen refusal offer → HasRoom kind id (finished fingerprint kind id attributes)
+    → challenge_of supported tried seen (message_encoding kind id (finished fingerprint kind id attributes)) ≡ Ok (asked_of offer a)
+written_read first missing attributes refusal offer supported a tried seen fingerprint kind id is asking kind_fits id_fits class lawful agrees takes retries room =
+    let all = finished fingerprint kind id attributes in
+    let d = message_encoding kind id all in
+    let list = offered_list offer in
+    let parts = written (code_value refusal) offer.realm offer.nonce list in
+    let plain : list_any is_ending (types attributes) ≡ false = ap (λ (l : List Attribute). list_any is_ending (types l)) is ∙ written_plain (code_value refusal) offer.realm offer.nonce list in
+    let ended : Ended attributes all = ended_finished fingerprint kind id attributes attributes (ended_none attributes) in
+    let fits : HasRoom kind id attributes = room_down kind id attributes ended.more (subst (HasRoom kind id) ended.whole room) in
+    let so : IsWritable kind id attributes = subst (IsWritable kind id) (sym is) (adds kind id [] parts (none_writable kind id kind_fits id_fits) refl
+    (added ERROR_CODE (code_value refusal) (lit< tt) (code_short refusal asking) refl, (added REALM offer.realm (lit< tt) (text_short offer.realm lawful.realm_is) refl, (added NONCE offer.nonce (lit< tt) (text_short offer.nonce lawful.nonce_is) refl, list_added list lawful.list_fits)))
+    (subst (HasRoom kind id) is fits)) in
+    let writable : IsWritable kind id all = finished_writable fingerprint kind id attributes so (free finger (types attributes) plain) room in
+    read_of first missing refusal offer supported a tried seen d asking (ap class_of (type-message kind id all kind_fits) ∙ class) lawful agrees takes retries
+    (record { more = ended.more; shows = shown-message kind id all writable ∙ ap (placed 20) (ended.whole ∙ ap (λ (l : List Attribute). l ++ ended.more) is); ending = ended.ending })
+
+pub challenge_read : IsFirst → IsMissing → (refusal : Refusal) (demand : Demand) (supported : List PasswordAlgorithmValue) (algorithm : PasswordAlgorithmValue) (tried seen : Option (List ℕ)) (fingerprint : Bool) (kind id : ℕ)
+    → (let offer = offer_of demand in
+    asks refusal ≡ true → kind < 2 ^ 14 → id < 2 ^ 96 → class_of kind ≡ ErrorClass → IsLawful offer → promises_algorithms offer.nonce ≡ is_some offer.algorithms → Takes supported offer algorithm → Retries tried seen refusal offer
+    → HasRoom kind id (refused_attributes fingerprint kind id refusal demand) → challenge_of supported tried seen (refused fingerprint kind id refusal demand) ≡ Ok (asked_of offer algorithm))
+challenge_read first missing refusal demand supported algorithm tried seen fingerprint kind id asking =
+    written_read first missing (refusal_attributes refusal (Some demand)) refusal (offer_of demand) supported algorithm tried seen fingerprint kind id (same_written refusal demand asking) asking

@@ -1,0 +1,44 @@
+-- One login.
+use Rattle.std.proofs.Common.{◌≡◌, ℕ, ◌^◌, ◌<◌, ◌≤◌, Bool, true, false, List, [], ◌∷◌, ◌++◌, length, Some, inl, refl, sym, ap, lit<, arith}
+use Rattle.stun_grammar.specs.declared.integrity_algorithm.IntegrityAlgorithm.TheVariants.{Sha256}
+use Rattle.stun_grammar.specs.Attributes.{Attribute, encoding, encodings}
+use Rattle.stun_grammar.specs.Steps.{sign, finger, with_step}
+use Rattle.stun_grammar.proofs.StepsLemmas.{length-with_step, none_writable}
+use Rattle.stun_grammar.proofs.WritingLemmas.{length-message}
+use Rattle.stun_values.specs.declared.algorithm.PasswordAlgorithmValue.TheVariants.{MD5, SHA256}
+use Rattle.stun_values.specs.Algorithms.{algorithms_encoding}
+use Rattle.stun_authentication.specs.declared.cookie.SecurityFeatures.{SecurityFeatures}
+use Rattle.stun_authentication.specs.Cookies.{cookie, promises, is_anonymous, security_features}
+use Rattle.stun_logins.specs.Example.{offer, asked, user, IsMet}
+use Rattle.stun_logins.specs.Premises.{HasRoom}
+use Rattle.stun_authentication.specs.Requests.{credentials, user_key}
+use Rattle.stun_logins.proofs.ListsLemmas.{takes_first}
+
+cookie_there : ((features : SecurityFeatures) (more : List ℕ) → security_features (cookie features ++ more) ≡ Some features) → security_features offer.nonce ≡ Some (record { password_algorithms = true; username_anonymity = false })
+cookie_there told = told (record { password_algorithms = true; username_anonymity = false }) []
+
+list_short : (value : List ℕ) → Some (algorithms_encoding (SHA256 ∷ MD5 ∷ [])) ≡ Some value → length value < 2 ^ 16
+list_short value e =
+    let same : algorithms_encoding (SHA256 ∷ MD5 ∷ []) ≡ value = cc in
+    omega (arith, ap length (sym same))
+
+room_of : (xs : List Attribute) (key : List ℕ) → length (encodings xs) ≤ 1000 → HasRoom 0x0001 7 (with_step 0x0001 7 (with_step 0x0001 7 xs (sign Sha256 key)) finger)
+room_of xs key small =
+    let one = with_step 0x0001 7 xs (sign Sha256 key) in
+    omega (arith, small, length-message 0x0001 7 xs, length-with_step 0x0001 7 xs (sign Sha256 key) tt, length-with_step 0x0001 7 one finger tt)
+
+small_there : (anonymous : Bool) → anonymous ≡ false → length (encodings (credentials (record asked { anonymous = anonymous }) user.name)) ≤ 1000
+unfolding encoding
+small_there true e = absurd (cc e)
+small_there false e = omega arith
+
+pub met : ((features : SecurityFeatures) (more : List ℕ) → security_features (cookie features ++ more) ≡ Some features) → IsMet
+met told = record {
+  offered = record { known = refl; agrees = ap promises (cookie_there told) };
+  takes = takes_first;
+  short = record { realm_fits = lit< tt; nonce_fits = lit< tt; list_fits = list_short; name_fits = lit< tt };
+  class_is = refl;
+  own = record { writable = none_writable 0x0001 7 (lit< tt) (lit< tt); own = refl };
+  room = room_of (credentials asked user.name) (user_key asked user) (small_there asked.anonymous (ap is_anonymous (cookie_there told)));
+  serves = record { counts = inl refl; shortest = omega arith; printed = λ e. refl };
+}

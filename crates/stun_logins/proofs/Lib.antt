@@ -1,0 +1,10 @@
+mod WritableLemmas
+mod EndedLemmas
+mod ProofLemmas
+mod ShortTermLemmas
+mod ListsLemmas
+mod LongTermLemmas
+mod TakenLemmas
+mod ChallengeLemmas
+mod RetriedLemmas
+mod ExampleLemmas

@@ -1,0 +1,202 @@
+-- A signed reply is taken.
+use Rattle.std.proofs.Common.{◌≡◌, ℕ, Bool, true, false, eqb, List, Option, Some, None, Result, refl, sym, ap, subst, ◌∙◌}
+use Rattle.std.specs.Prelude.{◌==◌, ◌&&◌, is_some, not, if◌then◌else◌}
+use Rattle.std.specs.List.{list_any}
+use Rattle.std.specs.Option.{option_map_or}
+use Rattle.std.proofs.lemmas.Bool.{eq-eqb, ne_eqb}
+use Rattle.stun_grammar.specs.declared.attribute_type.AttributeType.{AttributeType}
+use Rattle.stun_grammar.specs.declared.error.StunParseError.{StunParseError}
+use Rattle.stun_grammar.specs.declared.error.ValidateError.{ValidateError}
+use Rattle.stun_grammar.specs.declared.integrity_algorithm.IntegrityAlgorithm.{IntegrityAlgorithm}
+use Rattle.stun_grammar.specs.declared.integrity_algorithm.IntegrityAlgorithm.TheVariants.{Sha1, Sha256}
+use Rattle.stun_grammar.specs.Attributes.{Attribute, types}
+use Rattle.stun_grammar.specs.AttributeTypes.{NONCE, FINGERPRINT, is_ending}
+use Rattle.stun_grammar.specs.Headers.{type_field, id_field}
+use Rattle.stun_grammar.specs.Parsing.{parse_fault}
+use Rattle.stun_grammar.specs.ScannedOrder.{has}
+use Rattle.stun_grammar.specs.Verdicts.{type_of_algorithm, is_checked_type}
+use Rattle.stun_grammar.specs.Writing.{message_encoding}
+use Rattle.stun_grammar.proofs.WritingLemmas.{parse-message, shown-message}
+use Rattle.stun_base.specs.MessageTypes.{class_of, method_of, is_response}
+use Rattle.stun_keys.specs.declared.keys.integrity_key.IntegrityKey.{IntegrityKey}
+use Rattle.stun_keys.specs.Keys.{key_bytes, IsKey, serves}
+use Rattle.stun_types.specs.Replies.{Answers}
+use Rattle.stun_authentication.specs.Challenges.{list_of, is_bid_down}
+use Rattle.stun_authentication.specs.Codes.{is_challenge, is_code, response_code}
+use Rattle.stun_authentication.specs.Cookies.{promises_algorithms}
+use Rattle.stun_authentication.specs.Identities.{value_of}
+use Rattle.stun_transactions.specs.declared.guard.Protection.{Protection}
+use Rattle.stun_transactions.specs.declared.guard.Protection.TheVariants as P
+use Rattle.stun_transactions.specs.declared.guard.Signed.{Signed}
+use Rattle.stun_transactions.specs.declared.plan.Plan.{Plan}
+use Rattle.stun_transactions.specs.declared.received.Discard.{Discard}
+use Rattle.stun_transactions.specs.declared.received.Discard.TheVariants.{BidDown, UnsignedBadRequest, NoFingerprint}
+use Rattle.stun_transactions.specs.declared.received.Outcome.{Outcome}
+use Rattle.stun_transactions.specs.declared.received.Outcome.TheVariants.{NotForThis}
+use Rattle.stun_transactions.specs.declared.retransmission.RetransmissionState.{RetransmissionState}
+use Rattle.stun_transactions.specs.declared.terms.Terms.{Terms}
+use Rattle.stun_transactions.specs.declared.usage.Usage.{Usage}
+use Rattle.stun_transactions.specs.Usages.{lacks_fingerprint}
+use Rattle.stun_transactions.specs.Guards.{guard_fault, signed_by, is_signed, signs_by, is_unsigned_bad_request, validated, proved_by, matched_by, proof_of, short_term_fault, long_term_fault, mechanism_fault, IsKeptAs}
+use Rattle.stun_transactions.specs.Outcomes.{is_open}
+use Rattle.stun_transactions.specs.Receiving.{content, claim_of, discarded, received_outcome}
+use Rattle.stun_transactions.specs.Terms.{AreTerms, is_answer}
+use Rattle.stun_logins.specs.Premises.{IsOwn, IsOpen, IsNamed, HasRoom, Suits, WorksAs, checked}
+use Rattle.stun_authentication.specs.Requests.{short_term_attributes, short_term_request}
+use Rattle.stun_authentication.specs.Writing.{signed, finished, signed_reply}
+use Rattle.stun_logins.proofs.EndedLemmas.{IsFirst, IsMissing, ended_none, ended_signed, ended_finished, value_missing, signs_here, signs_finished, HasHmac, signs_found, no_print, print_kept}
+use Rattle.stun_logins.proofs.ProofLemmas.{is_signed_by, signs_is, long_enough}
+use Rattle.stun_logins.proofs.ShortTermLemmas.{once_writable, kept_validates, signed_unprinted, is_request}
+use Rattle.stun_logins.proofs.WritableLemmas.{any-append}
+use Rattle.stun_authentication.proofs.TypesLemmas.{weaker}
+
+own_ending : (a : IntegrityAlgorithm) → is_ending (type_of_algorithm a) ≡ true
+own_ending Sha1 = refl
+own_ending Sha256 = refl
+
+-- ordinary attributes have no ending type
+no_own : (a : IntegrityAlgorithm) (ts : List ℕ) → list_any is_ending ts ≡ false → has (type_of_algorithm a) ts ≡ false
+no_own a ts none = weaker is_ending (λ t. eqb t (type_of_algorithm a)) ts (λ t e. ne_eqb t (type_of_algorithm a) (λ is. absurd (cc (e, own_ending a, ap is_ending is)))) none
+
+-- what a signed reply shows
+pub reply_found : IsFirst → (print : Bool) (kind id : ℕ) (xs : List Attribute) (a : IntegrityAlgorithm) (key : List ℕ) → IsOpen kind id xs → HasRoom kind id (finished print kind id (signed kind id xs a key)) → HasHmac (signed_reply print kind id xs a key) a
+reply_found first print kind id xs a key plain room =
+    signs_found first kind id (finished print kind id (signed kind id xs a key)) (λ _. false) a key (once_writable print kind id xs a key plain.writable plain.ordinary room)
+    (signs_finished print kind id (signed kind id xs a key) (λ _. false) a key refl (signs_here kind id xs (λ _. false) a key (no_own a (types xs) plain.ordinary)))
+
+no_nonce : IsMissing → (print : Bool) (kind id : ℕ) (xs : List Attribute) (a : IntegrityAlgorithm) (key : List ℕ) → IsOpen kind id xs → HasRoom kind id (finished print kind id (signed kind id xs a key)) → has NONCE (types xs) ≡ false
+    → value_of (signed_reply print kind id xs a key) NONCE ≡ None
+no_nonce missing print kind id xs a key plain room none =
+    let all = finished print kind id (signed kind id xs a key) in
+    let ended = ended_finished print kind id xs (signed kind id xs a key) (ended_signed kind id xs xs a key (ended_none xs)) in
+    value_missing missing (message_encoding kind id all) NONCE all (shown-message kind id all (once_writable print kind id xs a key plain.writable plain.ordinary room))
+    (ap (λ (l : List Attribute). has NONCE (types l)) ended.whole ∙ any-append (λ t. eqb t NONCE) xs ended.more none (ended.ending NONCE refl))
+
+and_not : (x y : Bool) → y ≡ true → (x && not y) ≡ false
+and_not true true e = refl
+and_not false true e = refl
+and_not x false e = absurd cc
+
+-- ---- What a client takes
+
+-- a response is kept, and authenticated by an algorithm
+pub record IsTaken (protection : Protection) (usage : Usage) (by : Signed) (d : List ℕ) (a : IntegrityAlgorithm) : Type 0 where
+  pub kept : guard_fault protection usage by d ≡ None
+  pub proof : proof_of protection usage by d ≡ Some a
+
+taken_of : (asks bid bad : Bool) → bid ≡ false → bad ≡ false → (if asks then None else (if bid then Some BidDown else (if bad then Some UnsignedBadRequest else None))) ≡ None
+taken_of true bid bad x y = refl
+taken_of false true bad x y = absurd cc
+taken_of false false true x y = absurd cc
+taken_of false false false x y = refl
+
+unprinted : (kind id : ℕ) (xs : List Attribute) (a : IntegrityAlgorithm) (key : List ℕ) → IsOpen kind id xs → has FINGERPRINT (types (signed kind id xs a key)) ≡ false
+unprinted kind id xs a key plain = signed_unprinted kind id xs a key (no_print (types xs) plain.ordinary)
+
+-- no FINGERPRINT is missing
+none_lacks : IsFirst → (print : Bool) (kind id : ℕ) (xs : List Attribute) (a : IntegrityAlgorithm) (key : List ℕ) (usage : Usage) → IsOpen kind id xs → HasRoom kind id (finished print kind id (signed kind id xs a key)) → Suits usage print
+    → lacks_fingerprint usage (signed_reply print kind id xs a key) ≡ false
+none_lacks first print kind id xs a key usage plain room suits =
+    print_kept first usage.fingerprint print kind id (signed kind id xs a key) (once_writable print kind id xs a key plain.writable plain.ordinary room) (unprinted kind id xs a key plain) suits.printed
+
+-- the reply's HMAC is right, and long enough
+proves : IsFirst → (print : Bool) (kind id : ℕ) (xs : List Attribute) (a : IntegrityAlgorithm) (key : List ℕ) (kept : IntegrityKey) (usage : Usage) → WorksAs key a kept → IsOpen kind id xs
+    → HasRoom kind id (finished print kind id (signed kind id xs a key)) → Suits usage print → proved_by usage.shortest (signed_reply print kind id xs a key) (validated kept (signed_reply print kind id xs a key)) ≡ Some a
+proves first print kind id xs a key kept usage works plain room suits =
+    let d = signed_reply print kind id xs a key in
+    ap (λ (r : Result IntegrityAlgorithm ValidateError). proved_by usage.shortest d r) (kept_validates print kind id xs a key kept plain room works)
+    ∙ ap (λ (b : Bool). if b then Some a else None) (long_enough usage.shortest a d (reply_found first print kind id xs a key plain room) suits.shortest)
+
+pub long_taken : IsFirst → IsMissing → (a : IntegrityAlgorithm) (print : Bool) (kind id : ℕ) (xs : List Attribute) (key : List ℕ) (kept : IntegrityKey) (usage : Usage) (by : Signed) → WorksAs key a kept → IsOpen kind id xs → has NONCE (types xs) ≡ false
+    → HasRoom kind id (finished print kind id (signed kind id xs a key)) → Suits usage print → IsTaken (P.LongTerm kept) usage by (signed_reply print kind id xs a key) a
+long_taken first missing a print kind id xs key kept usage by works plain none room suits =
+    let d = signed_reply print kind id xs a key in
+    let right = proves first print kind id xs a key kept usage works plain room suits in
+    record {
+      kept = ap (λ (b : Bool). if b then Some NoFingerprint else mechanism_fault (P.LongTerm kept) (is_some (proof_of (P.LongTerm kept) usage by d)) by d) (none_lacks first print kind id xs a key usage plain room suits)
+          ∙ ap (λ (o : Option IntegrityAlgorithm). long_term_fault (is_some o) d) right
+          ∙ taken_of (is_challenge d) (is_bid_down d) (is_unsigned_bad_request d)
+          (ap (λ (o : Option (List ℕ)). option_map_or (λ (n : List ℕ). promises_algorithms n) o false && not (is_some (list_of d))) (no_nonce missing print kind id xs a key plain room none))
+          (and_not (is_code 400 (response_code d)) (is_signed (signed_by d)) (is_signed_by a d (reply_found first print kind id xs a key plain room)));
+      proof = right;
+    }
+
+-- by a short-term credential, of a request that has the integrity attribute of the algorithm
+pub short_taken : IsFirst → (a : IntegrityAlgorithm) (print : Bool) (kind id : ℕ) (xs : List Attribute) (key : List ℕ) (kept : IntegrityKey) (usage : Usage) (by : Signed) → signs_by by a ≡ true → WorksAs key a kept → IsOpen kind id xs
+    → HasRoom kind id (finished print kind id (signed kind id xs a key)) → Suits usage print → IsTaken (P.ShortTerm kept) usage by (signed_reply print kind id xs a key) a
+short_taken first a print kind id xs key kept usage by asked works plain room suits =
+    let d = signed_reply print kind id xs a key in
+    let right : proof_of (P.ShortTerm kept) usage by d ≡ Some a =
+    ap (matched_by by) (proves first print kind id xs a key kept usage works plain room suits) ∙ ap (λ (b : Bool). if b then Some a else None) asked in
+    record {
+      kept = ap (λ (b : Bool). if b then Some NoFingerprint else mechanism_fault (P.ShortTerm kept) (is_some (proof_of (P.ShortTerm kept) usage by d)) by d) (none_lacks first print kind id xs a key usage plain room suits)
+          ∙ ap (λ (o : Option IntegrityAlgorithm). short_term_fault (is_some o) by d) right;
+      proof = right;
+    }
+
+-- the same of the request that `accepted` speaks of
+pub taken : IsFirst → (sent counts : Option IntegrityAlgorithm) (a : IntegrityAlgorithm) (fingerprint print : Bool) (kind id other : ℕ) (before answer : List Attribute) (name key : List ℕ) (kept : IntegrityKey) (usage : Usage)
+    → IsOwn kind id before → IsNamed name → HasRoom kind id (short_term_attributes fingerprint sent kind id before name key) → checked counts sent ≡ Some a → WorksAs key a kept
+    → IsOpen other id answer → HasRoom other id (finished print other id (signed other id answer a key)) → Suits usage print
+    → IsTaken (P.ShortTerm kept) usage (signed_by (short_term_request fingerprint sent kind id before name key)) (signed_reply print other id answer a key) a
+taken first sent counts a fingerprint print kind id other before answer name key kept usage own named room which works plain fits suits =
+    let all = short_term_attributes fingerprint sent kind id before name key in
+    let d = message_encoding kind id all in
+    let r = is_request fingerprint sent counts a kind id before name key own named room which in
+    short_taken first a print other id answer key kept usage (signed_by d) (signs_is a d (signs_found first kind id all (is_checked_type counts) a key r.writable r.signs)) works plain fits suits
+
+-- ---- What the transaction is told
+
+told_of : (ongoing parses answers : Bool) (kept : Option Discard) (out : Discard → Outcome) (taken : Outcome) → ongoing ≡ true → parses ≡ true → answers ≡ true → kept ≡ None
+    → (if ongoing && parses then (if answers then option_map_or out kept taken else NotForThis) else NotForThis) ≡ taken
+told_of true true true None out taken o p a k = refl
+told_of true true true (Some reason) out taken o p a k = absurd cc
+told_of true true false kept out taken o p a k = absurd cc
+told_of true false answers kept out taken o p a k = absurd cc
+told_of false parses answers kept out taken o p a k = absurd cc
+
+all_true : (a b c : Bool) → a ≡ true → b ≡ true → c ≡ true → (a && (b && c)) ≡ true
+all_true true true true x y z = refl
+all_true true true false x y z = absurd cc
+all_true true false c x y z = absurd cc
+all_true false b c x y z = absurd cc
+
+heard_as : (terms : Terms) (state : RetransmissionState) (understood : List AttributeType) (r d : List ℕ) (plan : Plan) (protection : Protection) (usage : Usage) (a : IntegrityAlgorithm) → AreTerms r plan protection usage terms → is_open state ≡ true → parse_fault d ≡ None → Answers d r
+    → IsTaken terms.protection terms.usage terms.signed d a → received_outcome terms state understood d ≡ content (Some a) understood d
+heard_as terms state understood r d plan protection usage a are ongoing parses answers it =
+    told_of (is_open state) (not (is_some (parse_fault d))) (is_answer terms d) (guard_fault terms.protection terms.usage terms.signed d) (discarded terms.plan.transport (claim_of d)) (content (proof_of terms.protection terms.usage terms.signed d) understood d) ongoing
+    (ap (λ (o : Option StunParseError). not (is_some o)) parses)
+    (all_true (is_response (class_of (type_field d))) (method_of (type_field d) == terms.method) (id_field d == terms.id) answers.response
+    (eq-eqb (method_of (type_field d)) terms.method (answers.method ∙ sym are.method_is)) (eq-eqb (id_field d) terms.id (answers.id ∙ sym are.id_is)))
+    it.kept
+    ∙ ap (λ (o : Option IntegrityAlgorithm). content o understood d) it.proof
+
+-- a long-term key that is kept works with both algorithms
+kept_works : (k kept : IntegrityKey) (a : IntegrityAlgorithm) (key : List ℕ) → IsKey None (key_bytes k) kept → key_bytes k ≡ key → WorksAs key a kept
+kept_works k kept a key is same = record { bytes_are = is.bytes_are ∙ same; works = ap (λ (o : Option IntegrityAlgorithm). serves o a) is.algorithm_is }
+
+kept_long : (p : Protection) (k : IntegrityKey) (usage : Usage) (by : Signed) (a : IntegrityAlgorithm) (key d : List ℕ) → IsKeptAs (P.LongTerm k) p → key_bytes k ≡ key → ((kept : IntegrityKey) → WorksAs key a kept → IsTaken (P.LongTerm kept) usage by d a) → IsTaken p usage by d a
+kept_long P.Unprotected k usage by a key d is same then_taken = absurd is
+kept_long P.FirstLongTerm k usage by a key d is same then_taken = absurd is
+kept_long (P.ShortTerm kept) k usage by a key d is same then_taken = absurd is
+kept_long (P.LongTerm kept) k usage by a key d is same then_taken = then_taken kept (kept_works k kept a key is same)
+
+pub long_heard : IsFirst → IsMissing → (a : IntegrityAlgorithm) (print : Bool) (kind id : ℕ) (xs : List Attribute) (r key : List ℕ) (k : IntegrityKey) (plan : Plan) (usage : Usage) (terms : Terms) (state : RetransmissionState) (understood : List AttributeType)
+    → key_bytes k ≡ key → AreTerms r plan (P.LongTerm k) usage terms → is_open state ≡ true → IsOpen kind id xs → has NONCE (types xs) ≡ false → HasRoom kind id (finished print kind id (signed kind id xs a key)) → Suits usage print
+    → Answers (signed_reply print kind id xs a key) r → received_outcome terms state understood (signed_reply print kind id xs a key) ≡ content (Some a) understood (signed_reply print kind id xs a key)
+long_heard first missing a print kind id xs r key k plan usage terms state understood same are ongoing plain none room suits answers =
+    let d = signed_reply print kind id xs a key in
+    heard_as terms state understood r d plan (P.LongTerm k) usage a are ongoing (parse-message kind id (finished print kind id (signed kind id xs a key)) (once_writable print kind id xs a key plain.writable plain.ordinary room)) answers
+    (subst (λ (u : Usage). IsTaken terms.protection u terms.signed d a) (sym are.usage_is)
+    (kept_long terms.protection k usage terms.signed a key d are.protection_is same (λ kept works. long_taken first missing a print kind id xs key kept usage terms.signed works plain none room suits)))
+
+-- the same of a short-term key, which is kept as it is
+pub short_heard : (a : IntegrityAlgorithm) (print : Bool) (kind id : ℕ) (xs : List Attribute) (r key : List ℕ) (k : IntegrityKey) (plan : Plan) (usage : Usage) (terms : Terms) (state : RetransmissionState) (understood : List AttributeType)
+    → AreTerms r plan (P.ShortTerm k) usage terms → is_open state ≡ true → IsOpen kind id xs → HasRoom kind id (finished print kind id (signed kind id xs a key)) → Answers (signed_reply print kind id xs a key) r
+    → IsTaken (P.ShortTerm k) usage (signed_by r) (signed_reply print kind id xs a key) a → received_outcome terms state understood (signed_reply print kind id xs a key) ≡ content (Some a) understood (signed_reply print kind id xs a key)
+short_heard a print kind id xs r key k plan usage terms state understood are ongoing plain room answers it =
+    let d = signed_reply print kind id xs a key in
+    heard_as terms state understood r d plan (P.ShortTerm k) usage a are ongoing (parse-message kind id (finished print kind id (signed kind id xs a key)) (once_writable print kind id xs a key plain.writable plain.ordinary room)) answers
+    (subst (λ (p : Protection). IsTaken p terms.usage terms.signed d a) (sym are.protection_is)
+    (subst (λ (u : Usage). IsTaken (P.ShortTerm k) u terms.signed d a) (sym are.usage_is)
+    (subst (λ (s : Signed). IsTaken (P.ShortTerm k) usage s d a) (sym are.signed_is) it)))

@@ -1,0 +1,12 @@
+use Rattle.stun_authentication.specs.Requests.{short_term_request}
+use Rattle.stun_logins.proofs.ShortTermLemmas.{accepted}
+use Rattle.stun_logins.proofs.TakenLemmas.{taken, short_heard}
+use Rattle.stun_logins.proofs.laws.short_term_login_is_accepted.Goals as goal
+
+pub returns-clause-accepted : goal.returns-clause-accepted
+returns-clause-accepted c = accepted c.shown_is_found.ensures.first
+
+pub returns-clause-heard : goal.returns-clause-heard
+returns-clause-heard c = λ sent counts a fingerprint print kind id other before answer name key kept plan usage terms state understood own named room which works plain fits suits are ongoing answers.
+    short_heard a print other id answer (short_term_request fingerprint sent kind id before name key) key kept plan usage terms state understood are ongoing plain fits answers
+    (taken c.shown_is_found.ensures.first sent counts a fingerprint print kind id other before answer name key kept usage own named room which works plain fits suits)

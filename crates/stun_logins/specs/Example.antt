@@ -1,0 +1,43 @@
+-- One login, at which all premises of the law hold together.
+use Rattle.std.specs.Prelude.{◌≡◌, ℕ, true, false, List, [], ◌∷◌, codes, Some, None}
+use Rattle.stun_base.specs.declared.message_type.MessageClass.TheVariants.{Request}
+use Rattle.stun_base.specs.MessageTypes.{class_of}
+use Rattle.stun_values.specs.declared.algorithm.PasswordAlgorithmValue.TheVariants.{MD5, SHA256}
+use Rattle.stun_authentication.specs.Challenges.{Asked, signing_algorithm}
+use Rattle.stun_authentication.specs.Cookies.{cookie}
+use Rattle.stun_authentication.specs.Lookups.{Known, valid}
+use Rattle.stun_authentication.specs.declared.policy.Policy.{Policy}
+use Rattle.stun_logins.specs.Offers.{Offer, IsOffered, Takes, IsShort, asked_of}
+use Rattle.stun_logins.specs.Premises.{IsOwn, HasRoom, Serves}
+use Rattle.stun_authentication.specs.Requests.{User, retried_attributes}
+
+-- a server that sends both algorithms, SHA-256 first
+abbrev pub offer : Offer
+offer = record {
+  realm = codes "example.org";
+  nonce = cookie (record { password_algorithms = true; username_anonymity = false });
+  algorithms = Some (SHA256 ∷ MD5 ∷ []);
+}
+
+abbrev pub nonces : List ℕ → Known
+nonces nonce = valid (SHA256 ∷ MD5 ∷ [])
+
+abbrev pub policy : Policy
+policy = record { algorithm = None; shortest = 32; fingerprint = true }
+
+-- a client that knows both takes the server's first
+abbrev pub asked : Asked
+asked = asked_of offer SHA256
+
+abbrev pub user : User
+user = record { name = codes "alice"; password = codes "wonderland" }
+
+-- a binding request without attributes of its own, with a FINGERPRINT
+pub record IsMet : Type 0 where
+  pub offered : IsOffered nonces offer
+  pub takes : Takes (MD5 ∷ SHA256 ∷ []) offer SHA256
+  pub short : IsShort offer user.name
+  pub class_is : class_of 0x0001 ≡ Request
+  pub own : IsOwn 0x0001 7 []
+  pub room : HasRoom 0x0001 7 (retried_attributes true asked user 0x0001 7 [])
+  pub serves : Serves policy (signing_algorithm asked) true

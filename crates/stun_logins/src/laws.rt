@@ -1,0 +1,197 @@
+//! Laws of logins. Each function does nothing: its contract is the law.
+
+ghost use Rattle.std.specs.Prelude.{◌≡◌, ◌≤◌, ◌<◌, ◌+◌, ◌^◌, ◌++◌, ◌∷◌, ℕ, Bool, true, false, List, [], Option, Some, None, Ok, is_some, length, find};
+ghost use Rattle.stun_grammar.specs.declared.integrity_algorithm.IntegrityAlgorithm.{IntegrityAlgorithm};
+ghost use Rattle.stun_grammar.specs.Attributes.{Attribute};
+ghost use Rattle.stun_grammar.specs.Writing.{IsWritable};
+ghost use Rattle.stun_base.specs.MessageTypes.{class_of, is_response};
+ghost use Rattle.stun_keys.specs.declared.keys.integrity_key.IntegrityKey.{IntegrityKey};
+ghost use Rattle.stun_authentication.specs.declared.policy.Policy.{Policy};
+ghost use Rattle.stun_authentication.specs.Answers.{accept};
+ghost use Rattle.stun_authentication.specs.ShortTerm.{short_term};
+ghost use Rattle.stun_transactions.specs.declared.guard.Protection.TheVariants as Protection;
+ghost use Rattle.stun_grammar.specs.Attributes.{types};
+ghost use Rattle.stun_grammar.specs.AttributeTypes.{NONCE};
+ghost use Rattle.stun_grammar.specs.ScannedOrder.{has};
+ghost use Rattle.stun_base.specs.declared.message_type.MessageClass.TheVariants.{Request, Error as ErrorClass};
+ghost use Rattle.stun_values.specs.declared.algorithm.PasswordAlgorithmValue.{PasswordAlgorithmValue};
+ghost use Rattle.stun_authentication.specs.declared.answer.Refusal.{Refusal};
+ghost use Rattle.stun_authentication.specs.declared.demand.Demand.{Demand};
+ghost use Rattle.stun_authentication.specs.Challenges.{Asked, challenge_of, signing_algorithm};
+ghost use Rattle.stun_authentication.specs.Cookies.{promises_algorithms};
+ghost use Rattle.stun_authentication.specs.Identities.{Who, named};
+ghost use Rattle.stun_keys.specs.declared.keys.long_term.LongTermCredentials.{LongTermCredentials};
+ghost use Rattle.stun_authentication.specs.declared.logins.Logins.{Logins};
+ghost use Rattle.stun_authentication.specs.Logins.{is_login, users_of, long_term_key_of, short_term_key_of};
+ghost use Rattle.stun_authentication.specs.LongTerm.{long_term};
+ghost use Rattle.stun_authentication.specs.Lookups.{Known};
+ghost use Rattle.stun_authentication.specs.Nonces.{Minting, known_as, minted, freshness};
+ghost use Rattle.stun_grammar.specs.declared.attribute_type.AttributeType.{AttributeType};
+ghost use Rattle.stun_keys.specs.Keys.{key_bytes};
+ghost use Rattle.stun_types.specs.Replies.{Answers};
+ghost use Rattle.stun_transactions.specs.declared.retransmission.RetransmissionState.{RetransmissionState};
+ghost use Rattle.stun_transactions.specs.declared.plan.Plan.{Plan};
+ghost use Rattle.stun_transactions.specs.declared.terms.Terms.{Terms};
+ghost use Rattle.stun_transactions.specs.declared.usage.Usage.{Usage};
+ghost use Rattle.stun_transactions.specs.Outcomes.{is_open};
+ghost use Rattle.stun_transactions.specs.Receiving.{content, received_outcome};
+ghost use Rattle.stun_transactions.specs.Terms.{AreTerms};
+ghost use Rattle.stun_logins.specs.Example.{IsMet};
+ghost use Rattle.stun_logins.specs.Offers.{Offer, IsOffered, sent_with, IsLawful, Takes, IsShort, Retries, asked_of, asks, offer_of, refused, refused_attributes};
+ghost use Rattle.stun_authentication.specs.Requests.{User, user_of, identity, user_key, retried_attributes, retried_request, short_term_attributes, short_term_request};
+ghost use Rattle.stun_authentication.specs.Writing.{signed, finished, signed_reply};
+ghost use Rattle.stun_logins.specs.Premises.{IsOwn, IsOpen, IsNamed, IsPrinted, HasRoom, Serves, Suits, WorksAs, checked};
+
+use stun_authentication::{cookie_is_read, nonces_are_timed};
+use stun_types::shown_is_found;
+
+/// A 401 or a 438 is read as it was written: `challenge_of` returns of the error response that
+/// `refuse_long_term` writes what the server offers, and the algorithm that the client takes of the
+/// offer.
+pub fn challenge_is_read()
+    ensures { (refusal : Refusal) (demand : Demand) (supported : List PasswordAlgorithmValue)
+        (algorithm : PasswordAlgorithmValue) (tried seen : Option (List ℕ))
+        (fingerprint : Bool) (kind id : ℕ)
+        → let offer = offer_of demand in
+        asks refusal ≡ true → kind < 2 ^ 14 → id < 2 ^ 96 → class_of kind ≡ ErrorClass
+        → IsLawful offer → promises_algorithms offer.nonce ≡ is_some offer.algorithms
+        → Takes supported offer algorithm → Retries tried seen refusal offer
+        → HasRoom kind id (refused_attributes fingerprint kind id refusal demand)
+        → challenge_of supported tried seen (refused fingerprint kind id refusal demand)
+        ≡ Ok (asked_of offer algorithm) }
+{
+    shown_is_found();
+}
+
+/// A login by long-term credentials is accepted, and its reply is taken.
+///
+/// A server offers a realm, a nonce that it knows as valid, and a list of password algorithms or
+/// none, as the nonce's cookie tells. A client takes one of the algorithms, and writes what it is
+/// asked for behind attributes of its own, for a user whose key the server has in that realm by that
+/// algorithm. The request is accepted as that user's, with that key. A reply that is signed with the
+/// key, by the algorithm of the decision, is taken by the client's transaction, as authenticated by
+/// that algorithm.
+pub fn login_is_accepted()
+    ensures accepted { (policy : Policy) (nonces : List ℕ → Known)
+        (keys : Who → List ℕ → PasswordAlgorithmValue → Option (List ℕ))
+        (offer : Offer) (supported : List PasswordAlgorithmValue)
+        (algorithm : PasswordAlgorithmValue) (user : User) (fingerprint : Bool) (kind id : ℕ)
+        (before : List Attribute)
+        → let asked = asked_of offer algorithm in
+        IsOffered nonces offer → Takes supported offer algorithm → IsShort offer user.name
+        → class_of kind ≡ Request → IsOwn kind id before
+        → HasRoom kind id (retried_attributes fingerprint asked user kind id before)
+        → keys (identity asked.anonymous offer.realm user.name) offer.realm algorithm
+        ≡ Some (user_key asked user)
+        → Serves policy (signing_algorithm asked) fingerprint
+        → long_term policy offer.realm nonces keys
+        (retried_request fingerprint asked user kind id before)
+        ≡ accept (user_key asked user) (signing_algorithm asked) (signing_algorithm asked) }
+    // the same if the client reads the challenge of the response by which the server refused it
+    ensures retried { (policy : Policy) (nonces : List ℕ → Known)
+        (keys : Who → List ℕ → PasswordAlgorithmValue → Option (List ℕ))
+        (refusal : Refusal) (demand : Demand) (supported : List PasswordAlgorithmValue)
+        (algorithm : PasswordAlgorithmValue) (tried seen : Option (List ℕ)) (print : Bool)
+        (other number : ℕ)
+        (asked : Asked) (user : User) (fingerprint : Bool) (kind id : ℕ) (before : List Attribute)
+        → let offer = offer_of demand in
+        asks refusal ≡ true → other < 2 ^ 14 → number < 2 ^ 96 → class_of other ≡ ErrorClass
+        → IsLawful offer → IsOffered nonces offer → Takes supported offer algorithm
+        → Retries tried seen refusal offer
+        → HasRoom other number (refused_attributes print other number refusal demand)
+        → challenge_of supported tried seen (refused print other number refusal demand) ≡ Ok asked
+        → length user.name < 2 ^ 16 → class_of kind ≡ Request → IsOwn kind id before
+        → HasRoom kind id (retried_attributes fingerprint asked user kind id before)
+        → keys (identity asked.anonymous asked.realm user.name) asked.realm asked.algorithm
+        ≡ Some (user_key asked user)
+        → Serves policy (signing_algorithm asked) fingerprint
+        → long_term policy offer.realm nonces keys
+        (retried_request fingerprint asked user kind id before)
+        ≡ accept (user_key asked user) (signing_algorithm asked) (signing_algorithm asked) }
+    // with a transaction of a request r that was begun with the key, and waits for a response to it
+    ensures heard { (a : IntegrityAlgorithm) (fingerprint : Bool) (kind id : ℕ)
+        (answer : List Attribute) (r key : List ℕ) (k : IntegrityKey) (plan : Plan) (usage : Usage)
+        (terms : Terms) (state : RetransmissionState) (understood : List AttributeType)
+        → let reply = signed_reply fingerprint kind id answer a key in
+        key_bytes k ≡ key → AreTerms r plan (Protection.LongTerm k) usage terms
+        → is_open state ≡ true → IsOpen kind id answer → has NONCE (types answer) ≡ false
+        → HasRoom kind id (finished fingerprint kind id (signed kind id answer a key))
+        → Suits usage fingerprint → Answers reply r
+        → received_outcome terms state understood reply ≡ content (Some a) understood reply }
+{
+    shown_is_found();
+}
+
+/// The keys of users by name and password are those that the client makes: if the first user that a
+/// request names is this one, the server has the key of the name and password. Of two users with one
+/// name, or with names of equal hash, the first counts.
+pub fn logins_have_keys()
+    ensures long_term { (logins : Logins) (login : LongTermCredentials) (asked : Asked)
+        → let user = user_of login in
+        let who = identity asked.anonymous asked.realm user.name in
+        find (is_login who asked.realm) (users_of logins) ≡ Some login
+        → long_term_key_of logins who asked.realm asked.algorithm ≡ Some (user_key asked user) }
+    ensures short_term { (logins : Logins) (login : LongTermCredentials)
+        → let user = user_of login in
+        find (is_login (named user.name) []) (users_of logins) ≡ Some login
+        → short_term_key_of logins user.name ≡ Some user.password }
+{}
+
+/// A login by short-term credentials is accepted, and its reply is taken.
+///
+/// A request or an indication that carries its caller's attributes, the name of a user whom the
+/// server knows, and the HMAC under the key that the server has for that name, is accepted as that
+/// user's, with that key. A reply that is signed with the key, by the algorithm of the decision, is
+/// taken by the client's transaction, as authenticated by that algorithm.
+pub fn short_term_login_is_accepted()
+    ensures accepted { (policy : Policy) (keys : List ℕ → Option (List ℕ))
+        (sent : Option IntegrityAlgorithm) (a : IntegrityAlgorithm) (fingerprint : Bool)
+        (kind id : ℕ) (before : List Attribute) (name key : List ℕ)
+        → is_response (class_of kind) ≡ false
+        → IsOwn kind id before → IsNamed name
+        → HasRoom kind id (short_term_attributes fingerprint sent kind id before name key)
+        → keys name ≡ Some key → checked policy.algorithm sent ≡ Some a → policy.shortest ≤ 32
+        → IsPrinted policy.fingerprint fingerprint
+        → short_term policy keys (short_term_request fingerprint sent kind id before name key)
+        ≡ accept key a a }
+    // with a transaction of that request that was begun with the key, and waits for a response to it
+    ensures heard { (sent counts : Option IntegrityAlgorithm) (a : IntegrityAlgorithm)
+        (fingerprint finger : Bool) (kind id other : ℕ) (before answer : List Attribute)
+        (name key : List ℕ) (kept : IntegrityKey) (plan : Plan) (usage : Usage) (terms : Terms)
+        (state : RetransmissionState) (understood : List AttributeType)
+        → let r = short_term_request fingerprint sent kind id before name key in
+        let reply = signed_reply finger other id answer a key in
+        IsOwn kind id before → IsNamed name
+        → HasRoom kind id (short_term_attributes fingerprint sent kind id before name key)
+        → checked counts sent ≡ Some a → WorksAs key a kept
+        → IsOpen other id answer
+        → HasRoom other id (finished finger other id (signed other id answer a key))
+        → Suits usage finger → AreTerms r plan (Protection.ShortTerm kept) usage terms
+        → is_open state ≡ true → Answers reply r
+        → received_outcome terms state understood reply ≡ content (Some a) understood reply }
+{
+    shown_is_found();
+}
+
+/// The premises of `login_is_accepted` can be met, all at once. (The one about keys is met by the
+/// look-up that returns this user's key.)
+pub fn premises_are_met()
+    ensures { IsMet }
+{
+    cookie_is_read();
+}
+
+/// A nonce of a [`NonceMaker`](stun_authentication::NonceMaker) is one that `login_is_accepted` asks
+/// for: within its window, for its client, it is known as valid with the algorithms that the server
+/// sends, and its cookie says whether there is a list.
+pub fn made_nonces_are_offered()
+    ensures { (minting : Minting) (time now : ℕ) (place realm : List ℕ)
+        (algorithms : Option (List PasswordAlgorithmValue))
+        → time < 2 ^ 64 → time ≤ now → now ≤ time + minting.window
+        → minting.features.password_algorithms ≡ is_some algorithms
+        → IsOffered (λ nonce. known_as (sent_with algorithms) (freshness minting now place nonce))
+        (record { realm = realm; nonce = minted minting time place; algorithms = algorithms }) }
+{
+    cookie_is_read();
+    nonces_are_timed();
+}
