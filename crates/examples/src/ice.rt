@@ -103,7 +103,7 @@ fn decide(alloc: Global, agent: &mut Agent<'_>, check: &Message<'_>) -> RoleDeci
     decision
 }
 
-/// The answer to a check that came from `source`: a success response that tells the address, or an
+/// The answer to a check that came from `source`: a success response with that address, or an
 /// error response. `None` if the message gets none.
 pub fn answer(
     alloc: Global,
