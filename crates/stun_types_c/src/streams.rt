@@ -42,8 +42,7 @@ pub extern "C" fn stun_types_stream_push(
         taken.old taken.new }
 {
     let size = buffer.len();
-    let Some(answer) = push_kept(Carries::Messages, buffer, kept.pending, kept.offset, piece)
-    else {
+    let Some(answer) = push_kept(Carries::Messages, buffer, kept.pending, kept.offset, piece) else {
         return plain(codes::BAD_ARGUMENT);
     };
     match answer {
