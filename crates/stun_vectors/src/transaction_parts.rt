@@ -56,6 +56,14 @@ fn parted(alloc: Global) -> Result<(TransactionParts, Option<IntegrityKey>), Fai
     Ok(transaction.into_parts())
 }
 
+/// Whether this is a success response that HMAC-SHA1 authenticates.
+fn is_signed_success(received: Received<'_>) -> bool {
+    match received {
+        Received::Success(_, algorithm) => algorithm == Some(IntegrityAlgorithm::Sha1),
+        _ => false,
+    }
+}
+
 #[test]
 fn goes_on(rt: HostRuntime) -> Result<(), Fail> {
     let (mut parts, key) = parted(rt.alloc())?;
@@ -70,7 +78,7 @@ fn goes_on(rt: HostRuntime) -> Result<(), Fail> {
     let mut transaction = Transaction::from_parts(parts, key)?;
     assert!(rt; transaction.next_wake() == Some(Duration::from_secs(10)));
     let taken = transaction.receive(&SUCCESS_SHA1, &[]);
-    assert!(rt; matches!(taken, Received::Success(_, Some(IntegrityAlgorithm::Sha1))));
+    assert!(rt; is_signed_success(taken));
     let (mut parts, _key) = transaction.into_parts();
     assert!(rt; parts.end == Some(TransactionEnd::Answered));
     parts.cancel();
