@@ -279,7 +279,7 @@ static void check_login(const uint8_t *bytes, size_t length, const model_list *s
     HOLDS((told.kind == STUN_TYPES_ACCEPTED) == (is_named && is_authentic && !is_response));
     if (told.kind == STUN_TYPES_ACCEPTED)
         HOLDS(told.algorithm == algorithm && told.reply_algorithm == algorithm);
-    else if (is_response) HOLDS(told.kind == STUN_TYPES_NOT_A_REQUEST);
+    else if (is_response) HOLDS(told.kind == STUN_TYPES_NOT_CHECKED);
     else if ((bytes[1] & 0x10) != 0) HOLDS(told.kind == STUN_TYPES_DISCARDED);
     else
         HOLDS(told.kind == STUN_TYPES_REFUSED

@@ -468,8 +468,8 @@ enum { /* stun_types_authentication.kind */
     STUN_TYPES_ACCEPTED = 0, /* it is this user's; sign the reply by reply_algorithm with their key */
     STUN_TYPES_REFUSED = 1,  /* answer by an error response with error_code: 400, 401 or 438 */
     STUN_TYPES_DISCARDED = 2, /* answer nothing */
-    STUN_TYPES_NOT_A_REQUEST = 3 /* not authenticated: a response, or an indication under long-term
-                                    credentials, such as TURN's Send (RFC 8489, section 9.2) */
+    STUN_TYPES_NOT_CHECKED = 3    /* a response, or an indication under long-term credentials, such
+                                     as TURN's Send: the mechanism doesn't authenticate it here */
 };
 
 typedef struct {

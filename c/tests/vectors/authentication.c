@@ -124,7 +124,7 @@ static void answer_refused(slice request, uint32_t code, const slice *fresh) {
 static void answer_decision(slice message, const stun_types_authentication *decision,
                             const stun_types_key *key, const slice *fresh) {
     if (decision->kind == STUN_TYPES_DISCARDED) answer_text("discarded");
-    else if (decision->kind == STUN_TYPES_NOT_A_REQUEST) answer_text("not-a-request");
+    else if (decision->kind == STUN_TYPES_NOT_CHECKED) answer_text("not-a-request");
     else if (decision->kind == STUN_TYPES_REFUSED) {
         answer_text("refused %u ", (unsigned)decision->error_code);
         answer_refused(message, decision->error_code, fresh);
