@@ -27,7 +27,8 @@ use Rattle.stun_transactions.specs.Schedules.{requests_in}
 use Rattle.stun_transactions.specs.Retransmissions.{later, ended_by, stopped_by, Polls}
 use Rattle.stun_transactions.specs.Guards.{signed_by, is_signed, protects, IsKeptAs}
 use Rattle.stun_transactions.specs.Outcomes.{after}
-use Rattle.stun_transactions.specs.Terms.{is_request, mismatch, begin_fault}
+use Rattle.stun_authentication.specs.LongTerm.{is_request}
+use Rattle.stun_transactions.specs.Terms.{mismatch, begin_fault}
 use Rattle.stun_transactions.specs.Transactions.{terms_of, state_of, Begins}
 use Rattle.stun_transactions.specs.Parts.{plan_in, state_in, at_state, mechanism_of, key_in, parts_of, key_of, signs, is_signed_otherwise, parts_fault, key_fault, whole_fault}
 

@@ -1,9 +1,8 @@
 -- What a transaction is begun with.
 use Rattle.std.specs.Prelude.{◌≡◌, ℕ, Bool, true, false, ◌&&◌, List, Option, None, Some, ◌==◌, if◌then◌else◌}
 use Rattle.stun_grammar.specs.Headers.{type_field, id_field}
-use Rattle.stun_base.specs.declared.message_type.MessageClass.{MessageClass}
-use Rattle.stun_base.specs.declared.message_type.MessageClass.TheVariants.{Request}
 use Rattle.stun_base.specs.MessageTypes.{class_of, method_of, is_response}
+use Rattle.stun_authentication.specs.LongTerm.{is_request}
 use Rattle.stun_transactions.specs.declared.plan.Plan.{Plan}
 use Rattle.stun_transactions.specs.declared.guard.Protection.{Protection}
 use Rattle.stun_transactions.specs.declared.usage.Usage.{Usage}
@@ -11,11 +10,6 @@ use Rattle.stun_transactions.specs.declared.terms.Terms.{Terms}
 use Rattle.stun_transactions.specs.declared.terms.BeginError.{BeginError}
 use Rattle.stun_transactions.specs.declared.terms.BeginError.TheVariants.{NotARequest, NotSigned, Signed}
 use Rattle.stun_transactions.specs.Guards.{signed_by, is_signed, protects, IsKeptAs, HasSameKey}
-
--- whether a class is that of a request
-abbrev pub is_request : MessageClass → Bool
-is_request Request = true
-is_request _ = false
 
 -- why no transaction begins by whether a credential is to protect the request, and whether it is
 -- signed

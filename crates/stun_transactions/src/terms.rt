@@ -4,7 +4,8 @@ ghost use Rattle.std.specs.Prelude.{◌≡◌, None, Some, MatchResult};
 ghost use Rattle.stun_base.specs.MessageTypes.{class_of};
 ghost use Rattle.stun_grammar.specs.Headers.{type_field};
 ghost use Rattle.stun_types.specs.Message.{message_bytes};
-ghost use Rattle.stun_transactions.specs.Terms.{is_request, begin_fault, AreTerms, is_answer};
+ghost use Rattle.stun_authentication.specs.LongTerm.{is_request};
+ghost use Rattle.stun_transactions.specs.Terms.{begin_fault, AreTerms, is_answer};
 
 use crate::guard::{Protection, Signed, signed_by};
 use crate::plan::Plan;

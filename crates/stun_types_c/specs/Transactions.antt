@@ -42,7 +42,8 @@ use Rattle.stun_transactions.specs.Outcomes.{after}
 use Rattle.stun_transactions.specs.Parts.{plan_in, state_in, at_state, signs, parts_of, key_of, parts_fault}
 use Rattle.stun_transactions.specs.Receiving.{received_outcome}
 use Rattle.stun_transactions.specs.Schedules.{schedule_fault, IsSchedule}
-use Rattle.stun_transactions.specs.Terms.{is_request, mismatch}
+use Rattle.stun_authentication.specs.LongTerm.{is_request}
+use Rattle.stun_transactions.specs.Terms.{mismatch}
 use Rattle.stun_transactions.specs.Transactions.{terms_of, state_of}
 use Rattle.stun_types_c.specs.declared.call_result.CallResult.{CallResult}
 use Rattle.stun_types_c.specs.declared.transactions.KeptTransaction.{KeptTransaction}
