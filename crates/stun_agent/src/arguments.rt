@@ -14,7 +14,7 @@ use std::alloc::Global;
 use std::env::Args;
 use std::net::{IpAddr, SocketAddr};
 use stun_authentication::Policy;
-use stun_streams::RunError;
+use stun_framing::RunError;
 use stun_types::attribute::Username;
 use stun_types::message::{
     IntegrityAlgorithm, ShortTermCredentials, StunWriteError, TransactionId,

@@ -3,8 +3,7 @@
 ghost use Rattle.std.specs.Prelude.{◌≡◌};
 
 use crate::binding::BindingResult;
-use stun_framing::StreamError;
-use stun_streams::RunError;
+use stun_framing::{RunError, StreamError};
 
 /// What a run came to.
 #[derive(Clone, Copy, PartialEq, Eq)]

@@ -15,8 +15,8 @@ use std::alloc::{AllocError, Global};
 use std::io::{Read, Write};
 use std::net::SocketAddr;
 use stun_base::GREATEST_LENGTH;
+use stun_framing::{RunError, read_all, write_all};
 use stun_server::reply;
-use stun_streams::{RunError, read_all, write_all};
 use stun_types::message::StunWriteError;
 
 /// Reads a datagram that came from `source`, up to the end of `reader`, and writes the reply that

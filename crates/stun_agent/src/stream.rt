@@ -10,9 +10,8 @@ use crate::end::{AgentError, RunEnd};
 use std::alloc::Global;
 use std::io::{ErrorKind, Read, Write};
 use std::net::SocketAddr;
-use stun_framing::{GREATEST_MESSAGE, MessageStream};
+use stun_framing::{GREATEST_MESSAGE, MessageStream, RunError, write_all};
 use stun_server::reply;
-use stun_streams::{RunError, write_all};
 
 /// Reads what is there, or waits for it. A read that is interrupted is tried again.
 fn read_piece<R: Read>(reader: &mut R, piece: &mut [u8]) -> Result<usize, RunError>

@@ -1,14 +1,9 @@
-//! What the programs share: reading an input to its end and writing an output whole, over any reader
-//! and writer, and how a run fails.
-#![tactic(auto)]
+//! Reading an input to its end and writing an output whole, over any reader and writer.
 
 ghost use Rattle.std.specs.Prelude.{MatchResult};
 ghost use Rattle.std.specs.Io.KnownBytes.{Appends};
-ghost use Rattle.stun_streams.specs.Streams.{ReadsAll, StopsReading, WritesPart};
+ghost use Rattle.stun_framing.specs.InputOutput.{ReadsAll, StopsReading, WritesPart};
 
-mod run_error;
-
-pub use run_error::{FAILED, RunError, arguments_error};
 use std::alloc::Global;
 use std::io::{ErrorKind, Read, Write};
 

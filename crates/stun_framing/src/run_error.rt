@@ -1,9 +1,9 @@
 //! How a run of a program fails.
 
 ghost use Rattle.std.specs.Prelude.{◌≡◌, ◌≢◌};
-ghost use Rattle.stun_streams.specs.RunErrors.{run_error_of, line_of};
+ghost use Rattle.stun_framing.specs.RunErrors.{run_error_of, line_of};
 
-use crate::{InputError, WriteFailed};
+use crate::input_output::{InputError, WriteFailed};
 use std::alloc::AllocError;
 use std::io::ErrorKind;
 
@@ -38,7 +38,7 @@ impl From<InputError> for RunError {
 }
 
 impl From<WriteFailed> for RunError {
-    ghost use Rattle.stun_streams.specs.declared.run_error.RunError.TheVariants.{WriteFailed};
+    ghost use Rattle.stun_framing.specs.declared.run_error.RunError.TheVariants.{WriteFailed};
 
     ghost from_gives = { λ _ made. made ≡ WriteFailed };
 
@@ -48,7 +48,7 @@ impl From<WriteFailed> for RunError {
 }
 
 impl From<AllocError> for RunError {
-    ghost use Rattle.stun_streams.specs.declared.run_error.RunError.TheVariants.{NoMemory};
+    ghost use Rattle.stun_framing.specs.declared.run_error.RunError.TheVariants.{NoMemory};
 
     ghost from_gives = { λ _ made. made ≡ NoMemory };
 
