@@ -517,8 +517,7 @@ stun_types_answer stun_types_authenticate_long_term(const uint8_t *bytes, size_t
 enum { STUN_TYPES_UDP = 0, STUN_TYPES_TCP = 1 };
 
 /* When a request is sent again and given up, in milliseconds (RFC 8489, section 6.2), and which
-   responses the usage takes. Fields that are left 0 at the end are what RFC 8489 says where a usage
-   says nothing. */
+   responses the usage takes. If the last two fields are 0, the defaults of RFC 8489 apply. */
 typedef struct {
     uint64_t rto;           /* the first interval, which doubles */
     uint64_t reliable_wait; /* over TCP, the whole time (Ti) */
@@ -604,8 +603,8 @@ enum { /* stun_types_received.kind */
 /* Of a response that is discarded, or fails by its integrity, number is the code that it claims, or 0:
    it isn't authentic, and nothing follows from it. algorithm is that of the attribute that
    authenticates a response that is taken, STUN_TYPES_SHA1 or STUN_TYPES_SHA256, by which later
-   requests are signed (9.1.5); 0 where no credential protects the request, and for a 401 or 438 that
-   isn't signed. A 300 with the algorithm 0 must not be followed (14.8). */
+   requests are signed (9.1.5); 0 if no credential protects the request, and for a 401 or 438 that
+   isn't authentic. A 300 with the algorithm 0 must not be followed (14.8). */
 typedef struct {
     uint32_t kind;
     uint32_t number;
@@ -623,11 +622,13 @@ stun_types_answer stun_types_transaction_receive(stun_types_transaction *transac
                                                  size_t understood_count,
                                                  stun_types_received *received);
 
-/* Sends the request no more, unless the transaction has ended. A response is still taken, until the
-   transaction would have timed out; then it ends as cancelled (RFC 8445, section 7.3.1.4). */
+/* Stops sending the request, unless the transaction has ended. A response is still taken until the
+   transaction would have timed out; if none is, it ends as cancelled (RFC 8445, section 7.3.1.4).
+   BAD_ARGUMENT: the transaction isn't one. */
 stun_types_answer stun_types_transaction_stop_sending(stun_types_transaction *transaction);
 
-/* Ends the transaction, unless it has ended: the caller wants no response, or the transport failed. */
+/* Ends the transaction, unless it has ended: the caller wants no response, or the transport failed.
+   BAD_ARGUMENT: the transaction isn't one. */
 stun_types_answer stun_types_transaction_cancel(stun_types_transaction *transaction);
 stun_types_answer stun_types_transaction_fail(stun_types_transaction *transaction);
 

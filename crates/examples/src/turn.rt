@@ -1,5 +1,5 @@
-//! An allocation of TURN: a client that logs in, its server, which keeps no nonces (RFC 8656, sections
-//! 7.1 to 7.4), and what the client receives over TCP (section 12.5).
+//! An allocation of TURN: a client that logs in, its server, which stores no nonces (RFC 8656,
+//! sections 7.1 to 7.4), and what the client receives over TCP (section 12.5).
 
 ghost use Rattle.std.specs.Prelude.{◌≡◌};
 ghost use Rattle.stun_base.specs.MessageTypes.{class_of};

@@ -40,7 +40,7 @@ fn is_ufrag(text: &str) -> bool
 }
 
 /// A username fragment: 4 to 256 letters, digits, `+` and `/` (RFC 8839, section 5.4), so that it
-/// has room for 24 bits of random numbers (RFC 8445, section 5.3). An agent sends at most 32.
+/// has room for 24 bits of random numbers (RFC 8445, section 5.3). An agent must send at most 32 characters.
 #[derive(Clone, Copy, Debug, PartialEq, Eq)]
 pub struct Ufrag<'a> {
     text: &'a str,
@@ -77,8 +77,8 @@ impl<'a> Ufrag<'a> {
 /// colon, and the fragment of the agent that sends it. The response has none.
 #[derive(Clone, Copy, Debug, PartialEq, Eq)]
 pub struct CheckUsername<'a> {
-    /// The fragment of the agent that receives the check, by which that knows its session
-    /// (section 7.3).
+    /// The fragment of the agent that receives the check, by which it finds the session (section
+    /// 7.3).
     pub receiver: Ufrag<'a>,
     /// The fragment of the agent that sends the check.
     pub sender: Ufrag<'a>,

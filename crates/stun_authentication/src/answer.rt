@@ -23,7 +23,8 @@ pub struct Accepted {
 /// Why a request is refused: the code of the error response.
 #[derive(Clone, Copy, Debug, PartialEq, Eq)]
 pub enum Refusal {
-    /// 400: an attribute is missing.
+    /// 400: an attribute is missing, USERNAME and USERHASH are both there, or the password algorithm
+    /// isn't one that was offered.
     BadRequest,
     /// 401: the request isn't signed, or its user is unknown, or its HMAC is wrong.
     Unauthenticated,
@@ -68,9 +69,8 @@ pub enum Authentication {
     Refused(Refusal),
     /// It is dropped, and nothing is answered.
     Discarded,
-    /// It isn't authenticated, since the mechanism authenticates no such message at a server: a
-    /// response, and under long-term credentials an indication too (RFC 8489, section 9.2). What
-    /// becomes of it is for the usage to say: a TURN server checks a Send indication by the
+    /// The mechanism doesn't authenticate such a message at a server: a response, and under long-term
+    /// credentials an indication (RFC 8489, section 9.2). The usage decides about it: a TURN server checks a Send indication by the
     /// allocation of its source (RFC 8656, section 11.2).
     NotARequest,
 }

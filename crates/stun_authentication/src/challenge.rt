@@ -29,7 +29,7 @@ pub enum NoRetry {
     /// one before. An attacker may have removed it, so that the client falls back to a weaker
     /// algorithm.
     BidDown,
-    /// REALM or NONCE is missing.
+    /// REALM or NONCE is missing, or is no text.
     Incomplete,
     /// None of the algorithms on the list is supported; or there is no list, and MD5 isn't.
     NoAlgorithm,

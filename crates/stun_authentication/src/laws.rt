@@ -30,8 +30,8 @@ pub fn cookie_is_read()
 /// under the key of the user whom the look-up names, by the algorithm that was answered. Where only
 /// one algorithm serves, this holds of what is shown through its integrity attribute. The key is the
 /// one that the look-up has for the user whom the message names, its HMAC is as long as the policy
-/// asks, and under long-term credentials its nonce is valid, and its password algorithm one of those
-/// that were sent with the nonce.
+/// asks, and under long-term credentials its nonce is valid, and its password algorithm is one of
+/// those that were sent with the nonce, unless it is processed as though with MD5.
 pub fn accepted_is_authentic()
     ensures users { (policy : Policy) (keys : List ℕ → Option (List ℕ)) (d key : List ℕ)
         (a reply : IntegrityAlgorithm)

@@ -5,8 +5,8 @@
 //! returns whether it is accepted, and with which key, or how it is refused; [`refuse_short_term`]
 //! and [`refuse_long_term`] write that response, and [`Accepted::finish_reply`] signs the reply to
 //! an accepted request. A client calls [`challenge_of`] with a 401 or a 438, which returns what its
-//! next request has to carry, and [`answer_challenge`] writes that. What a server keeps, its users
-//! and its nonces, is behind traits of one method.
+//! next request has to carry, and [`answer_challenge`] writes that. The server's users and nonces are
+//! looked up through traits of one method each.
 #![tactic(auto)]
 
 mod algorithms;

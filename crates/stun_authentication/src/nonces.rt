@@ -18,9 +18,9 @@ use stun_values::{address_length, write_address};
 /// How many bytes a nonce of a [`NonceMaker`] has.
 const LENGTH: usize = 93;
 
-/// Makes nonces that need no memory, and recognizes them: a nonce has the time at which it was made,
-/// and an HMAC-SHA256 under the server's secret over its nonce cookie, that time, and the address
-/// and port of the client.
+/// Makes nonces that the server doesn't store, and recognizes them: a nonce contains the time at
+/// which it was made, and an HMAC-SHA256, under the server's secret, of its nonce cookie, that time,
+/// and the client's address and port.
 ///
 /// A nonce is 93 characters: the cookie, 13; the time in seconds, 16 hexadecimal digits; and the
 /// HMAC, 64. It is valid for its client alone, until its window is over, and for any number of
@@ -38,7 +38,7 @@ pub struct NonceMaker {
 pub enum Freshness {
     /// It is valid.
     Fresh,
-    /// The server made it for this client, and its window is over; or its time is still to come.
+    /// This server made it for this client, and its window is over or its time is still to come.
     Stale,
     /// The server didn't make it, or made it for another client, under another secret, or with
     /// other features.
@@ -125,8 +125,8 @@ impl NonceMaker {
     ghost use Rattle.stun_values.specs.Addresses.{address_value};
     ghost use Rattle.stun_authentication.specs.Nonces.{minted, minted_mac, minting, minting_of, freshness, aged, state_of, known_as};
 
-    /// A maker with this secret, which nobody else has and nobody can guess: at least 32 random
-    /// bytes ([`IntegrityKey::new`]). `features` are what its nonces say of the server, and
+    /// A maker with this secret: at least 32 random bytes that nobody else knows
+    /// ([`IntegrityKey::new`]). `features` are what its nonces say of the server, and
     /// `window` is for how many seconds a nonce is valid.
     pub fn new(secret: IntegrityKey, features: SecurityFeatures, window: u64) -> Self
         ensures { minting_of result ≡ minting (key_bytes secret) features window }

@@ -19,7 +19,7 @@ use stun_types::message::Message;
 use stun_values::{NONCE_MAX, REALM_MAX, read_text};
 
 /// Whether the nonce of a response promises PASSWORD-ALGORITHMS, and the response shows none:
-/// somebody on the way may have taken it out (RFC 8489, sections 9.2.1 and 9.2.5). A client that
+/// an attacker may have removed it (RFC 8489, sections 9.2.1 and 9.2.5). A client that
 /// uses long-term credentials ignores such a response, and doesn't retry after such a 401 or 438.
 pub fn is_bid_down(response: &Message<'_>) -> bool
     ensures { result ≡ is_bid_down (message_bytes response.now) }
@@ -89,11 +89,11 @@ fn repeats(response: &Message<'_>, tried: Option<&str>, realm: &str) -> bool
 ///
 /// The first of these that applies:
 ///
-/// - `NotAChallenge` where the response is no error response with the code 401 or 438;
+/// - `NotAChallenge` if the response is no error response with the code 401 or 438;
 /// - `BidDown` if [`is_bid_down`] says so, or if a list was seen and this response has none;
-/// - `Incomplete` where it shows no REALM or no NONCE, or one that is no text;
-/// - `NoAlgorithm` where none of the algorithms on the list is supported, or MD5 isn't where there
-///   is no list;
+/// - `Incomplete` if it shows no REALM or no NONCE, or one that is no text;
+/// - `NoAlgorithm` if none of the algorithms on the list is supported, or if there is no list and
+///   MD5 isn't;
 /// - `SameCredentials` if it is a 401, and the credentials were tried in its realm.
 pub fn challenge_of<'a>(
     response: &Message<'a>,

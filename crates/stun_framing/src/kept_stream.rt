@@ -48,7 +48,8 @@ fn whole_length(kept: Kept) -> Option<usize>
 /// stays as it was.
 ///
 /// ```
-/// let pushed = push_kept(Carries::Messages, &mut buffer, held, offset, piece).ok_or(Error::BadArgument)??;
+/// let pushed = push_kept(Carries::Messages, &mut buffer, held, offset, piece)
+///     .ok_or(Error::BadArgument)??;
 /// (held, offset) = (pushed.pending, pushed.offset);
 /// rest = &piece[pushed.taken..];
 /// if let Some(length) = pushed.message {

@@ -35,7 +35,7 @@ pub(crate) fn offset_behind(offset: u64, kept: Kept) -> u64
 }
 
 /// The messages of a stream of bytes that comes in pieces of any size, as over TCP and TLS: one
-/// behind the other, with nothing between them (RFC 8489, section 6.2.2). A stream between a TURN
+/// after the other, with nothing between them (RFC 8489, section 6.2.2). A stream between a TURN
 /// client and its server has ChannelData messages among them (RFC 8656, section 12.5); it is made by
 /// [`MessageStream::carrying`].
 ///
@@ -83,8 +83,8 @@ impl<'b> MessageStream<'b> {
     ghost use Rattle.stun_framing.specs.Framing.{room_of, IsMessage};
     ghost use Rattle.stun_framing.specs.Streams.{begun, resumed, can_resume, answer, left};
 
-    /// A stream of STUN messages of which nothing has come. What `buffer` holds doesn't matter; messages that are
-    /// longer than it end the stream.
+    /// A stream of STUN messages. `buffer` may hold anything. A message that is longer than it ends
+    /// the stream.
     ///
     /// # Requires
     ///
@@ -96,9 +96,8 @@ impl<'b> MessageStream<'b> {
         Self::carrying(Carries::Messages, buffer)
     }
 
-    /// The same of a stream that carries ChannelData messages too, or not. What
-    /// [`MessageStream::message`] then yields is one if its first byte is one of 0x40 to 0x4F, and
-    /// has its padding; `ChannelData::from_bytes` of `turn_attrs` reads it.
+    /// A stream of what `carries` says. A message of [`MessageStream::message`] is ChannelData, with
+    /// its padding, if its first byte is 0x40 to 0x4F; `ChannelData::from_bytes` of `turn_attrs` reads it.
     ///
     /// # Requires
     ///
@@ -116,8 +115,7 @@ impl<'b> MessageStream<'b> {
         }
     }
 
-    /// A stream that goes on where an earlier one was left, as by a caller that keeps the buffer and
-    /// two numbers between its calls: the first `held` bytes of `buffer` are those that
+    /// Resumes a stream, for a caller that keeps the buffer and two numbers between its calls: the first `held` bytes of `buffer` are those that
     /// [`MessageStream::pending`] told then, and `offset` is what [`MessageStream::offset`] told. A
     /// message that was whole is gone. For one piece [`push_kept`](crate::push_kept) does the same.
     ///

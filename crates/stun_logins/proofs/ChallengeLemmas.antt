@@ -124,7 +124,7 @@ short_step most n b x y e = elim (cases_lt most n) [
 pub text_short : (value : List ℕ) → text_fault text_max value ≡ None → length value < 2 ^ 16
 text_short value e = omega (arith, short_step text_max (length value) (is_utf8 value) _ _ e)
 
--- what `refuse` writes is this
+-- what `refuse_long_term` writes is this
 listed_is : (o : Option PasswordAlgorithms) → listed o ≡ list_attributes (option_map (λ (xs : List PasswordAlgorithmValue). algorithms_encoding xs) (option_map (λ (a : PasswordAlgorithms). held_algorithms a) o))
 unfolding list_attributes
 listed_is None = refl
@@ -218,7 +218,7 @@ read_of first missing refusal offer supported a tried seen d asking class lawful
     (told_text offer.realm (value_of d REALM) realm-is lawful.realm_is) (told_text offer.nonce (value_of d NONCE) nonce-is lawful.nonce_is) list-is takes
     (no_repeat tried seen refusal offer (response_code d) asking code-is retries)
 
--- for the attributes that `refuse` writes, under an equation
+-- for the attributes that `refuse_long_term` writes, under an equation
 written_read : IsFirst → IsMissing → (attributes : List Attribute) (refusal : Refusal) (offer : Offer) (supported : List PasswordAlgorithmValue) (a : PasswordAlgorithmValue) (tried seen : Option (List ℕ)) (fingerprint : Bool) (kind id : ℕ)
     → attributes ≡ written (code_value refusal) offer.realm offer.nonce (offered_list offer) → asks refusal ≡ true → kind < 2 ^ 14 → id < 2 ^ 96 → class_of kind ≡ ErrorClass → IsLawful offer
     → promises_algorithms offer.nonce ≡ is_some offer.algorithms → Takes supported offer a → Retries tried seen refusal offer → HasRoom kind id (finished fingerprint kind id attributes)

@@ -62,7 +62,7 @@ pub record IsShort (offer : Offer) (name : List ℕ) : Type 0 where
   pub list_fits : (value : List ℕ) → offered_list offer ≡ Some value → length value < 2 ^ 16
   pub name_fits : length name < 2 ^ 16
 
--- what a 401 or a 438 that `refuse` writes offers
+-- what a 401 or a 438 that `refuse_long_term` writes offers
 abbrev pub offer_of : Demand → Offer
 offer_of demand = record {
   realm = text_bytes demand.realm;
@@ -82,7 +82,7 @@ asks BadRequest = false
 asks Unauthenticated = true
 asks StaleNonce = true
 
--- the error response with these attributes, as `refuse` writes it, with a FINGERPRINT or without
+-- the error response with these attributes, as `refuse_long_term` writes it, with a FINGERPRINT or without
 abbrev pub refused_attributes : (fingerprint : Bool) → ℕ → ℕ → Refusal → Demand → List Attribute
 refused_attributes fingerprint kind id refusal demand =
     finished fingerprint kind id (refusal_attributes refusal (Some demand))

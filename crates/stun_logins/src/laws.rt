@@ -69,8 +69,9 @@ pub fn challenge_is_read()
 /// none, as the nonce's cookie tells. A client takes one of the algorithms, and writes what it is
 /// asked for behind attributes of its own, for a user whose key the server has in that realm by that
 /// algorithm. The request is accepted as that user's, with that key. A reply that is signed with the
-/// key, by the algorithm of the decision, is taken by the client's transaction, as authenticated by
-/// that algorithm.
+/// key, by the algorithm of the decision, is authentic for the client's transaction, which returns it
+/// with that algorithm, unless it shows an attribute that isn't understood or is an error without a
+/// code.
 pub fn login_is_accepted()
     ensures accepted { (policy : Policy) (nonces : List ℕ → Known)
         (keys : Who → List ℕ → PasswordAlgorithmValue → Option (List ℕ))
@@ -142,7 +143,8 @@ pub fn logins_have_keys()
 /// A request or an indication that carries its caller's attributes, the name of a user whom the
 /// server knows, and the HMAC under the key that the server has for that name, is accepted as that
 /// user's, with that key. A reply that is signed with the key, by the algorithm of the decision, is
-/// taken by the client's transaction, as authenticated by that algorithm.
+/// authentic for the client's transaction, which returns it with that algorithm, unless it shows an
+/// attribute that isn't understood or is an error without a code.
 pub fn short_term_login_is_accepted()
     ensures accepted { (policy : Policy) (keys : List ℕ → Option (List ℕ))
         (sent : Option IntegrityAlgorithm) (a : IntegrityAlgorithm) (fingerprint : Bool)

@@ -76,8 +76,8 @@ pub fn ends_are_final()
         → state.end ≡ Some end → received_outcome terms state understood d ≡ Outcome.NotForThis }
 {}
 
-/// Once the caller has stopped sending, no call answers `Send`. What is received
-/// is taken as before, and the transaction ends at the moment at which it would have ended: the wait
+/// After `stop_sending` no poll answers `Send`. A response is taken as before, until the moment at
+/// which the transaction would have timed out: the wait
 /// that is left after request number `k`, counted from 0, ends there.
 pub fn stopping_sends_nothing()
     ensures sends { (plan : Plan) (state : RetransmissionState) (calls : List Call)
@@ -102,9 +102,10 @@ pub fn other_calls_stay()
     ensures stopping { (state : RetransmissionState) → Stays state (stopped_by state) }
 {}
 
-/// What is taken is a message, a response to the request, and authentic by the request's protection:
-/// by the algorithm that is handed out with it, with an HMAC that is long enough. It shows a
-/// FINGERPRINT where the usage sends them. So a 300 that answers a protected request is taken only if
+/// What is taken is a message and a response to the request, and shows a FINGERPRINT if the usage
+/// sends them. If a credential protects the request, it is authentic by the algorithm that is
+/// returned with it, with an HMAC that is long enough; only a 401 or 438 under a long-term
+/// credential need not be. So a 300 that answers a protected request is taken only if
 /// it is authentic.
 #[tactic(auto, using(crate::proofs::TakingLemmas::right))]
 pub fn taken_is_right()

@@ -67,11 +67,12 @@ pub enum Outcome {
 ///
 /// A response comes with the algorithm of the integrity attribute that authenticates it: later
 /// requests to the same server are signed by this one (RFC 8489, sections 9.1.5 and 9.2.3.2). It is
-/// `None` where nothing was validated, since no credential protects the request, and for a challenge
-/// (401 or 438) to a request by a long-term credential that isn't signed.
+/// `None` if no credential protects the request, and for a 401 or 438 under a long-term credential
+/// that isn't authentic.
 #[derive(Clone, Copy, Debug)]
 pub enum Received<'m> {
-    /// It is no message, or no response to the request, or the transaction has ended.
+    /// It is no message, or no response to the request, or the request wasn't sent yet, or the
+    /// transaction has ended.
     NotForThis,
     /// It is discarded, and the transaction goes on.
     Discarded(Discard, Claim),

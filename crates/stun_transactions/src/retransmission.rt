@@ -16,8 +16,8 @@ pub enum TransactionEnd {
     Answered,
     /// Time ran out.
     TimedOut,
-    /// Responses were received, and none of them was authentic (RFC 8489, sections 9.1.4 and
-    /// 9.2.5).
+    /// A response was discarded that wasn't authentic, and none was taken (RFC 8489, sections 9.1.4
+    /// and 9.2.5).
     IntegrityViolated,
     /// A response was received that the client can't take (RFC 8489, sections 6.3.3 and 6.3.4).
     Refused,

@@ -1,8 +1,8 @@
 //! How often a request is sent again since a server asks for credentials.
 
-/// How often a client sends one request again, each time in a new transaction, since the server asks
-/// for credentials. A server, or whoever is on the way, may answer 438 without end, and each time RFC
-/// 8489, section 9.2.5, has the client send again: this says when it is enough.
+/// Limits how often a client sends one request again, each time in a new transaction, because the
+/// server asks for credentials. A server or an attacker may answer 438 without end, and RFC 8489,
+/// section 9.2.5, has the client retry each time.
 ///
 /// ```
 /// let mut retries = Retries::default();

@@ -10,8 +10,8 @@ use stun_types::message::Message;
 /// What a STUN usage specifies of the responses that a client takes: that of ICE's checks, of TURN,
 /// or of NAT discovery.
 ///
-/// `Usage::default()` is what RFC 8489 says where a usage says nothing: a MESSAGE-INTEGRITY-SHA256 of
-/// 32 bytes alone, and no need of FINGERPRINT.
+/// `Usage::default()` is for a usage that specifies nothing: a MESSAGE-INTEGRITY-SHA256 must have 32
+/// bytes, and FINGERPRINT isn't required.
 ///
 /// ```
 /// let ice = Usage { fingerprint: true, ..Usage::default() };

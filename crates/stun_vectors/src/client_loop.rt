@@ -23,12 +23,12 @@ pub trait Carrier {
     /// Sends a datagram.
     fn send(&mut self, bytes: &[u8]);
 
-    /// Receives a datagram, and returns how many bytes of the buffer it takes: 0 where none came in
+    /// Receives a datagram, and returns how many bytes of the buffer it takes: 0 if none came in
     /// time.
     fn receive_until(&mut self, buffer: &mut [u8], until: Duration) -> usize;
 }
 
-/// The address from which the server sees the request come, if it tells one in time.
+/// The address from which the server sees the request come, if it reports one in time.
 pub fn mapped_address<C: Carrier>(
     alloc: Global,
     carrier: &mut C,
