@@ -464,12 +464,13 @@ typedef struct {
     uint32_t fingerprint;
 } stun_types_policy;
 
-enum { /* stun_types_authentication.kind */
-    STUN_TYPES_ACCEPTED = 0, /* it is this user's; sign the reply by reply_algorithm with their key */
-    STUN_TYPES_REFUSED = 1,  /* answer by an error response with error_code: 400, 401 or 438 */
-    STUN_TYPES_DISCARDED = 2, /* answer nothing */
-    STUN_TYPES_NOT_CHECKED = 3    /* a response, or an indication under long-term credentials, such
-                                     as TURN's Send: the mechanism doesn't authenticate it here */
+enum { /* stun_types_authentication.kind; a call that fails leaves STUN_TYPES_NOT_DECIDED */
+    STUN_TYPES_NOT_DECIDED = 0,
+    STUN_TYPES_ACCEPTED = 1,  /* it is this user's; sign the reply by reply_algorithm with their key */
+    STUN_TYPES_REFUSED = 2,   /* answer by an error response with error_code: 400, 401 or 438 */
+    STUN_TYPES_DISCARDED = 3, /* answer nothing */
+    STUN_TYPES_NOT_CHECKED = 4 /* a response, or an indication under long-term credentials, such as
+                                  TURN's Send: the mechanism doesn't authenticate it here */
 };
 
 typedef struct {

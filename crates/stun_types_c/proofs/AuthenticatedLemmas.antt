@@ -12,18 +12,18 @@ use Rattle.stun_authentication.specs.LongTerm.{long_term}
 use Rattle.stun_types_c.specs.declared.authentication.Authenticated.{Authenticated}
 use Rattle.stun_types_c.specs.declared.authentication.CountedIntegrity.{CountedIntegrity}
 use Rattle.stun_types_c.specs.declared.call_result.CallResult.{CallResult}
-use Rattle.stun_types_c.specs.Authentication.{policy_named, by_long_term, TellsDecision, Authenticates}
+use Rattle.stun_types_c.specs.Authentication.{policy_named, by_long_term, undecided, TellsDecision, Authenticates}
 use Rattle.stun_types_c.specs.CallResults.{plain, parse_result}
 use Rattle.stun_types_c.specs.Codes.{BAD_ARGUMENT}
 use Rattle.stun_types_c.specs.Users.{bytes_of, long_term_key_of}
 
 -- where the bytes are a message, and the policy and the state of the nonce have a meaning
-pub authenticated : (counted : CountedIntegrity) (nonce : Option Known) (md5 sha256 : Option IntegrityKey) (d : List ℕ) (policy : Policy) (known : Known) (result : CallResult) (old new : Authenticated)
-    → parse_fault d ≡ None → policy_named counted ≡ Some policy → nonce ≡ Some known → TellsDecision (long_term policy [] (λ shown. known) (λ user realm. long_term_key_of (bytes_of md5) (bytes_of sha256)) d) result old new
-    → Authenticates (by_long_term counted nonce md5 sha256 d) d result old new
-authenticated counted nonce md5 sha256 d policy known result old new parsed named state told =
+pub authenticated : (counted : CountedIntegrity) (nonce : Option Known) (md5 sha256 : Option IntegrityKey) (d : List ℕ) (policy : Policy) (known : Known) (result : CallResult) (new : Authenticated)
+    → parse_fault d ≡ None → policy_named counted ≡ Some policy → nonce ≡ Some known → TellsDecision (long_term policy [] (λ shown. known) (λ user realm. long_term_key_of (bytes_of md5) (bytes_of sha256)) d) result new
+    → Authenticates (by_long_term counted nonce md5 sha256 d) d result new
+authenticated counted nonce md5 sha256 d policy known result new parsed named state told =
     let decided : by_long_term counted nonce md5 sha256 d ≡ Some (long_term policy [] (λ shown. known) (λ user realm. long_term_key_of (bytes_of md5) (bytes_of sha256)) d) =
     ap (λ (o : Option Policy). option_and_then (λ (p : Policy). option_map (λ (k : Known). long_term p [] (λ shown. k) (λ user realm. long_term_key_of (bytes_of md5) (bytes_of sha256)) d) nonce) o) named
     ∙ ap (λ (o : Option Known). option_map (λ (k : Known). long_term policy [] (λ shown. k) (λ user realm. long_term_key_of (bytes_of md5) (bytes_of sha256)) d) o) state in
-    subst (λ (f : Option StunParseError). MatchOption f (MatchOption (by_long_term counted nonce md5 sha256 d) ((result ≡ plain BAD_ARGUMENT) × (new ≡ old)) (λ decision. TellsDecision decision result old new)) (λ e. (result ≡ parse_result e) × (new ≡ old))) (sym parsed)
-    (subst (λ (o : Option Decision). MatchOption o ((result ≡ plain BAD_ARGUMENT) × (new ≡ old)) (λ decision. TellsDecision decision result old new)) (sym decided) told)
+    subst (λ (f : Option StunParseError). MatchOption f (MatchOption (by_long_term counted nonce md5 sha256 d) ((result ≡ plain BAD_ARGUMENT) × (new ≡ undecided)) (λ decision. TellsDecision decision result new)) (λ e. (result ≡ parse_result e) × (new ≡ undecided))) (sym parsed)
+    (subst (λ (o : Option Decision). MatchOption o ((result ≡ plain BAD_ARGUMENT) × (new ≡ undecided)) (λ decision. TellsDecision decision result new)) (sym decided) told)

@@ -58,35 +58,38 @@ by_long_term counted nonce md5 sha256 d =
 
 -- ---- What C is told
 
+-- what C reads where nothing is decided: a call that failed has written this
+abbrev pub undecided : Authenticated
+undecided = record { kind = 0; error_code = 0; algorithm = 0; reply_algorithm = 0 }
+
 -- a decision in C's numbers: accepted, refused, dropped or not authenticated
 abbrev pub in_c : Decision → Authenticated
 in_c (accept key algorithm reply) = record {
-  kind = 0;
+  kind = 1;
   error_code = 0;
   algorithm = number_of algorithm;
   reply_algorithm = number_of reply;
 }
 in_c (refuse refusal) = record {
-  kind = 1;
+  kind = 2;
   error_code = refusal_code refusal;
   algorithm = 0;
   reply_algorithm = 0;
 }
-in_c discard = record { kind = 2; error_code = 0; algorithm = 0; reply_algorithm = 0 }
-in_c not_a_request = record { kind = 3; error_code = 0; algorithm = 0; reply_algorithm = 0 }
+in_c discard = record undecided { kind = 3 }
+in_c not_a_request = record undecided { kind = 4 }
 
--- a decision is told; or an allocation failed, and nothing is told
-abbrev pub TellsDecision : Decision → CallResult → (old new : Authenticated) → Type 0
-TellsDecision decision result old new =
+-- a decision is told; or an allocation failed, and nothing is decided
+abbrev pub TellsDecision : Decision → CallResult → (new : Authenticated) → Type 0
+TellsDecision decision result new =
     ((result ≡ plain OK) × (new ≡ in_c decision))
-    ⊎ ((result ≡ plain OUT_OF_MEMORY) × (new ≡ old))
+    ⊎ ((result ≡ plain OUT_OF_MEMORY) × (new ≡ undecided))
 
--- authenticating d: why it is no message, or that C handed in what is none, or the decision
-abbrev pub Authenticates : Option Decision → List ℕ → CallResult → (old new : Authenticated)
-    → Type 0
-Authenticates decided d result old new =
+-- authenticating d: why it is no message, or that C passed what is none, or the decision
+abbrev pub Authenticates : Option Decision → List ℕ → CallResult → (new : Authenticated) → Type 0
+Authenticates decided d result new =
     MatchOption (parse_fault d)
     (MatchOption decided
-    ((result ≡ plain BAD_ARGUMENT) × (new ≡ old))
-    (λ decision. TellsDecision decision result old new))
-    (λ e. (result ≡ parse_result e) × (new ≡ old))
+    ((result ≡ plain BAD_ARGUMENT) × (new ≡ undecided))
+    (λ decision. TellsDecision decision result new))
+    (λ e. (result ≡ parse_result e) × (new ≡ undecided))

@@ -8,7 +8,7 @@ ghost use Rattle.stun_authentication.specs.LongTerm.{long_term};
 ghost use Rattle.stun_types.specs.Message.{message_bytes};
 ghost use Rattle.stun_types_c.specs.KeyHandles.{shared_key};
 ghost use Rattle.stun_types_c.specs.Users.{bytes_of, borrowed_bytes, long_term_key_of, known_of};
-ghost use Rattle.stun_types_c.specs.Authentication.{policy_named, nonce_named, in_c, by_short_term, by_long_term, TellsDecision, Authenticates};
+ghost use Rattle.stun_types_c.specs.Authentication.{policy_named, nonce_named, in_c, by_short_term, by_long_term, undecided, TellsDecision, Authenticates};
 
 use crate::call_result::{CallResult, parse_result, plain};
 use crate::codes;
@@ -40,7 +40,7 @@ pub struct CountedIntegrity {
 #[repr(C)]
 #[derive(Clone, Copy, Drop)]
 pub struct Authenticated {
-    /// 0: accepted; 1: refused; 2: discarded; 3: not authenticated.
+    /// 0: nothing is decided; 1: accepted; 2: refused; 3: discarded; 4: not authenticated.
     pub kind: u32,
     /// The code of the error response, where it is refused.
     pub error_code: u32,
@@ -49,6 +49,14 @@ pub struct Authenticated {
     /// The algorithm that the reply is signed by.
     pub reply_algorithm: u32,
 }
+
+/// What a call leaves that decides nothing.
+const UNDECIDED: Authenticated = Authenticated {
+    kind: 0,
+    error_code: 0,
+    algorithm: 0,
+    reply_algorithm: 0,
+};
 
 /// The key of the one user that a caller has looked up, by either password algorithm.
 #[derive(Drop)]
@@ -157,28 +165,24 @@ fn in_c(answer: &Authentication) -> Authenticated
 {
     match answer {
         Authentication::Accepted(accepted) => Authenticated {
-            kind: 0,
+            kind: 1,
             error_code: 0,
             algorithm: number_of(accepted.algorithm),
             reply_algorithm: number_of(accepted.reply_algorithm),
         },
         Authentication::Refused(refusal) => Authenticated {
-            kind: 1,
+            kind: 2,
             error_code: u32::from(refusal.code()),
             algorithm: 0,
             reply_algorithm: 0,
         },
         Authentication::Discarded => Authenticated {
-            kind: 2,
-            error_code: 0,
-            algorithm: 0,
-            reply_algorithm: 0,
+            kind: 3,
+            ..UNDECIDED
         },
         Authentication::NotARequest => Authenticated {
-            kind: 3,
-            error_code: 0,
-            algorithm: 0,
-            reply_algorithm: 0,
+            kind: 4,
+            ..UNDECIDED
         },
     }
 }
@@ -186,14 +190,17 @@ fn in_c(answer: &Authentication) -> Authenticated
 /// Tells C an answer, or that an allocation failed.
 fn tell(answer: Result<Authentication, AllocError>, out: &mut Authenticated) -> CallResult
     ensures { (decision : Decision) → IfOk answer (Tells decision)
-        → TellsDecision decision result out.old out.new }
+        → TellsDecision decision result out.new }
 {
     match answer {
         Ok(answer) => {
             *out = in_c(&answer);
             plain(codes::OK)
         }
-        Err(_) => plain(codes::OUT_OF_MEMORY),
+        Err(_) => {
+            *out = UNDECIDED;
+            plain(codes::OUT_OF_MEMORY)
+        }
     }
 }
 
@@ -214,8 +221,9 @@ pub extern "C" fn stun_types_authenticate_short_term(
     out: &mut Authenticated,
 ) -> CallResult
     ensures { let decided = by_short_term policy.now (shared_key key.now) bytes.now in
-        Authenticates decided bytes.now result out.old out.new }
+        Authenticates decided bytes.now result out.new }
 {
+    *out = UNDECIDED;
     let message = match Message::from_bytes(bytes) {
         Ok(message) => message,
         Err(error) => return parse_result(error),
@@ -260,8 +268,9 @@ pub extern "C" fn stun_types_authenticate_long_term(
     ensures { let nonce = nonce_named nonce_state algorithms.now in
         let decided = by_long_term policy.now nonce (shared_key md5_key.now)
         (shared_key sha256_key.now) bytes.now in
-        Authenticates decided bytes.now result out.old out.new }
+        Authenticates decided bytes.now result out.new }
 {
+    *out = UNDECIDED;
     let message = match Message::from_bytes(bytes) {
         Ok(message) => message,
         Err(error) => return parse_result(error),

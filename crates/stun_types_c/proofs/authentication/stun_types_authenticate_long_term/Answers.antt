@@ -14,5 +14,5 @@ returns c =
     let named : policy_named c.args.policy.now ≡ Some policy = sym c.policy_of.ensures ∙ c.in-Some-Some.is-0 in
     let state : nonce_named c.args.nonce_state c.args.algorithms.now ≡ Some (known_of nonce) = c.nonce_of.ensures ∙ ap (option_map known_of) c.in-Some-Some.is-1 in
     let decided = rw (c.in-Ok.ensures.1, c.key_in.ensures, c.key_in-2.ensures) at c.long_term_decision-answer.ensures in
-    authenticated c.args.policy.now (nonce_named c.args.nonce_state c.args.algorithms.now) (shared_key c.args.md5_key.now) (shared_key c.args.sha256_key.now) c.args.bytes.now policy (known_of nonce) c.tell.result c.args.out.now c.tell.new.out
+    authenticated c.args.policy.now (nonce_named c.args.nonce_state c.args.algorithms.now) (shared_key c.args.md5_key.now) (shared_key c.args.sha256_key.now) c.args.bytes.now policy (known_of nonce) c.tell.result c.tell.new.out
     c.in-Ok.ensures.0 named state (c.tell.ensures _ decided)
