@@ -138,9 +138,9 @@ static void answer_decision(slice message, const stun_types_authentication *deci
     }
 }
 
-/* Whether an authentication is an answer; else its struct stays untouched. */
+/* Whether an authentication is an answer; else its struct says that nothing is decided. */
 static bool has_decided(stun_types_answer answer, const stun_types_authentication *decision) {
-    if (answer.code != STUN_TYPES_OK) CHECK(is_untouched(decision, sizeof *decision));
+    if (answer.code != STUN_TYPES_OK) CHECK(decision->kind == STUN_TYPES_NOT_DECIDED);
     return is_taken(answer);
 }
 
