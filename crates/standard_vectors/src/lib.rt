@@ -173,7 +173,6 @@ pub fn headers_are_right()
 {}
 
 /// The numbers of the attribute types (RFC 8489, section 18.3).
-#[tactic(auto, using(crate::proofs::Computing::validating))]
 pub fn attribute_types_are_right()
     ensures { MAPPED_ADDRESS ∷ USERNAME ∷ MESSAGE_INTEGRITY ∷ ERROR_CODE ∷ UNKNOWN_ATTRIBUTES ∷ REALM ∷ NONCE ∷ XOR_MAPPED_ADDRESS ∷ SOFTWARE ∷ ALTERNATE_SERVER ∷ FINGERPRINT ∷ MESSAGE_INTEGRITY_SHA256 ∷ PASSWORD_ALGORITHM ∷ USERHASH ∷ PASSWORD_ALGORITHMS ∷ ALTERNATE_DOMAIN ∷ [] ≡ 0x0001 ∷ 0x0006 ∷ 0x0008 ∷ 0x0009 ∷ 0x000A ∷ 0x0014 ∷ 0x0015 ∷ 0x0020 ∷ 0x8022 ∷ 0x8023 ∷ 0x8028 ∷ 0x001C ∷ 0x001D ∷ 0x001E ∷ 0x8002 ∷ 0x8003 ∷ [] }
 {}
