@@ -84,8 +84,8 @@ uint64_t stun_bench_receive(const uint8_t *message, size_t length, const uint8_t
     while (rounds--) {
         uint32_t algorithm = 0;
         if (stun_types_parse(message, length).code != STUN_TYPES_OK) continue;
-        sum += offset_of(message, length, STUN_TYPES_USERNAME) << 8;
-        sum += offset_of(message, length, STUN_TYPES_PRIORITY) << 24;
+        sum += offset_of(message, length, STUN_TYPES_ATTRIBUTE_USERNAME) << 8;
+        sum += offset_of(message, length, STUN_TYPES_ATTRIBUTE_PRIORITY) << 24;
         sum += verdict(stun_types_validate(message, length, &key, &algorithm), &algorithm);
     }
     stun_types_key_free(&key);
@@ -98,11 +98,11 @@ static size_t write_check(const uint8_t *user, size_t user_length, stun_types_ke
     static const uint8_t priority[4] = {0x6E, 0x00, 0x01, 0xFF};
     static const uint8_t controlled[8] = {0x93, 0x2F, 0xF9, 0xB1, 0x51, 0x26, 0x3B, 0x36};
     size_t written = 0;
-    uint16_t request = stun_types_message_type(STUN_TYPES_REQUEST, STUN_TYPES_BINDING);
+    uint16_t request = stun_types_message_type(STUN_TYPES_CLASS_REQUEST, STUN_TYPES_METHOD_BINDING);
     if (stun_types_begin(room, size, request, &ID, &written).code
-        || stun_types_add(room, size, &written, STUN_TYPES_USERNAME, user, user_length).code
-        || stun_types_add(room, size, &written, STUN_TYPES_PRIORITY, priority, sizeof priority).code
-        || stun_types_add(room, size, &written, STUN_TYPES_ICE_CONTROLLED, controlled, sizeof controlled).code)
+        || stun_types_add(room, size, &written, STUN_TYPES_ATTRIBUTE_USERNAME, user, user_length).code
+        || stun_types_add(room, size, &written, STUN_TYPES_ATTRIBUTE_PRIORITY, priority, sizeof priority).code
+        || stun_types_add(room, size, &written, STUN_TYPES_ATTRIBUTE_ICE_CONTROLLED, controlled, sizeof controlled).code)
         return 0;
     if (key && (stun_types_add_integrity(room, size, &written, key, algorithm).code
                 || stun_types_add_fingerprint(room, size, &written).code))

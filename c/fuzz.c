@@ -125,9 +125,9 @@ static void append(text *message, unsigned type, const void *value, size_t lengt
 
 static void sign(text *message, uint32_t algorithm) {
     uint8_t hmac[32];
-    size_t length = algorithm == STUN_TYPES_SHA1 ? 20 : 32;
+    size_t length = algorithm == STUN_TYPES_INTEGRITY_SHA1 ? 20 : 32;
     model_hmac(message->bytes, message->length, length, algorithm, PASSWORD, hmac);
-    append(message, algorithm == STUN_TYPES_SHA1 ? 0x0008 : 0x001C, hmac, length);
+    append(message, algorithm == STUN_TYPES_INTEGRITY_SHA1 ? 0x0008 : 0x001C, hmac, length);
 }
 
 static void finger(text *message) {
@@ -264,7 +264,7 @@ static void check_validation(const uint8_t *bytes, size_t length) {
 
 static void check_login(const uint8_t *bytes, size_t length, const model_list *shown,
                         stun_types_answer parsed) {
-    static const stun_types_policy policy = {STUN_TYPES_ANY, 16, 0};
+    static const stun_types_policy policy = {STUN_TYPES_INTEGRITY_ANY, 16, 0};
     stun_types_authentication told;
     uint32_t algorithm = 0;
     size_t i;
@@ -434,13 +434,13 @@ static void seed(text *message, unsigned which) {
         start(message, 0x0001, id);
         append(message, 0x0006, "evtj:h6vY", 9);
         append(message, 0x0024, priority, sizeof priority);
-        sign(message, STUN_TYPES_SHA1);
+        sign(message, STUN_TYPES_INTEGRITY_SHA1);
         break;
     case 1: /* one that is signed by both */
         start(message, 0x0001, id);
         append(message, 0x0006, "evtj:h6vY", 9);
-        sign(message, STUN_TYPES_SHA1);
-        sign(message, STUN_TYPES_SHA256);
+        sign(message, STUN_TYPES_INTEGRITY_SHA1);
+        sign(message, STUN_TYPES_INTEGRITY_SHA256);
         break;
     case 2: /* a success response */
         start(message, 0x0101, id);
@@ -460,7 +460,7 @@ static void seed(text *message, unsigned which) {
         start(message, 0x0111, id);
         append(message, 0x0009, "\0\0\4\x14Unknown", 11);
         append(message, 0x000A, unknown, sizeof unknown);
-        sign(message, STUN_TYPES_SHA256);
+        sign(message, STUN_TYPES_INTEGRITY_SHA256);
         break;
     default: /* many attributes */
         start(message, 0x0001, id);
@@ -497,7 +497,7 @@ static void check_changed(source *from) {
         case 5: shift(&message, at / 4 * 4, 0, 4); break;
         case 6:
             if (message.length >= 20)
-                sign(&message, take(from) % 2 == 0 ? STUN_TYPES_SHA1 : STUN_TYPES_SHA256);
+                sign(&message, take(from) % 2 == 0 ? STUN_TYPES_INTEGRITY_SHA1 : STUN_TYPES_INTEGRITY_SHA256);
             break;
         default:
             if (message.length >= 20) finger(&message);
@@ -647,12 +647,12 @@ static void add_value(writing *one, source *from) {
 
 static void add_integrity(writing *one, uint32_t algorithm) {
     uint8_t hmac[32] = {0};
-    size_t length = algorithm == STUN_TYPES_SHA1 ? 20 : 32;
+    size_t length = algorithm == STUN_TYPES_INTEGRITY_SHA1 ? 20 : 32;
     stun_types_answer answer
         = stun_types_add_integrity(one->room, one->size, &one->written, &key, algorithm);
     if (answer.code == STUN_TYPES_OK)
         model_hmac(one->wanted.bytes, one->wanted.length, length, algorithm, PASSWORD, hmac);
-    check_added(one, answer, algorithm == STUN_TYPES_SHA1 ? 0x0008 : 0x001C, hmac, length, FINE);
+    check_added(one, answer, algorithm == STUN_TYPES_INTEGRITY_SHA1 ? 0x0008 : 0x001C, hmac, length, FINE);
 }
 
 static void add_fingerprint(writing *one) {
@@ -682,8 +682,8 @@ static void check_written(const writing *one, source *from) {
     HOLDS(!stun_types_next(one->room, one->written, &cursor, &told));
     HOLDS(stun_types_parse(one->room, one->written).code == STUN_TYPES_OK);
     answer = stun_types_validate(one->room, one->written, &key, &algorithm);
-    if (has(one, 0x001C)) HOLDS(answer.code == STUN_TYPES_OK && algorithm == STUN_TYPES_SHA256);
-    else if (has(one, 0x0008)) HOLDS(answer.code == STUN_TYPES_OK && algorithm == STUN_TYPES_SHA1);
+    if (has(one, 0x001C)) HOLDS(answer.code == STUN_TYPES_OK && algorithm == STUN_TYPES_INTEGRITY_SHA256);
+    else if (has(one, 0x0008)) HOLDS(answer.code == STUN_TYPES_OK && algorithm == STUN_TYPES_INTEGRITY_SHA1);
     else HOLDS(answer.code == STUN_TYPES_MISSING_ATTRIBUTE);
     if (one->written < 2000) check_read(one->wanted.bytes, one->written, from);
 }
@@ -717,8 +717,8 @@ static void check_writing(source *from) {
     steps = take(from) % 16 == 0 ? take(from) * 3 : take(from) % 10;
     for (i = 0; i < steps; i++) {
         switch (take(from) % 16) {
-        case 0: add_integrity(&one, STUN_TYPES_SHA1); break;
-        case 1: add_integrity(&one, STUN_TYPES_SHA256); break;
+        case 0: add_integrity(&one, STUN_TYPES_INTEGRITY_SHA1); break;
+        case 1: add_integrity(&one, STUN_TYPES_INTEGRITY_SHA256); break;
         case 2: add_fingerprint(&one); break;
         case 3:
         case 4: add_error(&one, from); break;

@@ -96,104 +96,104 @@ static inline const char *stun_types_message_of(uint32_t code) {
 
 /* The class of a message (RFC 8489, section 5). */
 enum {
-    STUN_TYPES_REQUEST = 0,
-    STUN_TYPES_INDICATION = 1,
-    STUN_TYPES_SUCCESS = 2,
-    STUN_TYPES_ERROR = 3
+    STUN_TYPES_CLASS_REQUEST = 0,
+    STUN_TYPES_CLASS_INDICATION = 1,
+    STUN_TYPES_CLASS_SUCCESS = 2,
+    STUN_TYPES_CLASS_ERROR = 3
 };
 
 /* Methods: of RFC 8489, section 18.2; of TURN (RFC 8656, section 17, and RFC 6062, section 6.1). */
 enum {
-    STUN_TYPES_BINDING = 0x001,
-    STUN_TYPES_ALLOCATE = 0x003,
-    STUN_TYPES_REFRESH = 0x004,
-    STUN_TYPES_SEND = 0x006,
-    STUN_TYPES_DATA_INDICATION = 0x007,
-    STUN_TYPES_CREATE_PERMISSION = 0x008,
-    STUN_TYPES_CHANNEL_BIND = 0x009,
-    STUN_TYPES_CONNECT = 0x00A,
-    STUN_TYPES_CONNECTION_BIND = 0x00B,
-    STUN_TYPES_CONNECTION_ATTEMPT = 0x00C
+    STUN_TYPES_METHOD_BINDING = 0x001,
+    STUN_TYPES_METHOD_ALLOCATE = 0x003,
+    STUN_TYPES_METHOD_REFRESH = 0x004,
+    STUN_TYPES_METHOD_SEND = 0x006,
+    STUN_TYPES_METHOD_DATA = 0x007,
+    STUN_TYPES_METHOD_CREATE_PERMISSION = 0x008,
+    STUN_TYPES_METHOD_CHANNEL_BIND = 0x009,
+    STUN_TYPES_METHOD_CONNECT = 0x00A,
+    STUN_TYPES_METHOD_CONNECTION_BIND = 0x00B,
+    STUN_TYPES_METHOD_CONNECTION_ATTEMPT = 0x00C
 };
 
 /* Attribute types. */
 enum {
     /* STUN (RFC 8489, section 18.3) */
-    STUN_TYPES_MAPPED_ADDRESS = 0x0001,
-    STUN_TYPES_USERNAME = 0x0006,
-    STUN_TYPES_MESSAGE_INTEGRITY = 0x0008,
-    STUN_TYPES_ERROR_CODE = 0x0009,
-    STUN_TYPES_UNKNOWN_ATTRIBUTES = 0x000A,
-    STUN_TYPES_REALM = 0x0014,
-    STUN_TYPES_NONCE = 0x0015,
-    STUN_TYPES_MESSAGE_INTEGRITY_SHA256 = 0x001C,
-    STUN_TYPES_PASSWORD_ALGORITHM = 0x001D,
-    STUN_TYPES_USERHASH = 0x001E,
-    STUN_TYPES_XOR_MAPPED_ADDRESS = 0x0020,
-    STUN_TYPES_PASSWORD_ALGORITHMS = 0x8002,
-    STUN_TYPES_ALTERNATE_DOMAIN = 0x8003,
-    STUN_TYPES_SOFTWARE = 0x8022,
-    STUN_TYPES_ALTERNATE_SERVER = 0x8023,
-    STUN_TYPES_FINGERPRINT = 0x8028,
+    STUN_TYPES_ATTRIBUTE_MAPPED_ADDRESS = 0x0001,
+    STUN_TYPES_ATTRIBUTE_USERNAME = 0x0006,
+    STUN_TYPES_ATTRIBUTE_MESSAGE_INTEGRITY = 0x0008,
+    STUN_TYPES_ATTRIBUTE_ERROR_CODE = 0x0009,
+    STUN_TYPES_ATTRIBUTE_UNKNOWN_ATTRIBUTES = 0x000A,
+    STUN_TYPES_ATTRIBUTE_REALM = 0x0014,
+    STUN_TYPES_ATTRIBUTE_NONCE = 0x0015,
+    STUN_TYPES_ATTRIBUTE_MESSAGE_INTEGRITY_SHA256 = 0x001C,
+    STUN_TYPES_ATTRIBUTE_PASSWORD_ALGORITHM = 0x001D,
+    STUN_TYPES_ATTRIBUTE_USERHASH = 0x001E,
+    STUN_TYPES_ATTRIBUTE_XOR_MAPPED_ADDRESS = 0x0020,
+    STUN_TYPES_ATTRIBUTE_PASSWORD_ALGORITHMS = 0x8002,
+    STUN_TYPES_ATTRIBUTE_ALTERNATE_DOMAIN = 0x8003,
+    STUN_TYPES_ATTRIBUTE_SOFTWARE = 0x8022,
+    STUN_TYPES_ATTRIBUTE_ALTERNATE_SERVER = 0x8023,
+    STUN_TYPES_ATTRIBUTE_FINGERPRINT = 0x8028,
     /* ICE (RFC 8445, section 16.1) */
-    STUN_TYPES_PRIORITY = 0x0024,
-    STUN_TYPES_USE_CANDIDATE = 0x0025,
-    STUN_TYPES_ICE_CONTROLLED = 0x8029,
-    STUN_TYPES_ICE_CONTROLLING = 0x802A,
+    STUN_TYPES_ATTRIBUTE_PRIORITY = 0x0024,
+    STUN_TYPES_ATTRIBUTE_USE_CANDIDATE = 0x0025,
+    STUN_TYPES_ATTRIBUTE_ICE_CONTROLLED = 0x8029,
+    STUN_TYPES_ATTRIBUTE_ICE_CONTROLLING = 0x802A,
     /* TURN (RFC 8656, section 18; RFC 6062, 7635 and 8016) */
-    STUN_TYPES_CHANNEL_NUMBER = 0x000C,
-    STUN_TYPES_LIFETIME = 0x000D,
-    STUN_TYPES_XOR_PEER_ADDRESS = 0x0012,
-    STUN_TYPES_DATA = 0x0013,
-    STUN_TYPES_XOR_RELAYED_ADDRESS = 0x0016,
-    STUN_TYPES_REQUESTED_ADDRESS_FAMILY = 0x0017,
-    STUN_TYPES_EVEN_PORT = 0x0018,
-    STUN_TYPES_REQUESTED_TRANSPORT = 0x0019,
-    STUN_TYPES_DONT_FRAGMENT = 0x001A,
-    STUN_TYPES_ACCESS_TOKEN = 0x001B,
-    STUN_TYPES_RESERVATION_TOKEN = 0x0022,
-    STUN_TYPES_CONNECTION_ID = 0x002A,
-    STUN_TYPES_ADDITIONAL_ADDRESS_FAMILY = 0x8000,
-    STUN_TYPES_ADDRESS_ERROR_CODE = 0x8001,
-    STUN_TYPES_ICMP = 0x8004,
-    STUN_TYPES_THIRD_PARTY_AUTHORIZATION = 0x802E,
-    STUN_TYPES_MOBILITY_TICKET = 0x8030,
+    STUN_TYPES_ATTRIBUTE_CHANNEL_NUMBER = 0x000C,
+    STUN_TYPES_ATTRIBUTE_LIFETIME = 0x000D,
+    STUN_TYPES_ATTRIBUTE_XOR_PEER_ADDRESS = 0x0012,
+    STUN_TYPES_ATTRIBUTE_DATA = 0x0013,
+    STUN_TYPES_ATTRIBUTE_XOR_RELAYED_ADDRESS = 0x0016,
+    STUN_TYPES_ATTRIBUTE_REQUESTED_ADDRESS_FAMILY = 0x0017,
+    STUN_TYPES_ATTRIBUTE_EVEN_PORT = 0x0018,
+    STUN_TYPES_ATTRIBUTE_REQUESTED_TRANSPORT = 0x0019,
+    STUN_TYPES_ATTRIBUTE_DONT_FRAGMENT = 0x001A,
+    STUN_TYPES_ATTRIBUTE_ACCESS_TOKEN = 0x001B,
+    STUN_TYPES_ATTRIBUTE_RESERVATION_TOKEN = 0x0022,
+    STUN_TYPES_ATTRIBUTE_CONNECTION_ID = 0x002A,
+    STUN_TYPES_ATTRIBUTE_ADDITIONAL_ADDRESS_FAMILY = 0x8000,
+    STUN_TYPES_ATTRIBUTE_ADDRESS_ERROR_CODE = 0x8001,
+    STUN_TYPES_ATTRIBUTE_ICMP = 0x8004,
+    STUN_TYPES_ATTRIBUTE_THIRD_PARTY_AUTHORIZATION = 0x802E,
+    STUN_TYPES_ATTRIBUTE_MOBILITY_TICKET = 0x8030,
     /* Discovery (RFC 5780, section 9, and RFC 7982) */
-    STUN_TYPES_CHANGE_REQUEST = 0x0003,
-    STUN_TYPES_PADDING = 0x0026,
-    STUN_TYPES_RESPONSE_PORT = 0x0027,
-    STUN_TYPES_TRANSACTION_TRANSMIT_COUNTER = 0x8025,
-    STUN_TYPES_RESPONSE_ORIGIN = 0x802B,
-    STUN_TYPES_OTHER_ADDRESS = 0x802C
+    STUN_TYPES_ATTRIBUTE_CHANGE_REQUEST = 0x0003,
+    STUN_TYPES_ATTRIBUTE_PADDING = 0x0026,
+    STUN_TYPES_ATTRIBUTE_RESPONSE_PORT = 0x0027,
+    STUN_TYPES_ATTRIBUTE_TRANSACTION_TRANSMIT_COUNTER = 0x8025,
+    STUN_TYPES_ATTRIBUTE_RESPONSE_ORIGIN = 0x802B,
+    STUN_TYPES_ATTRIBUTE_OTHER_ADDRESS = 0x802C
 };
 
 /* Codes of error responses (RFC 8489, section 14.8; RFC 8656, section 19; RFC 6062; RFC 8445). */
 enum {
-    STUN_TYPES_TRY_ALTERNATE = 300,
-    STUN_TYPES_BAD_REQUEST = 400,
-    STUN_TYPES_UNAUTHORIZED = 401,
-    STUN_TYPES_FORBIDDEN = 403,
-    STUN_TYPES_MOBILITY_FORBIDDEN = 405,
-    STUN_TYPES_UNKNOWN_ATTRIBUTE = 420,
-    STUN_TYPES_ALLOCATION_MISMATCH = 437,
-    STUN_TYPES_STALE_NONCE = 438,
-    STUN_TYPES_ADDRESS_FAMILY_NOT_SUPPORTED = 440,
-    STUN_TYPES_WRONG_CREDENTIALS = 441,
-    STUN_TYPES_UNSUPPORTED_TRANSPORT_PROTOCOL = 442,
-    STUN_TYPES_PEER_ADDRESS_FAMILY_MISMATCH = 443,
-    STUN_TYPES_CONNECTION_ALREADY_EXISTS = 446,
-    STUN_TYPES_CONNECTION_TIMEOUT_OR_FAILURE = 447,
-    STUN_TYPES_ALLOCATION_QUOTA_REACHED = 486,
-    STUN_TYPES_ROLE_CONFLICT = 487,
-    STUN_TYPES_SERVER_ERROR = 500,
-    STUN_TYPES_INSUFFICIENT_CAPACITY = 508
+    STUN_TYPES_CODE_TRY_ALTERNATE = 300,
+    STUN_TYPES_CODE_BAD_REQUEST = 400,
+    STUN_TYPES_CODE_UNAUTHORIZED = 401,
+    STUN_TYPES_CODE_FORBIDDEN = 403,
+    STUN_TYPES_CODE_MOBILITY_FORBIDDEN = 405,
+    STUN_TYPES_CODE_UNKNOWN_ATTRIBUTE = 420,
+    STUN_TYPES_CODE_ALLOCATION_MISMATCH = 437,
+    STUN_TYPES_CODE_STALE_NONCE = 438,
+    STUN_TYPES_CODE_ADDRESS_FAMILY_NOT_SUPPORTED = 440,
+    STUN_TYPES_CODE_WRONG_CREDENTIALS = 441,
+    STUN_TYPES_CODE_UNSUPPORTED_TRANSPORT_PROTOCOL = 442,
+    STUN_TYPES_CODE_PEER_ADDRESS_FAMILY_MISMATCH = 443,
+    STUN_TYPES_CODE_CONNECTION_ALREADY_EXISTS = 446,
+    STUN_TYPES_CODE_CONNECTION_TIMEOUT_OR_FAILURE = 447,
+    STUN_TYPES_CODE_ALLOCATION_QUOTA_REACHED = 486,
+    STUN_TYPES_CODE_ROLE_CONFLICT = 487,
+    STUN_TYPES_CODE_SERVER_ERROR = 500,
+    STUN_TYPES_CODE_INSUFFICIENT_CAPACITY = 508
 };
 
 /* Integrity algorithms. */
 enum {
-    STUN_TYPES_ANY = 0,    /* of a key: it serves both */
-    STUN_TYPES_SHA1 = 1,   /* MESSAGE-INTEGRITY */
-    STUN_TYPES_SHA256 = 2  /* MESSAGE-INTEGRITY-SHA256 */
+    STUN_TYPES_INTEGRITY_ANY = 0,    /* of a key: it serves both */
+    STUN_TYPES_INTEGRITY_SHA1 = 1,   /* MESSAGE-INTEGRITY */
+    STUN_TYPES_INTEGRITY_SHA256 = 2  /* MESSAGE-INTEGRITY-SHA256 */
 };
 
 /* The type, the first two bytes, of a message of a class and a method (RFC 8489, section 5). Of the
@@ -223,7 +223,7 @@ typedef struct {
 typedef struct {
     uint16_t type;          /* the first two bytes */
     uint16_t method;        /* of 12 bits */
-    uint16_t message_class; /* STUN_TYPES_REQUEST .. STUN_TYPES_ERROR */
+    uint16_t message_class; /* STUN_TYPES_CLASS_REQUEST .. STUN_TYPES_CLASS_ERROR */
     uint16_t length;        /* the length field: how many bytes follow the header */
     stun_types_id id;
 } stun_types_header;
@@ -336,7 +336,7 @@ stun_types_answer stun_types_key_short_term(stun_types_key *key, const void *pas
                                             size_t password_length);
 
 /* The key of a long-term credential (RFC 8489, sections 9.2.2 and 18.5.1): the MD5 of
-   user:realm:password for STUN_TYPES_SHA1, its SHA-256 for STUN_TYPES_SHA256. The texts are taken
+   user:realm:password for STUN_TYPES_INTEGRITY_SHA1, its SHA-256 for STUN_TYPES_INTEGRITY_SHA256. The texts are taken
    as they are, with no SASLprep and no OpaqueString. BAD_ARGUMENT: another algorithm. INVALID_DATA: a
    text isn't UTF-8. Allocates: OUT_OF_MEMORY, and the key stays. */
 stun_types_answer stun_types_key_long_term(stun_types_key *key, const void *user,
@@ -344,7 +344,7 @@ stun_types_answer stun_types_key_long_term(stun_types_key *key, const void *user
                                            size_t realm_length, const void *password,
                                            size_t password_length, uint32_t algorithm);
 
-/* The key with these bytes, made for an algorithm or, by STUN_TYPES_ANY, for both: as a server
+/* The key with these bytes, made for an algorithm or, by STUN_TYPES_INTEGRITY_ANY, for both: as a server
    stores them. BAD_ARGUMENT: no such algorithm. Allocates: OUT_OF_MEMORY, and the key stays. */
 stun_types_answer stun_types_key_from_bytes(stun_types_key *key, const void *bytes, size_t length,
                                             uint32_t algorithm);
@@ -429,8 +429,8 @@ stun_types_answer stun_types_add_error(uint8_t *room, size_t size, size_t *writt
 stun_types_answer stun_types_add_unknown_types(uint8_t *room, size_t size, size_t *written,
                                                const uint16_t *types, size_t count);
 
-/* Signs what is written: adds MESSAGE-INTEGRITY (STUN_TYPES_SHA1, 20 bytes of HMAC-SHA1) or
-   MESSAGE-INTEGRITY-SHA256 (STUN_TYPES_SHA256, 32 bytes), whichever algorithm the key was made for.
+/* Signs what is written: adds MESSAGE-INTEGRITY (STUN_TYPES_INTEGRITY_SHA1, 20 bytes of HMAC-SHA1) or
+   MESSAGE-INTEGRITY-SHA256 (STUN_TYPES_INTEGRITY_SHA256, 32 bytes), whichever algorithm the key was made for.
    BAD_ARGUMENT: another algorithm. NO_KEY. */
 stun_types_answer stun_types_add_integrity(uint8_t *room, size_t size, size_t *written,
                                            const stun_types_key *key, uint32_t algorithm);
@@ -454,7 +454,7 @@ stun_types_answer stun_types_binding_reply(const uint8_t *bytes, size_t length,
 
 /* ---- A server with credentials ----------------------------------------------------------------- */
 
-/* Which integrity attributes count: those of one algorithm, or by STUN_TYPES_ANY of both; how many
+/* Which integrity attributes count: those of one algorithm, or by STUN_TYPES_INTEGRITY_ANY of both; how many
    bytes a MESSAGE-INTEGRITY-SHA256 has at least: 32 unless a usage says 16, 20, 24 or 28 (RFC 8489,
    section 14.6); and, unless it is 0, that the usage uses FINGERPRINT, as ICE does: a message
    without one is discarded (sections 6.3 and 7). */
@@ -603,7 +603,7 @@ enum { /* stun_types_received.kind */
 
 /* Of a response that is discarded, or fails by its integrity, number is the code that it claims, or 0:
    it isn't authentic, and nothing follows from it. algorithm is that of the attribute that
-   authenticates a response that is taken, STUN_TYPES_SHA1 or STUN_TYPES_SHA256, by which later
+   authenticates a response that is taken, STUN_TYPES_INTEGRITY_SHA1 or STUN_TYPES_INTEGRITY_SHA256, by which later
    requests are signed (9.1.5); 0 if no credential protects the request, and for a 401 or 438 that
    isn't authentic. A 300 with the algorithm 0 must not be followed (14.8). */
 typedef struct {

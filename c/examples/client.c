@@ -169,7 +169,7 @@ static void add(bool *well, uint16_t type, const void *value, size_t length) {
 /* Begins a binding request with a transaction ID that nobody can guess. */
 static bool begin_request(void) {
     stun_types_id id;
-    uint16_t type = stun_types_message_type(STUN_TYPES_REQUEST, STUN_TYPES_BINDING);
+    uint16_t type = stun_types_message_type(STUN_TYPES_CLASS_REQUEST, STUN_TYPES_METHOD_BINDING);
     if (getrandom(id.bytes, sizeof id.bytes, 0) != (ssize_t)sizeof id.bytes) return false;
     return stun_types_begin(request.bytes, sizeof request.bytes, type, &id,
                             &request.length).code == STUN_TYPES_OK;
@@ -184,12 +184,12 @@ static bool end_request(bool well) {
 static void add_user(bool *well, const stun_types_challenge *challenge, const char *user) {
     stun_types_hash hash;
     if (!challenge->anonymous) {
-        add(well, STUN_TYPES_USERNAME, user, strlen(user));
+        add(well, STUN_TYPES_ATTRIBUTE_USERNAME, user, strlen(user));
         return;
     }
     *well = *well && stun_types_userhash(user, strlen(user), before.bytes + challenge->realm_at,
                                          challenge->realm_length, &hash).code == STUN_TYPES_OK;
-    add(well, STUN_TYPES_USERHASH, hash.bytes, sizeof hash.bytes);
+    add(well, STUN_TYPES_ATTRIBUTE_USERHASH, hash.bytes, sizeof hash.bytes);
 }
 
 /* Adds who asks, and what the challenge that stands in `before` asks for. */
@@ -197,12 +197,12 @@ static bool add_login(const stun_types_challenge *challenge, const char *user) {
     const uint8_t algorithm[4] = {0, (uint8_t)challenge->password_algorithm, 0, 0};
     bool well = true;
     add_user(&well, challenge, user);
-    add(&well, STUN_TYPES_REALM, before.bytes + challenge->realm_at, challenge->realm_length);
-    add(&well, STUN_TYPES_NONCE, before.bytes + challenge->nonce_at, challenge->nonce_length);
+    add(&well, STUN_TYPES_ATTRIBUTE_REALM, before.bytes + challenge->realm_at, challenge->realm_length);
+    add(&well, STUN_TYPES_ATTRIBUTE_NONCE, before.bytes + challenge->nonce_at, challenge->nonce_length);
     if (challenge->algorithms_at > 0) {
-        add(&well, STUN_TYPES_PASSWORD_ALGORITHMS, before.bytes + challenge->algorithms_at,
+        add(&well, STUN_TYPES_ATTRIBUTE_PASSWORD_ALGORITHMS, before.bytes + challenge->algorithms_at,
             challenge->algorithms_length);
-        add(&well, STUN_TYPES_PASSWORD_ALGORITHM, algorithm, sizeof algorithm);
+        add(&well, STUN_TYPES_ATTRIBUTE_PASSWORD_ALGORITHM, algorithm, sizeof algorithm);
     }
     return well;
 }
@@ -211,8 +211,8 @@ static bool add_login(const stun_types_challenge *challenge, const char *user) {
 static bool make_key(const stun_types_challenge *challenge, const task *asked,
                      stun_types_key *key) {
     uint32_t digest = challenge->password_algorithm == STUN_TYPES_PASSWORD_SHA256
-                          ? STUN_TYPES_SHA256
-                          : STUN_TYPES_SHA1;
+                          ? STUN_TYPES_INTEGRITY_SHA256
+                          : STUN_TYPES_INTEGRITY_SHA1;
     return stun_types_key_long_term(key, asked->user, strlen(asked->user),
                                     before.bytes + challenge->realm_at, challenge->realm_length,
                                     asked->password, strlen(asked->password), digest)
@@ -293,7 +293,7 @@ static int ask(carrier *by, uint32_t protection, const stun_types_key *key,
 static int tell_address(void) {
     stun_types_attribute found;
     stun_types_address address;
-    if (!stun_types_find(response.bytes, response.length, STUN_TYPES_XOR_MAPPED_ADDRESS, &found) ||
+    if (!stun_types_find(response.bytes, response.length, STUN_TYPES_ATTRIBUTE_XOR_MAPPED_ADDRESS, &found) ||
         stun_types_read_xor_address(response.bytes, response.length, &found, &address).code !=
             STUN_TYPES_OK) {
         return say(UNUSABLE, "the response tells no address");
@@ -309,7 +309,7 @@ static int tell_error(void) {
     stun_types_attribute found;
     uint16_t code = 0;
     size_t at = 0, length = 0;
-    if (stun_types_find(response.bytes, response.length, STUN_TYPES_ERROR_CODE, &found)) {
+    if (stun_types_find(response.bytes, response.length, STUN_TYPES_ATTRIBUTE_ERROR_CODE, &found)) {
         stun_types_read_error(response.bytes, response.length, &found, &code, &at, &length);
     }
     fprintf(stderr, "client: error %u ", (unsigned)code);
@@ -322,7 +322,7 @@ static int tell_error(void) {
 
 static bool asks_for_login(const stun_types_received *taken) {
     return taken->kind == STUN_TYPES_TAKEN_ERROR &&
-           (taken->number == STUN_TYPES_UNAUTHORIZED || taken->number == STUN_TYPES_STALE_NONCE);
+           (taken->number == STUN_TYPES_CODE_UNAUTHORIZED || taken->number == STUN_TYPES_CODE_STALE_NONCE);
 }
 
 /* Reads what the response asks for, and keeps the response in `before`. */

@@ -88,7 +88,7 @@ static void print_refusal(stun_types_answer answer) {
 /* What the last line says of the integrity. */
 static const char *verdict(stun_types_answer answer, uint32_t algorithm) {
     switch (answer.code) {
-    case STUN_TYPES_OK: return algorithm == STUN_TYPES_SHA1 ? "Sha1" : "Sha256";
+    case STUN_TYPES_OK: return algorithm == STUN_TYPES_INTEGRITY_SHA1 ? "Sha1" : "Sha256";
     case STUN_TYPES_MISSING_ATTRIBUTE: return "missing";
     case STUN_TYPES_INTEGRITY_FAILED: return "failed";
     default: return "malformed";

@@ -135,7 +135,7 @@ static void test_arguments(void) {
     check_refused(transaction, no_key(), bytes, list, STUN_TYPES_BAD_ARGUMENT);
     check_success(transaction, no_key(), bytes, front_of(list, 128));
     row("stun_types_transaction_receive", "without the key");
-    key = bytes_key(text("secret"), STUN_TYPES_ANY);
+    key = bytes_key(text("secret"), STUN_TYPES_INTEGRITY_ANY);
     transaction = sent(STUN_TYPES_SHORT_TERM, key);
     bytes = hex(SUCCESS_SHA1);
     check_refused(transaction, no_key(), bytes, hex(""), STUN_TYPES_NO_KEY);
@@ -155,7 +155,7 @@ static void test_memory(void) {
             protection == STUN_TYPES_SHORT_TERM ? "short-term" : "long-term");
         heap_forget_secrets();
         secrets_of("secret", 6, heap_add_secret);
-        key = bytes_key(text("secret"), STUN_TYPES_ANY);
+        key = bytes_key(text("secret"), STUN_TYPES_INTEGRITY_ANY);
         held = heap_held();
         transaction = sent(protection, key);
         bytes = hex(SUCCESS_SHA1);

@@ -44,7 +44,7 @@ static void test_changes(void) {
             memcpy(other, bytes.bytes, bytes.length);
             other[at] ^= 0x04;
             answer = stun_types_validate(other, bytes.length, key, &algorithm);
-            if (answer.code == STUN_TYPES_OK && (i < 2 || algorithm == STUN_TYPES_SHA256))
+            if (answer.code == STUN_TYPES_OK && (i < 2 || algorithm == STUN_TYPES_INTEGRITY_SHA256))
                 fail("the byte at %zu", at);
         }
         stun_types_key_free(key);
@@ -118,19 +118,19 @@ static stun_types_answer long_term(stun_types_key *key, const char *user, const 
 }
 
 static stun_types_answer long_user(stun_types_key *key) {
-    return long_term(key, "FF", "61", "61", STUN_TYPES_SHA1);
+    return long_term(key, "FF", "61", "61", STUN_TYPES_INTEGRITY_SHA1);
 }
 
 static stun_types_answer long_realm(stun_types_key *key) {
-    return long_term(key, "61", "C3", "61", STUN_TYPES_SHA256);
+    return long_term(key, "61", "C3", "61", STUN_TYPES_INTEGRITY_SHA256);
 }
 
 static stun_types_answer long_password(stun_types_key *key) {
-    return long_term(key, "61", "61", "80", STUN_TYPES_SHA1);
+    return long_term(key, "61", "61", "80", STUN_TYPES_INTEGRITY_SHA1);
 }
 
 static stun_types_answer long_any(stun_types_key *key) {
-    return long_term(key, "61", "61", "61", STUN_TYPES_ANY);
+    return long_term(key, "61", "61", "61", STUN_TYPES_INTEGRITY_ANY);
 }
 
 static stun_types_answer long_three(stun_types_key *key) {
@@ -170,7 +170,7 @@ static void check_key_is_pass(const stun_types_key *key) {
     slice bytes = hex(CHECK_SHA256);
     uint32_t algorithm = 0;
     ANSWERS(stun_types_validate(bytes.bytes, bytes.length, key, &algorithm), OK_ANSWER);
-    CHECK(algorithm == STUN_TYPES_SHA256);
+    CHECK(algorithm == STUN_TYPES_INTEGRITY_SHA256);
 }
 
 static void check_refused_key(size_t i, stun_types_key *key) {
@@ -207,21 +207,21 @@ static stun_types_answer make_short(stun_types_key *key) {
 }
 
 static stun_types_answer make_md5(stun_types_key *key) {
-    return long_term(key, "75736572", "7265616C6D", "70617373", STUN_TYPES_SHA1);
+    return long_term(key, "75736572", "7265616C6D", "70617373", STUN_TYPES_INTEGRITY_SHA1);
 }
 
 static stun_types_answer make_sha256(stun_types_key *key) {
-    return long_term(key, "75736572", "7265616C6D", "70617373", STUN_TYPES_SHA256);
+    return long_term(key, "75736572", "7265616C6D", "70617373", STUN_TYPES_INTEGRITY_SHA256);
 }
 
 static stun_types_answer make_bytes(stun_types_key *key) {
     slice bytes = hex(KEY_MD5);
-    return stun_types_key_from_bytes(key, bytes.bytes, bytes.length, STUN_TYPES_SHA1);
+    return stun_types_key_from_bytes(key, bytes.bytes, bytes.length, STUN_TYPES_INTEGRITY_SHA1);
 }
 
 static stun_types_answer make_empty(stun_types_key *key) {
     slice bytes = hex("");
-    return stun_types_key_from_bytes(key, bytes.bytes, bytes.length, STUN_TYPES_ANY);
+    return stun_types_key_from_bytes(key, bytes.bytes, bytes.length, STUN_TYPES_INTEGRITY_ANY);
 }
 
 static const struct {
@@ -230,12 +230,12 @@ static const struct {
     const char *message;
     uint32_t algorithm;
 } made[] = {
-    {"stun_types_key_short_term", make_short, CHECK_SHA1, STUN_TYPES_SHA1},
-    {"stun_types_key_long_term, by MD5", make_md5, CHECK_LONG_MD5, STUN_TYPES_SHA1},
+    {"stun_types_key_short_term", make_short, CHECK_SHA1, STUN_TYPES_INTEGRITY_SHA1},
+    {"stun_types_key_long_term, by MD5", make_md5, CHECK_LONG_MD5, STUN_TYPES_INTEGRITY_SHA1},
     {"stun_types_key_long_term, by SHA-256", make_sha256, CHECK_LONG_SHA256,
-     STUN_TYPES_SHA256},
-    {"stun_types_key_from_bytes", make_bytes, CHECK_LONG_MD5, STUN_TYPES_SHA1},
-    {"stun_types_key_from_bytes, none", make_empty, CHECK_EMPTY, STUN_TYPES_SHA1},
+     STUN_TYPES_INTEGRITY_SHA256},
+    {"stun_types_key_from_bytes", make_bytes, CHECK_LONG_MD5, STUN_TYPES_INTEGRITY_SHA1},
+    {"stun_types_key_from_bytes, none", make_empty, CHECK_EMPTY, STUN_TYPES_INTEGRITY_SHA1},
 };
 
 static void add_secrets(void) {

@@ -134,7 +134,7 @@ void model_hmac(const uint8_t *bytes, size_t at, size_t value_length, uint32_t a
     memcpy(covered, bytes, at);
     covered[2] = (uint8_t)(stated >> 8);
     covered[3] = (uint8_t)stated;
-    hmac_of(algorithm == STUN_TYPES_SHA1 ? 1 : 2, password, covered, at, hmac);
+    hmac_of(algorithm == STUN_TYPES_INTEGRITY_SHA1 ? 1 : 2, password, covered, at, hmac);
 }
 
 static stun_types_answer hmac_fault(unsigned type, size_t length) {
@@ -159,7 +159,7 @@ stun_types_answer model_validate(const uint8_t *bytes, size_t length, const char
     if (last == NULL) return model_answer(STUN_TYPES_MISSING_ATTRIBUTE, 0x0008, 0, 0);
     fault = hmac_fault(last->type, last->length);
     if (fault.code != OK) return fault;
-    *algorithm = last->type == 0x0008 ? STUN_TYPES_SHA1 : STUN_TYPES_SHA256;
+    *algorithm = last->type == 0x0008 ? STUN_TYPES_INTEGRITY_SHA1 : STUN_TYPES_INTEGRITY_SHA256;
     model_hmac(bytes, last->value_at - 4, last->length, *algorithm, password, hmac);
     if (memcmp(hmac, bytes + last->value_at, last->length) != 0)
         return model_answer(STUN_TYPES_INTEGRITY_FAILED, 0, 0, 0);

@@ -31,7 +31,7 @@ void model_shown(const uint8_t *bytes, size_t length, model_list *shown);
 uint32_t model_fingerprint(const uint8_t *bytes, size_t at);
 
 /* The HMAC under a password that an integrity attribute with a value of so many bytes has at an
-   offset; an algorithm is STUN_TYPES_SHA1 or STUN_TYPES_SHA256. */
+   offset; an algorithm is STUN_TYPES_INTEGRITY_SHA1 or STUN_TYPES_INTEGRITY_SHA256. */
 void model_hmac(const uint8_t *bytes, size_t at, size_t value_length, uint32_t algorithm,
                 const char *password, uint8_t *hmac);
 

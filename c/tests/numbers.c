@@ -10,8 +10,8 @@ static const struct {
     uint32_t message_class, method;
     uint16_t type;
 } types[] = {
-    {"higher bits of the method", STUN_TYPES_REQUEST, 0xFFFFF001, 0x0001},
-    {"higher bits of the class", 0xFFFFFFFC, STUN_TYPES_BINDING, 0x0001},
+    {"higher bits of the method", STUN_TYPES_CLASS_REQUEST, 0xFFFFF001, 0x0001},
+    {"higher bits of the class", 0xFFFFFFFC, STUN_TYPES_METHOD_BINDING, 0x0001},
     {"all bits", 0xFFFFFFFF, 0xFFFFFFFF, 0x3FFF},
 };
 

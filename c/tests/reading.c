@@ -158,7 +158,7 @@ static void test_type_lists(void) {
         slice bytes;
         uint16_t *types;
         size_t *count, held = type_lists[i].room;
-        stun_types_attribute attribute = {24, STUN_TYPES_UNKNOWN_ATTRIBUTES, 0};
+        stun_types_attribute attribute = {24, STUN_TYPES_ATTRIBUTE_UNKNOWN_ATTRIBUTES, 0};
         row("stun_types_read_types", type_lists[i].name);
         bytes = joined(hex(HEADER("0000") "000A0000"), hex(type_lists[i].value));
         attribute.length = (uint16_t)(bytes.length - 24);
@@ -183,7 +183,7 @@ static const struct {
 };
 
 static void test_unknown_types(void) {
-    static const uint16_t username[] = {STUN_TYPES_USERNAME};
+    static const uint16_t username[] = {STUN_TYPES_ATTRIBUTE_USERNAME};
     size_t i;
     for (i = 0; i < COUNT(unknown); i++) {
         slice bytes, supported;

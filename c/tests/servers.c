@@ -50,7 +50,7 @@ static void test_arguments(void) {
     size_t i;
     for (i = 0; i < COUNT(arguments); i++) {
         slice bytes, algorithms;
-        stun_types_policy policy = {STUN_TYPES_ANY, 32, 0};
+        stun_types_policy policy = {STUN_TYPES_INTEGRITY_ANY, 32, 0};
         stun_types_authentication *authentication;
         row("an authentication", arguments[i].name);
         bytes = hex("0001 0000 2112A442 00*12");

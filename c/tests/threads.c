@@ -43,13 +43,13 @@ static time_t last_second;
 static stun_types_answer write_message(signed_message *made, const stun_types_key *key,
                                        uint32_t message_class, uint32_t algorithm) {
     const stun_types_id id = {{1, 2, 3, 4, 5, 6, 7, 8, 9, 10, 11, 12}};
-    uint16_t type = stun_types_message_type(message_class, STUN_TYPES_BINDING);
+    uint16_t type = stun_types_message_type(message_class, STUN_TYPES_METHOD_BINDING);
     stun_types_answer a = stun_types_begin(made->message, ROOM, type, &id, &made->length);
-    if (!a.code) a = stun_types_add(made->message, ROOM, &made->length, STUN_TYPES_USERNAME,
+    if (!a.code) a = stun_types_add(made->message, ROOM, &made->length, STUN_TYPES_ATTRIBUTE_USERNAME,
                                     "user", 4);
-    if (!a.code) a = stun_types_add(made->message, ROOM, &made->length, STUN_TYPES_REALM,
+    if (!a.code) a = stun_types_add(made->message, ROOM, &made->length, STUN_TYPES_ATTRIBUTE_REALM,
                                     "realm", 5);
-    if (!a.code) a = stun_types_add(made->message, ROOM, &made->length, STUN_TYPES_NONCE,
+    if (!a.code) a = stun_types_add(made->message, ROOM, &made->length, STUN_TYPES_ATTRIBUTE_NONCE,
                                     "nonce", 5);
     if (!a.code) a = stun_types_add_integrity(made->message, ROOM, &made->length, key, algorithm);
     if (!a.code) a = stun_types_add_fingerprint(made->message, ROOM, &made->length);
@@ -71,7 +71,7 @@ static void validate(signed_message *made) {
 }
 
 static void serve(signed_message *made, const stun_types_key *key) {
-    const stun_types_policy policy = {STUN_TYPES_ANY, 16, 0};
+    const stun_types_policy policy = {STUN_TYPES_INTEGRITY_ANY, 16, 0};
     const uint16_t no_algorithms[1] = {0};
     made->short_term = stun_types_authenticate_short_term(made->message, made->length, &policy, key,
                                                           &made->by_short_term);
@@ -92,7 +92,7 @@ static void ask(signed_message *made, const stun_types_key *key, uint32_t algori
                                                0);
     if (made->begun.code) return;
     stun_types_transaction_poll(&made->transaction, 0, &action);
-    write_message(&response, key, STUN_TYPES_SUCCESS, algorithm);
+    write_message(&response, key, STUN_TYPES_CLASS_SUCCESS, algorithm);
     made->received = stun_types_transaction_receive(&made->transaction, key, response.message,
                                                     response.length, none, 0, &made->outcome);
 }
@@ -103,9 +103,9 @@ static void go(results *out) {
     for (k = 0; k < KEYS; k++) {
         const stun_types_key *key = &keys[k];
         for (a = 0; a < ALGORITHMS; a++) {
-            uint32_t algorithm = a == 0 ? STUN_TYPES_SHA1 : STUN_TYPES_SHA256;
+            uint32_t algorithm = a == 0 ? STUN_TYPES_INTEGRITY_SHA1 : STUN_TYPES_INTEGRITY_SHA256;
             signed_message *made = &out->by[k][a];
-            made->written = write_message(made, key, STUN_TYPES_REQUEST, algorithm);
+            made->written = write_message(made, key, STUN_TYPES_CLASS_REQUEST, algorithm);
             validate(made);
             serve(made, key);
             ask(made, key, algorithm);
@@ -149,11 +149,11 @@ static void make_keys(void) {
     size_t i;
     for (i = 0; i < KEYS; i++) keys[i] = none;
     CHECK(!stun_types_key_short_term(&keys[0], "pass", 4).code);
-    CHECK(!stun_types_key_long_term(&keys[1], "user", 4, "realm", 5, "pass", 4, STUN_TYPES_SHA1)
+    CHECK(!stun_types_key_long_term(&keys[1], "user", 4, "realm", 5, "pass", 4, STUN_TYPES_INTEGRITY_SHA1)
                .code);
-    CHECK(!stun_types_key_long_term(&keys[2], "user", 4, "realm", 5, "pass", 4, STUN_TYPES_SHA256)
+    CHECK(!stun_types_key_long_term(&keys[2], "user", 4, "realm", 5, "pass", 4, STUN_TYPES_INTEGRITY_SHA256)
                .code);
-    CHECK(!stun_types_key_from_bytes(&keys[3], "pass", 4, STUN_TYPES_ANY).code);
+    CHECK(!stun_types_key_from_bytes(&keys[3], "pass", 4, STUN_TYPES_INTEGRITY_ANY).code);
 }
 
 static void check_expected(void) {
@@ -162,7 +162,7 @@ static void check_expected(void) {
     for (k = 0; k < KEYS; k++)
         for (a = 0; a < ALGORITHMS; a++) {
             const signed_message *made = &expected.by[k][a];
-            uint32_t algorithm = a == 0 ? STUN_TYPES_SHA1 : STUN_TYPES_SHA256;
+            uint32_t algorithm = a == 0 ? STUN_TYPES_INTEGRITY_SHA1 : STUN_TYPES_INTEGRITY_SHA256;
             CHECK(!made->written.code);
             CHECK(made->changed.code == STUN_TYPES_INTEGRITY_FAILED);
             for (i = 0; i < KEYS; i++) {

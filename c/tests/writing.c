@@ -87,7 +87,7 @@ static const struct {
     {"other algorithms",
      200,
      NULL,
-     {{SIGN, STUN_TYPES_ANY, "pass", OTHER(STUN_TYPES_BAD_ARGUMENT)},
+     {{SIGN, STUN_TYPES_INTEGRITY_ANY, "pass", OTHER(STUN_TYPES_BAD_ARGUMENT)},
       {SIGN, 3, "pass", OTHER(STUN_TYPES_BAD_ARGUMENT)},
       {SIGN, 0xFFFF, "pass", OTHER(STUN_TYPES_BAD_ARGUMENT)}},
      HEADER("0000")},
@@ -311,8 +311,8 @@ static void test_broken(void) {
         {ADDRESS, 0x0001, "C0000201", OTHER(STUN_TYPES_BAD_ARGUMENT)},
         {ERROR, 400, "6E6F", OTHER(STUN_TYPES_BAD_ARGUMENT)},
         {UNKNOWN, 0, "001D", OTHER(STUN_TYPES_BAD_ARGUMENT)},
-        {SIGN, STUN_TYPES_SHA1, "pass", OTHER(STUN_TYPES_BAD_ARGUMENT)},
-        {SIGN, STUN_TYPES_SHA256, "pass", OTHER(STUN_TYPES_BAD_ARGUMENT)},
+        {SIGN, STUN_TYPES_INTEGRITY_SHA1, "pass", OTHER(STUN_TYPES_BAD_ARGUMENT)},
+        {SIGN, STUN_TYPES_INTEGRITY_SHA256, "pass", OTHER(STUN_TYPES_BAD_ARGUMENT)},
         {FINGER, 0, NULL, OTHER(STUN_TYPES_BAD_ARGUMENT)},
         /* what is written is tested before what is handed in */
         {ADD, 0x8028, "61", OTHER(STUN_TYPES_BAD_ARGUMENT)},
@@ -350,14 +350,14 @@ static void test_signing_keys(void) {
     row("stun_types_add_integrity", "a key that holds none");
     written = NEW(size_t);
     bytes = begin_message(NULL, 100, written);
-    ANSWERS(stun_types_add_integrity(bytes, 100, written, no_key(), STUN_TYPES_SHA1),
+    ANSWERS(stun_types_add_integrity(bytes, 100, written, no_key(), STUN_TYPES_INTEGRITY_SHA1),
             PLAIN(STUN_TYPES_NO_KEY));
     CHECK(*written == 20 && is_untouched(bytes + 20, 80));
     row("stun_types_add_integrity", "a key that was made for the other algorithm");
     written = NEW(size_t);
     bytes = begin_message(HEADER("0000"), 44, written);
-    key = login_key(STUN_TYPES_SHA256);
-    ANSWERS(stun_types_add_integrity(bytes, 44, written, key, STUN_TYPES_SHA1), OK_ANSWER);
+    key = login_key(STUN_TYPES_INTEGRITY_SHA256);
+    ANSWERS(stun_types_add_integrity(bytes, 44, written, key, STUN_TYPES_INTEGRITY_SHA1), OK_ANSWER);
     CHECK_BYTES(bytes + 20, *written - 20, hex(SIGNED_BY_OTHER_KEY));
     ANSWERS(stun_types_validate(bytes, *written, key, &algorithm),
             OF_TYPE(STUN_TYPES_MISSING_ATTRIBUTE, 0x0008));
@@ -366,10 +366,10 @@ static void test_signing_keys(void) {
     key = password_key(text("pass"));
     written = NEW(size_t);
     bytes = begin_message(NULL, 44, written);
-    ANSWERS(stun_types_add_integrity(bytes, 44, written, key, STUN_TYPES_SHA1), OK_ANSWER);
+    ANSWERS(stun_types_add_integrity(bytes, 44, written, key, STUN_TYPES_INTEGRITY_SHA1), OK_ANSWER);
     CHECK_BYTES(bytes + 20, *written - 20, hex(SIGNED));
     bytes = begin_message(NULL, 44, written);
-    ANSWERS(stun_types_add_integrity(bytes, 44, written, key, STUN_TYPES_SHA1), OK_ANSWER);
+    ANSWERS(stun_types_add_integrity(bytes, 44, written, key, STUN_TYPES_INTEGRITY_SHA1), OK_ANSWER);
     CHECK_BYTES(bytes + 20, *written - 20, hex(SIGNED));
     stun_types_key_free(key);
 }
@@ -378,7 +378,7 @@ static void test_signing_keys(void) {
 static void test_many(void) {
     enum { MANY = 700 };
     static const step empty = {ADD, 0x8022, "", DONE},
-                      signature = {SIGN, STUN_TYPES_SHA1, "pass", DONE};
+                      signature = {SIGN, STUN_TYPES_INTEGRITY_SHA1, "pass", DONE};
     size_t size = 20 + 4 * MANY + 24 + 8, i, count = 0;
     uint8_t *bytes;
     size_t *written;

@@ -42,8 +42,8 @@ static size_t user_of(slice message) {
     stun_types_hash hash;
     slice name;
     size_t at;
-    bool is_named = find_value(message, STUN_TYPES_USERNAME, &name);
-    bool is_hashed = !is_named && find_value(message, STUN_TYPES_USERHASH, &name);
+    bool is_named = find_value(message, STUN_TYPES_ATTRIBUTE_USERNAME, &name);
+    bool is_hashed = !is_named && find_value(message, STUN_TYPES_ATTRIBUTE_USERHASH, &name);
     for (at = 0; at < COUNT(users) && (is_named || is_hashed); at++) {
         size_t length = strlen(users[at].name);
         if (is_named && is_text(name, users[at].name)) return at;
@@ -78,20 +78,20 @@ static stun_types_answer add(draft *to, uint16_t type, slice value) {
 /* The reply to a request that is accepted: an address, or the error 420. */
 static void answer_accepted(slice request, const stun_types_key *key, uint32_t algorithm) {
     static const uint16_t known[] = {
-        STUN_TYPES_USERNAME, STUN_TYPES_USERHASH, STUN_TYPES_REALM, STUN_TYPES_NONCE,
-        STUN_TYPES_PASSWORD_ALGORITHM, STUN_TYPES_MESSAGE_INTEGRITY,
-        STUN_TYPES_MESSAGE_INTEGRITY_SHA256,
+        STUN_TYPES_ATTRIBUTE_USERNAME, STUN_TYPES_ATTRIBUTE_USERHASH, STUN_TYPES_ATTRIBUTE_REALM, STUN_TYPES_ATTRIBUTE_NONCE,
+        STUN_TYPES_ATTRIBUTE_PASSWORD_ALGORITHM, STUN_TYPES_ATTRIBUTE_MESSAGE_INTEGRITY,
+        STUN_TYPES_ATTRIBUTE_MESSAGE_INTEGRITY_SHA256,
     };
     static const stun_types_address source = {{192, 0, 2, 1}, 32853, 4};
     uint16_t unknown[100];
     draft to;
     size_t count = stun_types_unknown_types(request.bytes, request.length, known, COUNT(known),
                                             unknown, COUNT(unknown));
-    ANSWERS(draft_reply(&to, ROOM, request, count == 0 ? STUN_TYPES_SUCCESS : STUN_TYPES_ERROR),
+    ANSWERS(draft_reply(&to, ROOM, request, count == 0 ? STUN_TYPES_CLASS_SUCCESS : STUN_TYPES_CLASS_ERROR),
             OK_ANSWER);
     if (count == 0)
         ANSWERS(stun_types_add_xor_address(to.room, to.size, &to.written,
-                                           STUN_TYPES_XOR_MAPPED_ADDRESS, &source),
+                                           STUN_TYPES_ATTRIBUTE_XOR_MAPPED_ADDRESS, &source),
                 OK_ANSWER);
     else ANSWERS(draft_unknown(&to, unknown, count), OK_ANSWER);
     ANSWERS(stun_types_add_integrity(to.room, to.size, &to.written, key, algorithm), OK_ANSWER);
@@ -104,15 +104,15 @@ static void answer_accepted(slice request, const stun_types_key *key, uint32_t a
 static void answer_refused(slice request, uint32_t code, const slice *fresh) {
     const char *reason = code == 400 ? "Bad Request" : code == 401 ? "Unauthenticated" : "Stale Nonce";
     draft to;
-    ANSWERS(draft_reply(&to, ROOM, request, STUN_TYPES_ERROR), OK_ANSWER);
+    ANSWERS(draft_reply(&to, ROOM, request, STUN_TYPES_CLASS_ERROR), OK_ANSWER);
     ANSWERS(stun_types_add_error(to.room, to.size, &to.written, (uint16_t)code, reason,
                                  strlen(reason)),
             OK_ANSWER);
     if (fresh != NULL && code != 400) {
-        ANSWERS(add(&to, STUN_TYPES_REALM, text(realm)), OK_ANSWER);
-        ANSWERS(add(&to, STUN_TYPES_NONCE, *fresh), OK_ANSWER);
+        ANSWERS(add(&to, STUN_TYPES_ATTRIBUTE_REALM, text(realm)), OK_ANSWER);
+        ANSWERS(add(&to, STUN_TYPES_ATTRIBUTE_NONCE, *fresh), OK_ANSWER);
         if (promises(*fresh))
-            ANSWERS(add(&to, STUN_TYPES_PASSWORD_ALGORITHMS,
+            ANSWERS(add(&to, STUN_TYPES_ATTRIBUTE_PASSWORD_ALGORITHMS,
                         given(offered_value, sizeof offered_value)),
                     OK_ANSWER);
     }
@@ -133,7 +133,7 @@ static void answer_decision(slice message, const stun_types_authentication *deci
         answer_text("accepted ");
         answer_algorithm(decision->algorithm);
         answer_text(" ");
-        if (header_of(message).message_class != STUN_TYPES_REQUEST) answer_text("-");
+        if (header_of(message).message_class != STUN_TYPES_CLASS_REQUEST) answer_text("-");
         else answer_accepted(message, key, decision->reply_algorithm);
     }
 }
@@ -175,7 +175,7 @@ static stun_types_answer make_long_term(stun_types_key *key, size_t user, uint32
 /* What the server knows of the nonce of a message. */
 static uint32_t nonce_state(slice message, slice fresh, slice stale) {
     slice nonce;
-    if (!find_value(message, STUN_TYPES_NONCE, &nonce)) return STUN_TYPES_NONCE_UNKNOWN;
+    if (!find_value(message, STUN_TYPES_ATTRIBUTE_NONCE, &nonce)) return STUN_TYPES_NONCE_UNKNOWN;
     if (is_same(nonce, fresh)) return STUN_TYPES_NONCE_VALID;
     return is_same(nonce, stale) ? STUN_TYPES_NONCE_STALE : STUN_TYPES_NONCE_UNKNOWN;
 }
@@ -184,7 +184,7 @@ static uint32_t nonce_state(slice message, slice fresh, slice stale) {
    the key is that for MD5. */
 static bool is_by_sha256(slice message) {
     slice chosen;
-    return find_value(message, STUN_TYPES_PASSWORD_ALGORITHM, &chosen) && chosen.length >= 2
+    return find_value(message, STUN_TYPES_ATTRIBUTE_PASSWORD_ALGORITHM, &chosen) && chosen.length >= 2
         && chosen.bytes[1] == STUN_TYPES_PASSWORD_SHA256;
 }
 
@@ -198,8 +198,8 @@ static void long_term(void) {
     bool is_promised = state == STUN_TYPES_NONCE_VALID && promises(fresh);
     stun_types_answer answer = OK_ANSWER;
     if (user < COUNT(users)) {
-        answer = make_long_term(&md5, user, STUN_TYPES_SHA1);
-        if (answer.code == STUN_TYPES_OK) answer = make_long_term(&sha256, user, STUN_TYPES_SHA256);
+        answer = make_long_term(&md5, user, STUN_TYPES_INTEGRITY_SHA1);
+        if (answer.code == STUN_TYPES_OK) answer = make_long_term(&sha256, user, STUN_TYPES_INTEGRITY_SHA256);
     }
     if (is_taken(answer)
         && has_decided(stun_types_authenticate_long_term(
@@ -254,17 +254,17 @@ static void add_login(draft *to, slice response, const stun_types_challenge *ask
     slice asked_realm = given(bytes + asked->realm_at, asked->realm_length);
     ANSWERS(stun_types_userhash("user", 4, asked_realm.bytes, asked_realm.length, &hash),
             OK_ANSWER);
-    if (asked->anonymous) ANSWERS(add(to, STUN_TYPES_USERHASH, given(hash.bytes, 32)), OK_ANSWER);
-    else ANSWERS(add(to, STUN_TYPES_USERNAME, text("user")), OK_ANSWER);
-    ANSWERS(add(to, STUN_TYPES_REALM, asked_realm), OK_ANSWER);
-    ANSWERS(add(to, STUN_TYPES_NONCE, given(bytes + asked->nonce_at, asked->nonce_length)),
+    if (asked->anonymous) ANSWERS(add(to, STUN_TYPES_ATTRIBUTE_USERHASH, given(hash.bytes, 32)), OK_ANSWER);
+    else ANSWERS(add(to, STUN_TYPES_ATTRIBUTE_USERNAME, text("user")), OK_ANSWER);
+    ANSWERS(add(to, STUN_TYPES_ATTRIBUTE_REALM, asked_realm), OK_ANSWER);
+    ANSWERS(add(to, STUN_TYPES_ATTRIBUTE_NONCE, given(bytes + asked->nonce_at, asked->nonce_length)),
             OK_ANSWER);
     if (asked->algorithms_at == 0) return;
     algorithm[1] = (uint8_t)asked->password_algorithm;
-    ANSWERS(add(to, STUN_TYPES_PASSWORD_ALGORITHMS,
+    ANSWERS(add(to, STUN_TYPES_ATTRIBUTE_PASSWORD_ALGORITHMS,
                 given(bytes + asked->algorithms_at, asked->algorithms_length)),
             OK_ANSWER);
-    ANSWERS(add(to, STUN_TYPES_PASSWORD_ALGORITHM, given(algorithm, 4)), OK_ANSWER);
+    ANSWERS(add(to, STUN_TYPES_ATTRIBUTE_PASSWORD_ALGORITHM, given(algorithm, 4)), OK_ANSWER);
 }
 
 static void answer_challenge(void) {
@@ -281,9 +281,9 @@ static void answer_challenge(void) {
     keep_secret(text("pass"));
     if (is_taken(stun_types_key_long_term(
             &key, "user", 4, response.bytes + asked.realm_at, asked.realm_length, "pass", 4,
-            asked.password_algorithm == STUN_TYPES_PASSWORD_MD5 ? STUN_TYPES_SHA1
-                                                                : STUN_TYPES_SHA256))) {
-        ANSWERS(draft_begin(&to, ROOM, STUN_TYPES_REQUEST, STUN_TYPES_BINDING, &header.id),
+            asked.password_algorithm == STUN_TYPES_PASSWORD_MD5 ? STUN_TYPES_INTEGRITY_SHA1
+                                                                : STUN_TYPES_INTEGRITY_SHA256))) {
+        ANSWERS(draft_begin(&to, ROOM, STUN_TYPES_CLASS_REQUEST, STUN_TYPES_METHOD_BINDING, &header.id),
                 OK_ANSWER);
         add_login(&to, response, &asked);
         ANSWERS(stun_types_add_integrity(to.room, to.size, &to.written, &key,
@@ -304,8 +304,8 @@ static void error_response(void) {
     uint16_t code;
     size_t at, length;
     if (!is_taken(stun_types_parse(response.bytes, response.length))) return;
-    if (header_of(response).message_class != STUN_TYPES_ERROR
-        || !stun_types_find(response.bytes, response.length, STUN_TYPES_ERROR_CODE, &attribute)
+    if (header_of(response).message_class != STUN_TYPES_CLASS_ERROR
+        || !stun_types_find(response.bytes, response.length, STUN_TYPES_ATTRIBUTE_ERROR_CODE, &attribute)
         || stun_types_read_error(response.bytes, response.length, &attribute, &code, &at, &length)
                .code != STUN_TYPES_OK) {
         answer_text("-");

@@ -21,8 +21,8 @@ stun_types_header header_of(slice octets) {
 }
 
 bool is_response_to(const stun_types_header *request, const stun_types_header *response) {
-    bool is_response = response->message_class == STUN_TYPES_SUCCESS
-        || response->message_class == STUN_TYPES_ERROR;
+    bool is_response = response->message_class == STUN_TYPES_CLASS_SUCCESS
+        || response->message_class == STUN_TYPES_CLASS_ERROR;
     return is_response && response->method == request->method
         && memcmp(response->id.bytes, request->id.bytes, sizeof request->id.bytes) == 0;
 }
@@ -34,10 +34,10 @@ stun_types_answer draft_reply(draft *message, size_t size, slice request, uint32
 
 stun_types_answer draft_unknown(draft *message, const uint16_t *types, size_t count) {
     stun_types_answer result = stun_types_add(message->room, message->size, &message->written,
-                                              STUN_TYPES_SOFTWARE, "stun-types", 10);
+                                              STUN_TYPES_ATTRIBUTE_SOFTWARE, "stun-types", 10);
     if (result.code == STUN_TYPES_OK)
         result = stun_types_add_error(message->room, message->size, &message->written,
-                                      STUN_TYPES_UNKNOWN_ATTRIBUTE, "Unknown Attributes", 18);
+                                      STUN_TYPES_CODE_UNKNOWN_ATTRIBUTE, "Unknown Attributes", 18);
     if (result.code != STUN_TYPES_OK || count == 0) return result;
     return stun_types_add_unknown_types(message->room, message->size, &message->written, types,
                                         count);

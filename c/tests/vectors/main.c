@@ -62,8 +62,8 @@ void answer_or_nothing(void) {
 }
 
 void answer_algorithm(uint32_t algorithm) {
-    CHECK(algorithm == STUN_TYPES_SHA1 || algorithm == STUN_TYPES_SHA256);
-    answer_text(algorithm == STUN_TYPES_SHA1 ? "sha1" : "sha256");
+    CHECK(algorithm == STUN_TYPES_INTEGRITY_SHA1 || algorithm == STUN_TYPES_INTEGRITY_SHA256);
+    answer_text(algorithm == STUN_TYPES_INTEGRITY_SHA1 ? "sha1" : "sha256");
 }
 
 /* Appends a name and two numbers. */
@@ -217,10 +217,10 @@ size_t types_of(char *list, uint16_t *types, size_t most) {
 }
 
 uint32_t algorithm_of(const char *word) {
-    if (strcmp(word, "sha1") == 0) return STUN_TYPES_SHA1;
-    if (strcmp(word, "sha256") == 0) return STUN_TYPES_SHA256;
+    if (strcmp(word, "sha1") == 0) return STUN_TYPES_INTEGRITY_SHA1;
+    if (strcmp(word, "sha256") == 0) return STUN_TYPES_INTEGRITY_SHA256;
     if (strcmp(word, "any") != 0) answer_unknown();
-    return STUN_TYPES_ANY;
+    return STUN_TYPES_INTEGRITY_ANY;
 }
 
 const char *const class_words[4] = {"request", "indication", "success", "error"};

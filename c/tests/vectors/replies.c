@@ -22,11 +22,11 @@ static bool begin(draft *message, slice *request) {
     size_t size = call_room();
     *request = call_octets();
     if (!is_taken(stun_types_parse(request->bytes, request->length))) return false;
-    if (header_of(*request).message_class != STUN_TYPES_REQUEST) {
+    if (header_of(*request).message_class != STUN_TYPES_CLASS_REQUEST) {
         answer_text("!NotRequest");
         return false;
     }
-    return is_taken(draft_reply(message, size, *request, STUN_TYPES_ERROR));
+    return is_taken(draft_reply(message, size, *request, STUN_TYPES_CLASS_ERROR));
 }
 
 /* Answers with why a response isn't whole, or `ok`, and with the response. */
@@ -39,10 +39,10 @@ static void answer_reply(const draft *message, stun_types_answer result) {
 
 static stun_types_answer add_bad_request(draft *message) {
     stun_types_answer result = stun_types_add(message->room, message->size, &message->written,
-                                              STUN_TYPES_SOFTWARE, "stun-types", 10);
+                                              STUN_TYPES_ATTRIBUTE_SOFTWARE, "stun-types", 10);
     if (result.code != STUN_TYPES_OK) return result;
     return stun_types_add_error(message->room, message->size, &message->written,
-                                STUN_TYPES_BAD_REQUEST, "Bad Request", 11);
+                                STUN_TYPES_CODE_BAD_REQUEST, "Bad Request", 11);
 }
 
 static void bad_request(void) {

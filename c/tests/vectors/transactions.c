@@ -93,7 +93,7 @@ static bool was_taken(void) {
 /* The algorithm that authenticates it. */
 static void answer_authenticated(void) {
     static const char *const names[] = {"no", "sha1", "sha256"};
-    CHECK(was_taken() || last_received.algorithm == STUN_TYPES_ANY);
+    CHECK(was_taken() || last_received.algorithm == STUN_TYPES_INTEGRITY_ANY);
     answer_space();
     answer_text(names[last_received.algorithm < COUNT(names) ? last_received.algorithm : 0]);
 }
@@ -223,7 +223,7 @@ static void schedule(void) {
     stun_types_action action = {STUN_TYPES_SEND_NOW, 0, 0};
     draft request;
     uint64_t now = 0;
-    ANSWERS(draft_begin(&request, 20, STUN_TYPES_REQUEST, STUN_TYPES_BINDING, &id), OK_ANSWER);
+    ANSWERS(draft_begin(&request, 20, STUN_TYPES_CLASS_REQUEST, STUN_TYPES_METHOD_BINDING, &id), OK_ANSWER);
     if (!has_begun(stun_types_transaction_begin(&begun, request.room, 20, &given_schedule,
                                                 STUN_TYPES_UDP, STUN_TYPES_UNPROTECTED, &none, 0),
                    &given_schedule))
@@ -258,11 +258,11 @@ static void mapped(void) {
     if (!is_taken(stun_types_parse(response.bytes, response.length))) return;
     asked = header_of(request);
     answered = header_of(response);
-    if (answered.message_class != STUN_TYPES_SUCCESS || !is_response_to(&asked, &answered))
+    if (answered.message_class != STUN_TYPES_CLASS_SUCCESS || !is_response_to(&asked, &answered))
         answer_text("-");
-    else if (!stun_types_find(response.bytes, response.length, STUN_TYPES_XOR_MAPPED_ADDRESS,
+    else if (!stun_types_find(response.bytes, response.length, STUN_TYPES_ATTRIBUTE_XOR_MAPPED_ADDRESS,
                               &attribute))
-        answer_refusal(OF_TYPE(STUN_TYPES_MISSING_ATTRIBUTE, STUN_TYPES_XOR_MAPPED_ADDRESS));
+        answer_refusal(OF_TYPE(STUN_TYPES_MISSING_ATTRIBUTE, STUN_TYPES_ATTRIBUTE_XOR_MAPPED_ADDRESS));
     else if (is_taken(stun_types_read_xor_address(response.bytes, response.length, &attribute,
                                                   &address)))
         answer_address(&address);

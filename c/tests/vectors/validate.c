@@ -25,7 +25,7 @@ static void password(void) {
     stun_types_key key = STUN_TYPES_NO_KEY_YET, same = STUN_TYPES_NO_KEY_YET;
     uint32_t *algorithm = NEW(uint32_t);
     stun_types_answer result;
-    if (make_key(&same, given_password, STUN_TYPES_ANY)
+    if (make_key(&same, given_password, STUN_TYPES_INTEGRITY_ANY)
         && is_taken(stun_types_key_short_term(&key, given_password.bytes, given_password.length))) {
         result = stun_types_validate_short_term(octets.bytes, octets.length, given_password.bytes,
                                               given_password.length, algorithm);
@@ -50,7 +50,7 @@ static void login(void) {
     for (at = 0; at < 2 && result.code == STUN_TYPES_OK; at++)
         result = stun_types_key_long_term(&keys[at], user.bytes, user.length, realm.bytes,
                                         realm.length, secret.bytes, secret.length,
-                                        at == 0 ? STUN_TYPES_SHA1 : STUN_TYPES_SHA256);
+                                        at == 0 ? STUN_TYPES_INTEGRITY_SHA1 : STUN_TYPES_INTEGRITY_SHA256);
     if (is_taken(result)) {
         result = stun_types_validate_long_term(octets.bytes, octets.length, user.bytes, user.length,
                                              realm.bytes, realm.length, secret.bytes,

@@ -9,15 +9,15 @@ typedef enum { NOTHING, ADDRESS, XOR_ADDRESS, ERROR, TYPES } value_kind;
 /* What C reads a value of this type as. */
 static value_kind kind_of(uint16_t type) {
     switch (type) {
-    case STUN_TYPES_MAPPED_ADDRESS:
-    case STUN_TYPES_ALTERNATE_SERVER:
-    case STUN_TYPES_RESPONSE_ORIGIN:
-    case STUN_TYPES_OTHER_ADDRESS: return ADDRESS;
-    case STUN_TYPES_XOR_MAPPED_ADDRESS:
-    case STUN_TYPES_XOR_PEER_ADDRESS:
-    case STUN_TYPES_XOR_RELAYED_ADDRESS: return XOR_ADDRESS;
-    case STUN_TYPES_ERROR_CODE: return ERROR;
-    case STUN_TYPES_UNKNOWN_ATTRIBUTES: return TYPES;
+    case STUN_TYPES_ATTRIBUTE_MAPPED_ADDRESS:
+    case STUN_TYPES_ATTRIBUTE_ALTERNATE_SERVER:
+    case STUN_TYPES_ATTRIBUTE_RESPONSE_ORIGIN:
+    case STUN_TYPES_ATTRIBUTE_OTHER_ADDRESS: return ADDRESS;
+    case STUN_TYPES_ATTRIBUTE_XOR_MAPPED_ADDRESS:
+    case STUN_TYPES_ATTRIBUTE_XOR_PEER_ADDRESS:
+    case STUN_TYPES_ATTRIBUTE_XOR_RELAYED_ADDRESS: return XOR_ADDRESS;
+    case STUN_TYPES_ATTRIBUTE_ERROR_CODE: return ERROR;
+    case STUN_TYPES_ATTRIBUTE_UNKNOWN_ATTRIBUTES: return TYPES;
     default: return NOTHING;
     }
 }
@@ -139,7 +139,7 @@ static void lengths(void) {
 /* Begins a message with a transaction ID, to add the value to. */
 static draft begun(const stun_types_id *id) {
     draft message;
-    ANSWERS(draft_begin(&message, ANY_ROOM, STUN_TYPES_REQUEST, STUN_TYPES_BINDING, id), OK_ANSWER);
+    ANSWERS(draft_begin(&message, ANY_ROOM, STUN_TYPES_CLASS_REQUEST, STUN_TYPES_METHOD_BINDING, id), OK_ANSWER);
     return message;
 }
 

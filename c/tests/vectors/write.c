@@ -62,7 +62,7 @@ static bool read_step(step *it, char *word) {
     algorithm = next_part(&word, ':');
     it->algorithm = algorithm_of(algorithm == NULL ? "" : algorithm);
     if (strcmp(kind, "sign") == 0) return make_credentials(&it->key, it->algorithm, word);
-    return make_key(&it->key, octets_part(&word), STUN_TYPES_ANY);
+    return make_key(&it->key, octets_part(&word), STUN_TYPES_INTEGRITY_ANY);
 }
 
 /* Reads the steps that are left; false if there is no memory for a key. */
@@ -95,12 +95,12 @@ static stun_types_answer take(const step *it, draft *to) {
 /* Appends what a step answers. In C one code says that an attribute bars another, and its type says
    which one: by another name if it is FINGERPRINT, or if an ordinary attribute is barred. */
 static void answer_step(const step *it, stun_types_answer result) {
-    bool is_finger = result.type == STUN_TYPES_FINGERPRINT;
+    bool is_finger = result.type == STUN_TYPES_ATTRIBUTE_FINGERPRINT;
     if (result.code == STUN_TYPES_OK) answer_text("ok");
     else if (result.code == STUN_TYPES_EXISTS && is_finger && it->kind != FINGER)
         answer_text("!FingerprintExists");
     else if (result.code == STUN_TYPES_EXISTS && it->kind == ATTRIBUTE) {
-        CHECK(result.type == STUN_TYPES_MESSAGE_INTEGRITY);
+        CHECK(result.type == STUN_TYPES_ATTRIBUTE_MESSAGE_INTEGRITY);
         answer_text("!MessageIntegrityExists");
     } else answer_refusal_with(result, ':');
 }
@@ -216,7 +216,7 @@ static void reply(uint32_t message_class) {
     slice request = call_octets();
     draft message;
     if (is_taken(stun_types_parse(request.bytes, request.length))) {
-        if (header_of(request).message_class != STUN_TYPES_REQUEST) {
+        if (header_of(request).message_class != STUN_TYPES_CLASS_REQUEST) {
             answer_text("!NotRequest");
             return;
         }
@@ -226,9 +226,9 @@ static void reply(uint32_t message_class) {
     }
 }
 
-static void success(void) { reply(STUN_TYPES_SUCCESS); }
+static void success(void) { reply(STUN_TYPES_CLASS_SUCCESS); }
 
-static void error(void) { reply(STUN_TYPES_ERROR); }
+static void error(void) { reply(STUN_TYPES_CLASS_ERROR); }
 
 const verb verbs_of_write[] = {
     {"write", write, true},     {"resume", resume, true}, {"rooms", rooms, true},
