@@ -7,7 +7,7 @@ use Rattle.stun_framing.specs.declared.run_error.RunError.TheVariants.{Usage, Wr
 use Rattle.stun_agent.specs.declared.end.AgentError.{AgentError}
 use Rattle.stun_agent.specs.declared.end.AgentError.TheVariants.{Run}
 use Rattle.stun_agent.specs.declared.end.RunEnd.{RunEnd}
-use Rattle.stun_agent.specs.declared.end.RunEnd.TheVariants.{Discarded}
+use Rattle.stun_agent.specs.declared.end.RunEnd.TheVariants.{Accepted, Refused, Discarded}
 
 -- the whole input was read
 abbrev pub ReadsInput : (left left' : Option (List ℕ)) → Type 0
@@ -17,8 +17,10 @@ ReadsInput left left' = (input : List ℕ) × ReadsAll greatest_length left left
 -- if anything but a write failed
 abbrev pub EndsLogin :
     Result RunEnd AgentError → (left left' held held' : Option (List ℕ)) → Type 0
+EndsLogin (Ok Accepted) left left' held held' = ReadsInput left left'
+EndsLogin (Ok Refused) left left' held held' = ReadsInput left left'
 EndsLogin (Ok Discarded) left left' held held' = ReadsInput left left' × Keeps held held'
-EndsLogin (Ok end) left left' held held' = ReadsInput left left'
+EndsLogin (Ok _) left left' held held' = ⊥
 EndsLogin (Err (Run Usage)) left left' held held' = (left' ≡ left) × (held' ≡ held)
 EndsLogin (Err (Run WriteFailed)) left left' held held' = ReadsInput left left'
 EndsLogin (Err error) left left' held held' = Keeps held held'

@@ -20,11 +20,14 @@ is_fingerprinted d = is_some (nth d FINGERPRINT 0)
 abbrev pub is_taken : Policy → List ℕ → Bool
 is_taken policy d = if policy.fingerprint then is_fingerprinted d else true
 
--- whether d shows the integrity attribute of the algorithm that serves, or of one of both
+-- whether d shows the integrity attribute of an algorithm
+abbrev pub shows_integrity : IntegrityAlgorithm → List ℕ → Bool
+shows_integrity algorithm d = is_some (nth d (type_of_algorithm algorithm) 0)
+
+-- whether d shows that of the algorithm that serves, or of one of both
 abbrev pub shows_served : Option IntegrityAlgorithm → List ℕ → Bool
-shows_served None d =
-    is_some (nth d MESSAGE_INTEGRITY 0) || is_some (nth d MESSAGE_INTEGRITY_SHA256 0)
-shows_served (Some algorithm) d = is_some (nth d (type_of_algorithm algorithm) 0)
+shows_served None d = shows_integrity Sha1 d || shows_integrity Sha256 d
+shows_served (Some algorithm) d = shows_integrity algorithm d
 
 -- whether d shows an integrity attribute that counts
 abbrev pub is_signed : Policy → List ℕ → Bool
@@ -46,12 +49,17 @@ is_long_enough policy algorithm d = has_least_length policy.shortest algorithm d
 abbrev pub validated : Policy → List ℕ → List ℕ → Result IntegrityAlgorithm ValidateError
 validated policy key d = verdict (is_checked_type policy.algorithm) (λ _. key) d
 
--- the algorithm that it answers, where the HMAC is long enough
+-- the algorithm that it answers, where the HMAC has at least so many bytes
+abbrev pub proved_at : (shortest : ℕ) → List ℕ → Result IntegrityAlgorithm ValidateError
+    → Option IntegrityAlgorithm
+proved_at shortest d (Ok algorithm) =
+    if has_least_length shortest algorithm d then Some algorithm else None
+proved_at shortest d (Err e) = None
+
+-- the same, where it has as many as the policy asks for
 abbrev pub proved_by : Policy → List ℕ → Result IntegrityAlgorithm ValidateError
     → Option IntegrityAlgorithm
-proved_by policy d (Ok algorithm) =
-    if is_long_enough policy algorithm d then Some algorithm else None
-proved_by policy d (Err e) = None
+proved_by policy d answer = proved_at policy.shortest d answer
 
 -- the algorithm whose HMAC in d is right under the key, where it counts
 abbrev pub proof_of : Policy → List ℕ → List ℕ → Option IntegrityAlgorithm

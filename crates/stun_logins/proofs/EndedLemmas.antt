@@ -1,4 +1,4 @@
--- What stands behind the last ordinary attribute.
+-- What follows the last ordinary attribute.
 use Rattle.std.proofs.Common.{◌≡◌, ℕ, ◌+◌, ◌≤◌, Bool, true, false, cond, eqb, ◌||◌, List, [], ◌∷◌, ◌++◌, length, Option, Some, None, Ok, refl, sym, ap, subst, ◌∙◌, append_assoc, arith}
 use Rattle.std.specs.Prelude.{◌&&◌, count_by, filter, is_some, not, if◌then◌else◌}
 use Rattle.std.specs.List.{list_any}

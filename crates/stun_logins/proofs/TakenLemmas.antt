@@ -37,7 +37,8 @@ use Rattle.stun_transactions.specs.declared.retransmission.RetransmissionState.{
 use Rattle.stun_transactions.specs.declared.terms.Terms.{Terms}
 use Rattle.stun_transactions.specs.declared.usage.Usage.{Usage}
 use Rattle.stun_transactions.specs.Usages.{lacks_fingerprint}
-use Rattle.stun_transactions.specs.Guards.{guard_fault, signed_by, is_signed, signs_by, is_unsigned_bad_request, validated, proved_by, matched_by, proof_of, short_term_fault, long_term_fault, mechanism_fault, IsKeptAs}
+use Rattle.stun_authentication.specs.Policies.{proved_at}
+use Rattle.stun_transactions.specs.Guards.{guard_fault, signed_by, is_signed, signs_by, is_unsigned_bad_request, validated, matched_by, proof_of, short_term_fault, long_term_fault, mechanism_fault, IsKeptAs}
 use Rattle.stun_transactions.specs.Outcomes.{is_open}
 use Rattle.stun_transactions.specs.Receiving.{content, claim_of, discarded, received_outcome}
 use Rattle.stun_transactions.specs.Terms.{AreTerms, is_answer}
@@ -101,10 +102,10 @@ none_lacks first print kind id xs a key usage plain room suits =
 
 -- the reply's HMAC is right, and long enough
 proves : IsFirst → (print : Bool) (kind id : ℕ) (xs : List Attribute) (a : IntegrityAlgorithm) (key : List ℕ) (kept : IntegrityKey) (usage : Usage) → WorksAs key a kept → IsOpen kind id xs
-    → HasRoom kind id (finished print kind id (signed kind id xs a key)) → Suits usage print → proved_by usage.shortest (signed_reply print kind id xs a key) (validated kept (signed_reply print kind id xs a key)) ≡ Some a
+    → HasRoom kind id (finished print kind id (signed kind id xs a key)) → Suits usage print → proved_at usage.shortest (signed_reply print kind id xs a key) (validated kept (signed_reply print kind id xs a key)) ≡ Some a
 proves first print kind id xs a key kept usage works plain room suits =
     let d = signed_reply print kind id xs a key in
-    ap (λ (r : Result IntegrityAlgorithm ValidateError). proved_by usage.shortest d r) (kept_validates print kind id xs a key kept plain room works)
+    ap (λ (r : Result IntegrityAlgorithm ValidateError). proved_at usage.shortest d r) (kept_validates print kind id xs a key kept plain room works)
     ∙ ap (λ (b : Bool). if b then Some a else None) (long_enough usage.shortest a d (reply_found first print kind id xs a key plain room) suits.shortest)
 
 pub long_taken : IsFirst → IsMissing → (a : IntegrityAlgorithm) (print : Bool) (kind id : ℕ) (xs : List Attribute) (key : List ℕ) (kept : IntegrityKey) (usage : Usage) (by : Signed) → WorksAs key a kept → IsOpen kind id xs → has NONCE (types xs) ≡ false

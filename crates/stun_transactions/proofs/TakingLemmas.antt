@@ -19,7 +19,7 @@ use Rattle.stun_keys.specs.declared.keys.integrity_key.IntegrityKey.{IntegrityKe
 use Rattle.stun_keys.specs.Keys.{key_bytes, key_algorithm}
 use Rattle.stun_authentication.specs.Challenges.{is_bid_down}
 use Rattle.stun_authentication.specs.Codes.{is_challenge, shown_code}
-use Rattle.stun_authentication.specs.Policies.{has_least_length}
+use Rattle.stun_authentication.specs.Policies.{has_least_length, proved_at}
 use Rattle.stun_transactions.specs.declared.retransmission.RetransmissionState.{RetransmissionState}
 use Rattle.stun_transactions.specs.declared.guard.Protection.{Protection}
 use Rattle.stun_transactions.specs.declared.guard.Protection.TheVariants.{Unprotected, FirstLongTerm, ShortTerm, LongTerm}
@@ -32,7 +32,7 @@ use Rattle.stun_transactions.specs.declared.received.Outcome.{Outcome}
 use Rattle.stun_transactions.specs.declared.received.Outcome.TheVariants.{NotForThis, Failed, Error}
 use Rattle.stun_transactions.specs.declared.terms.Terms.{Terms}
 use Rattle.stun_transactions.specs.declared.usage.Usage.{Usage}
-use Rattle.stun_transactions.specs.Guards.{guard_fault, mechanism_fault, proof_of, proved_by, matched_by, signed_by, is_signed, have_common, signs_by, validated, is_unsigned_bad_request}
+use Rattle.stun_transactions.specs.Guards.{guard_fault, mechanism_fault, proof_of, matched_by, signed_by, is_signed, have_common, signs_by, validated, is_unsigned_bad_request}
 use Rattle.stun_transactions.specs.Outcomes.{is_open}
 use Rattle.stun_transactions.specs.Receiving.{received_outcome, claim_of, discarded, content, content_by_class}
 use Rattle.stun_transactions.specs.Responses.{first_beyond}
@@ -48,7 +48,7 @@ long_enough shortest d b a true e = (cc, refl)
 long_enough shortest d b a false e = absurd cc
 
 proved : (shortest : ℕ) (key : IntegrityKey) (d : List ℕ) (r : Result IntegrityAlgorithm ValidateError) (a : IntegrityAlgorithm) → IsBytes d → parse_fault d ≡ None → validated key d ≡ r
-    → proved_by shortest d r ≡ Some a → IsAuthenticBy shortest key d a
+    → proved_at shortest d r ≡ Some a → IsAuthenticBy shortest key d a
 proved shortest key d (Ok b) a bytes parses e is =
     let both = long_enough shortest d b a (has_least_length shortest b d) is in
     let right : validated key d ≡ Ok a = e ∙ ap (λ (x : IntegrityAlgorithm). Ok x) both.0 in
@@ -75,7 +75,7 @@ either_is_some false x y e = absurd cc
 
 -- by a short-term credential it is authentic
 short : (shortest : ℕ) (key : IntegrityKey) (signed : Signed) (d : List ℕ) (other : Bool) (found proof : Option IntegrityAlgorithm) → IsBytes d → parse_fault d ≡ None
-    → proved_by shortest d (validated key d) ≡ found → matched_by signed found ≡ proof
+    → proved_at shortest d (validated key d) ≡ found → matched_by signed found ≡ proof
     → (if is_some proof then None else (if other then Some OtherAlgorithm else Some NotAuthentic)) ≡ None → IsProved (ShortTerm key) shortest signed d proof
 short shortest key signed d other found None bytes parses is matches passes = absurd (either_is_some other OtherAlgorithm NotAuthentic passes)
 short shortest key signed d other found (Some a) bytes parses is matches passes =
@@ -84,7 +84,7 @@ short shortest key signed d other found (Some a) bytes parses is matches passes 
 
 -- by a long-term one it is, or it is a challenge
 long : (shortest : ℕ) (key : IntegrityKey) (signed : Signed) (d : List ℕ) (asks bid bad : Bool) (proof : Option IntegrityAlgorithm) → IsBytes d → parse_fault d ≡ None
-    → is_challenge d ≡ asks → proved_by shortest d (validated key d) ≡ proof
+    → is_challenge d ≡ asks → proved_at shortest d (validated key d) ≡ proof
     → (if asks then None else (if bid then Some BidDown else (if bad then Some UnsignedBadRequest else (if is_some proof then None else Some NotAuthentic)))) ≡ None
     → IsProved (LongTerm key) shortest signed d proof
 long shortest key signed d asks bid bad (Some a) bytes parses asked is passes = proved shortest key d (validated key d) a bytes parses refl is
@@ -113,7 +113,7 @@ proved_as : (p : Protection) (usage : Usage) (signed : Signed) (d : List ℕ) �
 proved_as Unprotected usage signed d bytes parses passes = refl
 proved_as FirstLongTerm usage signed d bytes parses passes = refl
 proved_as (ShortTerm key) usage signed d bytes parses passes =
-    short usage.shortest key signed d (is_signed (signed_by d) && not (have_common signed (signed_by d))) (proved_by usage.shortest d (validated key d)) (proof_of (ShortTerm key) usage signed d) bytes parses refl refl passes
+    short usage.shortest key signed d (is_signed (signed_by d) && not (have_common signed (signed_by d))) (proved_at usage.shortest d (validated key d)) (proof_of (ShortTerm key) usage signed d) bytes parses refl refl passes
 proved_as (LongTerm key) usage signed d bytes parses passes =
     long usage.shortest key signed d (is_challenge d) (is_bid_down d) (is_unsigned_bad_request d) (proof_of (LongTerm key) usage signed d) bytes parses refl refl passes
 

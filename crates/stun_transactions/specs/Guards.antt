@@ -4,14 +4,12 @@ use Rattle.std.specs.Prelude.{◌≡◌, ℕ, Bool, true, false, not, ◌||◌, 
 use Rattle.stun_grammar.specs.declared.error.ValidateError.{ValidateError}
 use Rattle.stun_grammar.specs.declared.integrity_algorithm.IntegrityAlgorithm.{IntegrityAlgorithm}
 use Rattle.stun_grammar.specs.declared.integrity_algorithm.IntegrityAlgorithm.TheVariants.{Sha1, Sha256}
-use Rattle.stun_grammar.specs.AttributeTypes.{MESSAGE_INTEGRITY, MESSAGE_INTEGRITY_SHA256}
 use Rattle.stun_grammar.specs.Verdicts.{is_checked_type, verdict}
 use Rattle.stun_keys.specs.declared.keys.integrity_key.IntegrityKey.{IntegrityKey}
 use Rattle.stun_keys.specs.Keys.{key_bytes, key_algorithm, is_prepared, IsKey}
-use Rattle.stun_read.specs.LookingUp.{nth}
 use Rattle.stun_authentication.specs.Challenges.{is_bid_down}
 use Rattle.stun_authentication.specs.Codes.{response_code, is_code, is_challenge}
-use Rattle.stun_authentication.specs.Policies.{has_least_length}
+use Rattle.stun_authentication.specs.Policies.{shows_integrity, proved_at}
 use Rattle.stun_transactions.specs.declared.guard.Protection.{Protection}
 use Rattle.stun_transactions.specs.declared.guard.Protection.TheVariants.{Unprotected, FirstLongTerm, ShortTerm, LongTerm}
 use Rattle.stun_transactions.specs.declared.guard.Signed.{Signed}
@@ -26,8 +24,8 @@ use Rattle.stun_transactions.specs.Usages.{lacks_fingerprint}
 abbrev pub signed_by : List ℕ → Signed
 signed_by d =
     record {
-      sha1 = is_some (nth d MESSAGE_INTEGRITY 0);
-      sha256 = is_some (nth d MESSAGE_INTEGRITY_SHA256 0);
+      sha1 = shows_integrity Sha1 d;
+      sha256 = shows_integrity Sha256 d;
     }
 
 -- whether there is one
@@ -83,14 +81,7 @@ has_prepared_key (LongTerm key) = is_prepared key
 abbrev pub validated : IntegrityKey → List ℕ → Result IntegrityAlgorithm ValidateError
 validated key d = verdict (is_checked_type (key_algorithm key)) (λ _. key_bytes key) d
 
--- the algorithm that it answers, where the HMAC has enough bytes (section 14.6)
-abbrev pub proved_by : (shortest : ℕ) → List ℕ → Result IntegrityAlgorithm ValidateError
-    → Option IntegrityAlgorithm
-proved_by shortest d (Ok algorithm) =
-    if has_least_length shortest algorithm d then Some algorithm else None
-proved_by shortest d (Err e) = None
-
--- the same, where the request was signed by it (section 9.1.4)
+-- the algorithm that authenticates d, where the request was signed by it (section 9.1.4)
 abbrev pub matched_by : Signed → Option IntegrityAlgorithm → Option IntegrityAlgorithm
 matched_by signed None = None
 matched_by signed (Some algorithm) = if signs_by signed algorithm then Some algorithm else None
@@ -101,8 +92,8 @@ abbrev pub proof_of : Protection → Usage → Signed → List ℕ → Option In
 proof_of Unprotected usage signed d = None
 proof_of FirstLongTerm usage signed d = None
 proof_of (ShortTerm key) usage signed d =
-    matched_by signed (proved_by usage.shortest d (validated key d))
-proof_of (LongTerm key) usage signed d = proved_by usage.shortest d (validated key d)
+    matched_by signed (proved_at usage.shortest d (validated key d))
+proof_of (LongTerm key) usage signed d = proved_at usage.shortest d (validated key d)
 
 -- ---- Which responses are discarded
 

@@ -2,7 +2,8 @@
 
 ghost use Rattle.std.specs.Prelude.{◌≡◌};
 ghost use Rattle.stun_types.specs.Message.{message_bytes};
-ghost use Rattle.stun_transactions.specs.Guards.{signed_by, is_signed, signs_by, have_common, validated, proved_by, matched_by, short_term_fault, long_term_fault};
+ghost use Rattle.stun_authentication.specs.Policies.{proved_at};
+ghost use Rattle.stun_transactions.specs.Guards.{signed_by, is_signed, signs_by, have_common, validated, matched_by, short_term_fault, long_term_fault};
 
 use crate::parting::check_key;
 use crate::parts::{Mechanism, PartsError};
@@ -95,7 +96,7 @@ fn proved_by(
     message: &Message<'_>,
 ) -> Option<IntegrityAlgorithm>
     ensures { let d = message_bytes message.now in
-        result ≡ proved_by shortest d (validated key.now d) }
+        result ≡ proved_at shortest d (validated key.now d) }
 {
     match message.validate_integrity_with_key(key) {
         Ok(algorithm) if has_least_length(shortest, algorithm, message) => Some(algorithm),
