@@ -1,12 +1,12 @@
 -- What a transaction of the request tells.
 use Rattle.std.proofs.Common.{◌≡◌, ℕ, Bool, true, false, List, [], Option, refl, ap, ◌∙◌}
-use Rattle.std.specs.Prelude.{not, ◌&&◌, is_some, ◌==◌, if◌then◌else◌}
+use Rattle.std.specs.Prelude.{not, ◌&&◌, is_some, if◌then◌else◌}
 use Rattle.std.specs.Option.{option_map_or}
 use Rattle.stun_grammar.specs.Headers.{type_field, id_field}
 use Rattle.stun_grammar.specs.Parsing.{parse_fault}
 use Rattle.stun_base.specs.declared.transport.TransportType.{TransportType}
 use Rattle.stun_base.specs.declared.transport.TransportType.TheVariants.{Udp}
-use Rattle.stun_base.specs.MessageTypes.{class_of, method_of, is_response}
+use Rattle.stun_base.specs.MessageTypes.{method_of}
 use Rattle.stun_transactions.specs.declared.retransmission.RetransmissionState.{RetransmissionState}
 use Rattle.stun_transactions.specs.declared.guard.Protection.{Protection}
 use Rattle.stun_transactions.specs.declared.guard.Signed.{Signed}
@@ -17,9 +17,10 @@ use Rattle.stun_transactions.specs.declared.usage.Usage.{Usage}
 use Rattle.stun_transactions.specs.Guards.{proof_of, guard_fault, signed_by}
 use Rattle.stun_transactions.specs.Outcomes.{is_open}
 use Rattle.stun_transactions.specs.Receiving.{received_outcome, content, claim_of, discarded}
+use Rattle.stun_types.specs.Replies.{responds_to, is_answer_to}
 use Rattle.stun_transactions.specs.Terms.{is_answer}
 use Rattle.stun_agent.specs.declared.query.Login.{Login}
-use Rattle.stun_agent.specs.Binding.{told, is_answer_to, protection_of, usage}
+use Rattle.stun_agent.specs.Binding.{told, protection_of, usage}
 
 -- of a transaction in progress
 in_progress : (ongoing parses answers : Bool) (taken : Outcome) → ongoing ≡ true
@@ -31,8 +32,7 @@ in_progress false parses answers taken o = absurd cc
 -- it answers by the same method and transaction ID
 same_answer : (terms : Terms) (r d : List ℕ) → terms.method ≡ method_of (type_field r) → terms.id ≡ id_field r → is_answer terms d ≡ is_answer_to r d
 same_answer terms r d method id =
-    ap (λ (m : ℕ). is_response (class_of (type_field d)) && ((method_of (type_field d) == m) && (id_field d == terms.id))) method
-    ∙ ap (λ (i : ℕ). is_response (class_of (type_field d)) && ((method_of (type_field d) == method_of (type_field r)) && (id_field d == i))) id
+    ap (λ (m : ℕ). responds_to m terms.id d) method ∙ ap (λ (i : ℕ). responds_to (method_of (type_field r)) i d) id
 
 -- what is told of one that answers
 abbrev answered : TransportType → Protection → Usage → Signed → List ℕ → Outcome

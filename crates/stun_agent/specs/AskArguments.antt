@@ -1,6 +1,6 @@
 -- What the arguments of `ask` mean.
-use Rattle.std.specs.Prelude.{◌≡◌, ℕ, ◌<◌, ◌^◌, Bool, true, false, ◌&&◌, nat_lt, nat_le, List, [], ◌∷◌, codes, length, Option, None, Some}
-use Rattle.std.specs.Str.Parse.{IsNumeral, without_leading_plus, digits_value}
+use Rattle.std.specs.Prelude.{◌≡◌, ℕ, ◌≤◌, Bool, true, false, ◌&&◌, nat_lt, nat_le, List, [], ◌∷◌, codes, length, Option, None, Some}
+use Rattle.std.specs.Str.Parse.{IsNumeral, digits_value}
 use Rattle.stun_keys.specs.Keys.{IsKey}
 use Rattle.stun_attributes.specs.Texts.{text_bytes}
 use Rattle.stun_framing.specs.declared.run_error.RunError.{RunError}
@@ -11,11 +11,9 @@ use Rattle.stun_agent.specs.declared.arguments.Verb.TheVariants.{Request, Respon
 use Rattle.stun_agent.specs.declared.query.Login.{Login}
 use Rattle.stun_agent.specs.declared.query.Query.{Query}
 
--- hexadecimal digits, a plus before them or not, that write a transaction ID
+-- at most 24 hexadecimal digits, and nothing else, that write a transaction ID
 abbrev pub IsIdText : List ℕ → ℕ → Type 0
-IsIdText text id =
-    IsNumeral 16 (without_leading_plus text)
-    × (digits_value 16 (without_leading_plus text) ≡ id) × (id < 2 ^ 96)
+IsIdText text id = IsNumeral 16 text × (length text ≤ 24) × (digits_value 16 text ≡ id)
 
 -- whether these are a user name and a password: neither is empty (RFC 8265, section 4.2.2), and the
 -- name has at most as many bytes as a USERNAME

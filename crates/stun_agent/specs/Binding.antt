@@ -1,5 +1,5 @@
 -- The binding request, and what a datagram tells of it (RFC 8489, sections 6.1, 6.3.3, 6.3.4 and 9.1).
-use Rattle.std.specs.Prelude.{◌≡◌, ℕ, ◌∷◌, ◌++◌, List, [], Bool, true, false, not, ◌&&◌, codes, Option, None, Some, Ok, Err, is_some, ◌==◌, if◌then◌else◌}
+use Rattle.std.specs.Prelude.{◌≡◌, ℕ, ◌∷◌, ◌++◌, List, [], Bool, true, false, not, ◌&&◌, codes, Option, None, Some, Ok, Err, is_some, if◌then◌else◌}
 use Rattle.std.specs.Option.{option_map_or}
 use Rattle.std.specs.Fmt.{decimal}
 use Rattle.std.specs.Net.Text.{socket_text}
@@ -14,9 +14,10 @@ use Rattle.stun_grammar.specs.Steps.{Step, add, sign}
 use Rattle.stun_grammar.specs.Sending.{sent_encoding}
 use Rattle.stun_base.specs.declared.message_type.MessageClass.TheVariants.{Request}
 use Rattle.stun_base.specs.declared.transport.TransportType.TheVariants.{Udp}
-use Rattle.stun_base.specs.MessageTypes.{type_of, class_of, method_of, is_response}
+use Rattle.stun_base.specs.MessageTypes.{type_of, method_of}
 use Rattle.stun_keys.specs.Keys.{key_bytes}
 use Rattle.stun_attributes.specs.Texts.{text_bytes}
+use Rattle.stun_types.specs.Replies.{is_answer_to}
 use Rattle.stun_transactions.specs.declared.guard.Protection.{Protection}
 use Rattle.stun_transactions.specs.declared.guard.Protection.TheVariants.{Unprotected, ShortTerm}
 use Rattle.stun_transactions.specs.declared.usage.Usage.{Usage}
@@ -64,12 +65,6 @@ abbrev pub usage : Usage
 usage = record { shortest = 32; fingerprint = false }
 
 -- ---- What a datagram is
-
--- whether d is a response to the request r
-abbrev pub is_answer_to : List ℕ → List ℕ → Bool
-is_answer_to r d =
-    is_response (class_of (type_field d))
-    && ((method_of (type_field d) == method_of (type_field r)) && (id_field d == id_field r))
 
 -- what a transaction of the request r, by a login or without one, tells of d
 abbrev pub told : Option Login → List ℕ → List ℕ → Outcome

@@ -112,18 +112,17 @@ pub struct AskTask {
     pub(crate) query: Query,
 }
 
-/// The transaction ID that a text spells in hexadecimal.
+/// The transaction ID that a text spells in hexadecimal, in at most 24 digits and with no sign.
 fn id_in(text: &str) -> Option<TransactionId>
     ensures { MatchOption result
         ((id : ℕ) → ¬ (IsIdText text.now id))
         (IsIdText text.now) }
 {
-    let number = u128::from_str_radix(text, 16).ok()?;
-    if number < 1 << 96 {
-        Some(TransactionId::from(number))
-    } else {
-        None
+    if text.len() > 24 || text.starts_with('+') {
+        return None;
     }
+    let number = u128::from_str_radix(text, 16).ok()?;
+    Some(TransactionId::from(number))
 }
 
 /// The login of a user name and a password. Neither may be empty, and the name has at most 513

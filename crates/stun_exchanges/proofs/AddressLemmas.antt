@@ -21,9 +21,8 @@ use Rattle.stun_grammar.specs.Parsing.{parse_fault}
 use Rattle.stun_attrs.specs.Reading.{Reads}
 use Rattle.stun_attributes.proofs.AddressesLemmas.{xored_twice}
 use Rattle.stun_read.specs.LookingUp.{nth}
-use Rattle.stun_values.specs.Addresses.{family, octets, mask, xor_bytes, address_fault, Spells, IsXored, IsInRange, IsPlain}
+use Rattle.stun_values.specs.Addresses.{family, octets, mask, xor_bytes, address_fault, Spells, IsXored, IsInRange, IsPlain, xored_value}
 use Rattle.stun_transactions.specs.Mapped.{TellsAddress, ReadsMapped, IsSuccessOf}
-use Rattle.stun_server.specs.Reply.{xored_value}
 use Rattle.stun_exchanges.specs.Learning.{without_flow, TellsOnly}
 
 -- ---- The address without flow info

@@ -24,16 +24,16 @@ use Rattle.stun_base.specs.declared.message_type.MessageClass.{MessageClass}
 use Rattle.stun_base.specs.declared.message_type.MessageClass.TheVariants.{Request, Success, Error as ErrorClass}
 use Rattle.stun_base.specs.MessageTypes.{type_of, class_of, method_of, is_response}
 use Rattle.stun_read.specs.LookingUp.{nth}
-use Rattle.stun_values.specs.Addresses.{IsInRange}
+use Rattle.stun_values.specs.Addresses.{IsInRange, xored_value}
 use Rattle.stun_values.specs.ErrorValues.{error_value}
 use Rattle.stun_values.specs.TypeLists.{types_encoding}
-use Rattle.stun_types.specs.Replies.{Answers, response_type, own_software, error_attribute, unknown_reply, bad_reply, lacks, unknown_types}
+use Rattle.stun_types.specs.Replies.{is_answer_to, response_type, own_software, error_attribute, unknown_reply, bad_reply, lacks, unknown_types}
 use Rattle.stun_transactions.specs.declared.received.Failure.TheVariants as Failure
 use Rattle.stun_transactions.specs.declared.received.Outcome.{Outcome}
 use Rattle.stun_transactions.specs.Receiving.{content, content_by_class}
 use Rattle.stun_authentication.specs.Codes.{shown_code, value_code}
 use Rattle.stun_transactions.specs.Responses.{is_beyond, first_beyond}
-use Rattle.stun_server.specs.Reply.{xored_value, success_reply, response, finished, unfinished_reply, binding_reply, reply_by_type, reply}
+use Rattle.stun_server.specs.Reply.{success_reply, response, finished, unfinished_reply, binding_reply, reply_by_type, reply}
 use Rattle.stun_server.proofs.SizesLemmas.{reply_for, request_is}
 use Rattle.stun_exchanges.specs.Learning.{IsBindingRequest, Learns, LearnsError}
 use Rattle.stun_exchanges.proofs.AddressLemmas.{tells_only}
@@ -51,7 +51,7 @@ HasBits = (class : MessageClass) (method : ℕ) → type_of class method < 2 ^ 1
 abbrev IsAnswer : Type 0
 IsAnswer =
     (class : MessageClass) (r : List ℕ) (attributes : List Attribute) → is_response class ≡ true → IsWritable (response_type class r) (id_field r) attributes
-    → Answers (message_encoding (response_type class r) (id_field r) attributes) r
+    → is_answer_to r (message_encoding (response_type class r) (id_field r) attributes) ≡ true
 
 abbrev IsFoundIn : Type 0
 IsFoundIn =

@@ -1,14 +1,13 @@
 -- What a transaction that waits for a response is told of one.
 use Rattle.std.proofs.Common.{◌≡◌, ℕ, Bool, true, false, List, [], Option, None, Some, refl, sym, ap, ◌∙◌}
-use Rattle.std.specs.Prelude.{not, ◌&&◌, is_some, ◌==◌, if◌then◌else◌}
+use Rattle.std.specs.Prelude.{not, ◌&&◌, is_some, if◌then◌else◌}
 use Rattle.std.specs.Option.{option_map_or}
-use Rattle.std.proofs.lemmas.Bool.{eq-eqb}
 use Rattle.stun_grammar.specs.Headers.{type_field, id_field}
 use Rattle.stun_grammar.specs.Parsing.{parse_fault}
 use Rattle.stun_grammar.specs.AttributeTypes.{FINGERPRINT}
 use Rattle.stun_read.specs.LookingUp.{nth}
-use Rattle.stun_base.specs.MessageTypes.{class_of, method_of, is_response}
-use Rattle.stun_types.specs.Replies.{Answers}
+use Rattle.stun_base.specs.MessageTypes.{method_of}
+use Rattle.stun_types.specs.Replies.{responds_to, is_answer_to}
 use Rattle.stun_transactions.specs.declared.guard.Protection.{Protection}
 use Rattle.stun_transactions.specs.declared.received.Discard.{Discard}
 use Rattle.stun_transactions.specs.declared.received.Discard.TheVariants.{NoFingerprint}
@@ -29,12 +28,6 @@ told_of true true false kept out taken told o p a k same = absurd cc
 told_of true false answers kept out taken told o p a k same = absurd cc
 told_of false parses answers kept out taken told o p a k same = absurd cc
 
-both : (a b c : Bool) → a ≡ true → b ≡ true → c ≡ true → (a && (b && c)) ≡ true
-both true true true x y z = refl
-both true true false x y z = absurd cc
-both true false c x y z = absurd cc
-both false b c x y z = absurd cc
-
 -- where the usage sends FINGERPRINT, d shows one if r does
 not_lacking : (used in_r in_d : Bool) → (used && not in_r) ≡ false → (in_r ≡ true → in_d ≡ true) → (used && not in_d) ≡ false
 not_lacking false in_r in_d e same = refl
@@ -47,7 +40,7 @@ unguarded false e = refl
 unguarded true e = absurd cc
 
 -- a message that answers the request is told by what it has in it
-pub received_as : (told : Outcome) (r d : List ℕ) → parse_fault d ≡ None → Answers d r → (is_some (nth r FINGERPRINT 0) ≡ true → is_some (nth d FINGERPRINT 0) ≡ true) → content None [] d ≡ told → IsReceivedAs told r d
+pub received_as : (told : Outcome) (r d : List ℕ) → parse_fault d ≡ None → is_answer_to r d ≡ true → (is_some (nth r FINGERPRINT 0) ≡ true → is_some (nth d FINGERPRINT 0) ≡ true) → content None [] d ≡ told → IsReceivedAs told r d
 received_as told r d parses answers printed has = record {
   parses = parses;
   answers = answers;
@@ -55,8 +48,7 @@ received_as told r d parses answers printed has = record {
       told_of (is_open state) (not (is_some (parse_fault d))) (is_answer terms d) (guard_fault terms.protection terms.usage terms.signed d) (discarded terms.plan.transport (claim_of d)) (content (proof_of terms.protection terms.usage terms.signed d) [] d) told
       awaits.ongoing
       (ap (λ (o : Option _). not (is_some o)) parses)
-      (both (is_response (class_of (type_field d))) (method_of (type_field d) == terms.method) (id_field d == terms.id) answers.response
-      (eq-eqb (method_of (type_field d)) terms.method (answers.method ∙ sym awaits.method_is)) (eq-eqb (id_field d) terms.id (answers.id ∙ sym awaits.id_is)))
+      (ap (λ (m : ℕ). responds_to m terms.id d) awaits.method_is ∙ ap (λ (i : ℕ). responds_to (method_of (type_field r)) i d) awaits.id_is ∙ answers)
       (ap (λ (p : Protection). guard_fault p terms.usage terms.signed d) awaits.unprotected
       ∙ unguarded (lacks_fingerprint terms.usage d) (not_lacking terms.usage.fingerprint (is_some (nth r FINGERPRINT 0)) (is_some (nth d FINGERPRINT 0)) awaits.fingerprint printed))
       (ap (λ (p : Protection). content (proof_of p terms.usage terms.signed d) [] d) awaits.unprotected ∙ has);

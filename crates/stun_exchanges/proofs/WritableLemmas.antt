@@ -25,7 +25,8 @@ use Rattle.stun_values.specs.ErrorValues.{error_value}
 use Rattle.stun_values.specs.TypeLists.{types_encoding}
 use Rattle.stun_values.proofs.ListsLemmas.{length_of_twos}
 use Rattle.stun_types.specs.Replies.{response_type, own_software, unknown_reply}
-use Rattle.stun_server.specs.Reply.{xored_value, success_reply}
+use Rattle.stun_server.specs.Reply.{success_reply}
+use Rattle.stun_values.specs.Addresses.{xored_value}
 use Rattle.stun_server.proofs.RefusalsLemmas.{no_refusal, software_length, error_length}
 use Rattle.stun_server.proofs.SizesLemmas.{short_value}
 

@@ -10,7 +10,7 @@ use Rattle.stun_grammar.specs.Parsing.{parse_fault}
 use Rattle.stun_base.specs.declared.message_type.MessageClass.TheVariants.{Request}
 use Rattle.stun_base.specs.MessageTypes.{class_of, method_of}
 use Rattle.stun_read.specs.LookingUp.{nth}
-use Rattle.stun_types.specs.Replies.{Answers, unknown_types}
+use Rattle.stun_types.specs.Replies.{is_answer_to, unknown_types}
 use Rattle.stun_values.specs.Addresses.{IsInRange, plain_socket}
 use Rattle.stun_values.specs.TypeLists.{types_encoding}
 use Rattle.stun_transactions.specs.declared.retransmission.RetransmissionState.{RetransmissionState}
@@ -47,7 +47,7 @@ pub record Awaits (r : List ℕ) (terms : Terms) (state : RetransmissionState) :
 -- of it; nothing authenticates it
 pub record IsReceivedAs (told : Outcome) (r d : List ℕ) : Type 0 where
   pub parses : parse_fault d ≡ None
-  pub answers : Answers d r
+  pub answers : is_answer_to r d ≡ true
   pub received_is : (terms : Terms) (state : RetransmissionState) → Awaits r terms state
       → received_outcome terms state [] d ≡ told
 

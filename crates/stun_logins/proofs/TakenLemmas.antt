@@ -1,6 +1,6 @@
 -- A signed reply is taken.
 use Rattle.std.proofs.Common.{◌≡◌, ℕ, Bool, true, false, eqb, List, Option, Some, None, Result, refl, sym, ap, subst, ◌∙◌}
-use Rattle.std.specs.Prelude.{◌==◌, ◌&&◌, is_some, not, if◌then◌else◌}
+use Rattle.std.specs.Prelude.{◌&&◌, is_some, not, if◌then◌else◌}
 use Rattle.std.specs.List.{list_any}
 use Rattle.std.specs.Option.{option_map_or}
 use Rattle.std.proofs.lemmas.Bool.{eq-eqb, ne_eqb}
@@ -17,10 +17,10 @@ use Rattle.stun_grammar.specs.ScannedOrder.{has}
 use Rattle.stun_grammar.specs.Verdicts.{type_of_algorithm, is_checked_type}
 use Rattle.stun_grammar.specs.Writing.{message_encoding}
 use Rattle.stun_grammar.proofs.WritingLemmas.{parse-message, shown-message}
-use Rattle.stun_base.specs.MessageTypes.{class_of, method_of, is_response}
+use Rattle.stun_base.specs.MessageTypes.{method_of}
 use Rattle.stun_keys.specs.declared.keys.integrity_key.IntegrityKey.{IntegrityKey}
 use Rattle.stun_keys.specs.Keys.{key_bytes, IsKey, serves}
-use Rattle.stun_types.specs.Replies.{Answers}
+use Rattle.stun_types.specs.Replies.{responds_to, is_answer_to}
 use Rattle.stun_authentication.specs.Challenges.{list_of, is_bid_down}
 use Rattle.stun_authentication.specs.Codes.{is_challenge, is_code, response_code}
 use Rattle.stun_authentication.specs.Cookies.{promises_algorithms}
@@ -156,19 +156,12 @@ told_of true true false kept out taken o p a k = absurd cc
 told_of true false answers kept out taken o p a k = absurd cc
 told_of false parses answers kept out taken o p a k = absurd cc
 
-all_true : (a b c : Bool) → a ≡ true → b ≡ true → c ≡ true → (a && (b && c)) ≡ true
-all_true true true true x y z = refl
-all_true true true false x y z = absurd cc
-all_true true false c x y z = absurd cc
-all_true false b c x y z = absurd cc
-
-heard_as : (terms : Terms) (state : RetransmissionState) (understood : List AttributeType) (r d : List ℕ) (plan : Plan) (protection : Protection) (usage : Usage) (a : IntegrityAlgorithm) → AreTerms r plan protection usage terms → is_open state ≡ true → parse_fault d ≡ None → Answers d r
+heard_as : (terms : Terms) (state : RetransmissionState) (understood : List AttributeType) (r d : List ℕ) (plan : Plan) (protection : Protection) (usage : Usage) (a : IntegrityAlgorithm) → AreTerms r plan protection usage terms → is_open state ≡ true → parse_fault d ≡ None → is_answer_to r d ≡ true
     → IsTaken terms.protection terms.usage terms.signed d a → received_outcome terms state understood d ≡ content (Some a) understood d
 heard_as terms state understood r d plan protection usage a are ongoing parses answers it =
     told_of (is_open state) (not (is_some (parse_fault d))) (is_answer terms d) (guard_fault terms.protection terms.usage terms.signed d) (discarded terms.plan.transport (claim_of d)) (content (proof_of terms.protection terms.usage terms.signed d) understood d) ongoing
     (ap (λ (o : Option StunParseError). not (is_some o)) parses)
-    (all_true (is_response (class_of (type_field d))) (method_of (type_field d) == terms.method) (id_field d == terms.id) answers.response
-    (eq-eqb (method_of (type_field d)) terms.method (answers.method ∙ sym are.method_is)) (eq-eqb (id_field d) terms.id (answers.id ∙ sym are.id_is)))
+    (ap (λ (m : ℕ). responds_to m terms.id d) are.method_is ∙ ap (λ (i : ℕ). responds_to (method_of (type_field r)) i d) are.id_is ∙ answers)
     it.kept
     ∙ ap (λ (o : Option IntegrityAlgorithm). content o understood d) it.proof
 
@@ -184,7 +177,7 @@ kept_long (P.LongTerm kept) k usage by a key d is same then_taken = then_taken k
 
 pub long_heard : IsFirst → IsMissing → (a : IntegrityAlgorithm) (print : Bool) (kind id : ℕ) (xs : List Attribute) (r key : List ℕ) (k : IntegrityKey) (plan : Plan) (usage : Usage) (terms : Terms) (state : RetransmissionState) (understood : List AttributeType)
     → key_bytes k ≡ key → AreTerms r plan (P.LongTerm k) usage terms → is_open state ≡ true → IsOpen kind id xs → has NONCE (types xs) ≡ false → HasRoom kind id (finished print kind id (signed kind id xs a key)) → Suits usage print
-    → Answers (signed_reply print kind id xs a key) r → received_outcome terms state understood (signed_reply print kind id xs a key) ≡ content (Some a) understood (signed_reply print kind id xs a key)
+    → is_answer_to r (signed_reply print kind id xs a key) ≡ true → received_outcome terms state understood (signed_reply print kind id xs a key) ≡ content (Some a) understood (signed_reply print kind id xs a key)
 long_heard first missing a print kind id xs r key k plan usage terms state understood same are ongoing plain none room suits answers =
     let d = signed_reply print kind id xs a key in
     heard_as terms state understood r d plan (P.LongTerm k) usage a are ongoing (parse-message kind id (finished print kind id (signed kind id xs a key)) (once_writable print kind id xs a key plain.writable plain.ordinary room)) answers
@@ -193,7 +186,7 @@ long_heard first missing a print kind id xs r key k plan usage terms state under
 
 -- the same of a short-term key, which is kept as it is
 pub short_heard : (a : IntegrityAlgorithm) (print : Bool) (kind id : ℕ) (xs : List Attribute) (r key : List ℕ) (k : IntegrityKey) (plan : Plan) (usage : Usage) (terms : Terms) (state : RetransmissionState) (understood : List AttributeType)
-    → AreTerms r plan (P.ShortTerm k) usage terms → is_open state ≡ true → IsOpen kind id xs → HasRoom kind id (finished print kind id (signed kind id xs a key)) → Answers (signed_reply print kind id xs a key) r
+    → AreTerms r plan (P.ShortTerm k) usage terms → is_open state ≡ true → IsOpen kind id xs → HasRoom kind id (finished print kind id (signed kind id xs a key)) → is_answer_to r (signed_reply print kind id xs a key) ≡ true
     → IsTaken (P.ShortTerm k) usage (signed_by r) (signed_reply print kind id xs a key) a → received_outcome terms state understood (signed_reply print kind id xs a key) ≡ content (Some a) understood (signed_reply print kind id xs a key)
 short_heard a print kind id xs r key k plan usage terms state understood are ongoing plain room answers it =
     let d = signed_reply print kind id xs a key in

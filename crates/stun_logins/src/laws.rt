@@ -28,7 +28,7 @@ ghost use Rattle.stun_authentication.specs.Lookups.{Known};
 ghost use Rattle.stun_authentication.specs.Nonces.{Minting, known_as, minted, freshness};
 ghost use Rattle.stun_grammar.specs.declared.attribute_type.AttributeType.{AttributeType};
 ghost use Rattle.stun_keys.specs.Keys.{key_bytes};
-ghost use Rattle.stun_types.specs.Replies.{Answers};
+ghost use Rattle.stun_types.specs.Replies.{is_answer_to};
 ghost use Rattle.stun_transactions.specs.declared.retransmission.RetransmissionState.{RetransmissionState};
 ghost use Rattle.stun_transactions.specs.declared.plan.Plan.{Plan};
 ghost use Rattle.stun_transactions.specs.declared.terms.Terms.{Terms};
@@ -117,7 +117,7 @@ pub fn login_is_accepted()
         key_bytes k ≡ key → AreTerms r plan (Protection.LongTerm k) usage terms
         → is_open state ≡ true → IsOpen kind id answer → has NONCE (types answer) ≡ false
         → HasRoom kind id (finished fingerprint kind id (signed kind id answer a key))
-        → Suits usage fingerprint → Answers reply r
+        → Suits usage fingerprint → is_answer_to r reply ≡ true
         → received_outcome terms state understood reply ≡ content (Some a) understood reply }
 {
     shown_is_found();
@@ -169,7 +169,7 @@ pub fn short_term_login_is_accepted()
         → IsOpen other id answer
         → HasRoom other id (finished finger other id (signed other id answer a key))
         → Suits usage finger → AreTerms r plan (Protection.ShortTerm kept) usage terms
-        → is_open state ≡ true → Answers reply r
+        → is_open state ≡ true → is_answer_to r reply ≡ true
         → received_outcome terms state understood reply ≡ content (Some a) understood reply }
 {
     shown_is_found();

@@ -21,14 +21,14 @@ use Rattle.stun_grammar.proofs.WritingLemmas.{length-canonical, length-message}
 use Rattle.stun_grammar.proofs.AddingLemmas.{appended_length, message_more, fingerprint_length}
 use Rattle.stun_base.specs.declared.message_type.MessageClass.TheVariants.{Success, Error as ErrorClass}
 use Rattle.stun_attrs.specs.declared.raw.RawAttribute.{RawAttribute}
-use Rattle.stun_values.specs.Addresses.{address_value, IsXored}
+use Rattle.stun_values.specs.Addresses.{address_value, IsXored, xored_value}
 use Rattle.stun_values.specs.ErrorValues.{error_value}
 use Rattle.stun_values.specs.TypeLists.{type_encoding, types_encoding}
 use Rattle.stun_values.proofs.ListsLemmas.{flat_map-one, length_of_twos}
 use Rattle.stun_types.specs.Replies.{shown_types, response_type, own_software, unknown_reply, bad_reply, lacks}
 use Rattle.stun_types.proofs.ShownTypesLemmas.{item_type, SoFar, passes_more, fails_more}
 use Rattle.stun_read.specs.LookingUp.{nth}
-use Rattle.stun_server.specs.Reply.{xored_value, success_reply, response, unfinished_reply, binding_reply}
+use Rattle.stun_server.specs.Reply.{success_reply, response, unfinished_reply, binding_reply}
 use Rattle.stun_server.specs.InSlice.{overlaid, answer_in, slice_after}
 use Rattle.stun_server.proofs.ReplyLemmas.{xored_spelled}
 use Rattle.stun_server.proofs.RefusalsLemmas.{software_length, error_length}

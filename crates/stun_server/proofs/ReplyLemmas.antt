@@ -18,9 +18,9 @@ use Rattle.stun_grammar.proofs.AddingLemmas.{message_more}
 use Rattle.stun_base.specs.declared.message_type.MessageClass.{MessageClass}
 use Rattle.stun_base.specs.declared.message_type.MessageClass.TheVariants.{Request, Indication, Success, Error as ErrorClass}
 use Rattle.stun_base.specs.MessageTypes.{class_of, method_of}
-use Rattle.stun_values.specs.Addresses.{family, address_value, IsXored}
+use Rattle.stun_values.specs.Addresses.{family, address_value, IsXored, xored_value}
 use Rattle.stun_types.specs.Replies.{response_type}
-use Rattle.stun_server.specs.Reply.{xored_value, success_reply, response, binding_reply, reply_by_type, reply}
+use Rattle.stun_server.specs.Reply.{success_reply, response, binding_reply, reply_by_type, reply}
 
 same_family : (x a : IpAddr) → is_ipv6 x ≡ is_ipv6 a → family x ≡ family a
 same_family (V4 x) (V4 a) e = refl

@@ -31,12 +31,12 @@ use Rattle.stun_base.specs.declared.message_type.MessageClass.{MessageClass}
 use Rattle.stun_base.specs.declared.message_type.MessageClass.TheVariants.{Request, Indication, Success, Error as ErrorClass}
 use Rattle.stun_base.specs.MessageTypes.{class_of, method_of}
 use Rattle.stun_read.specs.LookingUp.{nth}
-use Rattle.stun_values.specs.Addresses.{octets, mask}
+use Rattle.stun_values.specs.Addresses.{octets, mask, xored_value}
 use Rattle.stun_values.specs.ErrorValues.{error_value}
 use Rattle.stun_values.specs.TypeLists.{types_encoding}
 use Rattle.stun_values.proofs.ListsLemmas.{length_of_twos}
 use Rattle.stun_types.specs.Replies.{response_type, own_software, bad_reply, unknown_reply, is_unknown, lacks, unknown_types}
-use Rattle.stun_server.specs.Reply.{xored_value, success_reply, response, unfinished_reply, binding_reply, reply_by_type, reply}
+use Rattle.stun_server.specs.Reply.{success_reply, response, unfinished_reply, binding_reply, reply_by_type, reply}
 use Rattle.stun_server.specs.Sizes.{IsSmall}
 
 -- ---- What a request has at least

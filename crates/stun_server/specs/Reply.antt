@@ -1,11 +1,9 @@
 -- What a server without credentials replies to a datagram (RFC 8489, sections 6.3, 6.3.1, 7 and 12).
-use Rattle.std.specs.Prelude.{ℕ, ◌/◌, ◌^◌, List, [], ◌∷◌, ◌++◌, length, bit_xor, is_some, ◌==◌, if◌then◌else◌, Option, None, Some}
+use Rattle.std.specs.Prelude.{ℕ, List, [], ◌∷◌, length, is_some, ◌==◌, if◌then◌else◌, Option, None, Some}
 use Rattle.std.specs.Option.{option_map_or}
-use Rattle.std.specs.Net.Socket.{socket_ip, socket_port}
 use Rattle.std.specs.declared.net.socket_addr.SocketAddr.{SocketAddr}
 use Rattle.stun_grammar.specs.declared.attribute_type.AttributeType.{AttributeType}
-use Rattle.stun_grammar.specs.Numbers.{be16}
-use Rattle.stun_grammar.specs.Headers.{magic_cookie, type_field, id_field}
+use Rattle.stun_grammar.specs.Headers.{type_field, id_field}
 use Rattle.stun_grammar.specs.Names.{BINDING}
 use Rattle.stun_grammar.specs.AttributeTypes.{XOR_MAPPED_ADDRESS, FINGERPRINT}
 use Rattle.stun_grammar.specs.Attributes.{Attribute, canonical}
@@ -17,7 +15,7 @@ use Rattle.stun_base.specs.declared.message_type.MessageClass.{MessageClass}
 use Rattle.stun_base.specs.declared.message_type.MessageClass.TheVariants.{Request, Success, Error as ErrorClass}
 use Rattle.stun_base.specs.MessageTypes.{class_of, method_of}
 use Rattle.stun_read.specs.LookingUp.{nth}
-use Rattle.stun_values.specs.Addresses.{family, octets, mask, xor_bytes}
+use Rattle.stun_values.specs.Addresses.{xored_value}
 use Rattle.stun_types.specs.Replies.{response_type, own_software, check_reply}
 
 -- ---- The attributes of the replies
@@ -27,12 +25,6 @@ use Rattle.stun_types.specs.Replies.{response_type, own_software, check_reply}
 -- isn't expected to have
 abbrev pub comprehended : List AttributeType
 comprehended = []
-
--- the value of an XOR-MAPPED-ADDRESS (RFC 8489, section 14.2)
-abbrev pub xored_value : ℕ → SocketAddr → List ℕ
-xored_value id a =
-    0 ∷ family (socket_ip a) ∷ (be16 (bit_xor (socket_port a) (magic_cookie / 2 ^ 16))
-    ++ xor_bytes (octets (socket_ip a)) (mask id))
 
 -- the attributes of the success response: the address that the request came from, and SOFTWARE
 abbrev pub success_reply : SocketAddr → List ℕ → List Attribute

@@ -10,7 +10,7 @@ use Rattle.stun_base.specs.declared.message_type.MessageClass.TheVariants.{Succe
 use Rattle.stun_base.specs.MessageTypes.{class_of}
 use Rattle.stun_attrs.specs.Reading.{Reads}
 use Rattle.stun_read.specs.LookingUp.{nth}
-use Rattle.stun_types.specs.Replies.{Answers}
+use Rattle.stun_types.specs.Replies.{is_answer_to}
 use Rattle.stun_values.specs.Addresses.{Spells, IsXored, address_fault}
 
 -- the value of an XOR-MAPPED-ADDRESS tells this address, in a message with this transaction ID
@@ -28,7 +28,7 @@ ReadsMapped d result =
 
 -- d is a success response to the request r
 pub record IsSuccessOf (r d : List ℕ) : Type 0 where
-  pub answers : Answers d r
+  pub answers : is_answer_to r d ≡ true
   pub succeeds : class_of (type_field d) ≡ Success
 
 -- what the bytes d tell of the request r: the address, where they are a success response to it

@@ -1,7 +1,8 @@
 -- What a transaction is begun with.
-use Rattle.std.specs.Prelude.{◌≡◌, ℕ, Bool, true, false, ◌&&◌, List, Option, None, Some, ◌==◌, if◌then◌else◌}
+use Rattle.std.specs.Prelude.{◌≡◌, ℕ, Bool, true, false, List, Option, None, Some, if◌then◌else◌}
 use Rattle.stun_grammar.specs.Headers.{type_field, id_field}
-use Rattle.stun_base.specs.MessageTypes.{class_of, method_of, is_response}
+use Rattle.stun_base.specs.MessageTypes.{class_of}
+use Rattle.stun_types.specs.Replies.{responds_to}
 use Rattle.stun_authentication.specs.LongTerm.{is_request}
 use Rattle.stun_transactions.specs.declared.plan.Plan.{Plan}
 use Rattle.stun_transactions.specs.declared.guard.Protection.{Protection}
@@ -46,6 +47,4 @@ pub record AreSameTerms (terms other : Terms) : Type 0 where
 
 -- whether d is a response to the request: it has the request's method and transaction ID
 abbrev pub is_answer : Terms → List ℕ → Bool
-is_answer terms d =
-    is_response (class_of (type_field d))
-    && ((method_of (type_field d) == terms.method) && (id_field d == terms.id))
+is_answer terms d = responds_to terms.method terms.id d

@@ -1,8 +1,8 @@
 -- A reply is written attribute by attribute, up to a refusal.
-use Rattle.std.proofs.Common.{◌≡◌, ℕ, ◌+◌, ◌*◌, ◌/◌, ◌%◌, ◌^◌, ◌<◌, ◌≤◌, ◌⊎◌, true, List, [], ◌∷◌, ◌++◌, length, take, drop, map, get_or, Option, Some, None, Result, Ok, Err, refl, sym, ap, subst, ◌∙◌, append_assoc, arith, inl, inr}
-use Rattle.std.specs.Prelude.{◌≢◌, IsOk, OnOk, IfErr, MatchOption, MatchResult, is_some, if◌then◌else◌}
+use Rattle.std.proofs.Common.{◌≡◌, ℕ, ◌+◌, ◌*◌, ◌/◌, ◌%◌, ◌^◌, ◌<◌, ◌≤◌, ◌⊎◌, Bool, true, false, List, [], ◌∷◌, ◌++◌, length, take, drop, map, get_or, Option, Some, None, Result, Ok, Err, refl, sym, ap, subst, ◌∙◌, append_assoc, arith, inl, inr}
+use Rattle.std.specs.Prelude.{◌≢◌, ◌&&◌, ◌==◌, IsOk, OnOk, IfErr, MatchOption, MatchResult, is_some, if◌then◌else◌}
 use Rattle.std.specs.Option.{option_or}
-use Rattle.std.proofs.lemmas.Bool.{cases_lt, lt-ltb, le-ltb}
+use Rattle.std.proofs.lemmas.Bool.{eq-eqb, cases_lt, lt-ltb, le-ltb}
 use Rattle.std.proofs.lemmas.List.{length-append, map-append, append-nil, drop-drop, take_more, drop_more, drop_all}
 use Rattle.stun_grammar.specs.declared.error.StunWriteError.{StunWriteError}
 use Rattle.stun_grammar.specs.declared.error.StunWriteError.TheVariants.{TooLarge, OutOfMemory}
@@ -29,7 +29,7 @@ use Rattle.stun_attributes.specs.ErrorCodes.{error_code, error_reason, IsError, 
 use Rattle.stun_values.specs.TypeLists.{type_encoding, types_encoding}
 use Rattle.std.specs.Prelude.{codes}
 use Rattle.stun_write.specs.Writers.{Writer, IsBegun, IsUnchanged, Spends, Gains, Adds}
-use Rattle.stun_types.specs.Replies.{Answers, response_type, own_software, error_attribute, unknown_reply, making_refusal, refusal, first_refusal, accepted, IsReply, IsPartOfReply, Replies, attribute_of, AddsMade}
+use Rattle.stun_types.specs.Replies.{is_answer_to, response_type, own_software, error_attribute, unknown_reply, making_refusal, refusal, first_refusal, accepted, IsReply, IsPartOfReply, Replies, attribute_of, AddsMade}
 use Rattle.stun_types.specs.declared.message.reply.ReplyPart.{ReplyPart}
 use Rattle.stun_types.specs.declared.message.reply.ReplyPart.TheVariants.{Software, Error, Types}
 
@@ -53,17 +53,23 @@ method_kept Indication type = omega arith
 method_kept Success type = omega arith
 method_kept ErrorClass type = omega arith
 
+both : (a b c : Bool) → a ≡ true → b ≡ true → c ≡ true → (a && (b && c)) ≡ true
+both true true true x y z = refl
+both true true false x y z = absurd cc
+both true false c x y z = absurd cc
+both false b c x y z = absurd cc
+
 -- bytes that may be written, with the type of a response and the transaction ID of a request,
 -- answer the request
 pub answers_request : (class : MessageClass) (r : List ℕ) (attributes : List Attribute) → is_response class ≡ true → IsWritable (response_type class r) (id_field r) attributes
-    → Answers (message_encoding (response_type class r) (id_field r) attributes) r
+    → is_answer_to r (message_encoding (response_type class r) (id_field r) attributes) ≡ true
 answers_request class r attributes responds so =
+    let d = message_encoding (response_type class r) (id_field r) attributes in
     let type = type-message (response_type class r) (id_field r) attributes so.type_fits in
-    record {
-      response = ap (λ (t : ℕ). is_response (class_of t)) type ∙ ap is_response (class_kept class (method_of (type_field r)) responds) ∙ responds;
-      method = ap method_of type ∙ method_kept class (type_field r);
-      id = id-message (response_type class r) (id_field r) attributes so.id_fits;
-    }
+    both (is_response (class_of (type_field d))) (method_of (type_field d) == method_of (type_field r)) (id_field d == id_field r)
+    (ap (λ (t : ℕ). is_response (class_of t)) type ∙ ap is_response (class_kept class (method_of (type_field r)) responds) ∙ responds)
+    (eq-eqb (method_of (type_field d)) (method_of (type_field r)) (ap method_of type ∙ method_kept class (type_field r)))
+    (eq-eqb (id_field d) (id_field r) (id-message (response_type class r) (id_field r) attributes so.id_fits))
 
 -- what is written of a message that may be written is a reply
 reply_from : (old new : Writer) (r : List ℕ) (attributes : List Attribute) → IsWritable (response_type ErrorClass r) (id_field r) attributes
@@ -77,7 +83,7 @@ reply_from old new r attributes so bytes kinds rest spends = record {
   spends = spends;
   parses = subst (λ (b : List ℕ). parse_fault b ≡ None) (sym bytes) (parse-message (response_type ErrorClass r) (id_field r) attributes so);
   shows = subst (λ (b : List ℕ). shown b ≡ placed 20 attributes) (sym bytes) (shown-message (response_type ErrorClass r) (id_field r) attributes so);
-  answers = subst (λ (b : List ℕ). Answers b r) (sym bytes) (answers_request ErrorClass r attributes refl so);
+  answers = subst (λ (b : List ℕ). is_answer_to r b ≡ true) (sym bytes) (answers_request ErrorClass r attributes refl so);
   writable = so;
 }
 

@@ -27,11 +27,15 @@ use Rattle.stun_write.specs.Writers.{Writer, IsUnchanged, Spends, Adds}
 
 -- ---- Which response answers a request
 
--- d is a response with the method and the transaction ID of the request r
-pub record Answers (d r : List ℕ) : Type 0 where
-  pub response : is_response (class_of (type_field d)) ≡ true
-  pub method : method_of (type_field d) ≡ method_of (type_field r)
-  pub id : id_field d ≡ id_field r
+-- whether d is a response with this method and transaction ID
+abbrev pub responds_to : (method id : ℕ) → List ℕ → Bool
+responds_to method id d =
+    is_response (class_of (type_field d))
+    && ((method_of (type_field d) == method) && (id_field d == id))
+
+-- whether d is a response with the method and the transaction ID of the request r
+abbrev pub is_answer_to : (r d : List ℕ) → Bool
+is_answer_to r d = responds_to (method_of (type_field r)) (id_field r) d
 
 -- the type of the response of a class to the request r: it has the method of r
 abbrev pub response_type : MessageClass → List ℕ → ℕ
@@ -125,7 +129,7 @@ pub record IsReply (old new : Writer) (r : List ℕ) (attributes : List Attribut
   pub spends : Spends old new (length new.bytes) (length new.types)
   pub parses : parse_fault new.bytes ≡ None
   pub shows : shown new.bytes ≡ placed 20 attributes
-  pub answers : Answers new.bytes r
+  pub answers : is_answer_to r new.bytes ≡ true
   pub writable : IsWritable (response_type ErrorClass r) (id_field r) attributes
 
 -- such a response with some of the first of these attributes is written, and not all of them

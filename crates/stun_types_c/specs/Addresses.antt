@@ -6,7 +6,7 @@ use Rattle.std.specs.declared.net.ip_addr.IpAddr.{IpAddr}
 use Rattle.std.specs.declared.net.ip_addr.IpAddr.TheVariants.{V4, V6}
 use Rattle.std.specs.declared.net.socket_addr.SocketAddr.{SocketAddr}
 use Rattle.stun_grammar.specs.Headers.{header_fault, id_field}
-use Rattle.stun_values.specs.Addresses.{octets, address_fault, address_in, IsPlain, IsXored}
+use Rattle.stun_values.specs.Addresses.{octets, octets_count, address_fault, address_in, IsPlain, IsXored}
 use Rattle.stun_types_c.specs.declared.address.Address.{Address}
 use Rattle.stun_types_c.specs.declared.call_result.CallResult.{CallResult}
 use Rattle.stun_types_c.specs.declared.attribute.ShownAttribute.{ShownAttribute}
@@ -18,11 +18,6 @@ use Rattle.stun_types_c.specs.Values.{value_of}
 abbrev pub family_number : IpAddr → ℕ
 family_number (V4 ip) = 4
 family_number (V6 ip) = 6
-
--- how many octets an address has
-abbrev pub octets_count : IpAddr → ℕ
-octets_count (V4 ip) = 4
-octets_count (V6 ip) = 16
 
 -- C's form holds this address
 pub record Holds (a : SocketAddr) (address : Address) : Type 0 where

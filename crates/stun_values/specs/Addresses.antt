@@ -86,6 +86,13 @@ mask id = be32 magic_cookie ++ be96 id
 abbrev pub xor_bytes : List ℕ → List ℕ → List ℕ
 xor_bytes xs ys = map (λ pair. bit_xor pair.0 pair.1) (zip xs ys)
 
+-- the value of an XOR-MAPPED-ADDRESS: as `address_value`, but for the port and the address, which are
+-- XORed
+abbrev pub xored_value : ℕ → SocketAddr → List ℕ
+xored_value id a =
+    0 ∷ family (socket_ip a) ∷ (be16 (bit_xor (socket_port a) (magic_cookie / 2 ^ 16))
+    ++ xor_bytes (octets (socket_ip a)) (mask id))
+
 -- an address XORed under a transaction ID: its port with the high half of the cookie, its bytes
 -- with the mask
 pub record IsXored (id : ℕ) (a xored : SocketAddr) : Type 0 where

@@ -16,7 +16,7 @@ ghost use Rattle.stun_attributes.specs.ErrorCodes.{error_code, error_reason};
 ghost use Rattle.stun_attributes.specs.Unknown.{listed};
 ghost use Rattle.stun_write.specs.Writers.{BeginsMessage, IsBegun, IsUnchanged, Spends, KeepsHeader, Gains, Pushes, Allocates};
 ghost use Rattle.stun_types.specs.Message.{message_bytes};
-ghost use Rattle.stun_types.specs.Replies.{Answers, response_type, error_attribute, bad_reply, unknown_reply, is_unknown, unknown_types, lacks, check_reply, IsReply, IsReplyAnswer, Replies, attribute_of, IsMakeable, AddsMade};
+ghost use Rattle.stun_types.specs.Replies.{is_answer_to, response_type, error_attribute, bad_reply, unknown_reply, is_unknown, unknown_types, lacks, check_reply, IsReply, IsReplyAnswer, Replies, attribute_of, IsMakeable, AddsMade};
 
 use super::Message;
 use std::alloc::Global;
@@ -167,14 +167,14 @@ fn lacks_one(message: &Message<'_>, required: &[AttributeType]) -> bool
 pub fn response_answers()
     ensures { (class : MessageClass) (r : List ℕ) (attributes : List Attribute)
         → is_response class ≡ true → IsWritable (response_type class r) (id_field r) attributes
-        → Answers (message_encoding (response_type class r) (id_field r) attributes) r }
+        → is_answer_to r (message_encoding (response_type class r) (id_field r) attributes) ≡ true }
 {}
 
 impl Message<'_> {
     /// Whether this is a response (success or error) with the method and the transaction ID of
     /// `request` (RFC 8489, section 6.3.1).
     pub fn answers(&self, request: &Message<'_>) -> bool
-        ensures { IsTrue result ↔ Answers (message_bytes self.now) (message_bytes request.now) }
+        ensures { result ≡ is_answer_to (message_bytes request.now) (message_bytes self.now) }
     {
         self.is_response()
             && self.method() == request.method()
