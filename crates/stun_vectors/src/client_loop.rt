@@ -1,4 +1,4 @@
-//! The loop of `docs/CLIENT.md`, over a carrier that loses the first two requests.
+//! The loop of `docs/guide/CLIENT.md`, over a carrier that loses the first two requests.
 
 use std::alloc::Global;
 use std::net::{IpAddr, Ipv4Addr, SocketAddr};
