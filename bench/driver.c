@@ -168,7 +168,7 @@ static uint64_t receive_answer(const Text *message, uint64_t verdict) {
     return verdict + (find_answer(message, 0x0006) << 8) + (find_answer(message, 0x0024) << 24);
 }
 
-/* The HMAC that an integrity attribute holds behind the message. */
+/* The HMAC that an integrity attribute holds after the message. */
 static uint64_t hmac_answer(const Text *message, int algorithm) {
     static Text copy;
     copy = *message;
