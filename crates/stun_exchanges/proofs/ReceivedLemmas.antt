@@ -1,4 +1,4 @@
--- What a transaction that waits for a response is told of one.
+-- What a response is for a transaction that waits for one.
 use Rattle.std.proofs.Common.{◌≡◌, ℕ, Bool, true, false, List, [], Option, None, Some, refl, sym, ap, ◌∙◌}
 use Rattle.std.specs.Prelude.{not, ◌&&◌, is_some, ◌==◌, if◌then◌else◌}
 use Rattle.std.specs.Option.{option_map_or}
@@ -35,7 +35,7 @@ both true true false x y z = absurd cc
 both true false c x y z = absurd cc
 both false b c x y z = absurd cc
 
--- where the usage sends FINGERPRINT, d shows one if r does
+-- if the usage sends FINGERPRINT, d shows one if r does
 not_lacking : (used in_r in_d : Bool) → (used && not in_r) ≡ false → (in_r ≡ true → in_d ≡ true) → (used && not in_d) ≡ false
 not_lacking false in_r in_d e same = refl
 not_lacking true true in_d e same = rw (same refl) refl
@@ -46,7 +46,7 @@ unguarded : (lacks : Bool) → lacks ≡ false → (if lacks then Some NoFingerp
 unguarded false e = refl
 unguarded true e = absurd cc
 
--- a message that answers the request is told by what it has in it
+-- a message that answers the request is judged by what it has in it
 pub received_as : (told : Outcome) (r d : List ℕ) → parse_fault d ≡ None → Answers d r → (is_some (nth r FINGERPRINT 0) ≡ true → is_some (nth d FINGERPRINT 0) ≡ true) → content None [] d ≡ told → IsReceivedAs told r d
 received_as told r d parses answers printed has = record {
   parses = parses;

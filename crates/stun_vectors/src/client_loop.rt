@@ -68,7 +68,7 @@ pub fn mapped_address<C: Carrier>(
     None
 }
 
-/// A carrier that answers a request of this number, and whose clock goes on where it waits.
+/// A carrier that answers a request of this number, and whose clock goes on if it waits.
 #[derive(Drop)]
 struct Lossy {
     answered: u32,
