@@ -1,6 +1,6 @@
 /* Measures an implementation of stun_bench.h: one line for each workload, with its bytes, the least and the
  * median nanoseconds of a round, and the answer of one round. The driver makes all inputs itself and knows each
- * answer beforehand; it ends with status 1 where an answer is another one. With the word `quick` it runs each
+ * answer beforehand; it ends with status 1 if an answer is another one. With the word `quick` it runs each
  * workload once, and measures nothing. With the word `growth` it measures how the work grows with the number of
  * attributes. */
 #define _POSIX_C_SOURCE 199309L

@@ -4,7 +4,7 @@
  *     ./load [-c CLIENTS] [-m REQUESTS] [-w WINDOW] [-t SECONDS] [-p PID].. ADDRESS PORT
  *
  * Each client has a socket of its own, sends REQUESTS requests in all, and has at most WINDOW of
- * them under way. An answer counts where it is a success response to one of its requests, by the
+ * them under way. An answer counts if it is a success response to one of its requests, by the
  * whole transaction ID, with the address and the port of its socket in XOR-MAPPED-ADDRESS; what
  * else comes is wrong, and a second answer to one request is repeated. A client that hears nothing
  * for half a second sends on; an answer that comes later still counts, up to two seconds after its
@@ -13,7 +13,7 @@
  * With -p, for each process of the server, it prints the processor time that these took meanwhile.
  * It reads messages by code of its own, so that it checks the server's library and not itself.
  *
- * ADDRESS is within 127.0.0.0/8 or ::1; no other is taken. The status is 0 where each request was
+ * ADDRESS is within 127.0.0.0/8 or ::1; no other is taken. The status is 0 if each request was
  * answered once and nothing else came, 1 if not, and 2 if it couldn't begin. */
 #define _GNU_SOURCE
 #include <arpa/inet.h>
