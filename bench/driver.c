@@ -1,6 +1,6 @@
 /* Measures an implementation of stun_bench.h: one line for each workload, with its bytes, the least and the
  * median nanoseconds of a round, and the answer of one round. The driver makes all inputs itself and knows each
- * answer beforehand; it ends with status 1 where an answer is another one. With the word `quick` it runs each
+ * answer beforehand; it ends with status 1 if an answer is another one. With the word `quick` it runs each
  * workload once, and measures nothing. With the word `growth` it measures how the work grows with the number of
  * attributes. */
 #define _POSIX_C_SOURCE 199309L
@@ -168,7 +168,7 @@ static uint64_t receive_answer(const Text *message, uint64_t verdict) {
     return verdict + (find_answer(message, 0x0006) << 8) + (find_answer(message, 0x0024) << 24);
 }
 
-/* The HMAC that an integrity attribute holds behind the message. */
+/* The HMAC that an integrity attribute holds after the message. */
 static uint64_t hmac_answer(const Text *message, int algorithm) {
     static Text copy;
     copy = *message;

@@ -4,7 +4,7 @@
  *     ./load [-c CLIENTS] [-m REQUESTS] [-w WINDOW] [-t SECONDS] [-p PID].. ADDRESS PORT
  *
  * Each client has a socket of its own, sends REQUESTS requests in all, and has at most WINDOW of
- * them under way. An answer counts where it is a success response to one of its requests, by the
+ * them under way. An answer counts if it is a success response to one of its requests, by the
  * whole transaction ID, with the address and the port of its socket in XOR-MAPPED-ADDRESS; what
  * else comes is wrong, and a second answer to one request is repeated. A client that hears nothing
  * for half a second sends on; an answer that comes later still counts, up to two seconds after its
@@ -13,8 +13,8 @@
  * With -p, for each process of the server, it prints the processor time that these took meanwhile.
  * It reads messages by code of its own, so that it checks the server's library and not itself.
  *
- * ADDRESS is within 127.0.0.0/8 or ::1; no other is taken. The status is 0 where each request was
- * answered once and nothing else came, 1 where not, and 2 where it couldn't begin. */
+ * ADDRESS is within 127.0.0.0/8 or ::1; no other is taken. The status is 0 if each request was
+ * answered once and nothing else came, 1 if not, and 2 if it couldn't begin. */
 #define _GNU_SOURCE
 #include <arpa/inet.h>
 #include <errno.h>
@@ -57,7 +57,7 @@ typedef struct {
     uint32_t sent, answered, under_way;
     uint64_t heard; /* when it last sent with nothing under way, or received, in milliseconds */
     size_t address_length;
-    uint8_t address[16]; /* of its socket, as the answers have to tell it */
+    uint8_t address[16]; /* of its socket, as the answers have to report it */
     uint8_t port[2];
     uint8_t *seen; /* a bit for each request: it was answered */
 } client;
@@ -100,7 +100,7 @@ static void write_request(uint8_t *at, const client *from, uint32_t request) {
     put_number(at + 16, request);
 }
 
-/* Whether the value of an XOR-MAPPED-ADDRESS in a message tells a client's address. */
+/* Whether the value of an XOR-MAPPED-ADDRESS in a message is a client's address. */
 static bool tells_address(const uint8_t *message, const uint8_t *value, size_t length,
                           const client *of) {
     if (length != 4 + of->address_length) return false;
@@ -115,7 +115,7 @@ static bool tells_address(const uint8_t *message, const uint8_t *value, size_t l
     return true;
 }
 
-/* Whether the first XOR-MAPPED-ADDRESS among the attributes tells a client's address. */
+/* Whether the first XOR-MAPPED-ADDRESS among the attributes is a client's address. */
 static bool shows_address(const uint8_t *message, size_t length, const client *of) {
     size_t at = HEADER;
     while (at + 4 <= length) {
@@ -318,7 +318,7 @@ static bool measure(int poller) {
            (unsigned long long)sent, (unsigned long long)answered,
            (unsigned long long)(sent - answered), (unsigned long long)wrong,
            (unsigned long long)repeated);
-    if (refused > 0) printf("nobody listens: told %llu times\n", (unsigned long long)refused);
+    if (refused > 0) printf("nobody listens: reported %llu times\n", (unsigned long long)refused);
     printf("%.3f s, %.0f answers a second\n", took, took > 0 ? (double)answered / took : 0);
     printf("this program: %.2f processor seconds\n", own_time() - own);
     if (asked.processes > 0 && server >= 0 && server_time() > server) {

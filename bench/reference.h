@@ -42,7 +42,7 @@ static void sha1_block(uint32_t *state, const uint8_t *block) {
     state[0] += a, state[1] += b, state[2] += c, state[3] += d, state[4] += e;
 }
 
-/* The first 32 bits behind the point of the square roots (0) and of the cube roots of the first primes. */
+/* The first 32 bits after the point of the square roots (0) and of the cube roots of the first primes. */
 static const uint32_t SHA256_START[8] = {0x6A09E667, 0xBB67AE85, 0x3C6EF372, 0xA54FF53A,
                                          0x510E527F, 0x9B05688C, 0x1F83D9AB, 0x5BE0CD19};
 static const uint32_t SHA256_ROUND[64] = {
@@ -78,7 +78,7 @@ static void sha256_block(uint32_t *state, const uint8_t *block) {
 
 static size_t digest_length(int algorithm) { return algorithm == 1 ? 20 : 32; }
 
-/* SHA-1 (1) or SHA-256 (2) of two texts one behind the other. */
+/* SHA-1 (1) or SHA-256 (2) of two texts one after the other. */
 static void digest(int algorithm, const uint8_t *front, size_t front_length, const uint8_t *back, size_t back_length,
                    uint8_t *result) {
     size_t length = front_length + back_length, padded = (length + 9 + 63) / 64 * 64;

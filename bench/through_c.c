@@ -92,7 +92,7 @@ uint64_t stun_bench_receive(const uint8_t *message, size_t length, const uint8_t
     return sum;
 }
 
-/* Writes the check, signed where there is a key, and answers how many bytes it has, or 0. */
+/* Writes the check, signed if there is a key, and returns how many bytes it has, or 0. */
 static size_t write_check(const uint8_t *user, size_t user_length, stun_types_key *key, uint32_t algorithm,
                           uint8_t *room, size_t size) {
     static const uint8_t priority[4] = {0x6E, 0x00, 0x01, 0xFF};

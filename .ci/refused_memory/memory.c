@@ -2,7 +2,7 @@
  * the program, which `rt try` builds with AddressSanitizer: that calls the two hooks below.
  *
  * A block is filled when it is taken, so that when it is given back, the last byte that differs
- * tells how much of it was used. At the end it prints three lines in the form of the program's. */
+ * shows how much of it was used. At the end it prints three lines in the form of the program's. */
 #define _GNU_SOURCE
 #include "reference.h"
 #include <stdio.h>

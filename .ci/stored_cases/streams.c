@@ -1,6 +1,6 @@
 /* Linked with the programs by .ci/cases, since `rt try --cases` compares standard output alone, and
  * takes arguments that are UTF-8 alone. What a program writes to standard error is written to
- * standard output at its end, behind a line `standard error:`; \xHH in an argument becomes a byte. */
+ * standard output at its end, after a line `standard error:`; \xHH in an argument becomes a byte. */
 #define _GNU_SOURCE
 #include <stdlib.h>
 #include <string.h>

@@ -37,8 +37,8 @@ pub const KNOWN: [AttributeType; 7] = [
 ];
 
 /// Registers the names and the functions that print of this crate, so that a message shows its
-/// attributes as what they are. It stands in the body of a function that makes the registry itself
-/// and answers a `Result`, and returns from it with `OutOfMemory` where an allocation fails.
+/// attributes as what they are. Call it in the body of a function that makes the registry itself
+/// and returns a `Result`; it returns from it with `OutOfMemory` if an allocation fails.
 ///
 /// ```
 /// let mut registry = Registry::new(alloc);

@@ -93,7 +93,7 @@ impl AttributeKind for ResponseOriginKind {
     }
 }
 
-/// OTHER-ADDRESS: the address from which the server answers where both its address and its port are
+/// OTHER-ADDRESS: the address from which the server answers if both its address and its port are
 /// to change (RFC 5780, section 7.4). The value is 8 bytes for IPv4 and 20 for IPv6.
 pub type OtherAddress = AddressAttribute<OtherAddressKind>;
 

@@ -1,6 +1,7 @@
 //! A client: requests that are signed or not, in memory or in a slice, and the address that a
-//! response tells (RFC 8489, sections 6.2, 6.3.3 and 9.1).
+//! response reports (RFC 8489, sections 6.2, 6.3.3 and 9.1).
 
+use rand::Rng;
 use std::alloc::Global;
 use std::net::SocketAddr;
 use stun_types::attribute::{Software, XorMappedAddress};
@@ -11,7 +12,15 @@ use stun_types::message::{
 };
 use stun_types::prelude::*;
 
-/// The address from which the server saw the request come, as its response tells it.
+/// A binding request with a FINGERPRINT, whose transaction ID `rng` draws. Nobody must be able to
+/// predict what it draws (RFC 8489, section 5).
+pub fn request<R: Rng>(alloc: Global, rng: &mut R) -> Result<Vec<u8>, StunWriteError> {
+    let mut message = Message::builder_request(BINDING, rng, MessageWriteVec::new(alloc))?;
+    message.add_fingerprint()?;
+    Ok(message.finish())
+}
+
+/// The address from which the server saw the request come, as its response reports it.
 pub fn mapped_address(
     alloc: Global,
     request: &Message<'_>,

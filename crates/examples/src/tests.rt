@@ -3,7 +3,7 @@
 mod exchanges;
 mod vectors;
 
-use crate::client::{mapped_address, request_in, signed_request};
+use crate::client::{mapped_address, request, request_in, signed_request};
 use crate::ice::Agent;
 use crate::login::login_request;
 use crate::own::{Location, Session, Version};
@@ -11,11 +11,13 @@ use crate::stream::{first_message, requests_in};
 use crate::turn::{Incoming, Server};
 use crate::{ice, printer, turn};
 use ice_attrs::{Role, Ufrag};
+use rand::make_rng;
+use rand::rngs::StdRng;
 use std::net::{IpAddr, Ipv4Addr, SocketAddr};
 use std::test::Fail;
 use stun_authentication::{NonceMaker, SecurityFeatures, challenge_of};
 use stun_framing::{Carries, MessageStream};
-use stun_types::attribute::PasswordAlgorithmValue;
+use stun_types::attribute::{Fingerprint, PasswordAlgorithmValue};
 use stun_types::message::{
     BINDING, IntegrityKey, LongTermCredentials, Message, MessageClass, MessageType,
     MessageWriteVec, StunWriteError, TransactionId,
@@ -51,7 +53,7 @@ static BOTH: [PasswordAlgorithmValue; 2] = [
     PasswordAlgorithmValue::SHA256,
 ];
 
-/// Where the requests come from.
+/// The address that the requests come from.
 fn source() -> SocketAddr {
     SocketAddr::new(IpAddr::V4(Ipv4Addr::new(192, 0, 2, 1)), 32853)
 }
@@ -76,6 +78,17 @@ fn client_asks_and_reads(rt: HostRuntime) -> Result<(), Fail> {
     assert!(rt; mapped_address(alloc, &request, &vectors::UNAUTHORIZED) == Ok(None));
     let other = Message::from_bytes(&BARE)?;
     assert!(rt; mapped_address(alloc, &other, &vectors::SUCCESS) == Ok(None));
+    Ok(())
+}
+
+#[test]
+fn transaction_ids_are_drawn(rt: HostRuntime) -> Result<(), Fail> {
+    let mut rng: StdRng = make_rng(&rt)?;
+    let first = request(rt.alloc(), &mut rng)?;
+    let second = request(rt.alloc(), &mut rng)?;
+    let (first, second) = (Message::from_bytes(&first)?, Message::from_bytes(&second)?);
+    assert!(rt; first.has_method(BINDING) && first.has_attribute(Fingerprint::TYPE));
+    assert!(rt; u128::from(first.transaction_id()) != u128::from(second.transaction_id()));
     Ok(())
 }
 

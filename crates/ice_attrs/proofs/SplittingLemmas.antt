@@ -22,7 +22,7 @@ each_char text k all within = elim (cases_Bool (is_ice_char (get_or text k 0))) 
   | inr none ↦ absurd (let other = list_all_at is_ice_char text k 0 within none in cc (other, all))
 ]
 
--- the first colon is the one behind ice-chars
+-- the first colon is the one after ice-chars
 first_colon : (receiver sender : List ℕ) → list_all is_ice_char receiver ≡ true → position_or_len (λ b. eqb b 58) (receiver ++ 58 ∷ sender) ≡ length receiver
 first_colon receiver sender all =
     let text = receiver ++ 58 ∷ sender in

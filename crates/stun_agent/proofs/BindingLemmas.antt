@@ -1,4 +1,4 @@
--- What a transaction of the request tells.
+-- What a transaction of the request reports.
 use Rattle.std.proofs.Common.{◌≡◌, ℕ, Bool, true, false, List, [], Option, refl, ap, ◌∙◌}
 use Rattle.std.specs.Prelude.{not, ◌&&◌, is_some, if◌then◌else◌}
 use Rattle.std.specs.Option.{option_map_or}
@@ -34,7 +34,7 @@ same_answer : (terms : Terms) (r d : List ℕ) → terms.method ≡ method_of (t
 same_answer terms r d method id =
     ap (λ (m : ℕ). responds_to m terms.id d) method ∙ ap (λ (i : ℕ). responds_to (method_of (type_field r)) i d) id
 
--- what is told of one that answers
+-- what is reported of one that answers
 abbrev answered : TransportType → Protection → Usage → Signed → List ℕ → Outcome
 answered transport by usage signed d =
     option_map_or (discarded transport (claim_of d)) (guard_fault by usage signed d) (content (proof_of by usage signed d) [] d)

@@ -1,6 +1,6 @@
 -- What a run that asks, or reads a response, has read and written, by how it ends.
 -- `left` is what the reader has left and `held` what the writer holds, before the run and (with a
--- prime) after it, where those bytes are known.
+-- prime) after it, if those bytes are known.
 use Rattle.std.specs.Prelude.{ℕ, List, Option, Result, Ok, Err}
 use Rattle.std.specs.Io.KnownBytes.{Keeps, Appends}
 use Rattle.stun_grammar.specs.Writing.{greatest_length}

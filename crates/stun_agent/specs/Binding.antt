@@ -1,5 +1,10 @@
+<<<<<<< HEAD
 -- The binding request, and what a datagram tells of it (RFC 8489, sections 6.1, 6.3.3, 6.3.4 and 9.1).
 use Rattle.std.specs.Prelude.{◌≡◌, ℕ, ◌∷◌, ◌++◌, List, [], Bool, true, false, not, ◌&&◌, codes, Option, None, Some, Ok, Err, is_some, if◌then◌else◌}
+=======
+-- The binding request, and what a datagram says of it (RFC 8489, 6.1, 6.3.3, 6.3.4 and 9.1).
+use Rattle.std.specs.Prelude.{◌≡◌, ℕ, ◌∷◌, ◌++◌, List, [], Bool, true, false, not, ◌&&◌, codes, Option, None, Some, Ok, Err, is_some, ◌==◌, if◌then◌else◌}
+>>>>>>> f7302090dd0e4d7be763cdd472f94fe895805d5c
 use Rattle.std.specs.Option.{option_map_or}
 use Rattle.std.specs.Fmt.{decimal}
 use Rattle.std.specs.Net.Text.{socket_text}
@@ -66,7 +71,17 @@ usage = record { shortest = 32; fingerprint = false }
 
 -- ---- What a datagram is
 
+<<<<<<< HEAD
 -- what a transaction of the request r, by a login or without one, tells of d
+=======
+-- whether d is a response to the request r
+abbrev pub is_answer_to : List ℕ → List ℕ → Bool
+is_answer_to r d =
+    is_response (class_of (type_field d))
+    && ((method_of (type_field d) == method_of (type_field r)) && (id_field d == id_field r))
+
+-- what a transaction of the request r, by a login or without one, reports of d
+>>>>>>> f7302090dd0e4d7be763cdd472f94fe895805d5c
 abbrev pub told : Option Login → List ℕ → List ℕ → Outcome
 told login r d =
     if not (is_some (parse_fault d)) && is_answer_to r d then
@@ -94,7 +109,7 @@ pub record IsSent (r : List ℕ) (login : Option Login) (transaction : Transacti
 
 -- ---- The answer
 
--- the address that d tells; or none is read
+-- the address that d reports; or none is read
 abbrev pub MapsTo : List ℕ → BindingResult → Type 0
 MapsTo d (Mapped a) = ReadsMapped d (Ok a)
 MapsTo d Unmapped = (e : StunParseError) × ReadsMapped d (Err e)
@@ -104,7 +119,7 @@ MapsTo d _ = ⊥
 abbrev pub Succeeds : Option Login → List ℕ → List ℕ → Type 0
 Succeeds login r d = (proof : Option IntegrityAlgorithm) × (told login r d ≡ Outcome.Success proof)
 
--- what d tells of the request r
+-- what d says of the request r
 abbrev pub TellsOf : Option Login → List ℕ → List ℕ → BindingResult → Type 0
 TellsOf login r d (Mapped a) = Succeeds login r d × MapsTo d (Mapped a)
 TellsOf login r d Unmapped = Succeeds login r d × MapsTo d Unmapped

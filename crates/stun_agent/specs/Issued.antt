@@ -7,7 +7,7 @@ use Rattle.stun_authentication.specs.Cookies.{promises_algorithms}
 use Rattle.stun_authentication.specs.Lookups.{Known, valid, invalid}
 use Rattle.stun_agent.specs.declared.users.Issued.{Issued}
 
--- the algorithms that were sent with a nonce: SHA-256 and MD5, where it promises some
+-- the algorithms that were sent with a nonce: SHA-256 and MD5, if it promises some
 abbrev pub algorithms_of : List ℕ → List PasswordAlgorithmValue
 algorithms_of nonce = if promises_algorithms nonce then SHA256 ∷ MD5 ∷ [] else []
 

@@ -26,7 +26,7 @@ use Rattle.stun_agent.specs.ReplyRun.{EndsReplying}
 use Rattle.stun_agent.specs.StreamRun.{EndsStream}
 
 -- In what follows `left` is what the reader has left and `held` what the writer holds, before the run
--- and (with a prime) after it, where those bytes are known.
+-- and (with a prime) after it, if those bytes are known.
 
 -- ---- What the program has read and written, by how it ended
 
@@ -155,7 +155,7 @@ usage =
     ∷ codes "       stun_agent ask request|response ID [USER PASSWORD]" ++ 10
     ∷ codes "       stun_agent login ADDRESS PORT [sha1|sha256|cut].. [NONCE STALE]" ++ 10 ∷ []
 
--- the line on standard error where a response says neither an address nor the code of an error
+-- the line on standard error if a response says neither an address nor the code of an error
 abbrev pub read_line : BindingResult → List ℕ
 read_line Read.Unmapped = codes "no address" ++ 10 ∷ []
 read_line Read.Failed = codes "the response can't be taken" ++ 10 ∷ []
@@ -163,7 +163,7 @@ read_line Read.NotAuthentic = codes "the response isn't authentic" ++ 10 ∷ []
 read_line Read.NotAnswered = codes "no response to the request" ++ 10 ∷ []
 read_line _ = []
 
--- the line on standard error that doesn't depend on the input: if nothing was written where an output
+-- the line on standard error that doesn't depend on the input: if nothing was written if an output
 -- was owed, but none after a failed write
 abbrev pub last_line : Result RunEnd AgentError → List ℕ
 last_line (Ok (End.Answered read)) = read_line read

@@ -1,6 +1,6 @@
 -- What a run that replies to a datagram has read and written, by how it ends. `left` is
 -- what the reader has left and `held` what the writer holds, before the run and (with a prime) after
--- it, where those bytes are known.
+-- it, if those bytes are known.
 use Rattle.std.specs.Prelude.{◌≡◌, ℕ, List, Option, None, Some, Result, Ok, Err}
 use Rattle.std.specs.Io.KnownBytes.{Keeps, Appends}
 use Rattle.std.specs.declared.net.socket_addr.SocketAddr.{SocketAddr}

@@ -1,5 +1,5 @@
 -- What a run over a stream has read and written, by how it ends. `left` is what the reader has left and
--- `held` what the writer holds, before the run and (with a prime) after it, where those bytes are
+-- `held` what the writer holds, before the run and (with a prime) after it, if those bytes are
 -- known.
 use Rattle.std.specs.Prelude.{◌≡◌, ℕ, ◌<◌, List, [], ◌++◌, length, Option, None, Some, unwrap_or, Result, Ok, Err}
 use Rattle.std.specs.List.{All, concat, flat_map}
@@ -22,7 +22,7 @@ use Rattle.stun_agent.specs.declared.end.RunEnd.TheVariants.{Complete}
 abbrev pub room : Room
 room = room_of Messages 65552
 
--- the reply to a message, or nothing where there is none
+-- the reply to a message, or nothing if there is none
 abbrev pub answer_to : SocketAddr → List ℕ → List ℕ
 answer_to source message = unwrap_or (reply source message) []
 
@@ -60,7 +60,7 @@ AnswersPart source left left' held held' =
     (messages : List (List ℕ)) × ReadsFirst left left' messages
     × WritesPart held held' (answers_to source messages)
 
--- the input ended within the message behind these
+-- the input ended within the message after these
 pub record EndsWithin (source : SocketAddr) (offset : ℕ) (left left' held held' : Option (List ℕ))
     : Type 0 where
   pub messages : List (List ℕ)

@@ -31,7 +31,7 @@ pub enum RunEnd {
 pub enum AgentError {
     /// The input ended within the message of a stream that begins at this offset.
     Cut(u64),
-    /// No message begins where one of a stream had to.
+    /// No message begins after the last one of a stream.
     NoMessage(StreamError),
     /// An error response can't be written: a nonce is too long for its attribute.
     NoReply,

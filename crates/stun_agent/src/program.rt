@@ -29,7 +29,7 @@ pub enum Command {
     Login,
 }
 
-/// The lines on standard error where the arguments are wrong.
+/// The lines on standard error if the arguments are wrong.
 const USAGE: &str = "usage: stun_agent reply [-s] ADDRESS PORT
        stun_agent ask request|response ID [USER PASSWORD]
        stun_agent login ADDRESS PORT [sha1|sha256|cut].. [NONCE STALE]

@@ -1,4 +1,4 @@
-//! The server: it tells a user the address that a request came from (RFC 8489, sections 9.1.3,
+//! The server: it reports to a user the address that a request came from (RFC 8489, sections 9.1.3,
 //! 9.2.4 and 6.3.1).
 
 ghost use Rattle.std.specs.Prelude.{◌≡◌};
@@ -88,7 +88,7 @@ fn users(alloc: Global) -> Result<[LongTermCredentials; 2], StunWriteError> {
     ])
 }
 
-/// The reply to a request that is a user's: signed, and with a FINGERPRINT at its end. Where the
+/// The reply to a request that is a user's: signed, and with a FINGERPRINT at its end. If the
 /// request shows types that must be understood and aren't, it is refused with 420.
 fn reply(
     alloc: Global,
@@ -108,7 +108,7 @@ fn reply(
     Ok(reply.finish())
 }
 
-/// The success response, which tells the client its address.
+/// The success response, which reports to the client its address.
 fn success(
     alloc: Global,
     request: &Message<'_>,
@@ -197,12 +197,12 @@ fn by_long_term(
     }
 }
 
-/// Answers a datagram that came from `source`, by long-term credentials where there are nonces, and
+/// Answers a datagram that came from `source`, by long-term credentials if there are nonces, and
 /// else by short-term ones.
 ///
 /// # Errors
 ///
-/// `OutOfMemory` if an allocation failed, and `TooLarge` where a nonce is too long for its
+/// `OutOfMemory` if an allocation failed, and `TooLarge` if a nonce is too long for its
 /// attribute, or a reply for a message.
 pub fn answer_to(
     alloc: Global,

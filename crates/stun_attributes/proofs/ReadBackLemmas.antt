@@ -86,7 +86,7 @@ algorithms_back attribute result some told =
 
 -- ---- ERROR-CODE
 
--- the code and the reason of an attribute are written as a value that has no fault and tells the code
+-- the code and the reason of an attribute are written as a value that has no fault and has the code
 pub error_written : (attribute : ErrorCode)
     → (error_fault (error_value (error_code attribute) (error_reason attribute)) ≡ None)
     × (told_code (error_value (error_code attribute) (error_reason attribute)) ≡ error_code attribute)

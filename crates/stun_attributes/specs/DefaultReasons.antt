@@ -1,7 +1,7 @@
 -- The reasons that go with the codes of errors (RFC 8489, section 14.8).
 use Rattle.std.specs.Prelude.{ℕ, List, codes, ◌==◌, if◌then◌else◌}
 
--- the reason that goes with a code where no other is given
+-- the reason that goes with a code if no other is given
 abbrev pub default_reason : ℕ → List ℕ
 default_reason code =
     if code == 300 then codes "Try Alternate" else (

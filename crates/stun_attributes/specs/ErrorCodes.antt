@@ -30,7 +30,7 @@ pub record IsError (code : ℕ) (reason : List ℕ) (attribute : ErrorCode) : Ty
   pub code_is : error_code attribute ≡ code
   pub reason_is : error_reason attribute ≡ reason
 
--- what making one answers: the fault, and where there is none the attribute, unless out of memory
+-- what making one answers: the fault, and if there is none the attribute, unless out of memory
 abbrev pub MakesError : ℕ → List ℕ → Result ErrorCode StunWriteError → Type 0
 MakesError code reason result =
     MatchOption (making_fault code reason)

@@ -16,7 +16,7 @@ text_bytes attribute = string_bytes attribute.text
 abbrev pub text_fault : ℕ → ℕ → ℕ → List ℕ → Option StunParseError
 text_fault wanted most = typed_fault wanted (Rules.text_fault most)
 
--- what reading a value may answer: the fault, and where there is none the text, unless out of
+-- what reading a value may answer: the fault, and if there is none the text, unless out of
 -- memory
 abbrev pub ReadsText :
     (max : ℕ) → {type most : ℕ} → List ℕ → Result (TextAttribute type most) StunParseError → Type 0
@@ -33,7 +33,7 @@ IsReadAsText wanted greatest {type} {most} reads =
     → ReadsInMemory (text_fault wanted greatest atype value)
     (λ read. text_bytes read ≡ value) result
 
--- how a text is printed behind its type: that of a USERNAME or a SOFTWARE in quotation marks
+-- how a text is printed after its type: that of a USERNAME or a SOFTWARE in quotation marks
 abbrev pub shown_text : ℕ → List ℕ → List ℕ
 shown_text type text =
     if type == USERNAME then quoted_text type text else (

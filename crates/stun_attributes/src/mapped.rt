@@ -12,7 +12,7 @@ use stun_base::{AttributeType, StunParseError, StunWriteError};
 use stun_text::{PrintText, TextSink, put_socket};
 use stun_values::{address_length, read_address, write_address};
 
-/// An address as it stands in the value of an attribute (RFC 8489, section 14.1): a zero byte, the
+/// An address as in the value of an attribute (RFC 8489, section 14.1): a zero byte, the
 /// family in a byte (1 for IPv4, 2 for IPv6), the port in two bytes, and the address in four or
 /// sixteen bytes, all big-endian.
 #[derive(Debug, Clone, PartialEq, Eq, Drop)]

@@ -16,7 +16,7 @@ use stun_base::{AttributeType, StunParseError, StunWriteError, TransactionId};
 use stun_text::{PrintText, TextSink};
 use stun_values::{write_xored, xor_addr};
 
-/// An address as it stands in the value of an XOR-MAPPED-ADDRESS (RFC 8489, section 14.2): in the
+/// An address as in the value of an XOR-MAPPED-ADDRESS (RFC 8489, section 14.2): in the
 /// form of [`MappedSocketAddr`], its port XORed with the high half of the magic cookie, an IPv4
 /// address with the cookie, and an IPv6 address with the cookie followed by the transaction ID.
 #[derive(Debug, Clone, PartialEq, Eq, Drop)]

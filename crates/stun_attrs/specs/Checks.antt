@@ -7,7 +7,7 @@ use Rattle.stun_grammar.specs.declared.error.StunParseError.{StunParseError}
 use Rattle.stun_grammar.specs.declared.error.StunParseError.TheVariants.{Truncated, TooLarge}
 use Rattle.stun_attrs.specs.Reading.{typed_fault}
 
--- why a length is below a start: the least length allowed is the bound, or one more where the bound
+-- why a length is below a start: the least length allowed is the bound, or one more if the bound
 -- is excluded, but at most the greatest number of 64 bits
 abbrev pub start_fault : Bound ℕ → ℕ → Option StunParseError
 start_fault (Included least) n = if nat_lt n least then Some (Truncated least n) else None
@@ -15,7 +15,7 @@ start_fault (Excluded below) n =
     if nat_le n below then Some (Truncated (min (below + 1) (2 ^ 64 - 1)) n) else None
 start_fault Unbounded n = None
 
--- why a length is above an end: the greatest length allowed is the bound, or one less where the
+-- why a length is above an end: the greatest length allowed is the bound, or one less if the
 -- bound is excluded, but at least 0
 abbrev pub end_fault : Bound ℕ → ℕ → Option StunParseError
 end_fault (Included most) n = if nat_lt most n then Some (TooLarge most n) else None

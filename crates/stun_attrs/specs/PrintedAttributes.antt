@@ -10,12 +10,12 @@ use Rattle.stun_values.specs.Typed.{value_fault, value_text}
 abbrev pub bytes_in_decimal : List ℕ → List ℕ
 bytes_in_decimal = with_commas decimal
 
--- the bytes of a value, which the flag tells to be borrowed or owned
+-- the bytes of a value, borrowed or owned as the flag says
 abbrev pub data_shown : Bool → List ℕ → List ℕ
 data_shown true value = codes "Borrowed(DataSlice([" ++ bytes_in_decimal value ++ codes "]))"
 data_shown false value = codes "Owned(DataOwned([" ++ bytes_in_decimal value ++ codes "]))"
 
--- the length and the bytes of a value; the parenthesis at the end belongs to what stands before
+-- the length and the bytes of a value; the parenthesis at the end belongs to what precedes
 abbrev pub length_and_data : List ℕ → Bool → List ℕ
 length_and_data value borrowed =
     codes "len: " ++ decimal (length value)
@@ -33,8 +33,8 @@ untyped_text type value borrowed =
     codes "RawAttribute (type: " ++ attribute_type_debug type ++ codes ", "
     ++ length_and_data value borrowed
 
--- an attribute of this type and this value: as the typed attribute where there is one and it
--- accepts the value; the flag tells a borrowed value from an owned one
+-- an attribute of this type and this value: as the typed attribute if there is one and it
+-- accepts the value; the flag says whether the value is borrowed
 abbrev pub attribute_text : ℕ → List ℕ → Bool → List ℕ
 attribute_text type value borrowed =
     option_map_or (λ fault.

@@ -38,7 +38,7 @@ raw_fault d =
     if nat_lt (length d) (4 + n) then Some (Truncated n (length d - 4)) else None)
 
 -- raw is the attribute whose header is at an offset of d, with a borrowed value, and what follows
--- the attribute begins at behind
+-- the attribute begins at after
 pub record Finds (raw : RawAttribute) (behind offset : ℕ) (d : List ℕ) : Type 0 where
   pub attribute : Attribute
   pub first_is : first_attribute (drop offset d) ≡ Some attribute

@@ -11,12 +11,12 @@ abbrev pub typed_fault : ℕ → (List ℕ → Option StunParseError) → ℕ �
 typed_fault wanted value_fault type value =
     if type == wanted then value_fault value else Some WrongAttributeImplementation
 
--- the result is the fault; where there is none it is Ok of what is wanted
+-- the result is the fault; if there is none it is Ok of what is wanted
 abbrev pub Reads : {T : Type 0} → Option StunParseError → (T → Type 0)
     → Result T StunParseError → Type 0
 Reads fault Wanted result = MatchOption fault (IsOkAnd result Wanted) (λ e. result ≡ Err e)
 
--- the result is the fault; where there is none it is Ok of what is wanted, or `OutOfMemory`
+-- the result is the fault; if there is none it is Ok of what is wanted, or `OutOfMemory`
 abbrev pub ReadsInMemory : {T : Type 0} → Option StunParseError → (T → Type 0)
     → Result T StunParseError → Type 0
 ReadsInMemory fault Wanted result =

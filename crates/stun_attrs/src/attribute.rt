@@ -55,7 +55,7 @@ pub trait AttributeStaticType: Attribute {
 /// An attribute that can be read from a raw one, which may borrow its value for `'a`.
 ///
 /// In contracts `reads_ref` and `reads` say what `from_raw_ref` and `from_raw` may return for a
-/// type and a value. They differ where only one of the two may need memory. `reads_borrowed` says
+/// type and a value. They differ if only one of the two may need memory. `reads_borrowed` says
 /// what else holds of what `from_raw` returns if the value is borrowed, as every value that is found
 /// in a message is: an attribute that keeps it says here that it still borrows it. It has a default,
 /// which says nothing.
@@ -71,14 +71,14 @@ pub trait AttributeFromRaw<'a>: Attribute {
     ///
     /// # Errors
     ///
-    /// Each implementation lists its own: `WrongAttributeImplementation` where the type is another
-    /// one, errors of the value, and `OutOfMemory` where an allocation failed.
+    /// Each implementation lists its own: `WrongAttributeImplementation` if the type is another
+    /// one, errors of the value, and `OutOfMemory` if an allocation failed.
     fn from_raw_ref(alloc: Global, raw: &RawAttribute<'_>) -> Result<Self, StunParseError>
     where
         Self: Sized,
         ensures { reads_ref (raw_type raw.now) (raw_value raw.now) result };
 
-    /// Reads a raw attribute that the caller hands over, so that its value need not be copied.
+    /// Reads a raw attribute that the caller passes by value, so that its value need not be copied.
     ///
     /// # Errors
     ///
@@ -120,7 +120,7 @@ pub trait AttributeWrite: Attribute {
     ///
     /// # Errors
     ///
-    /// `OutOfMemory` alone, and no error where the value is borrowed.
+    /// `OutOfMemory` alone, and no error if the value is borrowed.
     fn to_raw(&self, alloc: Global) -> Result<RawAttribute<'_>, StunWriteError>
         ensures ok { IfOk result (IsRawOf (Self.atype self.now) (Self.value self.now)) }
         ensures err { IfErr result (λ e. e ≡ StunWriteError.OutOfMemory) }
@@ -153,7 +153,7 @@ pub trait AttributeWrite: Attribute {
     ///
     /// # Errors
     ///
-    /// `TooSmall { expected: 4, actual }` where `dest` has fewer than four bytes; they are
+    /// `TooSmall { expected: 4, actual }` if `dest` has fewer than four bytes; they are
     /// unchanged then.
     fn write_header(&self, dest: &mut [u8]) -> Result<usize, StunWriteError>
         ensures short { length dest.old < 4
@@ -177,7 +177,7 @@ pub trait AttributeWrite: Attribute {
     ///
     /// # Errors
     ///
-    /// `TooSmall { expected, actual }` where `dest` has fewer bytes than that; they are unchanged
+    /// `TooSmall { expected, actual }` if `dest` has fewer bytes than that; they are unchanged
     /// then. `expected` is [`Attribute::padded_len`], and `actual` the length of `dest`.
     fn write_into(&self, dest: &mut [u8]) -> Result<usize, StunWriteError>
         ensures short { length dest.old < attribute_length (length (Self.value self.now))

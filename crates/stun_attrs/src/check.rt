@@ -11,7 +11,7 @@ use stun_base::{AttributeType, StunParseError};
 ///
 /// # Errors
 ///
-/// `TooLarge { expected: 65535, actual: length }` where it is greater than 65535.
+/// `TooLarge { expected: 65535, actual: length }` if it is greater than 65535.
 pub(crate) fn checked_length(length: usize) -> Result<u16, StunParseError>
     ensures { MatchResult result
         (λ stated. (stated ≡ length) × (length ≤ 65535))
@@ -30,7 +30,7 @@ pub(crate) fn checked_length(length: usize) -> Result<u16, StunParseError>
 ///
 /// # Errors
 ///
-/// `WrongAttributeImplementation` where it has another one.
+/// `WrongAttributeImplementation` if it has another one.
 pub fn check_type(raw: &RawAttribute<'_>, wanted: AttributeType) -> Result<(), StunParseError>
     ensures { MatchResult result
         (λ _. raw_type raw.now ≡ wanted.0)
@@ -88,12 +88,12 @@ impl RawAttribute<'_> {
     ///
     /// The first of these that applies, where `actual` is the length of the value:
     ///
-    /// - `WrongAttributeImplementation` where the type is another one;
-    /// - `Truncated { expected, actual }` where the length is less than `start` allows. `expected`
-    ///   is the least length allowed: the bound, or one more where it is excluded, but at most
+    /// - `WrongAttributeImplementation` if the type is another one;
+    /// - `Truncated { expected, actual }` if the length is less than `start` allows. `expected`
+    ///   is the least length allowed: the bound, or one more if it is excluded, but at most
     ///   `usize::MAX`;
-    /// - `TooLarge { expected, actual }` where the length is greater than `end` allows. `expected`
-    ///   is the greatest length allowed: the bound, or one less where it is excluded, but at least
+    /// - `TooLarge { expected, actual }` if the length is greater than `end` allows. `expected`
+    ///   is the greatest length allowed: the bound, or one less if it is excluded, but at least
     ///   0. An excluded end of 0 allows no length.
     pub fn check_type_and_len(
         &self,

@@ -34,7 +34,7 @@ pub trait EncodeValue {
         requires { length (bytes self.now) ≤ length dest.old }
         ensures { dest.new ≡ bytes self.now ++ drop (length (bytes self.now)) dest.old };
 
-    /// The encoding, where the value holds it as it is.
+    /// The encoding, if the value holds it as it is.
     fn held_bytes(&self) -> Option<&[u8]>
         ensures { MatchOption result (is_held self.now ≡ false)
             (λ held. (is_held self.now ≡ true) × (held.now ≡ bytes self.now)) };

@@ -13,7 +13,7 @@ use stun_grammar::put_type_debug;
 use stun_text::{PrintText, TextSink, TextTooLong, put_comma, put_decimal, write_text};
 use stun_values::read_value;
 
-/// Writes a byte at an index of a list in decimal, and what stands before it.
+/// Writes a byte at an index of a list in decimal, and what precedes it.
 #[tactic(auto, using(stun_text::proofs::Joining::both, stun_text::proofs::Joining::spelled_so))]
 fn put_byte<S: TextSink>(sink: &mut S, index: usize, byte: u8) -> Result<(), S::Error>
     ensures { OnOk result (S.wrote sink.old (comma_before index ++ decimal byte) sink.new) }
@@ -61,7 +61,7 @@ fn put_data<S: TextSink>(sink: &mut S, value: &Data<'_>) -> Result<(), S::Error>
     }
 }
 
-/// Writes the length and the bytes of a value, and the parenthesis behind them.
+/// Writes the length and the bytes of a value, and the parenthesis after them.
 fn put_value<S: TextSink>(sink: &mut S, raw: &RawAttribute<'_>) -> Result<(), S::Error>
     ensures { OnOk result (S.wrote sink.old
         (length_and_data (raw_value raw.now) (is_borrowed (raw_data raw.now))) sink.new) }
@@ -132,12 +132,12 @@ impl RawAttribute<'_> {
     ghost use Rattle.stun_text.specs.Slices.{laid_over, text_answer};
 
     /// Writes what the attribute prints as, in UTF-8, at the start of `to`, and returns how many
-    /// bytes that is. The bytes of `to` behind the text stay as they were. It takes no memory, and
-    /// where `to` has room it succeeds.
+    /// bytes that is. The bytes of `to` after the text stay as they were. It takes no memory, and
+    /// if `to` has room it succeeds.
     ///
     /// # Errors
     ///
-    /// [`TextTooLong`] where the text has more bytes than `to`, with the length of the text: a
+    /// [`TextTooLong`] if the text has more bytes than `to`, with the length of the text: a
     /// slice of that length has room. `to` then holds the first bytes of the text, as many as it
     /// has room for, and a character may be cut at its end.
     pub fn write_text(&self, to: &mut [u8]) -> Result<usize, TextTooLong>
@@ -150,8 +150,8 @@ impl RawAttribute<'_> {
     }
 }
 
-/// An attribute of a type that has a typed attribute prints as that one, where reading accepts its
-/// value, and else as [`print_malformed`] does. Any other prints its type, the length of its value
+/// An attribute of a type that has a typed attribute prints as that one, if reading accepts its
+/// value, otherwise as [`print_malformed`] does. Any other prints its type, the length of its value
 /// and its bytes:
 /// `RawAttribute (type: AttributeType(65535), len: 2, data: Borrowed(DataSlice([4, 0])))`.
 /// Printing takes no memory.

@@ -52,7 +52,7 @@ impl<'a> RawAttribute<'a> {
     ///
     /// # Errors
     ///
-    /// `TooLarge { expected: 65535, actual }` where the value is longer than its length field can
+    /// `TooLarge { expected: 65535, actual }` if the value is longer than its length field can
     /// state.
     pub fn new(atype: AttributeType, value: &'a [u8]) -> Result<Self, StunParseError>
         ensures ok { length value.now ≤ 65535 → IfOk result (Borrows atype.0 value.now) }
@@ -69,7 +69,7 @@ impl<'a> RawAttribute<'a> {
     ///
     /// # Errors
     ///
-    /// `TooLarge { expected: 65535, actual }` where the value is longer than its length field can
+    /// `TooLarge { expected: 65535, actual }` if the value is longer than its length field can
     /// state. The value is dropped then.
     pub fn new_owned(atype: AttributeType, value: BoxedSlice<u8>) -> Result<Self, StunParseError>
         ensures ok { IfOk result (IsRawOf atype.0 (boxed_slice_items value)) }
@@ -92,8 +92,8 @@ impl<'a> RawAttribute<'a> {
     ///
     /// # Errors
     ///
-    /// `Truncated { expected: 4, actual }` where there are fewer than four bytes. Otherwise
-    /// `Truncated { expected, actual }` where the header states more bytes than follow it:
+    /// `Truncated { expected: 4, actual }` if there are fewer than four bytes. Otherwise
+    /// `Truncated { expected, actual }` if the header states more bytes than follow it:
     /// `expected` is how many it states, and `actual` how many follow.
     pub fn from_bytes(bytes: &'a [u8]) -> Result<Self, StunParseError>
         ensures { MatchResult result

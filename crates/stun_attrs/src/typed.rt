@@ -13,7 +13,7 @@ use std::alloc::Global;
 use stun_base::{AttributeType, StunParseError, StunWriteError};
 
 /// An attribute of one type, whose value is encoded by one rule (RFC 8489, section 14). It has
-/// [`Attribute`], [`AttributeStaticType`] and [`AttributeWrite`], and where it is a [`ReadValue`],
+/// [`Attribute`], [`AttributeStaticType`] and [`AttributeWrite`], and if it is a [`ReadValue`],
 /// [`AttributeFromRaw`] too.
 ///
 /// In contracts `NUMBER` is the number of the type.
@@ -38,7 +38,7 @@ pub trait ReadValue: EncodeValue {
     ///
     /// # Errors
     ///
-    /// Each implementation lists its own; `OutOfMemory` where an allocation failed.
+    /// Each implementation lists its own; `OutOfMemory` if an allocation failed.
     fn read_value(alloc: Global, value: &[u8]) -> Result<Self, StunParseError>
     where
         Self: Sized,
@@ -99,8 +99,8 @@ impl<A: TypedAttribute> AttributeWrite for A {
         write_encoded(AttributeType(A::NUMBER), self, dest);
     }
 
-    /// The value is borrowed where the attribute holds it as it is encoded, which takes no memory,
-    /// and else owned in memory that `alloc` gives.
+    /// The value is borrowed if the attribute holds it as it is encoded, which takes no memory,
+    /// otherwise owned, in memory that `alloc` gives.
     fn to_raw(&self, alloc: Global) -> Result<RawAttribute<'_>, StunWriteError> {
         // For the prover: the encoding has at most 65535 bytes.
         let _length = self.value_length();

@@ -32,7 +32,7 @@ fn cut_off(offset: usize, length: usize, actual: usize) -> StunParseError
 }
 
 /// Reads the attribute whose header is at `offset` in a message: the attribute, which borrows its
-/// value, and the offset after its padding. `None` where the message ends at `offset`.
+/// value, and the offset after its padding. `None` if the message ends at `offset`.
 ///
 /// # Requires
 ///
@@ -40,8 +40,8 @@ fn cut_off(offset: usize, length: usize, actual: usize) -> StunParseError
 ///
 /// # Errors
 ///
-/// `Truncated { expected, actual }` where the header, the value or the padding is cut off:
-/// `expected` is the offset at which it would end, and `actual` the length of the message. Where
+/// `Truncated { expected, actual }` if the header, the value or the padding is cut off:
+/// `expected` is the offset at which it would end, and `actual` the length of the message. If
 /// the header is cut off, both are 4 more than that.
 pub fn attribute_at<'a>(
     bytes: &'a [u8],

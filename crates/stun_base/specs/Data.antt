@@ -27,7 +27,7 @@ is_borrowed (Owned owned) = false
 abbrev pub bytes_text : List ℕ → Option (List ℕ)
 bytes_text = debug_list (λ byte. Some (decimal byte))
 
--- borrowed bytes, owned ones, and bytes that the flag tells to be borrowed
+-- borrowed bytes, owned ones, and bytes that the flag says to be borrowed
 abbrev pub slice_text : List ℕ → Option (List ℕ)
 slice_text bytes = debug_variant (codes "DataSlice") (bytes_text bytes)
 

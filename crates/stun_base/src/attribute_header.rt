@@ -19,7 +19,7 @@ impl AttributeHeader {
     ///
     /// # Errors
     ///
-    /// `Truncated { expected: 4, actual }` where there are fewer than four bytes.
+    /// `Truncated { expected: 4, actual }` if there are fewer than four bytes.
     pub fn from_bytes(bytes: &[u8]) -> Result<Self, StunParseError>
         ensures { MatchResult result
             (λ header. (4 ≤ length bytes.now) × (header ≡ record {

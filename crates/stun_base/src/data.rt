@@ -154,7 +154,7 @@ impl fmt::Debug for DataOwned {
 /// `{:?}` prints which they are, and the bytes in decimal: `Borrowed(DataSlice([4, 0]))`,
 /// `Owned(DataOwned([4, 0]))`.
 ///
-/// Two values are equal where both are borrowed or both are owned, and their bytes are equal.
+/// Two values are equal if both are borrowed or both are owned, and their bytes are equal.
 #[derive(PartialEq, Eq, Drop)]
 pub enum Data<'a> {
     /// Bytes that are borrowed for `'a`.

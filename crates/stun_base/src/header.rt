@@ -92,7 +92,7 @@ fn read_id(bytes: &[u8]) -> TransactionId
 ///
 /// # Requires
 ///
-/// There are at least twenty bytes, and the first is below 64: so it is where [`check_header`] is
+/// There are at least twenty bytes, and the first is below 64: so it is if [`check_header`] is
 /// `Ok`.
 pub fn read_header(bytes: &[u8]) -> MessageHeader
     requires long { 20 ≤ length bytes.now }
@@ -147,14 +147,14 @@ impl MessageHeader {
 
     /// Reads the header at the start of `bytes`. What follows it is not looked at.
     ///
-    /// Where a message comes in pieces, as over TCP, another protocol is noticed as soon as a byte
+    /// If a message comes in pieces, as over TCP, another protocol is noticed as soon as a byte
     /// differs.
     ///
     /// # Errors
     ///
-    /// `NotStun` where no header can begin with these bytes, whatever follows: the first byte is 64
+    /// `NotStun` if no header can begin with these bytes, whatever follows: the first byte is 64
     /// or more, or the bytes from offset 4 to 8, as far as there are any, are not those of the
-    /// magic cookie. Otherwise `Truncated { expected: 20, actual }` where there are fewer than
+    /// magic cookie. Otherwise `Truncated { expected: 20, actual }` if there are fewer than
     /// twenty bytes.
     pub fn from_bytes(bytes: &[u8]) -> Result<Self, StunParseError>
         ensures { MatchResult result

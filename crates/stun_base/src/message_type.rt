@@ -262,8 +262,8 @@ impl MessageType {
     ///
     /// # Errors
     ///
-    /// `Truncated { expected: 2, actual }` where there are fewer than two bytes. Otherwise
-    /// `NotStun` where one of the two highest bits is not zero.
+    /// `Truncated { expected: 2, actual }` if there are fewer than two bytes. Otherwise
+    /// `NotStun` if one of the two highest bits is not zero.
     pub fn from_bytes(bytes: &[u8]) -> Result<Self, StunParseError>
         ensures short { length bytes.now < 2
             → result ≡ Err (StunParseError.Truncated 2 (length bytes.now)) }

@@ -9,7 +9,7 @@ use Rattle.stun_grammar.specs.Numbers.{number}
 use Rattle.stun_grammar.specs.Hmac.{hmac, digest_length}
 use Rattle.stun_grammar.specs.Verdicts.{covered_bytes}
 
--- the first byte, or 0 where there is none
+-- the first byte, or 0 if there is none
 abbrev pub first_byte : List ℕ → ℕ
 first_byte [] = 0
 first_byte (byte ∷ bytes) = byte

@@ -18,7 +18,7 @@ use stun_types::message::{Message, StunWriteError, ValidateError};
 /// What a workload returns if it can't be run.
 pub const NONE: u64 = u64::MAX;
 
-/// Bytes as a string, or `None` where they aren't UTF-8 or an allocation failed.
+/// Bytes as a string, or `None` if they aren't UTF-8 or an allocation failed.
 fn text(alloc: Global, bytes: &[u8]) -> Option<String>
     ensures { IfSome result (λ made. string_bytes made ≡ bytes.now) }
 {
@@ -77,7 +77,7 @@ fn same_twice(
     Ok(first == second)
 }
 
-/// 1 where the keys are the same, and `NONE` where an allocation failed.
+/// 1 if the keys are the same, and `NONE` if an allocation failed.
 fn answer_of(same: Result<bool, StunWriteError>) -> u64
     requires { IfOk same (λ same. same ≡ true) }
     ensures { (result ≡ 1) ⊎ (result ≡ none) }
@@ -88,7 +88,7 @@ fn answer_of(same: Result<bool, StunWriteError>) -> u64
     }
 }
 
-/// Makes the short-term key of a password twice: 1 where both are the same.
+/// Makes the short-term key of a password twice: 1 if both are the same.
 #[unsafe(no_mangle)]
 pub extern "C" fn stun_bench_short_key(alloc: Global, password: &[u8]) -> u64
     ensures { (result ≡ 1) ⊎ (result ≡ none) }
@@ -113,7 +113,7 @@ fn long_term(
     Some(MessageIntegrityCredentials::from(long))
 }
 
-/// Makes the long-term key of a username, a realm and a password twice: 1 where both are the same.
+/// Makes the long-term key of a username, a realm and a password twice: 1 if both are the same.
 #[unsafe(no_mangle)]
 pub extern "C" fn stun_bench_long_key(
     alloc: Global,

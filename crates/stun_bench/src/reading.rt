@@ -14,7 +14,7 @@ use stun_keys::digest::crc32;
 use stun_types::attribute::{AttributeType, RawAttribute};
 use stun_types::message::{Message, MessageAttributesIter};
 
-/// The first four bytes, as one number; 0 where there are fewer.
+/// The first four bytes, as one number; 0 if there are fewer.
 pub(crate) fn prefix(bytes: &[u8]) -> u32
     ensures { 4 ≤ length bytes.now → result ≡ number (take 4 bytes.now) }
 {
@@ -26,7 +26,7 @@ pub(crate) fn prefix(bytes: &[u8]) -> u32
     }
 }
 
-/// Parses a message: 2^40 plus the number of its first four bytes, or 0 where the bytes are
+/// Parses a message: 2^40 plus the number of its first four bytes, or 0 if the bytes are
 /// refused.
 #[tactic(auto, using(crate::proofs::ParsedPrefixesLemmas::parsed_prefix))]
 #[unsafe(no_mangle)]
@@ -94,7 +94,7 @@ pub extern "C" fn stun_bench_find(message: &[u8], atype: u32, rounds: u64) -> u6
     sum
 }
 
-/// Parses a message, and returns the length of its text, or `NONE` where it is refused or an
+/// Parses a message, and returns the length of its text, or `NONE` if it is refused or an
 /// allocation failed.
 #[unsafe(no_mangle)]
 pub extern "C" fn stun_bench_print(alloc: Global, message: &[u8]) -> u64 {

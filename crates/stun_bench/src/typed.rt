@@ -41,7 +41,7 @@ fn error_answer(alloc: Global, raw: &RawAttribute<'_>) -> Result<u64, StunParseE
     Ok((u64::from(error.code()) << 32) | (error.reason().len() as u64))
 }
 
-/// Reads an attribute of this type and value, and returns what it holds as a number: 0 where it is
+/// Reads an attribute of this type and value, and returns what it holds as a number: 0 if it is
 /// refused.
 #[unsafe(no_mangle)]
 pub extern "C" fn stun_bench_typed(alloc: Global, atype: u32, value: &[u8]) -> u64 {

@@ -89,7 +89,7 @@ fn answer_of(message: &[u8]) -> u64 {
     ((message.len() as u64) << 32) | u64::from(last)
 }
 
-/// A USERNAME, or `None` where the bytes can't be one or an allocation failed.
+/// A USERNAME, or `None` if the bytes can't be one or an allocation failed.
 fn username_of(alloc: Global, user: &[u8]) -> Option<Username> {
     Username::new(alloc, str::from_utf8(user).ok()?).ok()
 }

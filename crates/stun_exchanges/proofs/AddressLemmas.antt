@@ -84,7 +84,7 @@ spelled_xored id a x range small spells =
       plain = spells.plain;
     }
 
--- so what it tells is the address
+-- so what it reports is the address
 told_once : (id : ℕ) (a read : SocketAddr) → IsInRange a → IsInRange read → TellsAddress id (xored_value id a) read → read ≡ without_flow a
 told_once id a read range other tells =
     let small = port_fits (socket_port tells.written) (socket_port read) other.port tells.xored.port_is in
@@ -92,7 +92,7 @@ told_once id a read range other tells =
 
 -- ---- What is read of the reply
 
--- the attribute is there, and its value tells the address
+-- the attribute is there, and its value has the address
 pub tells_only : (a : SocketAddr) (r d : List ℕ) (x : Shown) → IsInRange a → parse_fault d ≡ None → IsSuccessOf r d → nth d XOR_MAPPED_ADDRESS 0 ≡ Some x → x.value ≡ xored_value (id_field d) a
     → TellsOnly (without_flow a) r d
 tells_only a r d x range parses success found value (Ok None) read = absurd (read.1 success)

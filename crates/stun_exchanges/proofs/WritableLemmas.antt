@@ -50,7 +50,7 @@ id_small r bytes parses =
 
 -- ---- Step by step
 
--- a step that no attribute before it bars may follow, where the message stays short enough
+-- a step that no attribute before it blocks may follow, if the message stays short enough
 follows : (type id : ℕ) (before : List Attribute) (step : Step) → order_refusal step (types before) ≡ None → length (encodings before) + attribute_length (value_length step) ≤ 65535
     → MayFollow type id before step
 follows type id before step none short =
@@ -113,9 +113,9 @@ error_unfinished r x xs few type_fits id_fits =
       );
     }
 
--- ---- With its FINGERPRINT, where it has one
+-- ---- With its FINGERPRINT, if it has one
 
--- a text is written with these attributes, and with a FINGERPRINT or nothing behind them
+-- a text is written with these attributes, and with a FINGERPRINT or nothing after them
 pub record IsFinished (type id : ℕ) (attributes : List Attribute) (wanted : Bool)
     (text : List ℕ) : Type 0 where
   pub more : List Attribute

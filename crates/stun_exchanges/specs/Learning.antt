@@ -34,7 +34,7 @@ pub record IsBindingRequest (r : List ℕ) : Type 0 where
 abbrev pub without_flow : SocketAddr → SocketAddr
 without_flow a = plain_socket (socket_ip a) (socket_port a)
 
--- a transaction of the unsigned request r waits for its response: where the usage sends FINGERPRINT, r
+-- a transaction of the unsigned request r waits for its response: if the usage sends FINGERPRINT, r
 -- shows one
 pub record Awaits (r : List ℕ) (terms : Terms) (state : RetransmissionState) : Type 0 where
   pub method_is : terms.method ≡ method_of (type_field r)
@@ -43,8 +43,8 @@ pub record Awaits (r : List ℕ) (terms : Terms) (state : RetransmissionState) :
   pub fingerprint : lacks_fingerprint terms.usage r ≡ false
   pub ongoing : is_open state ≡ true
 
--- d is a message, a response to the request r, and each transaction that waits for one is told this
--- of it; nothing authenticates it
+-- d is a message, a response to the request r, and is this for each transaction that waits for one;
+-- nothing authenticates it
 pub record IsReceivedAs (told : Outcome) (r d : List ℕ) : Type 0 where
   pub parses : parse_fault d ≡ None
   pub answers : is_answer_to r d ≡ true
@@ -57,14 +57,14 @@ TellsOnly a r d =
     (result : Result (Option SocketAddr) StunParseError) → ReadsAnswer r d result
     → IsOkAnd result (λ told. IsSomeAnd told (λ read. IsInRange read → read ≡ a))
 
--- the reply to r, which came from an address, tells the client this address
+-- the reply to r, which came from an address, reports this address to the client
 pub record Learns (source : SocketAddr) (r : List ℕ) : Type 0 where
   pub text : List ℕ
   pub replied : reply source r ≡ Some text
   pub taken : IsReceivedAs (Success None) r text
   pub address : TellsOnly (without_flow source) r text
 
--- the reply to r tells the client which types it may not show
+-- the reply to r says to the client which types it may not show
 pub record LearnsError (source : SocketAddr) (r : List ℕ) : Type 0 where
   pub text : List ℕ
   pub replied : reply source r ≡ Some text

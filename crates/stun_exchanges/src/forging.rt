@@ -14,8 +14,8 @@ ghost use Rattle.stun_exchanges.specs.Forging.{IsForgedOrSent};
 
 use stun_read::walks_from_there;
 
-/// A forgery is explicit. Whatever messages were sent, one that validates tells what one of them
-/// told; or its integrity attribute is the HMAC, of at least sixteen bytes, of bytes that nobody
+/// A forgery is explicit. Whatever messages were sent, one that validates says what one of them
+/// says; or its integrity attribute is the HMAC, of at least sixteen bytes, of bytes that nobody
 /// signed with the key and the algorithm, and both are read off the message without the key. So
 /// whoever makes such a message has broken HMAC.
 pub fn forgery_is_explicit()

@@ -24,7 +24,7 @@ pub fn client_learns_its_address()
     shown_is_found();
 }
 
-/// Where a binding request shows types that must be understood and aren't, the reply is an error
+/// If a binding request shows types that must be understood and aren't, the reply is an error
 /// response to it with the code 420, which a transaction that waits for one returns, and it lists
 /// these types.
 pub fn client_learns_the_error()

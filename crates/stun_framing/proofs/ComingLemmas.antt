@@ -29,7 +29,7 @@ stands_so room bytes messages stream coming come = record {
   ends = runs_on room stream coming come.running (record { sound = come.sound; part = come.part });
 }
 
--- an answer tells whether a piece was refused
+-- an answer says whether a piece was refused
 accepted : (told : Option StreamError) (k taken : ℕ) → answer_of told k ≡ Ok taken → told ≡ None
 accepted None k taken e = refl
 accepted (Some error) k taken e = absurd cc

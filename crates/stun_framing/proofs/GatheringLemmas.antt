@@ -76,7 +76,7 @@ gathered carries old new piece held wanted now same e bytes bound sound =
       wanted = e;
     }
 
--- b is its first four bytes, as far as they are there, and then those behind
+-- b is its first four bytes, as far as they are there, and then those after
 pub cut_behind : (old piece : List ℕ) (held start : ℕ) → held < 4 → held ≤ length old → start ≡ min 4 (held + length piece)
     → take 4 (take held old ++ piece) ++ drop (start - held) piece ≡ take held old ++ piece
 cut_behind old piece held start short within count =
@@ -98,14 +98,14 @@ start_count old piece buffer held kept within start =
     let long : length (take held old ++ piece) ≡ held + length piece = omega (arith, length-append (take held old) piece, length-take held old) in
     start.count ∙ ap (min 4) long
 
--- the first four bytes of b and those behind them are b
+-- the first four bytes of b and those after them are b
 pub start_joined : (old mid piece : List ℕ) (held : ℕ) (start : Kept) → held < 4 → held ≤ length old → HoldsStart (take held old ++ piece) start mid
     → take start.held mid ++ drop (start.held - held) piece ≡ take held old ++ piece
 start_joined old mid piece held start short within holds =
     ap (λ (xs : List ℕ). xs ++ drop (start.held - held) piece) holds.bytes
     ∙ cut_behind old piece held start.held short within (start_count old piece mid held start within holds)
 
--- what is held and refused behind them
+-- what is held and refused after them
 pub refused_behind : (carries : Carries) (old mid new piece behind : List ℕ) (held start : ℕ) (fault : StreamFault) → length mid ≡ length old → length new ≡ length mid → held ≤ start → start ≤ length mid
     → take start mid ++ behind ≡ take held old ++ piece → take held mid ≡ take held old → Refuses carries start behind fault mid new → Refuses carries held piece fault old new
 refused_behind carries old mid new piece behind held start fault same same' within bound joined kept refuses = record {
@@ -118,7 +118,7 @@ refused_behind carries old mid new piece behind held start fault same same' with
     shorter held start xs within bound =
         sym (take-append-le held (take start xs) (drop start xs) (omega (arith, length-take start xs))) ∙ ap (take held) (take-append-drop start xs)
 
--- what is gathered behind the first four bytes is gathered of all
+-- what is gathered after the first four bytes is gathered of all
 pub gathered_behind : (carries : Carries) (old mid new piece behind : List ℕ) (held : ℕ) (start : Kept) (result : Result Kept StreamFault) → length mid ≡ length old → length new ≡ length mid
     → held ≤ start.held → start.held ≤ length mid → take start.held mid ++ behind ≡ take held old ++ piece → take held mid ≡ take held old
     → MatchResult result (λ kept. HoldsFirst carries (take start.held mid ++ behind) kept new) (λ fault. Refuses carries start.held behind fault mid new)

@@ -15,18 +15,18 @@ use Rattle.stun_framing.specs.Fields.{is_all, pending_of, offset_behind, stream_
 use Rattle.stun_framing.proofs.ResumingLemmas.{Resumes, resumes_if, resumed_is}
 use Rattle.stun_framing.proofs.StreamsLemmas.{IsPending, part_of, left_is, answer_is, takes}
 
--- the first bytes of a buffer stand there
+-- the first bytes of a buffer are there
 first_stand : (n : ℕ) (buffer : List ℕ) → take (length (take n buffer)) buffer ≡ take n buffer
 first_stand n buffer = ap (λ (k : ℕ). take k buffer) (length-take n buffer) ∙ take_min n buffer
 
--- the bytes of a stream stand in its buffer
+-- the bytes of a stream are in its buffer
 stands : (carries : Carries) (buffer : List ℕ) (kept : Kept) (offset : ℕ) (error : Option StreamError) → StandsIn (stream_of carries buffer kept offset error) buffer
 stands carries buffer kept offset error = elim (cases_Bool (is_all kept)) [
   | inl all ↦ rw all (record { pending = refl; message = first_stand kept.held buffer })
   | inr part ↦ rw part (record { pending = first_stand kept.held buffer; message = tt })
 ]
 
--- what the caller is told, by what is kept
+-- what is reported to the caller, by what is kept
 abbrev pub told_of : (taken offset : ℕ) → Kept → Pushed
 told_of taken offset kept = record {
   taken = taken;
@@ -43,7 +43,7 @@ told_is carries buffer kept taken offset error within =
       | inr part ↦ rw part (λ i. record { taken = taken; offset = offset; pending = held i; message = None })
     ]
 
--- what is pending where a stream goes on
+-- what is pending if a stream goes on
 pending_held : (carries : Carries) (buffer : List ℕ) (held : ℕ) → Resumes carries buffer held → IsPending carries buffer (record { held = held; wanted = wanted_for (take held buffer) })
 pending_held carries buffer held resumes = record {
   bound = resumes.part;

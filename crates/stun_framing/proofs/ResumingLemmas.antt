@@ -1,4 +1,4 @@
--- A stream that goes on with bytes that are pending.
+-- A stream that resumes bytes that are pending.
 use Rattle.std.proofs.Common.{◌≡◌, ℕ, ◌+◌, ◌<◌, ◌≤◌, true, false, List, [], length, take, Option, None, Some, refl, sym, ap, ◌∙◌, inl, inr, arith}
 use Rattle.std.specs.Prelude.{◌-◌, not, is_some, ◌&&◌, nat_le, option_map}
 use Rattle.std.specs.Option.{option_or}

@@ -17,24 +17,24 @@ use Rattle.stun_framing.proofs.FramingLemmas.{fault_grows, least_stated, stated_
 use Rattle.stun_framing.proofs.StreamsLemmas.{nothing_faults}
 use Rattle.stun_framing.proofs.CutsLemmas.{no_fault_in, whole_in, first_message}
 
--- where a stream stands that may still have messages
+-- the state of a stream that may still have messages
 pub record Runs (room : Room) (stream : Stream) : Type 0 where
   pub sound : stream_fault room stream.pending ≡ None
   pub part : is_whole stream.pending ≡ false
 
--- where one stands that has ended, by what is to come
+-- that of one that has ended, by what is to come
 pub record Ended (room : Room) (stream : Stream) (coming : List ℕ) (error : StreamError) : Type 0 where
   pub none : stream.message ≡ None
   pub offset_is : error.offset ≡ stream.offset
   pub fault_is : stream_fault room (stream.pending ++ coming) ≡ Some error.fault
 
--- where a stream stands behind so many bytes of messages
+-- the state of a stream after so many bytes of messages
 pub record Stands (room : Room) (n : ℕ) (stream : Stream) (coming : List ℕ) : Type 0 where
   pub room_is : stream.room ≡ room
   pub offset_is : stream.offset ≡ offset_of n
   pub ends : MatchOption stream.error (Runs room stream) (Ended room stream coming)
 
--- what a call yields, and where the stream stands then
+-- what a call yields, and the state of the stream then
 pub record Steps (room : Room) (n : ℕ) (stream : Stream) (coming : List ℕ) (new : Stream) (coming' : List ℕ) : Type 0 where
   pub joined_is : stream.pending ++ coming ≡ concat (message_in new.message) ++ (new.pending ++ coming')
   pub each : All (IsMessage room) (message_in new.message)
@@ -46,7 +46,7 @@ cases_option : {A : Type 0} → (o : Option A) → (o ≡ None) ⊎ ((x : A) × 
 cases_option None = inl refl
 cases_option (Some x) = inr (x, refl)
 
--- what is taken of a piece, where bytes are pending
+-- what is taken of a piece, if bytes are pending
 rest_is : (pending piece behind : List ℕ) (k : ℕ) → length pending ≤ k → k ≤ length (pending ++ piece)
     → take k (pending ++ piece) ++ drop (k - length pending) (piece ++ behind) ≡ pending ++ (piece ++ behind)
 rest_is pending piece behind k least most =
@@ -59,7 +59,7 @@ rest_is pending piece behind k least most =
     ∙ append_assoc pending (take (k - length pending) (piece ++ behind)) (drop (k - length pending) (piece ++ behind))
     ∙ ap (λ (xs : List ℕ). pending ++ xs) (take-append-drop (k - length pending) (piece ++ behind))
 
--- the first message ends behind what is pending
+-- the first message ends after what is pending
 ends_behind : (pending piece : List ℕ) → is_whole pending ≡ false → length pending < stated_length (pending ++ piece)
 ends_behind pending piece part = elim (cases_lt (length pending) 4) [
   | inl short ↦ omega (arith, least_stated (pending ++ piece))
@@ -79,7 +79,7 @@ offsets_add offset n k e = ap (λ (m : ℕ). min (m + k) 18446744073709551615) e
 pub runs_on : (room : Room) (stream : Stream) (coming : List ℕ) → stream.error ≡ None → Runs room stream → MatchOption stream.error (Runs room stream) (Ended room stream coming)
 runs_on room stream coming running runs = subst (λ (o : Option StreamError). MatchOption o (Runs room stream) (Ended room stream coming)) (sym running) runs
 
--- a piece that makes a message whole
+-- a piece that completes a message
 makes_whole : (room : Room) (n : ℕ) (stream : Stream) (piece behind : List ℕ) → Stands room n stream (piece ++ behind) → Runs room stream → stream.error ≡ None
     → stream_fault room (joined stream piece) ≡ None → is_whole (joined stream piece) ≡ true
     → Steps room n stream (piece ++ behind)
@@ -125,7 +125,7 @@ leaves_part room n stream piece behind stands running sound part =
       };
     }
 
--- a piece that ends the stream, or comes behind its end
+-- a piece that ends the stream, or comes after its end
 stops : (room : Room) (n : ℕ) (stream : Stream) (coming : List ℕ) (error : StreamError) → Stands room n stream coming
     → error.offset ≡ stream.offset → stream_fault room (stream.pending ++ coming) ≡ Some error.fault
     → Steps room n stream coming (record stream { message = None; error = Some error }) coming
@@ -160,7 +160,7 @@ goes_on room n stream piece behind stands runs running sound =
       | inr part ↦ subst by_whole (sym part) (leaves_part room n stream piece behind stands running sound part)
     ]
 
--- how a stream stands that has ended, and that hasn't
+-- the state of a stream that has ended, and of one that hasn't
 pub runs_if : (room : Room) (stream : Stream) (coming : List ℕ) → MatchOption stream.error (Runs room stream) (Ended room stream coming) → stream.error ≡ None → Runs room stream
 runs_if room stream coming ends e = subst (λ (o : Option StreamError). MatchOption o (Runs room stream) (Ended room stream coming)) e ends
 

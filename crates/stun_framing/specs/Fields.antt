@@ -16,7 +16,7 @@ is_all kept = kept.held == kept.wanted
 abbrev pub pending_of : Kept → Kept
 pending_of kept = if is_all kept then record { held = 0; wanted = 4 } else kept
 
--- the offset of what comes next, where what is kept began at an offset
+-- the offset of what comes next, if what is kept began at an offset
 abbrev pub offset_behind : ℕ → Kept → ℕ
 offset_behind offset kept = if is_all kept then offset_of (offset + kept.held) else offset
 

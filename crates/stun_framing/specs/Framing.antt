@@ -40,8 +40,8 @@ stated_length b = if begins_channel b then channel_length b else 20 + length_fie
 
 -- ---- What a stream is
 
--- m is a STUN message, as far as a stream tells: a header, and as many bytes behind it as that states,
--- a multiple of 4. A buffer of so many bytes takes it
+-- m is a STUN message, as far as a stream shows: a header, and as many bytes after it as that
+-- states, a multiple of 4. A buffer of so many bytes takes it
 pub record IsStunMessage (size : ℕ) (m : List ℕ) : Type 0 where
   pub header : IsTrue (is_header m)
   pub whole : length m ≡ 20 + length_field m

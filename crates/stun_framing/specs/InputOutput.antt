@@ -1,5 +1,5 @@
 -- What is read from an input and written to an output. `left` is what the reader has left, and
--- `held` what the writer holds, before the call and (with a prime) after it, where those bytes are
+-- `held` what the writer holds, before the call and (with a prime) after it, if those bytes are
 -- known.
 use Rattle.std.specs.Prelude.{ℕ, ◌<◌, ◌≤◌, List, length, take, Option, ⊤}
 use Rattle.std.specs.Io.KnownBytes.{Appends, Consumes, IsAtEnd}

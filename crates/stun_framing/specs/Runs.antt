@@ -14,7 +14,7 @@ taken_of (Err error) = 0
 abbrev pub untaken : Stream → (piece coming : List ℕ) → List ℕ
 untaken stream piece coming = drop (taken_of (answer stream piece)) coming
 
--- the pieces are handed over from a stream: each begins with the first byte that no call has taken,
+-- the pieces are passed from a stream: each begins with the first byte that no call has taken,
 -- and ends anywhere
 abbrev pub IsHandedOver : Stream → (coming : List ℕ) → (pieces : List (List ℕ)) → Type 0
 IsHandedOver stream coming [] = Unit {0}
@@ -50,7 +50,7 @@ IsDone stream coming pieces =
 
 -- ---- What the bytes of a stream say
 
--- how a stream ends behind these messages, by what follows them
+-- how a stream ends after these messages, by what follows them
 abbrev pub ending : (room : Room) → (messages : List (List ℕ)) → (rest : List ℕ) → Option StreamError
 ending room messages rest = option_map
     (λ fault. record { offset = offset_of (length (concat messages)); fault = fault })

@@ -8,7 +8,7 @@ use Rattle.stun_framing.specs.declared.carries.Carries.{Carries}
 use Rattle.stun_framing.specs.Framing.{Room, room_of, stated_length, stream_fault}
 
 -- what it carries and how many bytes the buffer takes, the offset in the stream of the pending bytes, which are those of a
--- message that isn't whole, the message that the last piece made whole, and how the stream ended
+-- message that isn't complete, the message that the last piece completed, and how the stream ended
 pub record Stream : Type 0 where
   pub room : Room
   pub offset : ℕ
@@ -20,7 +20,7 @@ pub record Stream : Type 0 where
 abbrev pub begun : (room : Room) → Stream
 begun room = record { room = room; offset = 0; pending = []; message = None; error = None }
 
--- a stream that goes on with these bytes of a message pending, at an offset
+-- a stream that resumes these bytes of a message pending, at an offset
 abbrev pub resumed : (room : Room) → (offset : ℕ) → (pending : List ℕ) → Stream
 resumed room offset pending =
     record { room = room; offset = offset; pending = pending; message = None; error = None }
@@ -57,7 +57,7 @@ refusal stream piece = option_or stream.error
     (option_map (λ fault. record { offset = stream.offset; fault = fault })
     (stream_fault stream.room (joined stream piece)))
 
--- a piece is answered by how many of its bytes are taken, or by how the stream ended
+-- the answer to a piece: how many of its bytes are taken, or how the stream ended
 abbrev pub answer_of : Option StreamError → (taken : ℕ) → Result ℕ StreamError
 answer_of None taken = Ok taken
 answer_of (Some error) taken = Err error
@@ -88,13 +88,13 @@ left stream piece = left_of (refusal stream piece) stream (joined stream piece)
 
 -- ---- A stream of which the caller keeps the buffer
 
--- its bytes stand at the start of the buffer: those that are pending, and the message that the last
--- piece made whole
+-- its bytes are at the start of the buffer: those that are pending, and the message that the last
+-- piece completed
 pub record StandsIn (stream : Stream) (buffer : List ℕ) : Type 0 where
   pub pending : take (length stream.pending) buffer ≡ stream.pending
   pub message : IfSome stream.message (λ message. take (length message) buffer ≡ message)
 
--- what the caller is told of a stream that took so many bytes of a piece
+-- what is reported to the caller of a stream that took so many bytes of a piece
 abbrev pub pushed_of : Stream → (taken : ℕ) → Pushed
 pushed_of stream taken = record {
   taken = taken;
@@ -103,7 +103,7 @@ pushed_of stream taken = record {
   message = option_map length stream.message;
 }
 
--- a piece is answered by what is told of the stream that it leaves, or by how the stream ended
+-- the answer to a piece: what is reported of the stream that it leaves, or how the stream ended
 abbrev pub pushed : Stream → List ℕ → Result Pushed StreamError
 pushed stream piece =
     result_map_both (pushed_of (left stream piece)) (λ error. error) (answer stream piece)

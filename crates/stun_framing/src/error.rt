@@ -18,12 +18,12 @@ pub enum StreamFault {
     TooLong(usize),
 }
 
-/// How a stream ended: where a message had to begin, none does.
+/// How a stream ended: no message begins after the last one.
 #[derive(Clone, Copy, Debug, PartialEq, Eq, Error)]
 #[error("{fault}, at offset {offset} of the stream")]
 pub struct StreamError {
     /// How many bytes of the stream come before: the lengths of all messages that were yielded.
-    /// `u64::MAX` where they are more.
+    /// `u64::MAX` if they are more.
     pub offset: u64,
     /// Why no message begins there.
     pub fault: StreamFault,

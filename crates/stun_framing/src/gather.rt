@@ -43,7 +43,7 @@ pub(crate) fn held_part(carries: Carries, buffer: &[u8], held: usize) -> Option<
     Some(Kept { held, wanted })
 }
 
-/// Copies `bytes` to the place behind the first `held` bytes of `buffer`.
+/// Copies `bytes` to the place after the first `held` bytes of `buffer`.
 fn copy_behind(buffer: &mut [u8], held: usize, bytes: &[u8])
     requires { held + length bytes.now ≤ length buffer.old }
     ensures { buffer.new
@@ -52,7 +52,7 @@ fn copy_behind(buffer: &mut [u8], held: usize, bytes: &[u8])
     buffer[held..held + bytes.len()].copy_from_slice(bytes);
 }
 
-/// Copies the first bytes of `piece` behind `held` bytes of `buffer`, until `wanted` are there.
+/// Copies the first bytes of `piece` after `held` bytes of `buffer`, until `wanted` are there.
 /// Returns how many are.
 fn fill(buffer: &mut [u8], held: usize, wanted: usize, piece: &[u8]) -> usize
     requires held { held ≤ wanted }
@@ -96,7 +96,7 @@ fn gather_start(
 }
 
 /// Copies what belongs to a message of which it is known how many bytes are wanted, unless `piece`
-/// is empty, behind the bytes that are kept of it.
+/// is empty, after the bytes that are kept of it.
 ///
 /// # Errors
 ///
@@ -125,7 +125,7 @@ fn gather_rest(
     }
 }
 
-/// Copies what belongs to the message behind the bytes that are kept of it.
+/// Copies what belongs to the message after the bytes that are kept of it.
 ///
 /// # Errors
 ///

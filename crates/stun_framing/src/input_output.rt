@@ -27,7 +27,7 @@ pub struct WriteFailed;
 ///
 /// # Errors
 ///
-/// `TooLong` where there are more bytes, and else `ReadFailed` or `NoMemory`.
+/// `TooLong` if there are more bytes, otherwise `ReadFailed` or `NoMemory`.
 pub fn read_all<R: Read>(alloc: Global, most: usize, reader: &mut R) -> Result<Vec<u8>, InputError>
     ensures { MatchResult result
         (λ input. ReadsAll most (R.remaining reader.old) (R.remaining reader.new) input.items)
@@ -56,12 +56,12 @@ pub fn read_all<R: Read>(alloc: Global, most: usize, reader: &mut R) -> Result<V
     Err(InputError::ReadFailed)
 }
 
-/// Writes all of the bytes, or, where a write fails or takes none, a prefix of them. A write that
+/// Writes all of the bytes, or, if a write fails or takes none, a prefix of them. A write that
 /// is interrupted is tried again.
 ///
 /// # Errors
 ///
-/// `WriteFailed` where not all was written.
+/// `WriteFailed` if not all was written.
 pub fn write_all<W: Write>(bytes: &[u8], writer: &mut W) -> Result<(), WriteFailed>
     ensures { MatchResult result
         (λ _. Appends (W.contents writer.old) (W.contents writer.new) bytes.now)

@@ -15,18 +15,18 @@ use crate::message_stream::{offset_behind, pending_of};
 pub struct Pushed {
     /// How many bytes at the start of the piece were taken.
     pub taken: usize,
-    /// The offset in the stream of what is pending, as [`MessageStream::offset`] tells it.
+    /// The offset in the stream of what is pending, as [`MessageStream::offset`] returns it.
     ///
     /// [`MessageStream::offset`]: crate::MessageStream::offset
     pub offset: u64,
-    /// How many bytes at the start of the buffer belong to a message that isn't whole.
+    /// How many bytes at the start of the buffer belong to a message that isn't complete.
     pub pending: usize,
-    /// How many bytes at the start of the buffer are the message that the piece made whole, if it
+    /// How many bytes at the start of the buffer are the message that the piece completed, if it
     /// did.
     pub message: Option<usize>,
 }
 
-/// How many bytes are the message, where it is whole.
+/// How many bytes are the message, if it is complete.
 fn whole_length(kept: Kept) -> Option<usize>
     ensures { result ≡ (if is_all kept then Some kept.held else None) }
 {
@@ -37,14 +37,14 @@ fn whole_length(kept: Kept) -> Option<usize>
 }
 
 /// Takes the bytes at the start of `piece` that belong to the message that is coming, as
-/// [`MessageStream::push`] does where [`MessageStream::resume`] went on with `held` and `offset`:
+/// [`MessageStream::push`] does if [`MessageStream::resume`] resumed `held` and `offset`:
 /// for a caller that keeps the buffer and two numbers, and no stream. Both are 0 at first, and then
-/// what [`Pushed`] tells of `pending` and `offset`.
+/// the `pending` and the `offset` of [`Pushed`].
 ///
-/// A message that is whole stands at the start of `buffer` until the next call; else the bytes that
-/// are pending do.
+/// A complete message is at the start of `buffer` until the next call; otherwise the bytes that
+/// are pending are there.
 ///
-/// `None` where `held` isn't what a stream leaves, as for [`MessageStream::resume`]. `buffer` then
+/// `None` if `held` isn't what a stream leaves, as for [`MessageStream::resume`]. `buffer` then
 /// stays as it was.
 ///
 /// ```

@@ -50,9 +50,9 @@ pub fn faults_are_right()
         → stream_fault room b ≡ None → MayBegin room b }
 {}
 
-/// A call that is answered `Ok` takes the bytes that it says, and yields what they make whole; one
-/// that is refused says what the bytes up to its own say. So a loop over calls may keep how much of
-/// a stream has come, from none on.
+/// A call that returns `Ok` takes the bytes that it says, and yields the message that they
+/// complete; one that is refused says what the bytes up to its own say. So a loop over calls may
+/// keep how much of a stream has come, from none on.
 pub fn calls_go_on()
     ensures none { (room : Room) → HasCome room [] [] (begun room) }
     ensures comes { (room : Room) (bytes : List ℕ) (messages : List (List ℕ)) (stream : Stream)
@@ -65,10 +65,10 @@ pub fn calls_go_on()
         → answer stream piece ≡ Err error → Says room (bytes ++ piece) messages (Some error) }
 {}
 
-/// Where a stream hasn't ended, whoever keeps the bytes that are pending, at the start of a buffer
+/// If a stream hasn't ended, whoever keeps the bytes that are pending, at the start of a buffer
 /// as long as before, and the offset may go on from there: the stream is resumed, as much of it has
-/// come, and each further call is answered and leaves what it would have. Only a whole message that
-/// the last call yielded is gone.
+/// come, and each further call returns and leaves what it would have. Only a complete message
+/// that the last call yielded is gone.
 pub fn resuming_changes_nothing()
     ensures resumes { (room : Room) (bytes : List ℕ) (messages : List (List ℕ)) (stream : Stream)
         (buffer : List ℕ) → HasCome room bytes messages stream → 20 ≤ room.size → length buffer ≡ room.size

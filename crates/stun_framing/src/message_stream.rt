@@ -24,7 +24,7 @@ pub(crate) fn pending_of(kept: Kept) -> Kept
     kept
 }
 
-/// The offset of what comes next, where what is kept began at `offset`.
+/// The offset of what comes next, if what is kept began at `offset`.
 pub(crate) fn offset_behind(offset: u64, kept: Kept) -> u64
     ensures { result ≡ offset_behind offset kept }
 {
@@ -115,13 +115,13 @@ impl<'b> MessageStream<'b> {
         }
     }
 
-    /// Resumes a stream, for a caller that keeps the buffer and two numbers between its calls: the first `held` bytes of `buffer` are those that
-    /// [`MessageStream::pending`] told then, and `offset` is what [`MessageStream::offset`] told. A
-    /// message that was whole is gone. For one piece [`push_kept`](crate::push_kept) does the same.
+    /// Resumes a stream, for a caller that keeps the buffer and two numbers between its calls: the
+    /// first `held` bytes of `buffer` are those that [`MessageStream::pending`] returned then, and
+    /// `offset` is what [`MessageStream::offset`] returned. A complete message is gone.
     ///
-    /// What is handed in is tested. `None` where it isn't what a stream leaves: `buffer` has fewer
+    /// The arguments are tested. `None` if they aren't what a stream leaves: `buffer` has fewer
     /// than twenty bytes, or fewer than `held`; no message begins with those, or none for which
-    /// there is room, as [`MessageStream::push`] would answer; or they are a whole message.
+    /// there is room, as [`MessageStream::push`] would answer; or they are a complete message.
     ///
     /// ```
     /// let mut stream = MessageStream::resume(Carries::Messages, &mut buffer, held, offset)?;
@@ -155,18 +155,18 @@ impl<'b> MessageStream<'b> {
     /// returns how many these are. [`MessageStream::message`] then has the message, if they made it
     /// whole. The next piece begins with the first byte that wasn't taken.
     ///
-    /// All of `piece` is taken, unless a message ends before, and at least one byte where there is
-    /// one. A message that an earlier call made whole is gone.
+    /// All of `piece` is taken, unless a message ends before, and at least one byte if there is
+    /// one. A message that an earlier call completed is gone.
     ///
     /// # Errors
     ///
-    /// No message begins where one had to: the stream has ended, and each further call answers this
-    /// error, and changes nothing. It is answered with the first byte that shows it, whatever
+    /// No message begins after the last one: the stream has ended, and each further call returns
+    /// this error, and changes nothing. It is returned with the first byte that shows it, whatever
     /// follows:
     ///
     /// - `NotStun` with the first byte, or with one of the magic cookie, the fifth to the eighth of a
     ///   STUN message;
-    /// - `NotPadded` or else `TooLong` with the fourth byte, the last of the length field.
+    /// - `NotPadded`, otherwise `TooLong`, with the fourth byte, the last of the length field.
     pub fn push(&mut self, piece: &[u8]) -> Result<usize, StreamError>
         ensures answer { result ≡ answer self.old piece.now }
         ensures left { self.new ≡ left self.old piece.now }
@@ -195,11 +195,11 @@ impl<'b> MessageStream<'b> {
         }
     }
 
-    /// The bytes of the message that the last call of [`MessageStream::push`] made whole: a header
+    /// The bytes of the message that the last call of [`MessageStream::push`] completed: a header
     /// and as many bytes as it states, and the padding of a ChannelData message. The rest of a
     /// message is for `Message::from_bytes` to judge.
     ///
-    /// `None` where that call left a message pending or was refused, and before the first one.
+    /// `None` if that call left a message pending or was refused, and before the first one.
     pub fn message(&self) -> Option<&[u8]>
         ensures is { MatchOption result (self.now.message ≡ None)
             (λ message. self.now.message ≡ Some message.now) }
@@ -211,7 +211,7 @@ impl<'b> MessageStream<'b> {
         Some(&self.buffer[..self.kept.held])
     }
 
-    /// The bytes that have come of a message that isn't whole. Where there are none, the stream may
+    /// The bytes that have come of a message that isn't whole. If there are none, the stream may
     /// end here; else it was cut within a message.
     ///
     /// Once the stream has ended by an error, these are the bytes before the refused piece.
@@ -221,8 +221,8 @@ impl<'b> MessageStream<'b> {
         &self.buffer[..pending_of(self.kept).held]
     }
 
-    /// The offset in the stream at which the pending bytes begin, or the next byte where there are
-    /// none: the lengths of all messages that were yielded. `u64::MAX` where they are more.
+    /// The offset in the stream at which the pending bytes begin, or the next byte if there are
+    /// none: the lengths of all messages that were yielded. `u64::MAX` if they are more.
     pub fn offset(&self) -> u64
         ensures { result ≡ self.now.offset }
     {

@@ -1,4 +1,4 @@
--- What holds where the verdict is Ok.
+-- What holds if the verdict is Ok.
 use Rattle.std.proofs.Common.{◌≡◌, ℕ, List, Option, Some, None, Ok, Err, refl, sym, ◌∙◌}
 use Rattle.stun_grammar.specs.declared.integrity_algorithm.IntegrityAlgorithm.{IntegrityAlgorithm}
 use Rattle.stun_grammar.specs.Numbers.{IsBytes}
@@ -49,7 +49,7 @@ pub if_ok : {T E : Type 0} (r : Result T E) (P : T → Type 0) → ((x : T) → 
 if_ok (Ok x) P h = h x refl
 if_ok (Err e) P h = tt
 
--- where a result is the verdict unless out of memory, it is Ok only if the verdict is
+-- if a result is the verdict unless out of memory, it is Ok only if the verdict is
 pub accepts : (r w : Result IntegrityAlgorithm ValidateError) (a : IntegrityAlgorithm) → (r ≢ Err (Parse OutOfMemory) → r ≡ w) → r ≡ Ok a → w ≡ Ok a
 accepts r w a same e = sym (same (λ refused. absurd (cc (e, refused)))) ∙ e
 

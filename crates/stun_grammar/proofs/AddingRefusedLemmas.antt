@@ -1,4 +1,4 @@
--- Why a step is refused: what bars it depends on its kind alone, and a step that is not refused
+-- Why a step is refused: what blocks it depends on its kind alone, and a step that is not refused
 -- fits.
 use Rattle.std.proofs.Common.{◌≡◌, ℕ, ◌≤◌, Bool, true, false, List, [], Option, None, Some, refl, sym, ap, ◌∙◌, inl, inr}
 use Rattle.std.specs.Prelude.{nat_lt, if◌then◌else◌}
@@ -21,7 +21,7 @@ unfolding order_refusal
 signing_barred Sha1 key types = refl
 signing_barred Sha256 key types = refl
 
--- where a step is not refused, there is a header, and the longer message fits the writer and the
+-- if a step is not refused, there is a header, and the longer message fits the writer and the
 -- length field
 pub record HasRoom (step : Step) (len : ℕ) (greatest : Option ℕ) : Type 0 where
   pub header : 20 ≤ len
@@ -57,7 +57,7 @@ no_refusal step types len greatest none = go (order_refusal step types) none
               record { header = header; room = room_of greatest both.0; fits = ltb-false greatest_length longer (test (nat_lt greatest_length longer) _ both.1) }
         ]
 
--- where a step is not refused, no attribute bars it
+-- if a step is not refused, no attribute blocks it
 pub not_barred : (step : Step) (types : List ℕ) (len : ℕ) (greatest : Option ℕ) → add_refusal step types len greatest ≡ None → first_of (barring_types step) types ≡ None
 unfolding order_refusal
 not_barred step types len greatest none = nothing (first_of (barring_types step) types) (first (order_refusal step types) _ none)
@@ -70,7 +70,7 @@ not_barred step types len greatest none = nothing (first_of (barring_types step)
     nothing None e = refl
     nothing (Some x) e = absurd cc
 
--- a writer that takes any number of bytes does not refuse what is not barred and fits a message
+-- a writer that takes any number of bytes does not refuse what is not blocked and fits a message
 pub accepted_unbounded : (step : Step) (types : List ℕ) (len : ℕ) → first_of (barring_types step) types ≡ None → 20 ≤ len → grown_length len (value_length step) ≤ greatest_length
     → add_refusal step types len None ≡ None
 unfolding order_refusal room_refusal

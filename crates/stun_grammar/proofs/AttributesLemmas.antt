@@ -14,7 +14,7 @@ length-encoding a = omega (arith, length-append a.value a.padding)
 pub length-encoding-is : (a : Attribute) → IsAttribute a → length (encoding a) ≡ 4 + padded_length (length a.value)
 length-encoding-is a ok = omega (arith, length-encoding a, ok.padding)
 
--- the first attribute, where all its bytes are there
+-- the first attribute, if all its bytes are there
 pub first_attribute_is : (b : List ℕ) (n : ℕ) → stated_length b ≡ n → 4 + padded_length n ≤ length b
     → first_attribute b ≡ Some (record { type = number (take 2 b); value = take n (drop 4 b); padding = take (padded_length n - n) (drop (4 + n) b) })
 unfolding first_attribute

@@ -204,7 +204,7 @@ pub same_shown : (key : IntegrityAlgorithm → List ℕ) (d e c : List ℕ) (a :
     → shows_fingerprint d ≡ shows_fingerprint e → shown d ≡ shown e
 same_shown key d e c a p q r s v w same = all_told key d c a p r v ∙ ap (authentic_shown c (key a) a) same ∙ sym (all_told key e c a q s w)
 
--- where no integrity attribute is shown after the one that a key wants, wanting both types finds
+-- if no integrity attribute is shown after the one that a key wants, wanting both types finds
 -- the same one
 pub as_both : (m : Option IntegrityAlgorithm) (key : IntegrityAlgorithm → List ℕ) (d c : List ℕ) (a : IntegrityAlgorithm) → last_shown both d ≡ last_shown (is_checked_type m) d → Validates m key d c a → Validates None key d c a
 unfolding verdict

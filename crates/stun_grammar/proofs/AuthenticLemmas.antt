@@ -1,4 +1,4 @@
--- What holds of a message that validates, where both types are wanted, and where one is.
+-- What holds of a message that validates, if both types are wanted, and if one is.
 use Rattle.std.proofs.Common.{◌≡◌, ℕ, ◌+◌, ◌-◌, ◌%◌, ◌≤◌, Bool, true, false, eqb, ◌||◌, List, [], ◌∷◌, ◌++◌, length, take, drop, replicate, Option, Some, None, Ok, refl, sym, ap, subst, ◌∙◌, arith}
 use Rattle.std.specs.Prelude.{slice_range}
 use Rattle.std.specs.List.{AllByRecursion, list_any}
@@ -185,7 +185,7 @@ own_algorithm b key d c a bytes v =
     let k = checks (Some b) key d c a bytes v in
     k.answered ∙ ap (λ (y : Shown). algorithm_of y.type) k.there.splits.is ∙ wanted_algorithm b k.there.splits.attribute.type k.there.splits.passes
 
--- where the verdict is Ok, there are covered bytes
+-- if the verdict is Ok, there are covered bytes
 pub validates : (m : Option IntegrityAlgorithm) (key : IntegrityAlgorithm → List ℕ) (d : List ℕ) (a : IntegrityAlgorithm) → verdict (is_checked_type m) key d ≡ Ok a → (c : List ℕ) × Validates m key d c a
 validates m key d a e =
     let acc = accepted (is_checked_type m) key d a e in

@@ -185,7 +185,7 @@ pub length-chain : (b : List ℕ) → length (chain b) ≤ length b
 unfolding chain
 length-chain b = within_short (length b) b
 
--- ---- The fault where no attribute begins
+-- ---- The fault if no attribute begins
 
 -- no attribute begins at an offset, and this is the fault there
 pub record Refused (offset : ℕ) (d : List ℕ) (told : Option StunParseError) : Type 0 where

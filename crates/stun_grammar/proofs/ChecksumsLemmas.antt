@@ -65,7 +65,7 @@ unfolding shifted_by
 shifted_by-add zero n r = let e : zero + n ≡ n = omega arith in ap (λ (k : ℕ). shifted_by k r) e
 shifted_by-add (suc m) n r = let e : suc m + n ≡ suc (m + n) = omega arith in ap (λ (k : ℕ). shifted_by k r) e ∙ shifted_by-add m n (shifted r)
 
--- one byte more, before the others or behind them
+-- one byte more, before the others or after them
 pub shifted_by_byte_first : (n r : ℕ) → shifted_by (8 * n) (shifted_by 8 r) ≡ shifted_by (8 * suc n) r
 shifted_by_byte_first n r = let e : 8 + 8 * n ≡ 8 * suc n = omega arith in sym (shifted_by-add 8 (8 * n) r) ∙ ap (λ (k : ℕ). shifted_by k r) e
 
@@ -125,7 +125,7 @@ fold-shifted_apart [] r = refl
 fold-shifted_apart (b ∷ bytes) r =
     fold-cons b bytes r ∙ ap (bit_xor (shifted_by (8 * length (b ∷ bytes)) (bit_xor (r % 256) b))) (fold-shifted_apart bytes (r / 256))
 
--- bytes behind others: those before are shifted on by as many
+-- bytes after others: those before are shifted on by as many
 pub fold_behind : (before behind : List ℕ) (r : ℕ)
     → fold after_byte r (before ++ behind) ≡ bit_xor (shifted_by (8 * length behind) (fold after_byte r before)) (fold after_byte 0 behind)
 fold_behind before behind r =
@@ -146,7 +146,7 @@ fold_four a b c d r fits =
     fold-shifted_apart (bit_xor (r % 256) a ∷ bit_xor (r / 256 % 256) b ∷ bit_xor (r / 65536 % 256) c ∷ bit_xor (r / 16777216 % 256) d ∷ []) 0
     ∙ sym (fold-shifted_apart (a ∷ b ∷ c ∷ d ∷ []) r ∙ ap first_two moved)
 
--- four bytes and n bytes of zeros behind them, as the code takes them: each is shifted out alone
+-- four bytes and n bytes of zeros after them, as the code takes them: each is shifted out alone
 pub fold_four_apart : (a b c d n : ℕ)
     → bit_xor (bit_xor (bit_xor (shifted_by (8 * (n + 3 + 1)) a) (shifted_by (8 * (n + 2 + 1)) b)) (shifted_by (8 * (n + 1 + 1)) c)) (shifted_by (8 * (n + 1)) d)
     ≡ shifted_by (8 * n) (fold after_byte 0 (a ∷ b ∷ c ∷ d ∷ []))

@@ -35,7 +35,7 @@ pub header : (d : List ℕ) → 20 ≤ length d → is_header d ≡ true → hea
 unfolding header_fault
 header d long e = rw (le-ltb (length d) 20 long, e) refl
 
--- where there is no fault, there is a header
+-- if there is no fault, there is a header
 pub header_there : (d : List ℕ) → header_fault d ≡ None → (20 ≤ length d) × (is_header d ≡ true)
 header_there d e = elim (cases_lt (length d) 20) [
   | inl short ↦ elim (cases_Bool (begins d)) [
@@ -58,7 +58,7 @@ pub frame-header : (d : List ℕ) (told : StunParseError) → header_fault d ≡
 unfolding frame_fault
 frame-header d told e = rw e refl
 
--- behind a header the length decides
+-- after a header the length decides
 pub frame_is : (d : List ℕ) → header_fault d ≡ None → frame_fault d ≡ exact_fault (20 + length_field d) (length d)
 unfolding frame_fault length_fault
 frame_is d e = rw e refl
@@ -67,7 +67,7 @@ pub frame-whole : (d : List ℕ) → header_fault d ≡ None → length d ≡ 20
 frame-whole d e whole =
     frame_is d e ∙ rw (le-ltb (length d) (20 + length_field d) (omega (arith, whole)), le-ltb (20 + length_field d) (length d) (omega (arith, whole))) refl
 
--- where the frame has no fault, the header has none
+-- if the frame has no fault, the header has none
 pub frame_there : (d : List ℕ) → frame_fault d ≡ None → header_fault d ≡ None
 frame_there d e = none_first (header_fault d) (frame-header d) e
   where
@@ -130,7 +130,7 @@ first_twenty b long =
       ap length_field whole ∙ field_stays (take 20 b) (drop 20 b) cut,
     )
 
--- twenty bytes or more begin a header exactly where they are one
+-- twenty bytes or more begin a header exactly if they are one
 pub whole_begins : (b : List ℕ) → 20 ≤ length b → is_header b ≡ true → Begins b
 whole_begins b long there = ([], ap is_header (append-nil b) ∙ there)
 

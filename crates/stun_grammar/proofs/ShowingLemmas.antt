@@ -30,7 +30,7 @@ at_type wanted a = wanted a.type
 pub find-reverse-cons : {A : Type 0} (p : A → Bool) (x : A) (xs : List A) → find p (reverse (x ∷ xs)) ≡ option_or (find p (reverse xs)) (find p (x ∷ []))
 find-reverse-cons p x xs = ap (find p) (reverse_onto xs x []) ∙ find-append p (reverse xs) (x ∷ [])
 
--- where there is no last one, there is none
+-- if there is no last one, there is none
 pub none_there : (wanted : ℕ → Bool) (offset : ℕ) (xs : List Attribute) → find (at_type wanted) (reverse (placed offset xs)) ≡ None → list_any wanted (types xs) ≡ false
 unfolding placed
 none_there wanted offset [] e = refl

@@ -148,7 +148,7 @@ in_order-cons l k ts = elim (which l) [
       in_order-ordinary l (k ∷ ts) plain ∙ sym (ap (λ (t : Bool). t && in_order (k ∷ ts)) (in_order-ordinary l (k ∷ []) plain ∙ in_order-one k))
 ]
 
--- where the first two types are in order, a list is in order exactly if it is from the second on
+-- if the first two types are in order, a list is in order exactly if it is from the second on
 pub in_order_more : (l k : ℕ) (ts : List ℕ) → in_order (l ∷ (k ∷ [])) ≡ true → in_order (l ∷ (k ∷ ts)) ≡ in_order (k ∷ ts)
 in_order_more l k ts e = in_order-cons l k ts ∙ ap (λ (t : Bool). t && in_order (k ∷ ts)) e
 

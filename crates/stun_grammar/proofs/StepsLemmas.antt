@@ -126,7 +126,7 @@ push_fingerprint ks ordered none =
           ∙ ap (λ (xs : List ℕ). optional i MESSAGE_INTEGRITY ++ xs) (append_assoc (optional s MESSAGE_INTEGRITY_SHA256) [] (FINGERPRINT ∷ [])));
     })
 
--- ---- What bars a step
+-- ---- What blocks a step
 
 flip : (a t : ℕ) → eqb a t ≡ false → eqb t a ≡ false
 flip a t e = ne_eqb t a (λ is. absurd (cc (e, eq-eqb a t (sym is))))

@@ -78,7 +78,7 @@ authentic_encoding type id before a key type_fits id_fits each =
     ∙ ap (λ (v : List ℕ). placed 20 before ++ placed (20 + length (encodings before)) (canonical (type_of_algorithm a) v ∷ [])) value
     ∙ sym (placed-append 20 before (canonical (type_of_algorithm a) (hmac a key c) ∷ [])))
 
--- a message validates in which a step signed, where no wanted integrity attribute follows
+-- a message validates in which a step signed, if no wanted integrity attribute follows
 pub signed_validates : (type id : ℕ) (before behind : List Attribute) (a : IntegrityAlgorithm) (key : IntegrityAlgorithm → List ℕ) (wanted : ℕ → Bool)
     → (let all = before ++ appended_by (sign a (key a)) (message_encoding type id before) ∷ behind in
     IsWritable type id all → wanted (type_of_algorithm a) ≡ true → list_any wanted (types behind) ≡ false

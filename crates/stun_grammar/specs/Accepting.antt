@@ -1,4 +1,4 @@
--- What holds of a message where validation returns Ok (RFC 8489, sections 14.5 and 14.6).
+-- What holds of a message if validation returns Ok (RFC 8489, sections 14.5 and 14.6).
 use Rattle.std.specs.Prelude.{◌≡◌, ℕ, ◌⊎◌, List, find, Option, Some, None, IfSome, ◌==◌}
 use Rattle.std.specs.List.{AllByRecursion}
 use Rattle.stun_grammar.specs.declared.integrity_algorithm.IntegrityAlgorithm.{IntegrityAlgorithm}
@@ -35,7 +35,7 @@ pub record IsAuthentic (key : IntegrityAlgorithm → List ℕ) (d : List ℕ)
       ⊎ ComesFrom sent (key algorithm) algorithm c (content d)
 
 -- the same with a key that was made for one algorithm or for none, of what is shown through the
--- attribute that was checked; and of a FINGERPRINT and of all that is shown where no integrity
+-- attribute that was checked; and of a FINGERPRINT and of all that is shown if no integrity
 -- attribute is shown after that one
 pub record IsAuthenticThrough (made_for : Option IntegrityAlgorithm)
     (key : IntegrityAlgorithm → List ℕ) (d : List ℕ)

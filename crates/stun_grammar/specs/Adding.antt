@@ -33,7 +33,7 @@ first_of asked types = find (λ type. has type asked) types
 abbrev pub numbers : List AttributeType → List ℕ
 numbers = map (λ type. type.0)
 
--- the error of a step where the first type that bars it is found
+-- the error of a step if the first type that blocks it is found
 abbrev pub exists_refusal : Step → ℕ → StunWriteError
 exists_refusal (add type value) found =
     if found == FINGERPRINT then FingerprintExists else MessageIntegrityExists
@@ -41,7 +41,7 @@ exists_refusal (sign algorithm key) found =
     if found == FINGERPRINT then FingerprintExists else AttributeExists (record { 0 = found })
 exists_refusal finger found = AttributeExists (record { 0 = found })
 
--- why a step may not follow attributes of these types: the first type that bars it
+-- why a step may not follow attributes of these types: the first type that blocks it
 unfoldable pub order_refusal : Step → List ℕ → Option StunWriteError
 order_refusal step types = option_map (exists_refusal step) (first_of (barring_types step) types)
 
@@ -72,7 +72,7 @@ any_refusal type value types len greatest =
     if is_ending type then Some (EndingType (record { 0 = type })) else
     add_refusal (add type value) types len greatest
 
--- the result is the refusal; where there is none it is Ok, or `OutOfMemory`, and this only where P
+-- the result is the refusal; if there is none it is Ok, or `OutOfMemory`, and this only if P
 -- holds
 abbrev pub IsAddAnswer : Option StunWriteError → Type 0 → Result Unit StunWriteError → Type 0
 IsAddAnswer refusal P result =

@@ -2,7 +2,7 @@
 -- bit.
 use Rattle.std.specs.Prelude.{ℕ, zero, suc, ◌%◌, ◌/◌, List, fold, bit_xor, ◌==◌, if◌then◌else◌}
 
--- the register after its lowest bit is shifted out: where that bit was 1, the polynomial is XORed
+-- the register after its lowest bit is shifted out: if that bit was 1, the polynomial is XORed
 -- in
 abbrev pub shifted : ℕ → ℕ
 shifted register = if register % 2 == 1 then bit_xor (register / 2) 0xEDB88320 else register / 2

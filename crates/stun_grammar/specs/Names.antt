@@ -60,7 +60,7 @@ hex_byte byte = digit_glyph false (byte / 16) ∷ digit_glyph false (byte % 16) 
 abbrev pub hex : List ℕ → List ℕ
 hex = flat_map hex_byte
 
--- ---- How an attribute is printed: its type, and behind it its value
+-- ---- How an attribute is printed: its type, and after it its value
 
 -- the value as it is, in quotation marks, and in hexadecimal
 abbrev pub plain_text : ℕ → List ℕ → List ℕ

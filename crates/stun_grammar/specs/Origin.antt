@@ -24,7 +24,7 @@ signs algorithm key (sign a k) =
     (type_of_algorithm a == type_of_algorithm algorithm) && pointwise nat_eq k key
 signs algorithm key finger = false
 
--- what steps sign with a key and an algorithm, where the message has these attributes already
+-- what steps sign with a key and an algorithm, if the message has these attributes already
 unfoldable pub signed_from : ℕ → ℕ → List Attribute → List Step → List ℕ → IntegrityAlgorithm
     → List Signature
 signed_from type id before [] key algorithm = []

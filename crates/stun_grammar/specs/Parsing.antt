@@ -14,7 +14,7 @@ use Rattle.stun_grammar.specs.Fingerprints.{first_fingerprint_fault}
 abbrev pub scanned_prefix : List Attribute → List Attribute
 scanned_prefix = longest_prefix (λ prefix. in_any_order (types prefix))
 
--- why what follows the header is refused: the FINGERPRINT that is scanned, or else, where all
+-- why what follows the header is refused: the FINGERPRINT that is scanned, or else, if all
 -- attributes are scanned, the bytes after them
 unfoldable pub body_fault : List ℕ → Option StunParseError
 body_fault d =
@@ -24,7 +24,7 @@ body_fault d =
     (if length scanned == length attributes
     then fault (20 + length (encodings attributes)) (rest (drop 20 d)) else None)
 
--- why d is refused; nothing where it parses
+-- why d is refused; nothing if it parses
 unfoldable pub parse_fault : List ℕ → Option StunParseError
 parse_fault d = option_or (frame_fault d) (body_fault d)
 

@@ -14,6 +14,6 @@ longest_within zero passes xs = []
 longest_within (suc most) passes xs =
     if passes (take (suc most) xs) then take (suc most) xs else longest_within most passes xs
 
--- the one longest prefix, where the empty list passes
+-- the one longest prefix, if the empty list passes
 unfoldable pub longest_prefix : {A : Type 0} → (List A → Bool) → List A → List A
 longest_prefix passes xs = longest_within (length xs) passes xs

@@ -7,7 +7,7 @@ use Rattle.stun_grammar.specs.Writing.{message_encoding}
 use Rattle.stun_grammar.specs.Steps.{Step, with_step, IsEncodable, IsOrdinaryStep}
 use Rattle.stun_grammar.specs.Adding.{add_refusal}
 
--- the attributes of a message after steps, where it has these already
+-- the attributes of a message after steps, if it has these already
 unfoldable pub body_from : ℕ → ℕ → List Attribute → List Step → List Attribute
 body_from type id before [] = before
 body_from type id before (step ∷ steps) = body_from type id (with_step type id before step) steps

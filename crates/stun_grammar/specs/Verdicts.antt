@@ -44,14 +44,14 @@ hmac_fault Sha1 n = exact_fault 20 n
 hmac_fault Sha256 n =
     option_or (range_fault 16 32 n) (if n % 4 == 0 then None else Some InvalidAttributeData)
 
--- the bytes that the integrity attribute at an offset covers, where its value has n bytes: the
+-- the bytes that the integrity attribute at an offset covers, if its value has n bytes: the
 -- message before it, with the length field of a message that ends with that attribute
 abbrev pub covered_bytes : List ℕ → ℕ → ℕ → List ℕ
 covered_bytes d offset n = message_before d offset (4 + padded_length n)
 
--- ---- The verdict, where each algorithm has a key
+-- ---- The verdict, if each algorithm has a key
 
--- the verdict on one integrity attribute: Ok where its value has an allowed length and is a prefix
+-- the verdict on one integrity attribute: Ok if its value has an allowed length and is a prefix
 -- of the HMAC of the covered bytes
 unfoldable pub verdict_on : (IntegrityAlgorithm → List ℕ) → List ℕ → Shown
     → Result IntegrityAlgorithm ValidateError

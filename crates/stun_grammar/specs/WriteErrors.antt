@@ -1,10 +1,10 @@
--- An error of reading where an error of writing is wanted.
+-- An error of reading as an error of writing.
 use Rattle.stun_grammar.specs.declared.error.StunParseError.{StunParseError}
 use Rattle.stun_grammar.specs.declared.error.StunParseError.TheVariants.{NotStun, Truncated, TooLarge, MissingAttribute, AttributeAfterIntegrity, AttributeAfterFingerprint, FingerprintMismatch, DataMismatch, InvalidAttributeData, WrongAttributeImplementation, OutOfMemory}
 use Rattle.stun_grammar.specs.declared.error.StunWriteError.{StunWriteError}
 use Rattle.stun_grammar.specs.declared.error.StunWriteError.TheVariants as Write
 
--- the error of writing that says the same; `IntegrityFailed` where the bytes are not valid, for
+-- the error of writing that says the same; `IntegrityFailed` if the bytes are not valid, for
 -- which writing has no error
 abbrev pub write_error : StunParseError → StunWriteError
 write_error (TooLarge expected actual) = Write.TooLarge expected actual

@@ -4,7 +4,7 @@ use thiserror::Error;
 /// Why bytes are not a STUN message, or not the expected attribute.
 ///
 /// `expected` and `actual` count bytes: `expected` is how many are needed (`Truncated`) or allowed
-/// (`TooLarge`), and `actual` is how many there are. Where the header of an attribute in a message
+/// (`TooLarge`), and `actual` is how many there are. If the header of an attribute in a message
 /// is cut off, both are 4 more than that.
 #[derive(Clone, Copy, Debug, PartialEq, Eq, Error)]
 pub enum StunParseError {
@@ -147,7 +147,7 @@ pub enum ValidateError {
     /// allocation failed.
     #[error("The message failed to parse the relevant integrity attributes")]
     Parse(StunParseError),
-    /// The value is not the HMAC of the covered bytes under the key, nor a prefix of it where one
+    /// The value is not the HMAC of the covered bytes under the key, nor a prefix of it if one
     /// is allowed.
     #[error("The message failed integrity checks")]
     IntegrityFailed,

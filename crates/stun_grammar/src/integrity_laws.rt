@@ -31,7 +31,7 @@ pub fn integrity_is_local()
     // type, transaction ID and all attributes shown but a FINGERPRINT
     ensures told { (key : IntegrityAlgorithm → List ℕ) (d c : List ℕ) (a : IntegrityAlgorithm)
         → IsBytes d → Validates None key d c a → content d ≡ authentic c (key a) a }
-    // the same from the verdict alone: where it is Ok, some bytes were covered
+    // the same from the verdict alone: if it is Ok, some bytes were covered
     ensures verdict { (key : IntegrityAlgorithm → List ℕ) (d : List ℕ) (a : IntegrityAlgorithm)
         → IsBytes d → verdict (is_checked_type None) key d ≡ Ok a → IsLocal d (key a) a }
     // a FINGERPRINT that is shown
@@ -72,7 +72,7 @@ pub fn integrity_is_local_with_key()
         (d c : List ℕ) (a : IntegrityAlgorithm)
         → IsBytes d → Validates made_for key d c a
         → content_through (is_checked_type made_for) d ≡ authentic c (key a) a }
-    // a FINGERPRINT, where no integrity attribute is shown after the one that was checked
+    // a FINGERPRINT, if no integrity attribute is shown after the one that was checked
     ensures fingerprint { (made_for : Option IntegrityAlgorithm) (key : IntegrityAlgorithm → List ℕ)
         (d c : List ℕ) (a : IntegrityAlgorithm)
         → IsBytes d → parse_fault d ≡ None
@@ -133,7 +133,7 @@ pub fn step_is_written()
     ensures size { (type id : ℕ) (before : List Attribute) (step : Step) → IsEncodable step
         → length (message_encoding type id (with_step type id before step))
         ≡ length (message_encoding type id before) + (4 + padded_length (value_length step)) }
-    // a message that a step signed validates where no wanted integrity attribute follows the
+    // a message that a step signed validates if no wanted integrity attribute follows the
     // signature
     ensures signed { (type id : ℕ) (before behind : List Attribute) (a : IntegrityAlgorithm)
         (key : IntegrityAlgorithm → List ℕ) (wanted : ℕ → Bool)

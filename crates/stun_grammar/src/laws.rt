@@ -132,7 +132,7 @@ pub fn right_fingerprint()
         (placed 20 (before ++ a ∷ behind)) ≡ None) }
 {}
 
-/// Where the encoding of one attribute begins that of another, the two attributes are equal: they
+/// If the encoding of one attribute begins that of another, the two attributes are equal: they
 /// have the same type, the same value and the same padding.
 #[tactic(auto, using(crate::proofs::AttributesLemmas::no_encoding_begins))]
 pub fn one_spelling()

@@ -24,7 +24,7 @@ pub lawful_sha256 : (n : ℕ) → 16 ≤ n → n ≤ 32 → n % 4 ≡ 0 → hmac
 unfolding hmac_fault
 lawful_sha256 n least most four = rw (le-ltb n 16 least, le-ltb 32 n most, eq-eqb (n % 4) 0 four) refl
 
--- where a value has no fault, reading returns what is wanted
+-- if a value has no fault, reading returns what is wanted
 pub is_read : {T : Type 0} (fault : Option StunParseError) (Wanted : T → Type 0) (result : Result T StunParseError) → fault ≡ None → Reads fault Wanted result → IsOkAnd result Wanted
 is_read {T} fault Wanted result none told = subst (λ (o : Option StunParseError). MatchOption o (IsOkAnd result Wanted) (λ e. result ≡ Err e)) none told
 

@@ -39,7 +39,7 @@ MakesSha256 hmac result =
     (IsOkAnd result (λ made. sha256_hmac made ≡ hmac))
     (λ e. result ≡ Err (write_error e))
 
--- ---- What reading a value returns: the fault, or the attribute where there is none
+-- ---- What reading a value returns: the fault, or the attribute if there is none
 
 abbrev pub ReadsFingerprint : List ℕ → Result Fingerprint StunParseError → Type 0
 ReadsFingerprint value =

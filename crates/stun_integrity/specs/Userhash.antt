@@ -14,6 +14,6 @@ hash_bytes attribute = attribute.hash
 abbrev pub user_hash : List ℕ → List ℕ → List ℕ
 user_hash user realm = sha256 (user ++ (codes ":" ++ realm))
 
--- what reading a value returns: the fault, or the attribute where there is none
+-- what reading a value returns: the fault, or the attribute if there is none
 abbrev pub ReadsUserhash : List ℕ → Result Userhash StunParseError → Type 0
 ReadsUserhash value = Reads (exact_fault 32 (length value)) (λ read. hash_bytes read ≡ value)

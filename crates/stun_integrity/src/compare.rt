@@ -17,8 +17,8 @@ pub fn same_bytes(left: &[u8], right: &[u8]) -> bool
     left.len() == right.len() && differences(left, right) == 0
 }
 
-/// A number that is 0 where two slices of one length are equal: the XORs of their words of four
-/// bytes and of the bytes behind the last whole word, gathered into one number.
+/// A number that is 0 if two slices of one length are equal: the XORs of their words of four
+/// bytes and of the bytes after the last whole word, gathered into one number.
 ///
 /// It is not inlined: the compiler would see that its caller tests for 0 alone, and end early.
 #[inline(never)]

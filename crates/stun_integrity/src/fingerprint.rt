@@ -37,7 +37,7 @@ impl Fingerprint {
 
     /// The CRC-32 of the pieces, joined, in four bytes, big-endian: what `new` takes, not XORed.
     ///
-    /// It takes no memory. Only the joined bytes matter, not where they are cut.
+    /// It takes no memory. Only the joined bytes matter, not how they are cut.
     pub fn compute(pieces: &[&[u8]]) -> [u8; 4]
         ensures { result ≡ be32 (crc (concat (map (λ piece. piece.now) pieces.now))) }
     {
@@ -76,8 +76,8 @@ impl EncodeValue for Fingerprint {
 ///
 /// # Errors
 ///
-/// `Truncated { expected: 4, actual }` where the value has fewer than four bytes, and
-/// `TooLarge { expected: 4, actual }` where it has more.
+/// `Truncated { expected: 4, actual }` if the value has fewer than four bytes, and
+/// `TooLarge { expected: 4, actual }` if it has more.
 impl ReadValue for Fingerprint {
     ghost use Rattle.stun_integrity.specs.Integrity.{ReadsFingerprint};
 

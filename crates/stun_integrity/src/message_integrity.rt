@@ -108,8 +108,8 @@ impl BorrowValue for MessageIntegrity {
 ///
 /// # Errors
 ///
-/// `Truncated { expected: 20, actual }` where the value has fewer than 20 bytes, and
-/// `TooLarge { expected: 20, actual }` where it has more.
+/// `Truncated { expected: 20, actual }` if the value has fewer than 20 bytes, and
+/// `TooLarge { expected: 20, actual }` if it has more.
 impl ReadValue for MessageIntegrity {
     ghost use Rattle.stun_integrity.specs.Integrity.{ReadsIntegrity};
 

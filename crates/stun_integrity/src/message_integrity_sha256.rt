@@ -28,7 +28,7 @@ fn is_prefix(prefix: &[u8], whole: &[u8; 32]) -> bool
 /// field counts 4 bytes of header and those of the value, so for 32 bytes it is the attribute's
 /// offset and 16.
 ///
-/// Two attributes are equal where their values are.
+/// Two attributes are equal if their values are.
 #[derive(Debug, Drop)]
 pub struct MessageIntegritySha256 {
     bytes: [u8; 32],
@@ -63,7 +63,7 @@ impl MessageIntegritySha256 {
     /// # Errors
     ///
     /// `TooSmall { expected: 16, actual }` for fewer than 16 bytes, and
-    /// `TooLarge { expected: 32, actual }` for more than 32. Otherwise `IntegrityFailed` where the
+    /// `TooLarge { expected: 32, actual }` for more than 32. Otherwise `IntegrityFailed` if the
     /// number of bytes is not a multiple of 4.
     pub fn new(hmac: &[u8]) -> Result<Self, StunWriteError>
         ensures { MakesSha256 hmac.now result }
@@ -188,9 +188,9 @@ impl BorrowValue for MessageIntegritySha256 {
 ///
 /// # Errors
 ///
-/// `Truncated { expected: 16, actual }` where the value has fewer than 16 bytes, and
-/// `TooLarge { expected: 32, actual }` where it has more than 32. Otherwise `InvalidAttributeData`
-/// where its length is not a multiple of 4.
+/// `Truncated { expected: 16, actual }` if the value has fewer than 16 bytes, and
+/// `TooLarge { expected: 32, actual }` if it has more than 32. Otherwise `InvalidAttributeData`
+/// if its length is not a multiple of 4.
 impl ReadValue for MessageIntegritySha256 {
     ghost use Rattle.stun_integrity.specs.Integrity.{ReadsIntegritySha256};
 

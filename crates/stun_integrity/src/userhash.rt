@@ -10,7 +10,7 @@ use stun_grammar::attribute_types;
 use stun_text::{PrintText, TextSink};
 use stun_values::{check_hash_length, print_hex};
 
-/// USERHASH (0x001E): the SHA-256 of `username:realm`, 32 bytes, which is sent in place of the
+/// USERHASH (0x001E): the SHA-256 of `username:realm`, 32 bytes, which is sent instead of the
 /// username (RFC 8489, section 14.4).
 #[derive(Debug, Clone, PartialEq, Eq, Drop)]
 pub struct Userhash {
@@ -86,8 +86,8 @@ impl BorrowValue for Userhash {
 ///
 /// # Errors
 ///
-/// `Truncated { expected: 32, actual }` where the value has fewer than 32 bytes, and
-/// `TooLarge { expected: 32, actual }` where it has more.
+/// `Truncated { expected: 32, actual }` if the value has fewer than 32 bytes, and
+/// `TooLarge { expected: 32, actual }` if it has more.
 impl ReadValue for Userhash {
     ghost use Rattle.stun_integrity.specs.Userhash.{ReadsUserhash};
 

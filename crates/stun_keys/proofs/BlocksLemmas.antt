@@ -35,7 +35,7 @@ blocks_length algorithm key =
 ready_length : (key : List ℕ) → length (ready_blocks key) ≡ 256
 ready_length key = omega (arith, length-append (blocks_over sha1 key) (blocks_over sha256 key), blocks_length Sha1 key, blocks_length Sha256 key)
 
--- ---- The key and its blocks, one behind the other
+-- ---- The key and its blocks, one after the other
 
 key_before : (key : List ℕ) → key_in (key ++ ready_blocks key) ≡ key
 key_before key = take_at key (ready_blocks key) _ (omega (arith, length-append key (ready_blocks key), ready_length key))

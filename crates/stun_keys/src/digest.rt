@@ -15,7 +15,7 @@ pub(crate) use hmac::{KeyedHashers, push_blocks};
 pub use hmac::{hmac_sha1, hmac_sha256};
 pub(crate) use prepared::{BothHashers, Prepared};
 
-/// What a byte becomes once it and that many bytes of zeros behind it are shifted out.
+/// What a byte becomes once it and that many bytes of zeros after it are shifted out.
 fn shifted_out(byte: u8, zeros: usize) -> u32
     requires { zeros < 16 }
     ensures { result ≡ shifted_by (8 * (zeros + 1)) byte }
@@ -23,7 +23,7 @@ fn shifted_out(byte: u8, zeros: usize) -> u32
     TABLES[zeros][usize::from(byte)]
 }
 
-/// What four bytes become once they and that many bytes of zeros behind them are shifted out.
+/// What four bytes become once they and that many bytes of zeros after them are shifted out.
 fn four_shifted_out(four: &[u8], zeros: usize) -> u32
     requires four { length four.now ≡ 4 }
     requires few { zeros ≤ 12 }
@@ -98,7 +98,7 @@ fn after_all(register: u32, bytes: &[u8]) -> u32
 
 /// The CRC-32 of the pieces, joined: that of `123456789` is 0xCBF43926.
 ///
-/// It takes no memory, and the pieces are not copied. Only the joined bytes matter, not where they
+/// It takes no memory, and the pieces are not copied. Only the joined bytes matter, not how they
 /// are cut.
 #[tactic(auto, unfolding(stun_grammar::specs::Checksums::crc))]
 pub fn crc32(pieces: &[&[u8]]) -> u32

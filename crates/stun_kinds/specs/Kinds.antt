@@ -15,7 +15,7 @@ use Rattle.stun_kinds.specs.declared.bytes.ShortBytes.{ShortBytes}
 use Rattle.stun_kinds.specs.declared.address.AddressAttribute.{AddressAttribute}
 use Rattle.stun_kinds.specs.declared.xored.XorAddressAttribute.{XorAddressAttribute}
 
--- how an attribute is printed: its name, and behind it its value
+-- how an attribute is printed: its name, and after it its value
 abbrev pub named_text : List ℕ → List ℕ → List ℕ
 named_text name value = name ++ codes ": " ++ value
 
@@ -24,7 +24,7 @@ named_text name value = name ++ codes ": " ++ value
 abbrev pub number_of : {K N : Type 0} → NumberAttribute K N → N
 number_of attribute = attribute.number
 
--- an attribute is read where what it holds is
+-- an attribute is read if what it holds is
 abbrev pub ReadsHeld : {A V : Type 0} → (A → V) → (List ℕ → Result V StunParseError → Type 0)
     → List ℕ → Result A StunParseError → Type 0
 ReadsHeld held_of reads_value value (Ok attribute) = reads_value value (Ok (held_of attribute))

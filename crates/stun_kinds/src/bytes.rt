@@ -47,7 +47,7 @@ impl<'a, K: AttributeKind> BytesAttribute<K, ShortBytes<'a>> {
     ///
     /// # Errors
     ///
-    /// `TooLarge { expected: 65535, actual }` where there are more than 65535 bytes.
+    /// `TooLarge { expected: 65535, actual }` if there are more than 65535 bytes.
     pub fn new(bytes: &'a [u8]) -> Result<Self, StunWriteError>
         ensures ok { length bytes.now ≤ 65535
             → IsOkAnd result (λ made. bytes_of made ≡ bytes.now) }

@@ -1,4 +1,4 @@
-//! What tells attributes of one form apart.
+//! What distinguishes attributes of one form.
 
 ghost use Rattle.std.specs.Prelude.{◌≡◌, ℕ, List};
 

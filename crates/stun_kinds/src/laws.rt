@@ -37,7 +37,7 @@ pub fn number_attribute_is_read_back<K: AttributeKind, N: ReadValue>()
         → IsOkAnd result (λ read. number_of read ≡ number_of attribute) }
 {}
 
-/// An attribute of fields is read back where its number is, and where the number holds the fields
+/// An attribute of fields is read back if its number is, and if the number holds the fields
 /// that it was made of.
 pub fn fields_are_read_back<K: FieldsKind<V>, V>()
 where

@@ -9,8 +9,8 @@ use stun_attrs::{EncodeValue, ReadValue, TypedAttribute};
 use stun_base::StunParseError;
 use stun_text::{PrintText, TextSink};
 
-/// An attribute whose value is a number `N`, which is a `u16`, a `u32` or a `u64`: two, four or
-/// eight bytes, big-endian.
+/// An attribute whose value is a number `N`, which is a `u8`, a `u16`, a `u32` or a `u64`: one, two,
+/// four or eight bytes, big-endian.
 ///
 /// Reading refuses a value of another length than `wanted`, that of the number, as
 /// `Truncated { expected: wanted, actual }` or `TooLarge { expected: wanted, actual }`. It takes no

@@ -27,7 +27,7 @@ same_type type n [] = tt
 same_type type n (a ∷ attributes) =
     type_step (eqb a.type type) type n a (filter (λ (x : Shown). eqb x.type type) attributes) (eqb-true a.type type) (λ m. same_type type m attributes)
 
--- ---- A first one is found where one is shown
+-- ---- A first one is found if one is shown
 
 any_step : (b r : Bool) (a : Shown) (others : List Shown) → is_some (slice_get others 0) ≡ r → is_some (slice_get (cond b (a ∷ others) others) 0) ≡ (b || r)
 any_step true r a others e = refl
@@ -40,7 +40,7 @@ any_found type (a ∷ attributes) =
 
 -- ---- In a message that was written
 
--- the member that stands behind others
+-- the member that follows others
 member_behind : (xs ys : List Shown) (x : Shown) → slice_get (xs ++ x ∷ ys) (length xs) ≡ Some x
 member_behind [] ys x = refl
 member_behind (y ∷ xs) ys x = member_behind xs ys x

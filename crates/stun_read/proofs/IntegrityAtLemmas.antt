@@ -217,7 +217,7 @@ last_either offset (x ∷ xs) e =
     λ h. join_last A B (at (is_checked_type None)) (at (is_checked_type (Some Sha256))) (at (is_checked_type (Some Sha1))) h _ _ _ whole (last_cons (is_checked_type (Some Sha256)) offset x xs) (last_cons (is_checked_type (Some Sha1)) offset x xs) in
     by (either_at offset x.type x.value A B (λ is. none_last (is_checked_type (Some Sha1)) o xs (none_behind (types xs) (ap (λ (k : ℕ). in_order (k ∷ types xs)) (sym is) ∙ e))))
 
--- MESSAGE-INTEGRITY-SHA256 where it is shown, else MESSAGE-INTEGRITY
+-- MESSAGE-INTEGRITY-SHA256 if it is shown, else MESSAGE-INTEGRITY
 pub last_is_either : (d : List ℕ) → last_shown (is_checked_type None) d ≡ option_or (last_shown (is_checked_type (Some Sha256)) d) (last_shown (is_checked_type (Some Sha1)) d)
 unfolding last_of
 last_is_either d = elim (none_or_some (frame_fault d)) [

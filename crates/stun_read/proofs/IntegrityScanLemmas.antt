@@ -53,7 +53,7 @@ ordered q = in_order (types q)
 ordered_closed : IsClosed ordered
 ordered_closed a b e = in_order_closed (types a) (types b) (ap in_order (sym (map-append (λ x. x.type) a b)) ∙ e)
 
--- where the next member breaks the order, what follows changes nothing
+-- if the next member breaks the order, what follows changes nothing
 prefix_cut : (passes : List Attribute → Bool) (xs : List Attribute) (x : Attribute) (ys : List Attribute) → IsClosed passes → passes (xs ++ x ∷ []) ≡ false → longest_prefix passes (xs ++ x ∷ ys) ≡ longest_prefix passes xs
 prefix_cut passes [] x ys closed failed =
     longest-cons passes x ys (λ q e. closed (x ∷ []) q e) ∙ cond-false (passes (x ∷ [])) _ _ failed ∙ sym (longest-nil passes)

@@ -4,7 +4,7 @@ use Rattle.stun_grammar.specs.Chains.{Shown}
 use Rattle.stun_attrs.specs.declared.raw.RawAttribute.{RawAttribute}
 use Rattle.stun_read.specs.Iterating.{item_view, borrowed}
 
--- where the views of items are these attributes, each borrowed, their first parts are these
+-- if the views of items are these attributes, each borrowed, their first parts are these
 -- attributes
 pub shown_items : (items : List (ℕ × RawAttribute)) (attributes : List Shown) → map item_view items ≡ borrowed attributes → map (λ (item : ℕ × RawAttribute). (item_view item).0) items ≡ attributes
 shown_items items attributes e = first_parts items ∙ ap (map (λ (x : Shown × Bool). x.0)) e ∙ unborrowed attributes

@@ -88,7 +88,7 @@ ordinary_next x behind offset d type o found type-is ends within =
       rest_is = to.rest_is ∙ ap (λ (k : ℕ). rest (drop k d)) (sym found.behind_is);
     }
 
--- a scan that goes on behind ordinary attributes
+-- a scan that goes on after ordinary attributes
 pub behind_ordinary : (seen : Seen) (offsets : IntegrityOffsets) (d : List ℕ) (offset : ℕ) → Tracks seen [] → offsets.integrity ≡ None → offsets.sha256 ≡ None → IsOrdinaryTo d offset → Scanned seen offsets 0 d offset
 behind_ordinary seen offsets d offset tracks none-integrity none-sha256 o =
     let none = has_none (types o.taken) (no_endings o.taken o.none_ends) in
@@ -103,7 +103,7 @@ behind_ordinary seen offsets d offset tracks none-integrity none-sha256 o =
       keeps = starts offsets o.taken none-integrity none-sha256 o.none_ends;
     }
 
--- where all attributes are ordinary, there is no offset to keep
+-- if all attributes are ordinary, there is no offset to keep
 pub ordinary_kept : (offsets : IntegrityOffsets) (d : List ℕ) (offset : ℕ) → offsets.integrity ≡ None → offsets.sha256 ≡ None → frame_fault d ≡ None → IsOrdinaryTo d offset → first_attribute (drop offset d) ≡ None → OffsetsOf offsets d
 ordinary_kept offsets d offset none-integrity none-sha256 frame o none =
     kept_at_end offsets 0 d o.taken frame (starts offsets o.taken none-integrity none-sha256 o.none_ends)

@@ -1,4 +1,4 @@
--- The value of an attribute that is found stands in the message, behind the attribute's header.
+-- The value of an attribute that is found is in the message, after the attribute's header.
 use Rattle.std.proofs.Common.{◌≡◌, ℕ, zero, suc, ◌+◌, ◌-◌, ◌≤◌, Bool, true, false, cond, eqb, List, [], ◌∷◌, ◌++◌, length, take, drop, Option, None, Some, refl, sym, ap, subst, ◌∙◌, arith, inl, inr, append_assoc, length-append, length-take}
 use Rattle.std.specs.Prelude.{filter, slice_get, slice_range, IfSome}
 use Rattle.std.proofs.lemmas.List.{take-append-drop}
@@ -12,7 +12,7 @@ use Rattle.stun_grammar.proofs.HeadersLemmas.{frame_there, header_there}
 use Rattle.stun_grammar.proofs.ShowingLemmas.{shows, nothing}
 use Rattle.stun_read.specs.LookingUp.{nth}
 
--- bytes from an offset on have the value of an attribute four bytes behind the attribute's offset
+-- bytes from an offset on have the value of an attribute four bytes after the attribute's offset
 record Has (b : List ℕ) (offset : ℕ) (x : Shown) : Type 0 where
   before : List ℕ
   behind : List ℕ

@@ -34,7 +34,7 @@ past_header m d x each checked = (stands (is_checked_type m) d x (all_bytes d ea
 pub before_end : (m : Option IntegrityAlgorithm) (d : List ℕ) (x : Shown) → ((i : ℕ) → get_or d i 0 < 256) → IsChecked m d x → x.offset ≤ length d
 before_end m d x each checked = omega (arith, (stands (is_checked_type m) d x (all_bytes d each) checked.last_is).within)
 
--- the type of an algorithm's attribute tells that algorithm
+-- the type of an algorithm's attribute determines that algorithm
 pub own_algorithm : (algorithm : IntegrityAlgorithm) → algorithm ≡ algorithm_of (type_of_algorithm algorithm)
 own_algorithm Sha1 = refl
 own_algorithm Sha256 = refl
@@ -94,7 +94,7 @@ whole_digest value right key d offset same e right-is same-is =
     take_all 20 (hmac Sha1 key (covered_bytes d offset 20)) (omega (arith, hmac_has_length Sha1 key (covered_bytes d offset 20))) in
     same-is ∙ ap (pointwise nat_eq value) (right-is ∙ sym whole ∙ ap (λ (n : ℕ). take n (hmac Sha1 key (covered_bytes d offset n))) (sym is))
 
--- ---- The verdict where no HMAC is compared
+-- ---- The verdict if no HMAC is compared
 
 pub missing : (wanted : ℕ → Bool) (keys : IntegrityAlgorithm → List ℕ) (d : List ℕ) (told : AttributeType) → told.0 ≡ 0x0008 → last_shown wanted d ≡ None → verdict wanted keys d ≡ Err (Parse (MissingAttribute told))
 missing wanted keys d told type-is none = verdict_missing wanted keys d none ∙ ap (λ (n : ℕ). Err (Parse (MissingAttribute (record { 0 = n })))) (sym type-is)

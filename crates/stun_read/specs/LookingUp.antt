@@ -23,14 +23,14 @@ abbrev pub IsRawFound : Option Shown → Option RawAttribute → Type 0
 IsRawFound attribute raw =
     MatchOption attribute (raw ≡ None) (λ a. IsSomeAnd raw (Borrows a.type a.value))
 
--- the result is one that reading this attribute may return, or `MissingAttribute` of the type where
+-- the result is one that reading this attribute may return, or `MissingAttribute` of the type if
 -- there is none
 abbrev pub IsRead : {A : Type 0} → AttributeType → (ℕ → List ℕ → Result A StunParseError → Type 0)
     → Option Shown → Result A StunParseError → Type 0
 IsRead type Reads attribute result =
     MatchOption attribute (result ≡ Err (MissingAttribute type)) (λ a. Reads a.type a.value result)
 
--- the same, where an Ok tells the offset of the attribute's header beside what was read
+-- the same, with an Ok that has the offset of the attribute's header beside what was read
 abbrev pub IsReadAt : {A : Type 0} → AttributeType
     → (ℕ → List ℕ → Result A StunParseError → Type 0)
     → Option Shown → Result (ℕ × A) StunParseError → Type 0

@@ -14,12 +14,12 @@ abbrev pub offset_among : (ℕ → Bool) → List Shown → Option ℕ
 offset_among wanted attributes =
     option_map (λ x. x.offset) (find (λ a. wanted a.type) (reverse attributes))
 
--- the offsets of the two integrity attributes among these, each only where it is one of them
+-- the offsets of the two integrity attributes among these, each only if it is one of them
 pub record AreOffsets (offsets : IntegrityOffsets) (attributes : List Shown) : Type 0 where
   pub integrity : offsets.integrity ≡ offset_among (is_checked_type (Some Sha1)) attributes
   pub sha256 : offsets.sha256 ≡ offset_among (is_checked_type (Some Sha256)) attributes
 
--- the offsets of the two integrity attributes of d, each only where d shows that attribute
+-- the offsets of the two integrity attributes of d, each only if d shows that attribute
 abbrev pub OffsetsOf : IntegrityOffsets → List ℕ → Type 0
 OffsetsOf offsets d = AreOffsets offsets (shown d)
 

@@ -15,7 +15,7 @@ shown_text attribute = attribute_text attribute.type attribute.value true
 abbrev pub attributes_text : List Shown → List ℕ
 attributes_text = with_commas shown_text
 
--- what stands before them: the class, the method and the transaction ID
+-- what precedes them: the class, the method and the transaction ID
 abbrev pub head_text : Header → List ℕ
 head_text header =
     codes "Message(class: " ++ class_name (class_of header.type)

@@ -1,4 +1,4 @@
-//! The header of a message, the length that it states, and the attributes behind it.
+//! The header of a message, the length that it states, and the attributes after it.
 
 ghost use Rattle.std.specs.Prelude.{◌≡◌, ◌+◌, ◌^◌, ◌<◌, ◌≤◌, length, IfOk, IfSome, MatchResult, MatchOption, None, Some};
 ghost use Rattle.stun_grammar.specs.Headers.{Begins, length_field};
@@ -19,7 +19,7 @@ fn stated_length(bytes: &[u8]) -> usize
 }
 
 /// Checks that `bytes` begin with a header, and that as many bytes follow it as its length field
-/// states. Nothing else of the header is read, and none of the bytes behind it.
+/// states. Nothing else of the header is read, and none of the bytes after it.
 ///
 /// # Errors
 ///
@@ -35,10 +35,10 @@ pub fn check_frame(bytes: &[u8]) -> Result<(), StunParseError>
 }
 
 /// The length of the message whose first bytes are `prefix`: its header, and as many bytes as that
-/// states, 20 to 65555 in all. `None` where there are fewer than twenty bytes, and a header may
+/// states, 20 to 65555 in all. `None` if there are fewer than twenty bytes, and a header may
 /// begin with them. It takes no memory, and looks at the first twenty bytes alone.
 ///
-/// A message is read from exactly that many bytes. Where a buffer may hold more, as one that
+/// A message is read from exactly that many bytes. If a buffer may hold more, as one that
 /// collects the bytes of a stream (RFC 8489, section 6.2.2) or one that is longer than the datagram
 /// in it, cut it to this length first: bytes of this length are never refused for their length.
 ///
@@ -50,7 +50,7 @@ pub fn check_frame(bytes: &[u8]) -> Result<(), StunParseError>
 ///
 /// # Errors
 ///
-/// `NotStun` where no header begins with these bytes, whatever follows them.
+/// `NotStun` if no header begins with these bytes, whatever follows them.
 pub fn message_length(prefix: &[u8]) -> Result<Option<usize>, StunParseError>
     ensures told { MatchResult result
         (λ told. Begins prefix.now × MatchOption told (length prefix.now < 20)

@@ -28,8 +28,8 @@ impl<'a> MessageAttributesIter<'a> {
     ghost use Rattle.std.specs.Prelude.{◌≡◌, ◌^◌, ◌<◌};
     ghost use Rattle.stun_read.specs.Iterating.{items_left, borrowed};
 
-    /// Iterates over the attributes that `bytes` show, whatever they are. They show none where they
-    /// don't begin with a header, or where fewer or more bytes follow it than its length field
+    /// Iterates over the attributes that `bytes` show, whatever they are. They show none if they
+    /// don't begin with a header, or if fewer or more bytes follow it than its length field
     /// states. A FINGERPRINT is shown whether or not its value is right.
     pub fn new(bytes: &'a [u8]) -> MessageAttributesIter<'a>
         ensures items { items_left result ≡ borrowed (shown bytes.now) }

@@ -50,7 +50,7 @@ pub fn shown_is_found()
         × (nth (message_encoding type id (before ++ a ∷ behind)) a.type 1 ≡ None) }
 {}
 
-/// What is found has the type that was asked for; and a first one is found exactly where an
+/// What is found has the type that was asked for; and a first one is found exactly if an
 /// attribute of the type is shown.
 pub fn found_has_its_type()
     ensures same { (d : List ℕ) (type n : ℕ) → IfSome (nth d type n) (λ a. a.type ≡ type) }
@@ -75,7 +75,7 @@ pub fn walks_from_there()
     ensures read { (wanted : ℕ → Bool) (d : List ℕ) (x : Shown) → last_shown wanted d ≡ Some x
         → IsSomeAnd (first_attribute (drop x.offset d))
         (λ a. (a.type ≡ x.type) × (a.value ≡ x.value)) }
-    // of the two integrity attributes the last is MESSAGE-INTEGRITY-SHA256, where it is shown
+    // of the two integrity attributes the last is MESSAGE-INTEGRITY-SHA256, if it is shown
     ensures last { (d : List ℕ)
         → last_shown (is_checked_type None) d
         ≡ option_or (last_shown (is_checked_type (Some Sha256)) d)

@@ -14,11 +14,11 @@ use stun_grammar::IntegrityAlgorithm;
 use stun_grammar::attribute_types::{MESSAGE_INTEGRITY, MESSAGE_INTEGRITY_SHA256};
 
 /// The attribute at place `n`, counted from 0, of the attributes shown that have the type `atype`,
-/// with the offset of its header; `None` where there are no more than `n` of them. `bytes` begin
+/// with the offset of its header; `None` if there are no more than `n` of them. `bytes` begin
 /// with a header, and as many bytes follow it as its length field states. `offsets` are those that
 /// [`check_message`](crate::check_message) returns of `bytes`.
 ///
-/// It goes over the attributes once and stops at the one that it finds; MESSAGE-INTEGRITY and
+/// It walks the attributes once and stops at the one that it finds; MESSAGE-INTEGRITY and
 /// MESSAGE-INTEGRITY-SHA256 at place 0 it reads at their offsets. It takes no memory, and the value
 /// borrows the bytes for `'a`.
 pub fn nth_raw<'a>(

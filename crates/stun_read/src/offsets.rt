@@ -4,9 +4,9 @@ use crate::endings::follows;
 use stun_grammar::IntegrityAlgorithm;
 use stun_grammar::attribute_types::{FINGERPRINT, MESSAGE_INTEGRITY, MESSAGE_INTEGRITY_SHA256};
 
-/// Where the integrity attributes of a message are: the offsets of their headers from the start of
-/// the message, each only where that attribute is shown. [`check_message`](crate::check_message)
-/// finds them.
+/// The places of the integrity attributes of a message: the offsets of their headers from the
+/// start of the message, each only if that attribute is shown.
+/// [`check_message`](crate::check_message) finds them.
 #[derive(Debug, Clone, Copy, Drop)]
 pub struct IntegrityOffsets {
     integrity: Option<usize>,

@@ -44,7 +44,7 @@ fn check_endings(bytes: &[u8], start: usize) -> Result<IntegrityOffsets, StunPar
 
 /// Checks that `bytes` are a message: a header, as many bytes after it as its length field states,
 /// and attributes up to the end of the slice (RFC 8489, sections 5, 6.3 and 14). Returns the
-/// offsets of the integrity attributes that are shown. It goes over the attributes once, and reads
+/// offsets of the integrity attributes that are shown. It walks the attributes once, and reads
 /// the bytes before a FINGERPRINT again for their checksum. It takes no memory and copies nothing.
 ///
 /// # Errors

@@ -12,7 +12,7 @@ use stun_attrs::RawAttribute;
 use stun_base::{MessageHeader, put_class_and_method, read_header};
 use stun_text::{PrintText, TextSink};
 
-/// Prints what stands before the attributes: the class, the method and the transaction ID.
+/// Prints what precedes the attributes: the class, the method and the transaction ID.
 fn print_head<S: TextSink>(header: &MessageHeader, sink: &mut S) -> Result<(), S::Error>
     ensures { OnOk result (S.wrote sink.old (head_text header.now) sink.new) }
 {
@@ -24,7 +24,7 @@ fn print_head<S: TextSink>(header: &MessageHeader, sink: &mut S) -> Result<(), S
     Ok(())
 }
 
-/// Prints a text and an attribute behind it.
+/// Prints a text and an attribute after it.
 #[tactic(auto, using(stun_text::proofs::Joining::both, stun_text::proofs::Joining::spelled_so))]
 fn print_led<S: TextSink>(
     lead: &str,
@@ -56,7 +56,7 @@ fn print_attributes<S: TextSink>(bytes: &[u8], sink: &mut S) -> Result<(), S::Er
 /// each as it is printed by itself. `bytes` begin with a header, and as many bytes follow it as its
 /// length field states.
 ///
-/// It goes over the attributes once, and takes no memory.
+/// It walks the attributes once, and takes no memory.
 ///
 /// # Errors
 ///

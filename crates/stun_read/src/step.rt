@@ -6,10 +6,10 @@ ghost use Rattle.stun_read.specs.Iterating.{shown_behind, ShowsFirst};
 use crate::endings::{follows, type_number};
 use stun_attrs::{RawAttribute, attribute_at};
 
-/// The attribute whose header is at `offset` in a message, if it is shown there behind one of type
+/// The attribute whose header is at `offset` in a message, if it is shown there after one of type
 /// `last`, and the offset after its padding: one step of [`MessageAttributesIter`], for a caller
 /// that keeps these two numbers itself. The attributes that `bytes` show begin at offset 20, with 0
-/// for `last`, where as many bytes follow the header as its length field states. The value borrows
+/// for `last`, if as many bytes follow the header as its length field states. The value borrows
 /// the bytes for `'a`.
 ///
 /// # Requires

@@ -62,7 +62,7 @@ pub fn validate_bytes(
 }
 
 /// Checks an integrity attribute with a key, and returns its algorithm: the last one that is shown
-/// or, where the key was made for an algorithm, the last one of that algorithm. `offsets` are those
+/// or, if the key was made for an algorithm, the last one of that algorithm. `offsets` are those
 /// that [`check_message`](crate::check_message) returns of `bytes`: the attribute is read at its
 /// offset, and no other one is. It takes no memory.
 ///

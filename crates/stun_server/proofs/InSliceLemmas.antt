@@ -36,7 +36,7 @@ use Rattle.stun_server.proofs.SizesLemmas.{short_value, unknown_short, reply_for
 
 -- ---- The types that pass a test, counted
 
--- where the next type passes too, those so far are fewer than all
+-- if the next type passes too, those so far are fewer than all
 pub counted : (test : AttributeType → Bool) (d : List ℕ) (items : List (ℕ × RawAttribute)) (type : AttributeType) → SoFar d items type → test type ≡ true
     → length (filter test (map item_type items)) + 1 ≤ length (filter test (shown_types d))
 counted test d items type so passes =

@@ -26,7 +26,7 @@ use Rattle.stun_write.specs.Writers.{Writer, Gains}
 use Rattle.stun_values.specs.Addresses.{address_value, IsXored}
 use Rattle.std.specs.declared.net.socket_addr.SocketAddr.{SocketAddr}
 
--- a step is not refused that nothing bars, where the writer has no bound and the whole is short enough
+-- a writer with no bound refuses no step that nothing blocks, if the message is short enough
 pub no_refusal : (step : Step) (types : List ℕ) (len : ℕ) → order_refusal step types ≡ None → 20 ≤ len → grown_length len (value_length step) ≤ 65555 → add_refusal step types len None ≡ None
 unfolding room_refusal
 no_refusal step types len none header short = rw (none, le-ltb len 20 header, le-ltb 65555 (grown_length len (value_length step)) short) refl

@@ -7,7 +7,7 @@ use Rattle.stun_grammar.specs.declared.error.StunWriteError.TheVariants.{TooSmal
 abbrev pub overlaid : (text slice : List ℕ) → List ℕ
 overlaid text slice = text ++ drop (length text) slice
 
--- what is answered by the reply that is owed, if one is, and the length of the slice
+-- what is returned for the reply that is owed, if one is, and the length of the slice
 abbrev pub answer_in : Option (List ℕ) → (room : ℕ) → Result (Option ℕ) StunWriteError
 answer_in None room = Ok None
 answer_in (Some text) room =

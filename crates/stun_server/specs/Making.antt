@@ -6,7 +6,7 @@ use Rattle.stun_grammar.specs.Adding.{order_refusal}
 use Rattle.stun_grammar.specs.Steps.{finger}
 use Rattle.stun_write.specs.Writers.{Writer}
 
--- where there is an error, an allocation failed
+-- if there is an error, an allocation failed
 abbrev pub FailsForMemory : {T : Type 0} → Result T StunWriteError → Type 0
 FailsForMemory result = IfErr result (λ e. e ≡ OutOfMemory)
 
@@ -17,8 +17,8 @@ pub record IsSoFar (types : List ℕ) (most : ℕ) (w : Writer) : Type 0 where
   pub header : 20 ≤ length w.bytes
   pub short : length w.bytes ≤ most
 
--- a FINGERPRINT can be added: the writer takes any number of bytes, nothing bars it, and the message
--- is short enough
+-- a FINGERPRINT can be added: the writer takes any number of bytes, nothing blocks it, and the
+-- message is short enough
 pub record TakesFingerprint (w : Writer) : Type 0 where
   pub unbounded : w.greatest ≡ None
   pub unbarred : order_refusal finger w.types ≡ None

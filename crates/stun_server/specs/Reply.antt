@@ -37,14 +37,14 @@ success_reply source r =
 abbrev pub response : MessageClass → List ℕ → List Attribute → List ℕ
 response class r attributes = message_encoding (response_type class r) (id_field r) attributes
 
--- the response, with a FINGERPRINT at its end where r shows one
+-- the response, with a FINGERPRINT at its end if r shows one
 abbrev pub finished : List ℕ → List ℕ → List ℕ
 finished r text =
     if is_some (nth r FINGERPRINT 0)
     then appended text FINGERPRINT (fingerprint_value text (length text)) else text
 
--- the reply to a binding request r, but for its FINGERPRINT: 420 where it shows types that require
--- comprehension and aren't comprehended, and else the address that it came from (section 6.3.1)
+-- the reply to a binding request r, but for its FINGERPRINT: 420 if it shows types that require
+-- comprehension and aren't comprehended, otherwise the address that it came from (section 6.3.1)
 abbrev pub unfinished_reply : SocketAddr → List ℕ → List ℕ
 unfinished_reply source r =
     option_map_or (response ErrorClass r) (check_reply comprehended [] r)
@@ -61,7 +61,7 @@ reply_by_type Request method source r =
     if method == BINDING then Some (binding_reply source r) else None
 reply_by_type _ method source r = None
 
--- the reply to a datagram that came from an address: none where it doesn't parse, or is no binding
+-- the reply to a datagram that came from an address: none if it doesn't parse, or is no binding
 -- request
 unfoldable pub reply : SocketAddr → List ℕ → Option (List ℕ)
 reply source r =

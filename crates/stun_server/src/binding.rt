@@ -60,7 +60,7 @@ fn add_software<B: MessageWrite>(software: &Software, write: &mut B) -> Result<(
     write.add_attribute(software)
 }
 
-/// Adds an XOR-MAPPED-ADDRESS behind the header alone.
+/// Adds an XOR-MAPPED-ADDRESS after the header alone.
 fn add_first(mapped: &XorMappedAddress, write: &mut MessageWriteVec) -> Result<(), StunWriteError>
     requires begun { IsSoFar [] 20 (⟦<MessageWriteVec as MessageWrite>⟧.state write.old) }
     requires short { length (address_value (written_mapped_addr mapped.now)) ≤ 20 }
@@ -75,7 +75,7 @@ fn add_first(mapped: &XorMappedAddress, write: &mut MessageWriteVec) -> Result<(
     add_mapped(mapped, write)
 }
 
-/// Adds a SOFTWARE behind that.
+/// Adds a SOFTWARE after that.
 fn add_second(software: &Software, write: &mut MessageWriteVec) -> Result<(), StunWriteError>
     requires so_far { IsSoFar (XOR_MAPPED_ADDRESS ∷ []) 44
         (⟦<MessageWriteVec as MessageWrite>⟧.state write.old) }
@@ -135,8 +135,8 @@ fn refusing_response(
     Message::check_attribute_types(alloc, request, &[], &[], write)
 }
 
-/// The reply to a binding request, without a FINGERPRINT: 420 where it shows types that require
-/// comprehension, and else the success response.
+/// The reply to a binding request, without a FINGERPRINT: 420 if it shows types that require
+/// comprehension, otherwise the success response.
 fn unfinished_response(
     alloc: Global,
     request: &Message<'_>,
@@ -166,7 +166,7 @@ fn add_last(write: &mut MessageWriteVec) -> Result<(), StunWriteError>
     write.add_fingerprint()
 }
 
-/// The reply to a binding request: with a FINGERPRINT where the request shows one.
+/// The reply to a binding request: with a FINGERPRINT if the request shows one.
 fn binding_response(
     alloc: Global,
     request: &Message<'_>,

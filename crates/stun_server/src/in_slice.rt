@@ -57,7 +57,7 @@ fn success_length(request: &Message<'_>, source: SocketAddr) -> usize
     MessageHeader::LENGTH + mapped.padded_len() + 16
 }
 
-/// Adds an XOR-MAPPED-ADDRESS behind the header alone.
+/// Adds an XOR-MAPPED-ADDRESS after the header alone.
 fn append_mapped(mapped: &XorMappedAddress, slice: &mut [u8])
     requires room { grown_length 20 (length (address_value (written_mapped_addr mapped.now)))
         ≤ length slice.old }
@@ -178,7 +178,7 @@ fn finished_length(len: usize, is_finished: bool) -> usize
     len
 }
 
-/// Writes the reply to a binding request, where the slice has room for it.
+/// Writes the reply to a binding request, if the slice has room for it.
 fn write_reply(
     request: &Message<'_>,
     source: SocketAddr,
@@ -207,12 +207,12 @@ fn write_reply(
 }
 
 /// The reply to a datagram as [`reply`](crate::reply) makes it, written at the start of a slice.
-/// Returns how many bytes it has, at most 32840, or `None` where none is owed: the slice is as it
-/// was then. The bytes behind the reply stay. It takes no memory.
+/// Returns how many bytes it has, at most 32840, or `None` if none is owed: the slice is as it
+/// was then. The bytes after the reply stay. It takes no memory.
 ///
 /// # Errors
 ///
-/// `TooSmall { expected, actual }` where the slice has no room for the reply: the length of the
+/// `TooSmall { expected, actual }` if the slice has no room for the reply: the length of the
 /// whole reply, and that of the slice, which is as it was.
 pub fn reply_into(
     source: SocketAddr,

@@ -29,7 +29,7 @@ header_line header =
     class_name (class_of header.type) ++ codes " method=" ++ decimal (method_of header.type)
     ++ codes " id=" ++ id_text header.id ++ codes " length=" ++ decimal header.length ++ line_feed
 
--- a value in hexadecimal, or a dash where it is empty
+-- a value in hexadecimal, or a dash if it is empty
 abbrev pub value_text : List ℕ → List ℕ
 value_text [] = codes "-"
 value_text (byte ∷ bytes) = hex (byte ∷ bytes)
@@ -67,13 +67,13 @@ integrity_word (Err IntegrityFailed) = codes "failed"
 abbrev pub integrity_line : Result IntegrityAlgorithm ValidateError → List ℕ
 integrity_line answer = codes "integrity: " ++ integrity_word answer ++ line_feed
 
--- the last line, where a password is given
+-- the last line, if a password is given
 abbrev pub integrity_lines : List ℕ → Option (List ℕ) → List ℕ
 integrity_lines d password =
     option_map_or (λ key. integrity_line (password_verdict d key)) password []
 
 -- a line for the header, one for each attribute that is shown, and with a password one for the
--- verdict; where d is refused, one line that says why
+-- verdict; if d is refused, one line that says why
 unfoldable pub report : List ℕ → Option (List ℕ) → List ℕ
 report d password =
     option_map_or refusal_line (parse_fault d)

@@ -1,4 +1,4 @@
--- What the program does with its arguments, and how it tells how it ended.
+-- What the program does with its arguments, and how it reports how it ended.
 use Rattle.std.specs.Prelude.{◌≡◌, ℕ, List, [], ◌∷◌, ◌++◌, codes, Option, Some, None, Result, Ok, Err, MatchResult}
 use Rattle.stun_framing.specs.RunErrors.{line_of}
 use Rattle.stun_framing.specs.declared.run_error.RunError.{RunError}
@@ -17,7 +17,7 @@ given_password (name ∷ password ∷ []) = Ok (Some password)
 given_password (name ∷ password ∷ another ∷ more) = Err Usage
 
 -- what the program has read and written, by its arguments and by how it ended: what a run has with
--- the password that they give, and nothing where they are wrong
+-- the password that they give, and nothing if they are wrong
 abbrev pub EndsOn : List (List ℕ) → Result RunEnd RunError → (left left' held held' : Option (List ℕ)) → Type 0
 EndsOn arguments end left left' held held' =
     MatchResult (given_password arguments)

@@ -1,5 +1,5 @@
 -- What a run has read and written, by how it ends. `left` is what the reader has left and `held`
--- what the writer holds, before the run and (with a prime) after it, where those bytes are known.
+-- what the writer holds, before the run and (with a prime) after it, if those bytes are known.
 use Rattle.std.specs.Prelude.{◌≡◌, ℕ, List, Option, Result, Ok, Err}
 use Rattle.std.specs.Io.KnownBytes.{Keeps, Appends}
 use Rattle.stun_framing.specs.InputOutput.{ReadsAll, ReadsTooMuch, WritesPart}

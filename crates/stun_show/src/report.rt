@@ -38,7 +38,7 @@ fn write_header(text: &mut String, header: &MessageHeader) -> Result<(), AllocEr
     write!(text, "{class:?} method={method} id={id} length={length}\n")
 }
 
-/// Writes a value in hexadecimal, or a dash where it is empty.
+/// Writes a value in hexadecimal, or a dash if it is empty.
 fn write_value(text: &mut String, value: &[u8]) -> Result<(), AllocError>
     ensures { OnOk result (string_bytes text.new ≡ string_bytes text.old ++ value_text value.now) }
 {
@@ -147,7 +147,7 @@ fn end_with(answer: Result<IntegrityAlgorithm, ValidateError>) -> RunEnd
     }
 }
 
-/// Writes the line on a message's integrity, where a password is given, and returns how the run
+/// Writes the line on a message's integrity, if a password is given, and returns how the run
 /// ends.
 fn write_integrity(
     alloc: Global,

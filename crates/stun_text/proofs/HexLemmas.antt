@@ -1,4 +1,4 @@
--- The hexadecimal digits of a number: the last one behind those of the number before it.
+-- The hexadecimal digits of a number: the last one after those of the number before it.
 use Rattle.std.proofs.Common.{◌≡◌, ℕ, zero, suc, ◌/◌, ◌%◌, ◌^◌, ◌<◌, ◌≤◌, false, List, [], ◌∷◌, ◌++◌, sym, ap, ◌∙◌, arith, ⊎_elim, eq-eqb, ne_eqb, pow-suc}
 use Rattle.std.proofs.lemmas.Bool.{cases_lt}
 use Rattle.std.specs.Fmt.{digits, digits_onto, digit_glyph}

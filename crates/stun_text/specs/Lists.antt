@@ -7,7 +7,7 @@ abbrev pub with_commas : {A : Type 0} → (A → List ℕ) → List A → List �
 with_commas text [] = []
 with_commas text (first ∷ others) = text first ++ flat_map (λ other. codes ", " ++ text other) others
 
--- what stands before the item at an index
+-- what precedes the item at an index
 abbrev pub comma_before : ℕ → List ℕ
 comma_before zero = []
 comma_before (suc index) = codes ", "

@@ -8,7 +8,7 @@ use Rattle.stun_text.specs.declared.slice.TextTooLong.{TextTooLong}
 abbrev pub laid_over : List ℕ → List ℕ → List ℕ
 laid_over text bytes = take (length bytes) text ++ drop (length text) bytes
 
--- how many bytes a text has, as a number of 64 bits tells it
+-- how many bytes a text has, as a number of 64 bits
 abbrev pub counted : ℕ → ℕ
 counted n = min n (2 ^ 64 - 1)
 
@@ -35,7 +35,7 @@ pub record IsCounted (s : TextSlice) : Type 0 where
   pub count : text_count s < 2 ^ 64
   pub room : length (lent_bytes s) < 2 ^ 64
 
--- a piece is counted, and laid behind what was written before
+-- a piece is counted, and laid after what was written before
 pub record Gains (s : TextSlice) (text : List ℕ) (t : TextSlice) : Type 0 where
   pub count : text_count t ≡ counted (text_count s + length text)
   pub bytes : lent_bytes t

@@ -1,22 +1,22 @@
--- Pieces that are laid into a slice one after the other lie there as one.
+-- Pieces that are laid into a slice one after the other are there as one.
 use Rattle.std.proofs.Common.{◌≡◌, ℕ, zero, suc, ◌+◌, ◌^◌, ◌<◌, ◌≤◌, List, [], ◌∷◌, ◌++◌, length, take, drop, refl, ap, arith, length-append, ⊎_elim, ◌∙◌, sym}
 use Rattle.std.proofs.lemmas.Bool.{cases_lt}
 use Rattle.std.proofs.lemmas.Grind.{common_steps}
 use Rattle.stun_text.specs.declared.slice.TextSlice.{TextSlice}
 use Rattle.stun_text.specs.Slices.{laid_over, counted, SliceWrote}
 
--- a text behind n bytes
+-- a text after n bytes
 abbrev laid_at : ℕ → List ℕ → List ℕ → List ℕ
 laid_at n text bytes = take n bytes ++ laid_over text (drop n bytes)
 
 laid_nothing : (n : ℕ) (bytes : List ℕ) → laid_at n [] bytes ≡ bytes
 laid_nothing n bytes = grind (arith, common_steps)
 
--- behind the end nothing is laid
+-- after the end nothing is laid
 laid_past : (n : ℕ) (text bytes : List ℕ) → length bytes ≤ n → laid_at n text bytes ≡ bytes
 laid_past n text bytes past = grind (arith, common_steps)
 
--- the first piece at the start, and the second one behind it
+-- the first piece at the start, and the second one after it
 laid_start : (a b bytes : List ℕ) → laid_at (length a) b (laid_over a bytes) ≡ laid_over (a ++ b) bytes
 laid_start [] b bytes = ap (laid_over b) (laid_nothing 0 bytes)
 laid_start (x ∷ a) b [] = grind (arith, common_steps)
@@ -37,7 +37,7 @@ laid_twice (suc n) a b (y ∷ bytes) =
     let same : suc n + length a ≡ suc (n + length a) = omega arith in
     rw same (ap (λ (l : List ℕ). y ∷ l) (laid_twice n a b bytes))
 
--- also where the count no longer tells how many bytes were written
+-- also if the count no longer says how many bytes were written
 laid_counted : (n k : ℕ) (a b bytes : List ℕ) → k ≡ counted (n + length a) → length bytes < 2 ^ 64 → laid_at k b (laid_at n a bytes) ≡ laid_at n (a ++ b) bytes
 laid_counted n k a b bytes is room = ⊎_elim
     (λ within.

@@ -49,7 +49,7 @@ fn put_groups<S: TextSink>(sink: &mut S, groups: &[u16]) -> Result<(), S::Error>
     Ok(())
 }
 
-/// Where the longest run of zeros starts, the first of those of that length, and how long it is.
+/// The start of the longest run of zeros, the first of those of that length, and its length.
 fn longest_zero_run(groups: &[u16]) -> (usize, usize)
     ensures run { result ≡ Text.longest_zero_run groups.now }
     ensures within { result.0 + result.1 ≤ length groups.now }
@@ -69,7 +69,7 @@ fn longest_zero_run(groups: &[u16]) -> (usize, usize)
     longest
 }
 
-/// Writes the eight groups of an IPv6 address, with `::` in the place of the longest run of zeros,
+/// Writes the eight groups of an IPv6 address, with `::` instead of the longest run of zeros,
 /// if it is longer than one group (RFC 5952, section 4.2).
 fn put_compressed<S: TextSink>(sink: &mut S, groups: &[u16]) -> Result<(), S::Error>
     ensures { OnOk result (S.wrote sink.old (Text.hex_groups_text groups.now) sink.new) }

@@ -1,11 +1,11 @@
-//! What stands between the items of a list.
+//! What is between the items of a list.
 
 ghost use Rattle.std.specs.Prelude.{OnOk};
 ghost use Rattle.stun_text.specs.Lists.{comma_before};
 
 use crate::TextSink;
 
-/// Writes what stands before the item at an index of a list: a comma and a space, and nothing
+/// Writes what precedes the item at an index of a list: a comma and a space, and nothing
 /// before the first.
 ///
 /// # Errors

@@ -6,7 +6,7 @@ use std::fmt;
 
 /// What text is written to, piece by piece.
 pub trait TextSink {
-    /// Why a piece is refused; a type with no values where none ever is.
+    /// Why a piece is refused; a type with no values if none ever is.
     type Error;
 
     ghost wrote: { Self → List ℕ → Self → Type 0 };
@@ -25,7 +25,7 @@ pub trait TextSink {
         → wrote s a m → wrote m b t → wrote s (a ++ b) t };
 }
 
-/// A formatter refuses what the writer behind it refuses.
+/// A formatter refuses what the writer after it refuses.
 impl<W: fmt::Write> TextSink for fmt::Formatter<W> {
     ghost use Rattle.std.specs.Fmt.{IsPlainFormatter, HasWritten};
     ghost use Rattle.stun_text.specs.Writing.{has_written_nothing, has_written_both};

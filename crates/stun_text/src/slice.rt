@@ -11,7 +11,7 @@ use thiserror::Error;
 #[derive(Clone, Copy, Debug, PartialEq, Eq, Error)]
 #[error("The text has {length} bytes")]
 pub struct TextTooLong {
-    /// How many bytes the text has; `usize::MAX` where they are more than that.
+    /// How many bytes the text has; `usize::MAX` if they are more than that.
     pub length: usize,
 }
 

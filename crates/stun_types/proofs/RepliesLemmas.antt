@@ -137,7 +137,7 @@ reply_more old mid new r before type value reply t v ordinary none gains spends 
       ready_types = omega (arith, count, spends.ready_types, reply.spends.ready_types);
     })
 
--- where nothing changes, the reply stays
+-- if nothing changes, the reply stays
 reply_same : (old mid new : Writer) (r : List ℕ) (before : List Attribute) (n : ℕ) → IsReply old mid r before → IsUnchanged mid new → Spends mid new n 1 → IsReply old new r before
 reply_same old mid new r before n reply same spends =
     let size : length new.bytes ≡ length mid.bytes = ap length same.bytes in
@@ -178,7 +178,7 @@ reaches_end x old new r before holds = record {
   spends = holds.spends;
 }
 
--- where an attribute is refused, its refusal is that of the list, and those before it are written
+-- if an attribute is refused, its refusal is that of the list, and those before it are written
 refused_here : {T : Type 0} (e : StunWriteError) (old new : Writer) (r : List ℕ) (before : List Attribute) (a : Attribute) (attributes : List Attribute) (why : Option StunWriteError)
     → why ≡ refusal old.greatest before a → (fails (Unit {0}) e ≢ Err OutOfMemory → MatchOption why (IsOk (fails (Unit {0}) e)) (λ x. fails (Unit {0}) e ≡ Err x))
     → IsReply old new r before → Reaches (fails T e) old new r before (a ∷ attributes)
@@ -202,7 +202,7 @@ refused_here {T} e old new r before a attributes (Some x) is answer holds = reco
   spends = holds.spends;
 }
 
--- an attribute that is made, added and accepted, and then those behind it
+-- an attribute that is made, added and accepted, and then those after it
 pub reaches_more : {T : Type 0} (result : Result T StunWriteError) (old new : Writer) (r : List ℕ) (before : List Attribute) (a : Attribute) (attributes : List Attribute)
     → refusal old.greatest before a ≡ None → Reaches result old new r (before ++ a ∷ []) attributes → Reaches result old new r before (a ∷ attributes)
 unfolding first_refusal accepted
@@ -299,7 +299,7 @@ free_of (Ok u) None ok answer = refl
 free_of (Ok u) (Some e) ok answer = absurd (cc (answer (λ same. absurd (cc same))))
 free_of (Err e) why ok answer = absurd cc
 
--- where an attribute was added, the writer holds the reply with it, and it wasn't refused
+-- if an attribute was added, the writer holds the reply with it, and it wasn't refused
 pub record Accepts (old new : Writer) (r : List ℕ) (before : List Attribute) (a : Attribute) : Type 0 where
   pub holds : IsReply old new r (before ++ a ∷ [])
   pub none : refusal old.greatest before a ≡ None
@@ -314,7 +314,7 @@ accepts old mid new r before type value (Ok u) t ordinary holds adds ok =
     }
 accepts old mid new r before type value (Err e) t ordinary holds adds ok = absurd cc
 
--- where it was refused, nothing more is written
+-- if it was refused, nothing more is written
 pub refused : {T : Type 0} (old mid new : Writer) (r : List ℕ) (before : List Attribute) (a : Attribute) (attributes : List Attribute) (made : Result (Unit {0}) StunWriteError) (e : StunWriteError)
     → IsReply old mid r before → AddsMade made mid new a → made ≡ Err e → Reaches (fails T e) old new r before (a ∷ attributes)
 refused old mid new r before a attributes (Ok u) e holds adds is = absurd cc

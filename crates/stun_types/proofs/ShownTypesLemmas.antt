@@ -69,7 +69,7 @@ kept : (x : AttributeType) (ts : List AttributeType) (b : Bool) → (ts ≡ [] �
 kept x ts true not h = absurd cc
 kept x ts false not h = not h
 
--- where the next item passes, some type does
+-- if the next item passes, some type does
 pub some_passes : (test : AttributeType → Bool) (d : List ℕ) (items : List (ℕ × RawAttribute)) (found : AttributeType) → SoFar d items found → test found ≡ true → filter test (shown_types d) ≢ []
 some_passes test d items found so e none = absurd (not_empty (map item_type items) (sym (ap (filter test) so.whole) ∙ none))
   where

@@ -9,7 +9,7 @@ use Rattle.std.proofs.lemmas.Option.{slice_get_past}
 use Rattle.std.proofs.lemmas.Bool.{ltb-false}
 use Rattle.stun_types.specs.Table.{value_of, Sets}
 
--- what a choice tells of its test
+-- what a choice says of its test
 test_at : (c : Bool) (n i : ℕ) → cond c (Some n) None ≡ Some i → i ≡ n
 test_at true n i found = cc
 test_at false n i found = cc
@@ -22,7 +22,7 @@ test_none false n none = refl
 is_first : {X : Type 0} (p : X → Bool) (xs : List X) (i : ℕ) → position p xs ≡ Some i → i ≡ position_or_len p xs
 is_first p xs i found = test_at (nat_lt (position_or_len p xs) (length xs)) _ _ found
 
--- where there is no place, there is no element
+-- if there is no place, there is no element
 finds_none : {X : Type 0} (p : X → Bool) (xs : List X) → position p xs ≡ None → find p xs ≡ None
 finds_none p xs none = find_at p xs ∙ slice_get_past xs (position_or_len p xs) (ltb-false _ _ (test_none _ _ none))
 
@@ -51,7 +51,7 @@ in_place_at xs number i value asked found false differs =
     let there = position-Some (λ entry. entry.0 == number) xs i (number, value) found in
     rw (find_past (λ entry. entry.0 == asked) xs i (number, value) (number, value) (other _ number asked there.1 differs) (other number number asked (same_number number) differs)) refl
 
--- a new value in the place of the first entry of its number
+-- a new value instead of the first entry of its number
 pub sets_in_place : {V : Type 0} (xs : List (ℕ × V)) (number i : ℕ) (value : V) → position (λ entry. entry.0 == number) xs ≡ Some i → Sets number value (value_of xs) (value_of (set xs i (number, value)))
 sets_in_place xs number i value found asked = in_place_at xs number i value asked found (asked == number) refl
 
@@ -61,6 +61,6 @@ behind_at xs number value asked none true same =
 behind_at xs number value asked none false differs =
     rw (find-append (λ entry. entry.0 == asked) xs ((number, value) ∷ []), other number number asked (same_number number) differs, or_none (find (λ entry. entry.0 == asked) xs)) refl
 
--- a new entry behind entries of other numbers
+-- a new entry after entries of other numbers
 pub sets_behind : {V : Type 0} (xs : List (ℕ × V)) (number : ℕ) (value : V) → position (λ entry. entry.0 == number) xs ≡ None → Sets number value (value_of xs) (value_of (xs ++ (number, value) ∷ []))
 sets_behind xs number value none asked = behind_at xs number value asked none (asked == number) refl

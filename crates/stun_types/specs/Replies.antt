@@ -141,14 +141,14 @@ pub record IsPartOfReply (old new : Writer) (r : List ℕ)
   pub left_out : others ≢ []
   pub reply : IsReply old new r written
 
--- what a refusal leaves: the attributes before the refused one; and where an allocation failed,
+-- what a refusal leaves: the attributes before the refused one; and if an allocation failed,
 -- nothing or some of them
 abbrev pub Leaves : Writer → Writer → List ℕ → List Attribute → StunWriteError → Type 0
 Leaves old new r attributes e =
     (e ≢ OutOfMemory → IsReply old new r (accepted old.greatest [] attributes))
     × (e ≡ OutOfMemory → IsUnchanged old new ⊎ IsPartOfReply old new r attributes)
 
--- unless out of memory, the result is the first refusal, and Ok where nothing is refused
+-- unless out of memory, the result is the first refusal, and Ok if nothing is refused
 abbrev pub IsReplyAnswer :
     {T : Type 0} → Option ℕ → List Attribute → Result T StunWriteError → Type 0
 IsReplyAnswer greatest attributes result =

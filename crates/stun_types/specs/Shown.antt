@@ -43,7 +43,7 @@ pub record Gives (prints : Prints) (raw : RawAttribute) (answer : Result (Unit {
   pub full_is : string_bytes full.now ≡ text
   pub called : prints alloc borrowed empty answer full
 
--- printing by the function: where it refuses, so does this, with nothing written; and where it
+-- printing by the function: if it refuses, so does this, with nothing written; and if it
 -- accepts, the text that it left is written
 abbrev pub ShowsBy : {W : Type 0} → (W → List ℕ → W → Type 0) → Prints → RawAttribute
     → Formatter W → Result (Unit {0}) Error → Formatter W → Type 0
@@ -63,8 +63,8 @@ shown_text registry raw =
 abbrev pub malformed : RawAttribute → List ℕ
 malformed raw = malformed_text (raw_type raw) (raw_value raw) (is_borrowed (raw_data raw))
 
--- an attribute was printed by reading it, which was not refused for want of memory: where reading
--- accepts, the text of what it read is appended, and else that of a malformed attribute
+-- an attribute was printed by reading it, which was not refused out of memory: if reading
+-- accepts, the text of what it read is appended, otherwise that of a malformed attribute
 pub record AppendsRead {A : Type 0} (reads : ℕ → List ℕ → Result A StunParseError → Type 0)
     (output : A → Option (List ℕ)) (raw : RawAttribute) (before after : List ℕ) : Type 0 where
   pub read : Result A StunParseError

@@ -1,10 +1,10 @@
 //! Reading and writing STUN messages (RFC 8489).
 //!
 //! [`message::Message::from_bytes`] parses a message, and [`message::Message::iter_attributes`]
-//! iterates over its attributes; [`message::message_length`] tells where a message ends in a longer
-//! buffer. Reading a message borrows its bytes, takes no memory and goes over the attributes once;
-//! for a FINGERPRINT the bytes before it are read again. It keeps the offsets of the integrity
-//! attributes that it meets: [`message::Message::validate_integrity`] reads the one that it checks
+//! iterates over its attributes; [`message::message_length`] returns where a message ends in a
+//! longer buffer. Reading a message borrows its bytes, allocates nothing and walks the attributes
+//! once; for a FINGERPRINT the bytes before it are read again. A message keeps the offsets of its
+//! integrity attributes: [`message::Message::validate_integrity`] reads the one that it checks
 //! at its offset, and then the bytes that the HMAC covers.
 //! [`message::Message::builder`] begins a message, and
 //! [`message::write::MessageWriteExt::add_attribute`] adds to it.

@@ -6,7 +6,7 @@ use Rattle.stun_values.specs.declared.algorithm.PasswordAlgorithmValue.TheVarian
 use Rattle.stun_values.specs.Algorithms.{algorithm_encoding, algorithms_encoding}
 use Rattle.stun_values.proofs.AlgorithmsLemmas.{algorithm_one}
 
--- the bytes of one entry, behind those of the entries before it
+-- the bytes of one entry, after those of the entries before it
 behind : (i : ℕ) (value : List ℕ) → take 4 (drop (4 * suc i) value) ≡ take 4 (drop (4 * i) (drop 4 value))
 behind i value =
     let place : 4 * suc i ≡ 4 + 4 * i = omega arith in

@@ -75,7 +75,7 @@ none_within : (more : ℕ) (value : List ℕ) → fault_within (suc more) value 
 unfolding fault_within
 none_within more value none = none_first (algorithm_fault value) (fault_within more (drop 4 value)) none
 
--- where there is no fault, no entry has one
+-- if there is no fault, no entry has one
 pub each_none : (n i : ℕ) (value : List ℕ) → i < n → fault_within n value ≡ None → algorithm_fault (drop (4 * i) value) ≡ None
 each_none zero i value more none = absurd (omega arith)
 each_none (suc n) zero value more none = (none_within n value none).0
@@ -83,7 +83,7 @@ each_none (suc n) (suc i) value more none =
     let place : 4 + 4 * i ≡ 4 * suc i = omega arith in
     ap (λ (k : ℕ). algorithm_fault (drop k value)) (sym place) ∙ ap algorithm_fault (sym (drop-drop (4 * i) 4 value)) ∙ each_none n i (drop 4 value) (omega arith) (none_within n value none).1
 
--- ---- the algorithms that stand in a value
+-- ---- the algorithms that are in a value
 
 at_spells : (value : List ℕ) → 4 ≤ length value → IsBytes value → algorithm_fault value ≡ None → algorithm_encoding (algorithm_at value) ≡ take 4 value
 at_spells value long bytes none = elim (eqb_tells (number (slice_range value 2 4)) 0) [

@@ -39,7 +39,7 @@ of_ipv6 value long is = rw (le-ltb (length value) 4 long, is) refl
 pub no_family : (value : List ℕ) → 4 ≤ length value → (slice_index value 1 ≡ 1 → ⊥) → (slice_index value 1 ≡ 2 → ⊥) → address_fault value ≡ Some InvalidAttributeData
 no_family value long first second = rw (le-ltb (length value) 4 long, ne_eqb (slice_index value 1) 1 first, ne_eqb (slice_index value 1) 2 second) refl
 
--- behind its first byte a value is the family, the port and the address
+-- after its first byte a value is the family, the port and the address
 pub spells : (value octets : List ℕ) (kind port : ℕ) → 4 ≤ length value → slice_index value 1 ≡ kind → ((k : ℕ) → get_or value k 0 < 256)
     → port ≡ get_or value 2 0 * 256 + get_or value 3 0 → octets ≡ drop 4 value → drop 1 value ≡ kind ∷ (be16 port ++ octets)
 spells value octets kind port long kind_is small is behind =
@@ -53,7 +53,7 @@ plain_is : (a : SocketAddr) (ip : IpAddr) (port : ℕ) → socket_ip a ≡ ip �
 plain_is (V4 a) ip port of p flow scope = rw (← of) (λ i. V4 (record { ip = a.ip; port = p i }))
 plain_is (V6 a) ip port of p flow scope = rw (← of) (λ i. V6 (record { ip = a.ip; port = p i; flowinfo = flow i; scope_id = scope i }))
 
--- a plain address of the family, the port and the bytes of a value is the one that stands there
+-- a plain address of the family, the port and the bytes of a value is the one that is there
 pub holds_ipv4 : (value : List ℕ) (a : SocketAddr) (ip : Ipv4Addr) → slice_index value 1 ≡ 1 → ipv4_octets ip ≡ drop 4 value → socket_ip a ≡ Ip.V4 ip → socket_port a ≡ get_or value 2 0 * 256 + get_or value 3 0
     → socket_flowinfo a ≡ 0 → socket_scope_id a ≡ 0 → a ≡ address_in value
 holds_ipv4 value a ip kind bytes of port flow scope =

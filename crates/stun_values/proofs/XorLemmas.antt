@@ -16,7 +16,7 @@ pub xor_step : (xs ys : List ℕ) (i : ℕ) → i < length xs → i < length ys
     → set (xor_bytes (take i xs) ys ++ drop i xs) i (bit_xor (get_or (xor_bytes (take i xs) ys ++ drop i xs) i 0) (get_or ys i 0)) ≡ xor_bytes (take (i + 1) xs) ys ++ drop (i + 1) xs
 xor_step xs ys i inside masked = rw (add-one i) (step xs ys i inside masked)
 
--- a mask behind as many bytes as are XORed changes nothing
+-- a mask after as many bytes as are XORed changes nothing
 xor_front : (xs ys zs : List ℕ) → length xs ≤ length ys → xor_bytes xs (ys ++ zs) ≡ xor_bytes xs ys
 xor_front [] ys zs short = refl
 xor_front (x ∷ xs) [] zs short = absurd (omega arith)

@@ -84,7 +84,7 @@ algorithm_name SHA256 = codes "SHA256"
 abbrev pub algorithm_names : List PasswordAlgorithmValue → List ℕ
 algorithm_names = with_commas algorithm_name
 
--- an algorithm in an attribute, and a list of them, which stands in brackets
+-- an algorithm in an attribute, and a list of them, in brackets
 abbrev pub algorithm_text : PasswordAlgorithmValue → List ℕ
 algorithm_text algorithm = plain_text PASSWORD_ALGORITHM (algorithm_name algorithm)
 

@@ -44,6 +44,6 @@ error_fault value =
     option_or (range_fault 4 (4 + text_max) (length value))
     (if tells_code value && is_utf8 (drop 4 value) then None else Some InvalidAttributeData)
 
--- how a code and a reason are printed: the reason stands in quotation marks
+-- how a code and a reason are printed: the reason in quotation marks
 abbrev pub error_text : ℕ → List ℕ → List ℕ
 error_text code reason = plain_text ERROR_CODE (decimal code ++ codes " '" ++ reason ++ codes "'")

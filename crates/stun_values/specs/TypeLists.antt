@@ -35,7 +35,7 @@ abbrev pub types_in : List ℕ → List ℕ
 types_in value = types_within (length value / 2) value
 
 -- how an UNKNOWN-ATTRIBUTES of types of these numbers, and of these types, is printed: the types
--- stand in brackets, each as `{:?}` prints it
+-- in brackets, each as `{:?}` prints it
 abbrev pub types_text : List ℕ → List ℕ
 types_text numbers =
     plain_text UNKNOWN_ATTRIBUTES

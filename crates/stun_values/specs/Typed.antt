@@ -69,11 +69,11 @@ rule_text Is.Types type value = types_text (types_in value)
 rule_text Is.Address type value = plain_text type (socket_text (address_in value))
 rule_text Is.XorAddress type value = plain_text type (xored_text (address_in value))
 
--- whether a value of a type is refused, and why; None where the type is not one of the fifteen
+-- whether a value of a type is refused, and why; None if the type is not one of the fifteen
 abbrev pub value_fault : ℕ → List ℕ → Option (Option StunParseError)
 value_fault type value = option_map (λ rule. rule_fault rule value) (rule_of type)
 
--- how a value of a type is printed where reading accepts it; nothing where the type is not one of
+-- how a value of a type is printed if reading accepts it; nothing if the type is not one of
 -- the fifteen
 abbrev pub value_text : ℕ → List ℕ → List ℕ
 value_text type value = option_map_or (λ rule. rule_text rule type value) (rule_of type) []

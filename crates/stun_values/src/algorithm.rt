@@ -21,7 +21,7 @@ pub enum PasswordAlgorithmValue {
 }
 
 impl PasswordAlgorithmValue {
-    /// The algorithm by which a message is signed where passwords are hashed by this one: SHA-1 for
+    /// The algorithm by which a message is signed if passwords are hashed by this one: SHA-1 for
     /// MD5, and SHA-256 for SHA-256.
     pub fn as_integrity(&self) -> IntegrityAlgorithm
         ensures { result ≡ integrity_of self.now }
@@ -65,7 +65,7 @@ impl fmt::Display for PasswordAlgorithmValue {
     }
 }
 
-/// Writes the name of the algorithm at an index of a list, and what stands before it.
+/// Writes the name of the algorithm at an index of a list, and what precedes it.
 #[tactic(auto, using(stun_text::proofs::Joining::both, stun_text::proofs::Joining::spelled_so))]
 fn put_name<S: TextSink>(
     sink: &mut S,
@@ -151,8 +151,8 @@ pub fn write_algorithms(algorithms: &[PasswordAlgorithmValue], dest: &mut [u8])
 ///
 /// # Errors
 ///
-/// `TooLarge { expected: 4, actual: 4 + p }` where it has parameters of p bytes. Otherwise
-/// `InvalidAttributeData` where it has another number.
+/// `TooLarge { expected: 4, actual: 4 + p }` if it has parameters of p bytes. Otherwise
+/// `InvalidAttributeData` if it has another number.
 #[tactic(auto, using(crate::proofs::AlgorithmsLemmas::spelled))]
 pub fn read_algorithm(value: &[u8]) -> Result<PasswordAlgorithmValue, StunParseError>
     requires { 4 ≤ length value.now }
@@ -197,9 +197,9 @@ fn check_entries(value: &[u8]) -> Result<(), StunParseError>
 ///
 /// # Errors
 ///
-/// The first of these that applies: `Truncated { expected: 4, actual }` where there are fewer than
-/// four bytes; `InvalidAttributeData` where their number is no multiple of 4; and what
-/// [`read_algorithm`] tells.
+/// The first of these that applies: `Truncated { expected: 4, actual }` if there are fewer than
+/// four bytes; `InvalidAttributeData` if their number is no multiple of 4; and what
+/// [`read_algorithm`] returns.
 #[tactic(auto, using(crate::proofs::AlgorithmsLemmas::one_fault))]
 pub fn read_one(value: &[u8]) -> Result<PasswordAlgorithmValue, StunParseError>
     ensures { MatchResult result
@@ -228,9 +228,9 @@ fn check_each(value: &[u8]) -> Result<(), StunParseError>
 ///
 /// # Errors
 ///
-/// The first of these that applies: `Truncated { expected: 4, actual }` where there are fewer than
-/// four bytes; `InvalidAttributeData` where their number is no multiple of 4; and what
-/// [`read_algorithm`] tells of the first entry that isn't an algorithm.
+/// The first of these that applies: `Truncated { expected: 4, actual }` if there are fewer than
+/// four bytes; `InvalidAttributeData` if their number is no multiple of 4; and what
+/// [`read_algorithm`] returns for the first entry that isn't an algorithm.
 #[tactic(auto, using(crate::proofs::AlgorithmsLemmas::list_fault))]
 pub fn check_algorithms(value: &[u8]) -> Result<(), StunParseError>
     ensures { MatchResult result
@@ -283,7 +283,7 @@ pub fn print_algorithms<S: TextSink>(
 ///
 /// # Requires
 ///
-/// The value holds algorithms, four bytes for each: so it is where [`check_algorithms`] is `Ok`.
+/// The value holds algorithms, four bytes for each: so it is if [`check_algorithms`] is `Ok`.
 ///
 /// # Errors
 ///

@@ -9,8 +9,8 @@ use stun_base::StunParseError;
 ///
 /// # Errors
 ///
-/// `Truncated { expected: least, actual: length }` where it is less than `least`. Otherwise
-/// `TooLarge { expected: greatest, actual: length }` where it is greater than `greatest`.
+/// `Truncated { expected: least, actual: length }` if it is less than `least`. Otherwise
+/// `TooLarge { expected: greatest, actual: length }` if it is greater than `greatest`.
 pub fn check_range(length: usize, least: usize, greatest: usize) -> Result<(), StunParseError>
     ensures { MatchResult result
         (λ _. (range_fault least greatest length ≡ None) × (least ≤ length) × (length ≤ greatest))
@@ -35,8 +35,8 @@ pub fn check_range(length: usize, least: usize, greatest: usize) -> Result<(), S
 ///
 /// # Errors
 ///
-/// `Truncated { expected: wanted, actual }` where it has fewer, and
-/// `TooLarge { expected: wanted, actual }` where it has more.
+/// `Truncated { expected: wanted, actual }` if it has fewer, and
+/// `TooLarge { expected: wanted, actual }` if it has more.
 pub fn check_length(value: &[u8], wanted: usize) -> Result<(), StunParseError>
     ensures { MatchResult result
         (λ _. (exact_fault wanted (length value.now) ≡ None) × (length value.now ≡ wanted))

@@ -15,7 +15,7 @@ use stun_text::{TextSink, put_decimal};
 ///
 /// # Errors
 ///
-/// `OutOfRange { value, min: 300, max: 699 }` if the code is below 300 or above 699, and else
+/// `OutOfRange { value, min: 300, max: 699 }` if the code is below 300 or above 699, otherwise
 /// `TooLarge { expected: 763, actual }` if the reason has more than 763 bytes.
 #[tactic(auto, using(crate::proofs::ErrorValuesLemmas::below_range, crate::proofs::ErrorValuesLemmas::above_range, crate::proofs::ErrorValuesLemmas::long_reason, crate::proofs::ErrorValuesLemmas::can_be_made))]
 pub fn check_error(code: u16, reason: &[u8]) -> Result<(), StunWriteError>
@@ -80,9 +80,9 @@ fn read_code(value: &[u8]) -> Option<u16>
 ///
 /// # Errors
 ///
-/// `Truncated { expected: 4, actual }` where there are fewer than four bytes, and
-/// `TooLarge { expected: 767, actual }` where there are more than 767. Otherwise
-/// `InvalidAttributeData` where the class isn't 3 to 6, the number is above 99, or the reason isn't
+/// `Truncated { expected: 4, actual }` if there are fewer than four bytes, and
+/// `TooLarge { expected: 767, actual }` if there are more than 767. Otherwise
+/// `InvalidAttributeData` if the class isn't 3 to 6, the number is above 99, or the reason isn't
 /// UTF-8.
 #[tactic(auto, using(crate::proofs::ErrorValuesLemmas::wrong_length, crate::proofs::ErrorValuesLemmas::no_code, crate::proofs::ErrorValuesLemmas::no_text, crate::proofs::ErrorValuesLemmas::is_error))]
 pub fn read_error(value: &[u8]) -> Result<(u16, &str), StunParseError>

@@ -59,9 +59,9 @@ pub fn check_sha256_length(length: usize) -> Result<(), StunParseError>
 ///
 /// # Errors
 ///
-/// `Truncated { expected, actual: length }` where there are fewer bytes, with `expected` 20 or 16,
-/// and `TooLarge { expected, actual: length }` where there are more, with `expected` 20 or 32.
-/// Otherwise `InvalidAttributeData` where the length is not a multiple of 4.
+/// `Truncated { expected, actual: length }` if there are fewer bytes, with `expected` 20 or 16,
+/// and `TooLarge { expected, actual: length }` if there are more, with `expected` 20 or 32.
+/// Otherwise `InvalidAttributeData` if the length is not a multiple of 4.
 #[tactic(auto, unfolding(stun_grammar::specs::Verdicts::hmac_fault))]
 pub fn check_hmac_length(algorithm: IntegrityAlgorithm, length: usize) -> Result<(), StunParseError>
     ensures { MatchResult result
@@ -78,8 +78,8 @@ pub fn check_hmac_length(algorithm: IntegrityAlgorithm, length: usize) -> Result
 ///
 /// # Errors
 ///
-/// `Truncated { expected: 32, actual: length }` where there are fewer bytes, and
-/// `TooLarge { expected: 32, actual: length }` where there are more.
+/// `Truncated { expected: 32, actual: length }` if there are fewer bytes, and
+/// `TooLarge { expected: 32, actual: length }` if there are more.
 pub fn check_hash_length(length: usize) -> Result<(), StunParseError>
     ensures { MatchResult result
         (λ _. (exact_fault 32 length ≡ None) × (length ≡ 32))

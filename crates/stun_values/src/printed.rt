@@ -10,7 +10,7 @@ use std::net::SocketAddr;
 use stun_base::{AttributeType, Hex};
 use stun_text::{PrintText, TextSink, put_socket};
 
-/// Writes what stands before the value of an attribute of this type: the type, a colon and a space.
+/// Writes what precedes the value of an attribute of this type: the type, a colon and a space.
 #[tactic(auto, using(stun_text::proofs::Joining::both, stun_text::proofs::Joining::spelled_so))]
 pub(crate) fn put_type<S: TextSink>(sink: &mut S, atype: AttributeType) -> Result<(), S::Error>
     ensures { OnOk result

@@ -91,9 +91,9 @@ pub(crate) fn ipv6_of(bytes: &[u8]) -> Ipv6Addr
 ///
 /// # Errors
 ///
-/// The first of these that applies: `Truncated { expected: 4, actual }` where there are fewer than
-/// four bytes; `InvalidAttributeData` where the family is neither 1 nor 2; `Truncated` and
-/// `TooLarge { expected, actual }` where the value is shorter and longer than its family needs,
+/// The first of these that applies: `Truncated { expected: 4, actual }` if there are fewer than
+/// four bytes; `InvalidAttributeData` if the family is neither 1 nor 2; `Truncated` and
+/// `TooLarge { expected, actual }` if the value is shorter and longer than its family needs,
 /// with `expected` 8 for IPv4 and 20 for IPv6.
 #[tactic(auto, using(crate::proofs::OctetsLemmas::too_short, crate::proofs::OctetsLemmas::of_ipv4, crate::proofs::OctetsLemmas::of_ipv6, crate::proofs::OctetsLemmas::no_family, crate::proofs::OctetsLemmas::spells, crate::proofs::OctetsLemmas::holds_ipv4, crate::proofs::OctetsLemmas::holds_ipv6))]
 #[inline(always)]

@@ -10,8 +10,8 @@ use stun_base::StunParseError;
 ///
 /// # Errors
 ///
-/// `TooLarge { expected: most, actual }` where the value has more than `most` bytes. Otherwise
-/// `InvalidAttributeData` where they aren't UTF-8.
+/// `TooLarge { expected: most, actual }` if the value has more than `most` bytes. Otherwise
+/// `InvalidAttributeData` if they aren't UTF-8.
 #[tactic(auto, using(crate::proofs::TextValuesLemmas::refused, crate::proofs::TextValuesLemmas::not_utf8, crate::proofs::TextValuesLemmas::is_text))]
 pub fn read_text(value: &[u8], most: u16) -> Result<&str, StunParseError>
     ensures { MatchResult result

@@ -79,7 +79,7 @@ impl Rule {
     }
 }
 
-/// Reads the value of an attribute of this type; `None` where the type is not one of the fifteen.
+/// Reads the value of an attribute of this type; `None` if the type is not one of the fifteen.
 /// It takes no memory.
 ///
 /// # Errors

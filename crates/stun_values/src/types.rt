@@ -35,7 +35,7 @@ pub fn check_type_count(count: usize) -> Result<(), StunWriteError>
 ///
 /// # Errors
 ///
-/// `Truncated { expected: n + 1, actual: n }` where it has an odd number n of bytes.
+/// `Truncated { expected: n + 1, actual: n }` if it has an odd number n of bytes.
 pub fn check_types(value: &[u8]) -> Result<(), StunParseError>
     ensures { MatchResult result
         (λ _. (types_fault value.now ≡ None) × (length value.now % 2 ≡ 0))
@@ -51,7 +51,7 @@ pub fn check_types(value: &[u8]) -> Result<(), StunParseError>
     Ok(())
 }
 
-/// Writes a type at an index of a list, as `{:?}` prints it, and what stands before it.
+/// Writes a type at an index of a list, as `{:?}` prints it, and what precedes it.
 #[tactic(auto, using(stun_text::proofs::Joining::both, stun_text::proofs::Joining::spelled_so))]
 fn put_listed<S: TextSink>(sink: &mut S, index: usize, atype: AttributeType) -> Result<(), S::Error>
     ensures { OnOk result

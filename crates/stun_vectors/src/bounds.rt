@@ -5,7 +5,7 @@ use std::test::Fail;
 use stun_types::attribute::{AttributeType, RawAttribute};
 use stun_types::message::StunParseError;
 
-/// Where a length must begin and end, and what is told of a value of four bytes.
+/// The bounds of a length, and what is reported of a value of four bytes.
 #[rattlefmt::skip]
 const BOUNDS: [(Bound<usize>, Bound<usize>, Result<(), StunParseError>); 13] = [
     (Bound::Unbounded, Bound::Unbounded, Ok(())),

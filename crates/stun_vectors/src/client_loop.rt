@@ -1,4 +1,4 @@
-//! The loop of `docs/CLIENT.md`, over a carrier that loses the first two requests.
+//! The loop of `docs/guide/CLIENT.md`, over a carrier that loses the first two requests.
 
 use std::alloc::Global;
 use std::net::{IpAddr, Ipv4Addr, SocketAddr};
@@ -68,7 +68,7 @@ pub fn mapped_address<C: Carrier>(
     None
 }
 
-/// A carrier that answers a request of this number, and whose clock goes on where it waits.
+/// A carrier that answers a request of this number, and whose clock goes on if it waits.
 #[derive(Drop)]
 struct Lossy {
     answered: u32,

@@ -4,7 +4,7 @@ use std::test::Fail;
 use stun_types::attribute::{AttributeType, RawAttribute};
 use stun_types::message::{StunParseError, StunWriteError, ValidateError};
 
-/// What errors of reading are where an error of writing is wanted.
+/// What errors of reading are as errors of writing.
 #[rattlefmt::skip]
 static CONVERTED: [(StunParseError, StunWriteError); 11] = [
     (StunParseError::TooLarge { expected: 4, actual: 5 },

@@ -97,7 +97,7 @@ impl Write for Count {
     }
 }
 
-/// Types, values, and what the registry of the test shows of them: nothing where it refuses.
+/// Types, values, and what the registry of the test shows of them: nothing if it refuses.
 #[rattlefmt::skip]
 static SHOWN: [(u16, &[u8], Option<&str>); 6] = [
     (0xFFFF, &[4, 0], Some("Custom 4")),
@@ -165,7 +165,7 @@ fn written(rt: &impl Abort, registry: &Registry) -> Result<Option<usize>, Fail> 
     Ok(Some(count.taken))
 }
 
-/// Each call fails only where an allocation fails, be it the first, the second or a later one of
+/// Each call fails only if an allocation fails, be it the first, the second or a later one of
 /// the test, and then leaves the registry as it was.
 #[test]
 fn refused_calls_change_nothing(rt: HostRuntime) -> Result<(), Fail> {

@@ -1,4 +1,4 @@
--- The attributes that a message had when a writer went on with it.
+-- The attributes that a message had when a writer resumed it.
 use Rattle.std.proofs.Common.{◌≡◌, ℕ, ◌+◌, ◌-◌, ◌≤◌, min, ◌||◌, ◌&&◌, not, Bool, true, false, List, [], ◌∷◌, ◌++◌, length, take, drop, Option, Some, None, refl, sym, ap, ◌∙◌, inl, inr, arith}
 use Rattle.std.specs.Prelude.{filter, is_some, ◌==◌, if◌then◌else◌}
 use Rattle.std.specs.List.{list_any, list_all}
@@ -25,7 +25,7 @@ use Rattle.stun_write.proofs.WrittenTypesLemmas.{none_ends}
 
 -- ---- One attribute after another
 
--- the attribute at an offset, and those behind it
+-- the attribute at an offset, and those after it
 pub record Next (d : List ℕ) (offset behind type : ℕ) : Type 0 where
   pub types_are : types (chain (drop offset d)) ≡ type ∷ types (chain (drop behind d))
   pub rest_is : rest (drop offset d) ≡ rest (drop behind d)
@@ -42,7 +42,7 @@ next raw behind offset d found =
       end_is = rw chain_is (omega (arith, found.behind_is, length-append (encoding a) (encodings (chain (drop behind d)))));
     }
 
--- the next one begins behind it
+-- the next one begins after it
 pub behind_more : (raw : RawAttribute) (behind offset : ℕ) (d : List ℕ) → Finds raw behind offset d → offset + 4 ≤ behind
 behind_more raw behind offset d found = omega (arith, found.behind_is, length-encoding found.attribute)
 
@@ -59,7 +59,7 @@ last offset d e = record {
   end_is = rw (chain-none (drop offset d) e) (omega arith);
 }
 
--- whether an ending type is among those from an offset on, and among those behind the attribute there
+-- whether an ending type is among those from an offset on, and those after the attribute there
 pub ends_next : (ends now : Bool) (ts behind : List ℕ) (type : ℕ) → ts ≡ type ∷ behind → now ≡ is_ending type → (ends || list_any is_ending ts) ≡ ((ends || now) || list_any is_ending behind)
 ends_next ends now ts behind type e f = rw (e, f) (sym (or_assoc ends (is_ending type) (list_any is_ending behind)))
 
@@ -84,7 +84,7 @@ unfolding counted
 counted_nil true = refl
 counted_nil false = refl
 
--- where no ending type is among them, ordinary types are all
+-- if no ending type is among them, ordinary types are all
 none_dropped : (ts : List ℕ) → list_any is_ending ts ≡ false → filter (λ type. not (is_ending type)) ts ≡ ts
 none_dropped [] e = refl
 none_dropped (t ∷ ts) e =
@@ -105,7 +105,7 @@ none_left (t ∷ ts) = elim (cases_Bool (is_ending t)) [
 
 -- ---- Looking for types
 
--- where ending types don't count, none of them is found
+-- if ending types don't count, none of them is found
 none_found : (asked : List AttributeType) (ts : List ℕ) → list_all (λ a. is_ending a.0) asked ≡ true → first_of (numbers asked) (counted false ts) ≡ None
 unfolding counted
 none_found asked ts all = none_ends asked (filter (λ type. not (is_ending type)) ts) (none_left ts) all
@@ -138,13 +138,13 @@ found_is_some type (t ∷ ts) = elim (cases_eq type t) [
   | inr other ↦ rw (ne_eqb type t other, ne_eqb t type (λ e. other (sym e))) (found_is_some type ts)
 ]
 
--- a type is found among types where it is one of them
+-- a type is found among types if it is one of them
 pub found_is_has : (found : Option AttributeType) (type : ℕ) (ts : List ℕ) → option_map (λ (f : AttributeType). f.0) found ≡ first_of (type ∷ []) ts → is_some found ≡ has type ts
 found_is_has found type ts e = some_number found ∙ ap is_some e ∙ found_is_some type ts
 
--- ---- More bytes behind them
+-- ---- More bytes after them
 
--- as many of their bytes are in a message as it has behind its header
+-- as many of their bytes are in a message as it has after its header
 same_part : (n len : ℕ) (message more : List ℕ) → length message ≡ len → take (min n (len - 20)) (drop 20 (message ++ more)) ≡ take n (drop 20 message)
 same_part n len message more is =
     let behind : length (drop 20 message) ≡ len - 20 = omega (arith, length-drop 20 message) in

@@ -5,7 +5,7 @@ use Rattle.stun_write.specs.declared.resume_point.ResumePoint.{ResumePoint}
 use Rattle.stun_write.specs.ResumePoints.{resumed_length, IsPointOf}
 use Rattle.stun_write.proofs.ResumingLemmas.{there}
 
--- the message lies within the slice
+-- the message is within the slice
 pub within : (point : ResumePoint) (slice : List ℕ) → IsPointOf point slice → resumed_length point ≤ length slice
 within point slice is = (there slice (resumed_length point) is.fault).0
 

@@ -1,4 +1,4 @@
--- What a writer begins or adds can be gone on with.
+-- What a writer begins or adds can be resumed.
 use Rattle.std.proofs.Common.{◌≡◌, ℕ, ◌+◌, ◌-◌, ◌^◌, ◌<◌, ◌≤◌, List, [], ◌∷◌, ◌++◌, length, drop, None, refl, sym, ap, subst, ◌∙◌, inl, inr, arith}
 use Rattle.std.specs.List.{AllByRecursion}
 use Rattle.std.proofs.lemmas.Bool.{cases_lt, cases_eq, lt-ltb, le-ltb, ne_eqb}
@@ -23,9 +23,9 @@ use Rattle.stun_write.specs.Resuming.{message_types, whole_fault, resume_fault}
 use Rattle.stun_write.proofs.ListedLemmas.{behind_appended}
 use Rattle.stun_write.proofs.ResumingLemmas.{both_none, enough_there}
 
--- ---- Attributes with nothing behind them
+-- ---- Attributes with nothing after them
 
--- where an attribute could begin and none does, it is no fault only if nothing is there
+-- if an attribute could begin and none does, it is no fault only if nothing is there
 nothing_left : (offset : ℕ) (r : List ℕ) → first_attribute r ≡ None → fault offset r ≡ None → r ≡ []
 unfolding fault
 nothing_left offset r none e = elim (cases_eq (length r) 0) [

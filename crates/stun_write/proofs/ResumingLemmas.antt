@@ -1,4 +1,4 @@
--- A message that a writer goes on with.
+-- A message that a writer resumes.
 use Rattle.std.proofs.Common.{◌≡◌, ℕ, ◌+◌, ◌-◌, ◌<◌, ◌≤◌, Bool, true, false, List, [], ◌++◌, length, take, drop, Option, Some, None, refl, sym, ◌∙◌, inl, inr}
 use Rattle.std.specs.Prelude.{◌==◌, if◌then◌else◌}
 use Rattle.std.specs.Option.{option_or}
@@ -41,14 +41,14 @@ none_or_none : (none : Bool) → ◌≡◌ {A = List ℕ} (if none then [] else 
 none_or_none true = refl
 none_or_none false = refl
 
--- what is in the slice where a writer can go on
+-- what is in the slice if a writer can go on
 pub there : (slice : List ℕ) (written : ℕ) → resume_fault slice written ≡ None → (written ≤ length slice) × (whole_fault (take written slice) ≡ None)
 there slice written e = elim (cases_lt (length slice) written) [
   | inl few ↦ absurd (cc (e, too_few slice written few))
   | inr enough ↦ (enough, sym (enough_there slice written enough) ∙ e)
 ]
 
--- the writer that goes on with the message there
+-- the writer that resumes the message there
 pub resumed : (point : ResumePoint) (slice : List ℕ) (types : List ℕ) (ready : ℕ) (name : GName)
     → IsPointOf point slice → types ≡ [] → ready ≡ 16
     → IsResumed (record {

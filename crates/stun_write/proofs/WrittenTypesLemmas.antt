@@ -47,7 +47,7 @@ other_has k (a ∷ asked) e all =
     let differs : eqb a.0 k ≡ false = ne_eqb a.0 k (λ same. false≢true (sym e ∙ ap is_ending (sym same) ∙ parts.0)) in
     or_from (eqb a.0 k) (has k (numbers asked)) differs (other_has k asked e parts.1)
 
--- where no ending type is written, none of the ending types asked for is
+-- if no ending type is written, none of the ending types asked for is
 pub none_ends : (asked : List AttributeType) (types : List ℕ) → list_any is_ending types ≡ false → list_all (λ a. is_ending a.0) asked ≡ true → first_of (numbers asked) types ≡ None
 none_ends asked [] e all = refl
 none_ends asked (x ∷ types) e all =

@@ -4,7 +4,7 @@ use Rattle.stun_grammar.specs.Steps.{Step, add, sign, finger}
 use Rattle.stun_write.specs.declared.refusals.Addition.{Addition}
 use Rattle.stun_write.specs.declared.refusals.Addition.TheVariants.{Ordinary, Integrity, Fingerprint}
 
--- a step of that kind: what bars it doesn't depend on its attribute or its key
+-- a step of that kind: what blocks it doesn't depend on its attribute or its key
 abbrev pub step_of : Addition → Step
 step_of Ordinary = add 0 []
 step_of (Integrity algorithm) = sign algorithm []

@@ -7,7 +7,7 @@ use Rattle.std.proofs.Common.{refl, sym, ap, ◌∙◌, arith}
 use Rattle.stun_write.specs.declared.vec.MessageWriteVec.{MessageWriteVec}
 use Rattle.stun_write.specs.contracts.vec.MessageWriteVec.{the_row}
 
--- as many bytes as before: there are none only where there were none
+-- as many bytes as before: there are none only if there were none
 nothing_there : (xs : List ℕ) → length xs ≡ 0 → xs ≡ []
 nothing_there [] e = refl
 nothing_there (x ∷ xs) e = absurd (omega (arith, e))
@@ -17,7 +17,7 @@ pub none_before : (n : ℕ) (xs given : List ℕ) → n ≡ length xs
 none_before n xs given e none =
     nothing_there xs (sym e ∙ length_refill n xs given e ∙ ap length none)
 
--- the writer with these bytes in the place of its own, as many as it has
+-- the writer with these bytes instead of its own, as many as it has
 abbrev pub overwritten : MessageWriteVec → List ℕ → MessageWriteVec
 overwritten w given = record {
   output = with_items w.output given;

@@ -1,4 +1,4 @@
--- The attributes that a message had when a writer went on with it.
+-- The attributes that a message had when a writer resumed it.
 use Rattle.std.specs.Prelude.{ℕ, Bool, not, List, take, drop, filter, if◌then◌else◌}
 use Rattle.stun_grammar.specs.AttributeTypes.{is_ending}
 use Rattle.stun_grammar.specs.Attributes.{types}
@@ -9,7 +9,7 @@ use Rattle.stun_write.specs.declared.listed.Listed.{Listed}
 unfoldable pub counted : Bool → List ℕ → List ℕ
 counted all types = if all then types else filter (λ type. not (is_ending type)) types
 
--- the types of those attributes, read where they stand in a message; where no ending one was among
+-- the types of those attributes, read in place in a message; if no ending one was among
 -- them, none counts
 unfoldable pub listed_types : Listed → List ℕ → List ℕ
 listed_types listed message =

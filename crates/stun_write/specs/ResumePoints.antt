@@ -1,4 +1,4 @@
--- What is known of the place where a writer goes on with a message, and what an add there does
+-- What is known of the place at which a writer resumes a message, and what an add there does
 -- (RFC 8489, sections 5 and 14).
 use Rattle.std.specs.Prelude.{◌≡◌, ℕ, ◌++◌, List, length, take, drop, Option, None, Some, Result, Ok, Err, MatchOption}
 use Rattle.stun_grammar.specs.declared.error.StunWriteError.{StunWriteError}
@@ -29,8 +29,8 @@ step_in size step message =
     add_refusal step (message_types message) (length message) (Some size)
 
 -- an attribute of a type and a value is appended to the message in the first `count` bytes of a
--- slice, and the result is how long it is then; or it is refused, and the slice stays. What stands
--- behind the message stays
+-- slice, and the result is how long it is then; or it is refused, and the slice stays. What comes
+-- after the message stays
 abbrev pub AppendsIn : Option StunWriteError → ℕ → List ℕ → Result ℕ StunWriteError → ℕ
     → List ℕ → List ℕ → Type 0
 AppendsIn refusal type value result count old new =

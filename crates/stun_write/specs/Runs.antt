@@ -72,8 +72,8 @@ module _ {O : Type 0} (type_of : O → ℕ) (value_of : O → List ℕ) where
   abbrev pub sent : ℕ → ℕ → List (Step O) → List (Result Unit StunWriteError) → Sent
   sent type id steps verdicts = record { type = type; id = id; steps = accepted steps verdicts }
 
-  -- the verdict on a step after the attributes `before`: its refusal, where there is one, and else
-  -- Ok or `OutOfMemory`, the latter only where the step makes a key, or where the message with the
+  -- the verdict on a step after the attributes `before`: its refusal, if there is one, otherwise
+  -- Ok or `OutOfMemory`, the latter only if the step makes a key, or if the message with the
   -- step needs more room than the writer had ready at the start
   abbrev pub IsVerdict :
       Writer → ℕ → ℕ → List Attribute → Step O → Result Unit StunWriteError → Type 0
@@ -98,7 +98,7 @@ module _ {O : Type 0} (type_of : O → ℕ) (value_of : O → List ℕ) where
       × AreVerdicts start type id before steps verdicts
 
   -- what a run leaves once its header is written: the message of the accepted steps, which parses,
-  -- shows their attributes, and validates; it may stand in a list of messages that were sent
+  -- shows their attributes, and validates; it may be in a list of messages that were sent
   pub record Writes (old new : Writer) (type id : ℕ)
       (steps : List (Step O)) (verdicts : List (Result Unit StunWriteError)) : Type 0 where
     pub each : AreVerdicts old type id [] steps verdicts
@@ -114,7 +114,7 @@ module _ {O : Type 0} (type_of : O → ℕ) (value_of : O → List ℕ) where
     pub own : ValidatesEach (accepted steps verdicts) new.bytes
 
   -- a run writes its steps and stores their verdicts over those before, and `writer` is the writer
-  -- by what the run returns; or an allocation failed, which happens only where fewer than twenty
+  -- by what the run returns; or an allocation failed, which happens only if fewer than twenty
   -- bytes are ready, and the verdicts stay
   pub record Runs {R : Type 0} (writer : R → Writer) (result : Result R StunWriteError)
       (old : Writer) (type id : ℕ) (steps : List (Step O))

@@ -56,7 +56,7 @@ pub record Spends (old new : Writer) (bytes attributes : ℕ) : Type 0 where
   pub ready_types : old.ready_types ≤ new.ready_types + attributes
 
 -- a push writes what `Done` says, or an allocation failed and nothing changed; it uses up at most so
--- many bytes and attributes of the ready room, and where as many are ready it succeeds
+-- many bytes and attributes of the ready room, and if as many are ready it succeeds
 pub record Pushes (result : Result (Unit {0}) StunWriteError)
     (old new : Writer) (bytes attributes : ℕ) (Done : Type 0) : Type 0 where
   pub ok : OnOk result Done
@@ -91,7 +91,7 @@ pub record IsBegun (old new : Writer) (type id : ℕ) : Type 0 where
   pub spends : Spends old new 20 0
 
 -- a call begins a message, and `writer` is the writer by what the call returns; or an allocation
--- failed, which happens only where fewer than twenty bytes are ready
+-- failed, which happens only if fewer than twenty bytes are ready
 pub record BeginsMessage {R : Type 0} (writer : R → Writer) (result : Result R StunWriteError)
     (old : Writer) (type id : ℕ) : Type 0 where
   pub begun : IfOk result (λ r. IsBegun old (writer r) type id)

@@ -29,7 +29,7 @@ use stun_values::hmac_length;
 /// Adds attributes to a message that is being written, and reads its header (RFC 8489, sections 5
 /// and 14). Every [`MessageWrite`] has these methods.
 ///
-/// The header may be read where the bytes written begin with one, as they do after
+/// The header may be read if the bytes written begin with one, as they do after
 /// `Message::builder` and after every add that follows it: adding attributes changes neither the
 /// message type nor the transaction ID.
 ///
@@ -123,13 +123,13 @@ pub trait MessageWriteExt: MessageWrite {
     ///
     /// The first of these that applies; the bytes and the attributes then stay as they were:
     ///
-    /// - `MessageIntegrityExists` or `FingerprintExists`, where an attribute of one of those three
+    /// - `MessageIntegrityExists` or `FingerprintExists`, if an attribute of one of those three
     ///   types is written: the first of them decides which;
-    /// - `TooSmall { expected: 20, actual }` where fewer than 20 bytes are written;
-    /// - `TooSmall { expected, actual }` where the message would be longer than the writer takes:
+    /// - `TooSmall { expected: 20, actual }` if fewer than 20 bytes are written;
+    /// - `TooSmall { expected, actual }` if the message would be longer than the writer takes:
     ///   its length with the attribute, and [`MessageWrite::max_size`];
-    /// - `TooLarge { expected: 65555, actual }` where it would be longer than a message may be;
-    /// - `OutOfMemory`, only where the attribute needs more than the writer's ready room: the bytes
+    /// - `TooLarge { expected: 65555, actual }` if it would be longer than a message may be;
+    /// - `OutOfMemory`, only if the attribute needs more than the writer's ready room: the bytes
     ///   and the attributes that it surely takes, of which [`MessageWrite`] says more.
     fn add_attribute(&mut self, attribute: &dyn AttributeWrite) -> Result<(), StunWriteError>
         requires ordinary { IsOrdinary (atype attribute.now) }
@@ -157,8 +157,8 @@ pub trait MessageWriteExt: MessageWrite {
     ///
     /// # Errors
     ///
-    /// `EndingType` with the type where it is that of MESSAGE-INTEGRITY (0x0008),
-    /// MESSAGE-INTEGRITY-SHA256 (0x001C) or FINGERPRINT (0x8028), and else as for
+    /// `EndingType` with the type if it is that of MESSAGE-INTEGRITY (0x0008),
+    /// MESSAGE-INTEGRITY-SHA256 (0x001C) or FINGERPRINT (0x8028), otherwise as for
     /// [`MessageWriteExt::add_attribute`]; the bytes and the attributes then stay as they were.
     fn add_any_attribute(&mut self, attribute: &dyn AttributeWrite) -> Result<(), StunWriteError>
         ensures answer { IsAddAnswer
@@ -203,10 +203,10 @@ pub trait MessageWriteExt: MessageWrite {
     /// The first of these that applies; the bytes and the attributes then stay as they were:
     ///
     /// - `AttributeExists` with the type of an integrity attribute, or `FingerprintExists`, by the
-    ///   first written attribute that bars the addition: for `Sha1` one of 0x0008, 0x001C and
+    ///   first written attribute that blocks the addition: for `Sha1` one of 0x0008, 0x001C and
     ///   0x8028, for `Sha256` one of 0x001C and 0x8028;
     /// - `TooSmall` and `TooLarge` as for [`MessageWriteExt::add_attribute`];
-    /// - `OutOfMemory`, where the key couldn't be made, or the attribute needs more than the ready
+    /// - `OutOfMemory`, if the key couldn't be made, or the attribute needs more than the ready
     ///   room.
     fn add_message_integrity(
         &mut self,
@@ -229,7 +229,7 @@ pub trait MessageWriteExt: MessageWrite {
     ///
     /// # Errors
     ///
-    /// As for [`MessageWriteExt::add_message_integrity`], but `OutOfMemory` only where the
+    /// As for [`MessageWriteExt::add_message_integrity`], but `OutOfMemory` only if the
     /// attribute needs more than the ready room.
     fn add_message_integrity_with_key(
         &mut self,
@@ -251,7 +251,7 @@ pub trait MessageWriteExt: MessageWrite {
     ///
     /// That method would refuse nothing but for lack of memory:
     ///
-    /// - no attribute that bars the addition is written: for `Sha1` none of 0x0008, 0x001C and
+    /// - no attribute that blocks the addition is written: for `Sha1` none of 0x0008, 0x001C and
     ///   0x8028, for `Sha256` none of 0x001C and 0x8028, as [`MessageWrite::has_any_attribute`]
     ///   tests;
     /// - [`MessageWrite::len`] is at least 20, and with 24 bytes more for `Sha1`, or 36 for
@@ -259,7 +259,7 @@ pub trait MessageWriteExt: MessageWrite {
     ///
     /// # Errors
     ///
-    /// Only `OutOfMemory`, and only where the attribute needs more than the ready room; nothing
+    /// Only `OutOfMemory`, and only if the attribute needs more than the ready room; nothing
     /// changes then.
     fn add_message_integrity_with_key_unchecked(
         &mut self,
@@ -285,9 +285,9 @@ pub trait MessageWriteExt: MessageWrite {
     ///
     /// The first of these that applies; the bytes and the attributes then stay as they were:
     ///
-    /// - `AttributeExists(0x8028)` where a FINGERPRINT is written;
+    /// - `AttributeExists(0x8028)` if a FINGERPRINT is written;
     /// - `TooSmall` and `TooLarge` as for [`MessageWriteExt::add_attribute`];
-    /// - `OutOfMemory`, only where the attribute needs more than the ready room.
+    /// - `OutOfMemory`, only if the attribute needs more than the ready room.
     fn add_fingerprint(&mut self) -> Result<(), StunWriteError>
         ensures answer { IsAddAnswer
             (add_refusal (finger)
@@ -308,7 +308,7 @@ pub trait MessageWriteExt: MessageWrite {
     ///
     /// # Errors
     ///
-    /// Only `OutOfMemory`, and only where the attribute needs more than the ready room; nothing
+    /// Only `OutOfMemory`, and only if the attribute needs more than the ready room; nothing
     /// changes then.
     fn add_fingerprint_unchecked(&mut self) -> Result<(), StunWriteError>
         requires { add_refusal finger

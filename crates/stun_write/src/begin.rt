@@ -48,7 +48,7 @@ pub fn write_message_header(mtype: MessageType, transaction_id: TransactionId, s
 ///
 /// # Errors
 ///
-/// Only `OutOfMemory`, and only where fewer than twenty bytes are ready; the writer is dropped
+/// Only `OutOfMemory`, and only if fewer than twenty bytes are ready; the writer is dropped
 /// then.
 #[inline(always)]
 pub fn begin_message<B: MessageWrite + Drop>(
@@ -72,7 +72,7 @@ pub fn begin_message<B: MessageWrite + Drop>(
 ///
 /// # Errors
 ///
-/// Only `OutOfMemory`, and only where fewer than twenty bytes are ready; nothing is written then.
+/// Only `OutOfMemory`, and only if fewer than twenty bytes are ready; nothing is written then.
 #[tactic(auto, using(stun_grammar::proofs::AddingLemmas::encoding_begins, crate::proofs::KeptHeadersLemmas::encoding_type, crate::proofs::KeptHeadersLemmas::encoding_id))]
 #[inline(always)]
 pub fn begin_message_into<B: MessageWrite>(

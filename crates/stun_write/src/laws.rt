@@ -1,4 +1,4 @@
-//! The laws of a message that a writer goes on with. Each function does nothing: its contract is
+//! The laws of a message that a writer resumes. Each function does nothing: its contract is
 //! the law.
 
 ghost use Rattle.std.specs.Prelude.{◌≡◌, ℕ, ◌^◌, ◌<◌, ◌≤◌, List, [], ◌∷◌, ◌++◌, length, None};
@@ -9,7 +9,7 @@ ghost use Rattle.stun_grammar.specs.Writing.{message_encoding, greatest_length};
 ghost use Rattle.stun_grammar.specs.Adding.{appended, grown_length};
 ghost use Rattle.stun_write.specs.Resuming.{message_types, whole_fault, resume_fault};
 
-/// A message that was begun can be gone on with, and has no attributes; and so can any whose
+/// A message that was begun can be resumed, and has no attributes; and so can any whose
 /// attributes are encoded in a message that is no longer than a message may be.
 pub fn begun_resumes()
     ensures begun { (type id : ℕ) → type < 2 ^ 14
@@ -25,7 +25,7 @@ pub fn begun_resumes()
         → resume_fault (message ++ more) (length message) ≡ whole_fault message }
 {}
 
-/// A message that can be gone on with still can be with one more attribute, which then is its last
+/// A message that can be resumed still can be with one more attribute, which then is its last
 /// one: so a message may be written step by step, each step by a writer of its own.
 pub fn appended_resumes()
     ensures { (message : List ℕ) (atype : ℕ) (value : List ℕ)

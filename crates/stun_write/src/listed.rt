@@ -1,4 +1,4 @@
-//! The attributes of a message that a writer goes on with. They stay where they are, and their
+//! The attributes of a message that a writer resumes. They stay in place, and their
 //! types are read there.
 
 ghost use Rattle.std.specs.Prelude.{◌≡◌, ◌+◌, ◌-◌, ◌≤◌, ◌||◌, ◌&&◌, ◌++◌, not, ℕ, List, [], length, take, drop, MatchResult, MatchOption, None, Some};
@@ -20,7 +20,7 @@ use stun_base::{AttributeType, MessageHeader, StunParseError};
 use stun_grammar::attribute_types::is_ending;
 use stun_read::check_frame;
 
-/// The attributes that a message had when a writer went on with it: how many bytes behind the
+/// The attributes that a message had when a writer resumed it: how many bytes after the
 /// header hold them, and whether an ending one was among them.
 #[derive(Debug, Clone, Copy, Drop)]
 pub(crate) struct Listed {
@@ -28,8 +28,8 @@ pub(crate) struct Listed {
     ends: bool,
 }
 
-/// Checks that whole attributes follow the header, with nothing behind them, and returns whether
-/// an ending one is among them. It goes over them once.
+/// Checks that whole attributes follow the header, with nothing after them, and returns whether
+/// an ending one is among them. It walks them once.
 fn check_attributes(message: &[u8]) -> Result<bool, StunParseError>
     requires { 20 ≤ length message.now }
     ensures { MatchResult result
@@ -48,7 +48,7 @@ fn check_attributes(message: &[u8]) -> Result<bool, StunParseError>
     Ok(ends)
 }
 
-/// The attribute whose header is at `offset`, and the offset behind it; `None` where no whole
+/// The attribute whose header is at `offset`, and the offset after it; `None` if no whole
 /// attribute is there.
 fn whole_attribute_at<'a>(bytes: &'a [u8], offset: usize) -> Option<(RawAttribute<'a>, usize)>
     requires { offset ≤ length bytes.now }
@@ -68,7 +68,7 @@ fn is_found(ends: bool, asked: &[AttributeType], atype: AttributeType) -> bool
     (ends || !is_ending(atype.0)) && is_among(asked, atype)
 }
 
-/// The first type of the attributes that `attributes` hold that is one of those asked for. Where
+/// The first type of the attributes that `attributes` hold that is one of those asked for. If
 /// `ends` is false, ending ones don't count.
 #[inline(never)]
 fn find_listed(attributes: &[u8], ends: bool, asked: &[AttributeType]) -> Option<AttributeType>
@@ -127,7 +127,7 @@ impl Listed {
         &behind[..self.bytes.min(behind.len())]
     }
 
-    /// Keeps them where they are before more is written after the first `len` bytes of a message.
+    /// Keeps them in place before more is written after the first `len` bytes of a message.
     pub(crate) fn keep(&mut self, len: usize)
         ensures more { (message more : List ℕ) → length message ≡ len
             → listed_types self.new (message ++ more) ≡ listed_types self.old message }

@@ -25,7 +25,7 @@ pub(crate) enum Addition {
     Fingerprint,
 }
 
-/// The types that end a message, in the order in which their attributes stand.
+/// The types that end a message, in the order of their attributes.
 #[inline(always)]
 pub(crate) fn ending_types() -> [AttributeType; 3]
     ensures { numbers result ≡ MI ∷ SHA256 ∷ FP ∷ [] }
@@ -50,7 +50,7 @@ pub(crate) fn barring(addition: Addition, ending: &[AttributeType; 3]) -> &[Attr
     }
 }
 
-/// The first written type that bars an addition.
+/// The first written type that blocks an addition.
 #[inline(always)]
 fn found_before<W: MessageWrite>(write: &W, addition: Addition) -> Option<AttributeType>
     ensures { option_map (λ found. found.0) result
@@ -60,7 +60,7 @@ fn found_before<W: MessageWrite>(write: &W, addition: Addition) -> Option<Attrib
     write.has_any_attribute(barring(addition, &ending))
 }
 
-/// The error that reports a written type which bars an addition.
+/// The error that reports a written type which blocks an addition.
 fn exists(addition: Addition, found: AttributeType) -> StunWriteError
     ensures { result ≡ exists_refusal (step_of addition) found.0 }
 {
@@ -72,7 +72,7 @@ fn exists(addition: Addition, found: AttributeType) -> StunWriteError
     }
 }
 
-/// Checks that no type was found that bars an addition.
+/// Checks that no type was found that blocks an addition.
 #[tactic(auto, unfolding(stun_grammar::specs::Adding::order_refusal))]
 pub(crate) fn check_order(
     found: Option<AttributeType>,

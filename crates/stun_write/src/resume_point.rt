@@ -1,4 +1,4 @@
-//! Whether a writer can go on with a message that lies in a slice.
+//! Whether a writer can resume a message in a slice.
 
 ghost use Rattle.std.specs.Prelude.{◌≡◌, length, take, MatchResult, Some};
 ghost use Rattle.stun_write.specs.Resuming.{resume_fault};
@@ -6,7 +6,7 @@ ghost use Rattle.stun_write.specs.Resuming.{resume_fault};
 use crate::listed::Listed;
 use stun_base::StunParseError;
 
-/// That a writer can go on with the message in the first bytes of a slice, as
+/// That a writer can resume the message in the first bytes of a slice, as
 /// [`ResumePoint::check`] found; [`MessageWriteMutSlice::resume_at`] makes that writer.
 ///
 /// [`MessageWriteMutSlice::resume_at`]: crate::MessageWriteMutSlice::resume_at
@@ -19,10 +19,10 @@ pub struct ResumePoint {
 impl ResumePoint {
     ghost use Rattle.stun_write.specs.ResumePoints.{resumed_length, IsPointOf};
 
-    /// Checks that a writer can go on with the message in the first `written` bytes of `slice`. It
-    /// goes over the attributes once, and takes no memory.
+    /// Checks that a writer can resume the message in the first `written` bytes of `slice`. It
+    /// walks the attributes once, and takes no memory.
     ///
-    /// [`MessageWriteMutSlice::resume`] calls it. A caller whose contract is to tell that its slice
+    /// [`MessageWriteMutSlice::resume`] calls it. A caller whose contract has to say that its slice
     /// stays as it was after an error calls it first, and then
     /// [`MessageWriteMutSlice::resume_at`]:
     ///

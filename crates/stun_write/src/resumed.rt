@@ -1,4 +1,4 @@
-//! Adding to a message that lies in a slice, without a writer: for a caller that keeps the slice and
+//! Adding to a message in a slice, without a writer: for a caller that keeps the slice and
 //! how many bytes of it are the message.
 
 use crate::refusals::{Addition, barring, check_order, check_room, ending_types};

@@ -8,7 +8,7 @@ use stun_attrs::AttributeWrite;
 use stun_base::{AttributeType, StunParseError, StunWriteError, pad_attribute_len};
 
 /// Writes a message (RFC 8489, section 5) into a borrowed slice, from its first byte on, or goes on
-/// with one that lies there ([`MessageWriteMutSlice::resume`]). What follows the bytes written
+/// with one that is there ([`MessageWriteMutSlice::resume`]). What follows the bytes written
 /// stays as it was.
 ///
 /// Each call writes straight into the slice. A writer that is dropped without
@@ -54,10 +54,10 @@ impl<'a> MessageWriteMutSlice<'a> {
         }
     }
 
-    /// A writer that goes on with the message in the first `written` bytes of `slice`: one that was
+    /// A writer that resumes the message in the first `written` bytes of `slice`: one that was
     /// begun or written before, or received. It takes no memory: the attributes that are there
-    /// count as written, and their types are read where they are. The other bytes of `slice` and
-    /// sixteen attributes are ready. It goes over the attributes once.
+    /// count as written, and their types are read in place. The other bytes of `slice` and
+    /// sixteen attributes are ready. It walks the attributes once.
     ///
     /// ```
     /// // adds one attribute to the message in `buf`, and returns how long it is then
@@ -67,10 +67,10 @@ impl<'a> MessageWriteMutSlice<'a> {
     /// ```
     ///
     /// Neither the order of the attributes nor the value of a FINGERPRINT is looked at: each
-    /// attribute that is there bars an add as one does that was just written, so nothing is added
+    /// attribute that is there blocks an add as one does that was just written, so nothing is added
     /// after a FINGERPRINT.
     ///
-    /// A message that was begun can be gone on with, and so can one that can be, with one more
+    /// A message that was begun can be resumed, and so can one that can be, with one more
     /// attribute (the laws `begun_resumes` and `appended_resumes`): so a message may be written step
     /// by step, each step by a writer of its own.
     ///
@@ -79,15 +79,15 @@ impl<'a> MessageWriteMutSlice<'a> {
     /// The first of these that applies. A caller that has to know that `slice` is then as it was
     /// calls [`ResumePoint::check`] first, which only reads it:
     ///
-    /// - `Truncated { expected: written, actual }` where `slice` has fewer than `written` bytes.
+    /// - `Truncated { expected: written, actual }` if `slice` has fewer than `written` bytes.
     ///   All that follows is of those `written` bytes;
-    /// - `NotStun` where no header can begin with them, or else `Truncated { expected: 20, actual }`
-    ///   where there are fewer than twenty;
-    /// - `Truncated { expected, actual }` or `TooLarge { expected, actual }` where fewer or more
+    /// - `NotStun` if no header can begin with them, or else `Truncated { expected: 20, actual }`
+    ///   if there are fewer than twenty;
+    /// - `Truncated { expected, actual }` or `TooLarge { expected, actual }` if fewer or more
     ///   bytes follow the header than its length field states: the length of the message that it
     ///   states, and `written`;
-    /// - `Truncated { expected, actual }` where the last attribute is cut off: the offset at which
-    ///   its header, value or padding would end, and `written`. Where its header is cut off, both
+    /// - `Truncated { expected, actual }` if the last attribute is cut off: the offset at which
+    ///   its header, value or padding would end, and `written`. If its header is cut off, both
     ///   are 4 more than that.
     pub fn resume(
         alloc: Global,

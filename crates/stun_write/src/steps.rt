@@ -65,7 +65,7 @@ fn take_step<B: MessageWrite>(
 ///
 /// # Errors
 ///
-/// Only `OutOfMemory`, and only where fewer than twenty bytes are ready; nothing is written then,
+/// Only `OutOfMemory`, and only if fewer than twenty bytes are ready; nothing is written then,
 /// and the verdicts stay as they were.
 pub fn write_steps_into<B: MessageWrite>(
     alloc: Global,
@@ -113,7 +113,7 @@ pub fn write_steps_into<B: MessageWrite>(
 /// What is written is the message of the accepted steps. It parses, and shows their attributes in
 /// order, a FINGERPRINT among them with the right value. It validates with the key of the last step
 /// that signs, and with the key of each step that signs, made for the step's algorithm. And it may
-/// stand in the list of messages that were sent, from which the law `integrity_has_origin` tells
+/// be in the list of messages that were sent, from which the law `integrity_has_origin` says
 /// who sent a message that validates.
 ///
 /// # Requires
@@ -126,11 +126,11 @@ pub fn write_steps_into<B: MessageWrite>(
 ///
 /// # Errors
 ///
-/// Only `OutOfMemory`, and only where fewer than twenty bytes are ready; the writer is dropped
+/// Only `OutOfMemory`, and only if fewer than twenty bytes are ready; the writer is dropped
 /// then, and the verdicts stay as they were.
 ///
 /// Each verdict is the result of the step's method of [`MessageWriteExt`] after the accepted steps
-/// before it. It is `OutOfMemory` only where nothing else refuses the step, and the step makes a
+/// before it. It is `OutOfMemory` only if nothing else refuses the step, and the step makes a
 /// key or needs more room than the writer had ready at the start.
 pub fn write_steps<B: MessageWrite + Drop>(
     alloc: Global,

@@ -66,7 +66,7 @@ impl WrittenTypes {
     ///
     /// # Errors
     ///
-    /// Only `OutOfMemory`, and only where there is no room; nothing changes then.
+    /// Only `OutOfMemory`, and only if there is no room; nothing changes then.
     #[inline(always)]
     pub(crate) fn reserve_one(&mut self) -> Result<(), StunWriteError>
         ensures items { self.new.items ≡ self.old.items }

@@ -18,7 +18,7 @@ pub struct MessageWriteVec {
     ghost no_types: { output.items ≡ [] → attributes.items ≡ [] },
 }
 
-/// How many zeros are appended at once, where there is room for them.
+/// How many zeros are appended at once, if there is room for them.
 const ZEROS: usize = 32;
 
 /// Appends zeros, so that there are `longer` bytes. Few ones are appended as [`ZEROS`], a count

@@ -1,4 +1,4 @@
-//! Where a message is written to.
+//! What a message is written to.
 
 ghost use Rattle.std.specs.Prelude.{◌≡◌, ◌+◌, ◌^◌, ◌<◌, ◌≤◌, [], length};
 ghost use Rattle.std.specs.Option.{option_map};
@@ -13,7 +13,7 @@ use stun_base::{AttributeType, StunWriteError};
 /// and 14). `MessageWriteVec` writes to a vector,
 /// `MessageWriteMutSlice` to a borrowed slice, and a type of your own may implement it too.
 ///
-/// Each push appends all that it is given or, where an allocation failed, leaves the bytes and the
+/// Each push appends all that it is given or, if an allocation failed, leaves the bytes and the
 /// attributes as they were. The ready room is the bytes and the attributes that the writer surely
 /// still takes: a push that needs no more than that succeeds.
 ///
@@ -21,9 +21,9 @@ use stun_base::{AttributeType, StunWriteError};
 ///
 /// - `bytes`: the bytes written;
 /// - `types`: the types of the attributes among them, in order;
-/// - `greatest`: the most bytes that the writer takes, where it has such a bound;
+/// - `greatest`: the most bytes that the writer takes, if it has such a bound;
 /// - `rest`: the bytes that follow those written, in a slice;
-/// - `ready_bytes` and `ready_types`: the ready room, which may grow even where a push fails;
+/// - `ready_bytes` and `ready_types`: the ready room, which may grow even if a push fails;
 /// - `slice_name`: the name of the slice that it borrows, or 0.
 ///
 /// `finishes_with` relates a writer to what its [`MessageWrite::finish`] returns.
@@ -35,17 +35,17 @@ pub trait MessageWrite {
 
     ghost finishes_with: { Self → Self.Output → Type 0 };
 
-    /// The most bytes that the writer takes, or `None` where it has no such bound.
+    /// The most bytes that the writer takes, or `None` if it has no such bound.
     fn max_size(&self) -> Option<usize>
         ensures { result ≡ (state self.now).greatest };
 
-    /// The bytes written. Where there are none, there are no attributes either.
+    /// The bytes written. If there are none, there are no attributes either.
     fn data(&self) -> &[u8]
         ensures value { result.now ≡ (state self.now).bytes }
         ensures no_types { (state self.now).bytes ≡ [] → (state self.now).types ≡ [] };
 
     /// The bytes written, mutable. It is up to the caller that they stay a message. Nothing but
-    /// the bytes may change by it; of `MessageWriteVec` the contract tells so.
+    /// the bytes may change by it; of `MessageWriteVec` the contract says so.
     fn mut_data(&mut self) -> &mut [u8]
         ensures { result.now ≡ (state self.old).bytes };
 
@@ -68,11 +68,11 @@ pub trait MessageWrite {
     /// # Requires
     ///
     /// There is room for them: [`MessageWrite::len`] and `more.len()` are together at most
-    /// [`MessageWrite::max_size`], where that is a number.
+    /// [`MessageWrite::max_size`], if that is a number.
     ///
     /// # Errors
     ///
-    /// Only `OutOfMemory`, and only where they are more than the ready room; nothing is appended
+    /// Only `OutOfMemory`, and only if they are more than the ready room; nothing is appended
     /// then.
     fn push_data(&mut self, more: &[u8]) -> Result<(), StunWriteError>
         requires { Fits (state self.old).greatest
@@ -86,11 +86,11 @@ pub trait MessageWrite {
     /// # Requires
     ///
     /// [`MessageWrite::len`] is at least 20, and together with the attribute's `padded_len` at most
-    /// 65555 and at most [`MessageWrite::max_size`], where that is a number.
+    /// 65555 and at most [`MessageWrite::max_size`], if that is a number.
     ///
     /// # Errors
     ///
-    /// Only `OutOfMemory`, and only where the attribute needs more than the ready room; the bytes
+    /// Only `OutOfMemory`, and only if the attribute needs more than the ready room; the bytes
     /// and the attributes are as they were then, and the ready room may have grown.
     fn push_attribute_unchecked(
         &mut self,
@@ -106,7 +106,7 @@ pub trait MessageWrite {
     ///
     /// `more.len()` is at most 65535. [`MessageWrite::len`] is at least 20, and with 4 bytes more
     /// and those of the padded value (`pad_attribute_len(more.len())`) at most 65555 and at most
-    /// [`MessageWrite::max_size`], where that is a number.
+    /// [`MessageWrite::max_size`], if that is a number.
     ///
     /// # Errors
     ///

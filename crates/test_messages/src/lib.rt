@@ -13,7 +13,7 @@ pub const SOFTWARE: [u8; 4] = [0x80, 0x22, 0x00, 0x00];
 /// A USERNAME with the value `abc`, and one byte of padding.
 pub const USERNAME: [u8; 8] = [0x00, 0x06, 0x00, 0x03, 0x61, 0x62, 0x63, 0x00];
 
-/// A FINGERPRINT that is right behind the header of [`header`], whatever length that one states.
+/// A FINGERPRINT that is right after the header of [`header`], whatever length that one states.
 pub const FIRST_FINGERPRINT: [u8; 8] = [0x80, 0x28, 0x00, 0x04, 0x37, 0x56, 0xC0, 0x7F];
 
 /// A FINGERPRINT that is right in no message of the tests.
@@ -31,7 +31,7 @@ pub fn header(length: u16) -> [u8; 20] {
     ]
 }
 
-/// The header that states this length, and behind it the pieces, joined.
+/// The header that states this length, and after it the pieces, joined.
 pub fn message(alloc: Global, length: u16, pieces: &[&[u8]]) -> Result<Vec<u8>, AllocError> {
     let mut bytes = Vec::from_slice(alloc, &header(length))?;
     for piece in pieces {

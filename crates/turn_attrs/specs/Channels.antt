@@ -32,7 +32,7 @@ channel_field b = 256 * slice_index b 0 + slice_index b 1
 abbrev pub data_length : List ℕ → ℕ
 data_length b = number (slice_range b 2 4)
 
--- why no channel and length begin the bytes: the first, where there is one, is none of 0x40 to 0x4F,
+-- why no channel and length begin the bytes: the first, if there is one, is none of 0x40 to 0x4F,
 -- or there are fewer than four
 abbrev pub begin_fault : List ℕ → Option ChannelDataError
 begin_fault b =

@@ -69,8 +69,8 @@ pub const KNOWN: [AttributeType; 17] = [
 ];
 
 /// Registers the names of types and methods and the functions that print of this crate, so that a
-/// message shows its attributes as what they are. It stands in the body of a function that makes
-/// the registry itself and answers a `Result`, and returns from it with `OutOfMemory` where an
+/// message shows its attributes as what they are. Call it in the body of a function that makes
+/// the registry itself and returns a `Result`; it returns from it with `OutOfMemory` if an
 /// allocation fails.
 ///
 /// ```

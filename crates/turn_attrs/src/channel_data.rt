@@ -69,13 +69,13 @@ fn read_channel(bytes: &[u8]) -> Result<Channel, ChannelDataError>
 }
 
 /// The length of the ChannelData message whose first bytes are `prefix` on a stream: four bytes,
-/// its data, and zeros up to a multiple of 4; 4 to 65540 in all. `None` where there are fewer than
+/// its data, and zeros up to a multiple of 4; 4 to 65540 in all. `None` if there are fewer than
 /// four bytes, and a ChannelData message may begin with them. It takes no memory, and looks at the
 /// first four bytes alone.
 ///
 /// # Errors
 ///
-/// `NotChannelData` where the first byte is none of 0x40 to 0x4F.
+/// `NotChannelData` if the first byte is none of 0x40 to 0x4F.
 pub fn channel_data_length(prefix: &[u8]) -> Result<Option<usize>, ChannelDataError>
     ensures { MatchResult result
         (λ told. MatchOption told
@@ -104,7 +104,7 @@ impl<'a> ChannelData<'a> {
     ///
     /// # Errors
     ///
-    /// `TooLarge { expected: 65535, actual }` where there are more than 65535 bytes.
+    /// `TooLarge { expected: 65535, actual }` if there are more than 65535 bytes.
     pub fn new(channel: Channel, bytes: &'a [u8]) -> Result<Self, StunWriteError>
         ensures ok { length bytes.now ≤ 65535 → IsOkAnd result (IsData channel bytes.now) }
         ensures large { 65535 < length bytes.now
@@ -127,10 +127,10 @@ impl<'a> ChannelData<'a> {
     ///
     /// The first of these that applies:
     ///
-    /// - `NotChannelData` where the first byte is none of 0x40 to 0x4F;
-    /// - `Truncated { expected: 4, actual }` where there are fewer than four bytes;
-    /// - `Truncated { expected, actual }` where there are fewer than four bytes and the data;
-    /// - `TooLarge { expected, actual }` where there are more than that, padded to a multiple of 4.
+    /// - `NotChannelData` if the first byte is none of 0x40 to 0x4F;
+    /// - `Truncated { expected: 4, actual }` if there are fewer than four bytes;
+    /// - `Truncated { expected, actual }` if there are fewer than four bytes and the data;
+    /// - `TooLarge { expected, actual }` if there are more than that, padded to a multiple of 4.
     pub fn from_bytes(bytes: &'a [u8]) -> Result<Self, ChannelDataError>
         ensures { MatchResult result
             (λ read. (channel_fault bytes.now ≡ None) × IsIn bytes.now read)
@@ -190,7 +190,7 @@ impl<'a> ChannelData<'a> {
     ///
     /// # Errors
     ///
-    /// `TooSmall { expected, actual }` where `dest` has fewer bytes than that; they are unchanged
+    /// `TooSmall { expected, actual }` if `dest` has fewer bytes than that; they are unchanged
     /// then.
     pub fn write_into(&self, dest: &mut [u8]) -> Result<usize, StunWriteError>
         ensures short { length dest.old < 4 + length (data_of self.now)
@@ -212,7 +212,7 @@ impl<'a> ChannelData<'a> {
     ///
     /// # Errors
     ///
-    /// `TooSmall { expected, actual }` where `dest` has fewer bytes than that; they are unchanged
+    /// `TooSmall { expected, actual }` if `dest` has fewer bytes than that; they are unchanged
     /// then.
     pub fn write_padded_into(&self, dest: &mut [u8]) -> Result<usize, StunWriteError>
         ensures short { length dest.old < padded_length (4 + length (data_of self.now))

@@ -26,7 +26,7 @@ impl Channel {
     ghost use Rattle.std.specs.Prelude.{◌≡◌, ◌≤◌, ◌+◌, ◌*◌};
     ghost use Rattle.turn_attrs.specs.Channels.{channel_of};
 
-    /// The channel of this number; `None` where it is below 0x4000 or above 0x4FFF.
+    /// The channel of this number; `None` if it is below 0x4000 or above 0x4FFF.
     pub fn new(number: u16) -> Option<Channel>
         ensures { result ≡ channel_of number }
     {

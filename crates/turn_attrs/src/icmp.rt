@@ -11,7 +11,7 @@ pub struct IcmpError {
     pub icmp_type: u8,
     /// The code.
     pub code: u8,
-    /// The MTU of the next hop where the packet was too large, else 0.
+    /// The MTU of the next hop if the packet was too large, else 0.
     pub data: u32,
 }
 

@@ -77,7 +77,7 @@ impl AttributeKind for RequestedAddressFamilyKind {
     }
 }
 
-/// EVEN-PORT: the relayed port is to be even (RFC 8656, section 18.7), and where the value is true
+/// EVEN-PORT: the relayed port is to be even (RFC 8656, section 18.7), and if the value is true
 /// the next-higher port is to be reserved too. It is one byte, whose highest bit is read; the
 /// others are written 0 and ignored.
 pub type EvenPort = FieldsAttribute<EvenPortKind, bool>;
@@ -256,7 +256,7 @@ impl AttributeKind for IcmpKind {
     }
 }
 
-/// MOBILITY-TICKET: by which a client keeps its allocation where its address changes (RFC 8016,
+/// MOBILITY-TICKET: by which a client keeps its allocation if its address changes (RFC 8016,
 /// section 3.3). The value is any bytes, at most 65535, which are borrowed or owned.
 pub type MobilityTicket<'a> = BytesAttribute<MobilityTicketKind, ShortBytes<'a>>;
 

@@ -19,7 +19,7 @@ pub fn allocation_lifetime(requested: Option<u32>, greatest: u32) -> u32
 }
 
 /// The lifetime that a Refresh request leaves an allocation: 0, which deletes it, if its LIFETIME is
-/// 0; and else as for [`allocation_lifetime`] (RFC 8656, section 8.2).
+/// 0; otherwise as for [`allocation_lifetime`] (RFC 8656, section 8.2).
 pub fn refresh_lifetime(requested: Option<u32>, greatest: u32) -> u32
     ensures { result ≡ refreshed_for requested greatest }
 {

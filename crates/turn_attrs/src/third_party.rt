@@ -76,7 +76,7 @@ impl BorrowValue for ThirdPartyAuthorization {
 }
 
 /// Reading refuses bytes that aren't UTF-8 as `InvalidAttributeData`, and answers `OutOfMemory`
-/// where an allocation failed, since the name is kept in memory from `alloc`.
+/// if an allocation failed, since the name is kept in memory from `alloc`.
 impl ReadValue for ThirdPartyAuthorization {
     ghost use Rattle.turn_attrs.specs.Turn.{ReadsServerName};
 

@@ -21,7 +21,7 @@ DATA = 0x0013
 abbrev pub seconds_of : Lifetime → ℕ
 seconds_of lifetime = lifetime.seconds
 
--- what reading a value returns: the fault, and where there is none the attribute of the number that
+-- what reading a value returns: the fault, and if there is none the attribute of the number that
 -- the four bytes are
 abbrev pub ReadsLifetime : List ℕ → Result Lifetime StunParseError → Type 0
 ReadsLifetime value result =

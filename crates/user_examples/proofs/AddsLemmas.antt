@@ -1,4 +1,4 @@
--- Where adding an attribute succeeds, unless out of memory.
+-- When adding an attribute succeeds, unless out of memory.
 use Rattle.std.proofs.Common.{◌≡◌, ℕ, ◌<◌, ◌≤◌, ◌⊎◌, Bool, List, [], ◌∷◌, ◌++◌, Option, None, Some, Result, Ok, Err, refl, subst, arith, inl, inr}
 use Rattle.std.specs.Prelude.{find, length, IsOk, IfErr}
 use Rattle.std.specs.Option.{option_map}
@@ -12,18 +12,18 @@ use Rattle.stun_grammar.specs.Adding.{grown_length, exists_refusal, order_refusa
 use Rattle.stun_grammar.specs.Attributes.{attribute_length}
 use Rattle.stun_write.specs.Writers.{Writer, Gains, Adds}
 
--- where no attribute is written, none bars the addition
+-- if no attribute is written, none blocks the addition
 pub nothing_before : (type : ℕ) (value : List ℕ) → order_refusal (add type value) [] ≡ None
 unfolding order_refusal
 nothing_before type value = refl
 
--- where no attribute bars the addition, twenty bytes are written, the writer has no bound, and the
+-- if no attribute blocks the addition, twenty bytes are written, the writer has no bound, and the
 -- whole is short enough, nothing is refused
 pub short_add : (type : ℕ) (value types : List ℕ) (len : ℕ) → order_refusal (add type value) types ≡ None → 20 ≤ len → grown_length len (length value) ≤ 65555 → add_refusal (add type value) types len None ≡ None
 unfolding room_refusal
 short_add type value types len none header short = rw (none, le-ltb len 20 header, le-ltb 65555 (grown_length len (length value)) short) refl
 
--- then adding fails only for want of memory
+-- then adding fails only out of memory
 pub only_memory : (type : ℕ) (value : List ℕ) (types : List ℕ) (len : ℕ) (greatest : Option ℕ) (P : Type 0) (result : Result Unit StunWriteError) → types ≡ [] → greatest ≡ None → len ≡ 20 → length value ≤ 763
     → IsAddAnswer (add_refusal (add type value) types len greatest) P result → IfErr result (λ e. e ≡ OutOfMemory)
 only_memory type value types len greatest P result alone unbounded header short answer =
@@ -38,7 +38,7 @@ only_memory type value types len greatest P result alone unbounded header short 
     go None (Err x) e a = a.0
     go (Some x) r e a = absurd cc
 
--- one more attribute of type 0x0025 bars no addition
+-- one more attribute of type 0x0025 blocks no addition
 pub order_more : (type : ℕ) (value types : List ℕ) → order_refusal (add type value) types ≡ None → order_refusal (add type value) (types ++ 0x0025 ∷ []) ≡ None
 unfolding order_refusal
 order_more type value types none =
@@ -50,7 +50,7 @@ order_more type value types none =
     none_found None e = refl
     none_found (Some x) e = absurd cc
 
--- where adding is Ok, the attribute is appended
+-- if adding is Ok, the attribute is appended
 pub gained : (result : Result Unit StunWriteError) (old new : Writer) (type : ℕ) (value : List ℕ) → IsOk result → Adds result old new type value → Gains old new type value
 gained (Ok u) old new type value ok adds = adds.ok
 gained (Err e) old new type value ok adds = absurd (cc ok)

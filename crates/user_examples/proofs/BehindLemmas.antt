@@ -1,4 +1,4 @@
--- An attribute behind a message that lies in a slice.
+-- An attribute after a message in a slice.
 use Rattle.std.proofs.Common.{◌≡◌, ℕ, ◌-◌, ◌<◌, ◌⊎◌, List, Option, None, Some, Result, Ok, Err, refl, inl, inr, arith}
 use Rattle.std.specs.Prelude.{MatchOption}
 use Rattle.stun_grammar.specs.declared.error.StunWriteError.{StunWriteError}

@@ -23,7 +23,7 @@ too_small : (most longer : ℕ) → most < longer → room_refusal 20 (Some most
 unfolding room_refusal
 too_small most longer short = rw (lt-ltb most longer short) refl
 
--- the first attribute is refused only where there is no room for it; the header has used up twenty
+-- the first attribute is refused only if there is no room for it; the header has used up twenty
 -- bytes of the ready room
 pub first_answer : (type : ℕ) (value types : List ℕ) (len : ℕ) (before after : Option ℕ) (bytes bytes-left kinds kinds-left : ℕ) (r : Result (Unit {0}) StunWriteError)
     → types ≡ [] → len ≡ 20 → after ≡ before → bytes ≤ bytes-left + 20 → kinds ≤ kinds-left
@@ -64,7 +64,7 @@ writes_software (Err e) old mid new id text begun short gains same place = recor
   slice_name = place ∙ begun.spends.slice_name;
 }
 
--- where the attribute fits, it is written
+-- if the attribute fits, it is written
 pub surely_written : (most n kinds : ℕ) (r : Result (Unit {0}) StunWriteError) → n ≤ text_max → 20 + attribute_length n ≤ most → 1 ≤ kinds
     → IsAddAnswer (room_refusal 20 (Some most) (20 + attribute_length n)) (most < 20 + attribute_length n ⊎ kinds < 1) r → IsOk r
 surely_written most n kinds r short fits one answer =
@@ -81,7 +81,7 @@ surely_written most n kinds r short fits one answer =
     go (Ok u) a = refl
     go (Err e) a = absurd (not a.1)
 
--- where it doesn't fit, adding it is refused with `TooSmall`
+-- if it doesn't fit, adding it is refused with `TooSmall`
 pub surely_refused : (most n kinds : ℕ) (r : Result (Unit {0}) StunWriteError) → most < 20 + attribute_length n
     → IsAddAnswer (room_refusal 20 (Some most) (20 + attribute_length n)) (most < 20 + attribute_length n ⊎ kinds < 1) r → r ≡ Err (TooSmall (20 + attribute_length n) most)
 surely_refused most n kinds r short answer = subst (λ (o : Option StunWriteError). IsAddAnswer o (most < 20 + attribute_length n ⊎ kinds < 1) r) (too_small most (20 + attribute_length n) short) answer

@@ -4,7 +4,7 @@ use Rattle.stun_grammar.specs.Steps.{add}
 use Rattle.stun_grammar.specs.Adding.{order_refusal}
 use Rattle.stun_write.specs.Writers.{Writer}
 
--- n more USE-CANDIDATE can be added without taking memory: a header is written, no attribute bars
+-- n more USE-CANDIDATE can be added without taking memory: a header is written, no attribute blocks
 -- them, the writer has no bound, and there is ready room for them
 pub record HasReady (w : Writer) (n : ℕ) : Type 0 where
   pub header : 20 ≤ length w.bytes

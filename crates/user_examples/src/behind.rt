@@ -1,4 +1,4 @@
-//! Adding to a message that lies in a slice of the caller's.
+//! Adding to a message in a slice of the caller's.
 
 ghost use Rattle.std.specs.Prelude.{◌≡◌, ◌++◌, Ok, Err, Some, None, OnOk, OnErr, IfSome, MatchOption, length, take, drop};
 ghost use Rattle.stun_grammar.specs.WriteErrors.{write_error};
@@ -15,13 +15,13 @@ use stun_types::message::{MessageWriteMutSlice, StunWriteError};
 use stun_types::prelude::*;
 
 /// Adds this SOFTWARE to the message in the first `written` bytes of `buf`, and returns how long it
-/// is then. The bytes behind it stay as they were. It takes no memory.
+/// is then. The bytes after it stay as they were. It takes no memory.
 ///
 /// # Errors
 ///
 /// `buf` stays as it was:
 ///
-/// - why no message can be gone on with there, as an error of writing;
+/// - why no message can be resumed there, as an error of writing;
 /// - the refusal of [`MessageWriteExt::add_attribute`], but for `OutOfMemory`.
 pub fn software_behind(
     alloc: Global,

@@ -25,7 +25,7 @@ impl<'a> Blob<'a> {
     ///
     /// # Errors
     ///
-    /// `TooLarge { expected: 65535, actual }` where there are more bytes than a length field can
+    /// `TooLarge { expected: 65535, actual }` if there are more bytes than a length field can
     /// state.
     pub fn new(bytes: &'a [u8]) -> Result<Self, StunWriteError>
         ensures ok { length bytes.now ≤ 65535 → IsOk result }

@@ -35,7 +35,7 @@ pub(crate) fn add_software<B: MessageWrite>(
 }
 
 /// Writes a binding request with this transaction ID and this SOFTWARE to any writer that is empty
-/// and has twenty bytes ready. Where it has no room for the SOFTWARE, the header alone is written.
+/// and has twenty bytes ready. If it has no room for the SOFTWARE, the header alone is written.
 fn write_software<B: MessageWrite>(
     id: TransactionId,
     software: &Software,
@@ -45,7 +45,7 @@ fn write_software<B: MessageWrite>(
     requires empty { (B.state message.old).bytes ≡ [] }
     requires room { Fits (B.state message.old).greatest 20 }
     requires ready { 20 ≤ (B.state message.old).ready_bytes }
-    // the header is always written, and the SOFTWARE where there is room
+    // the header is always written, and the SOFTWARE if there is room
     ensures answer { IsAddAnswer
         (room_refusal 20 (B.state message.old).greatest
         (20 + attribute_length (length (text_bytes software.now))))
@@ -65,8 +65,8 @@ fn write_software<B: MessageWrite>(
 ///
 /// # Errors
 ///
-/// - `TooSmall { expected: 20, actual }` where `buf` has no room for a header: it stays as it was;
-/// - `TooSmall { expected, actual }` with the length of the message and that of `buf`, where `buf`
+/// - `TooSmall { expected: 20, actual }` if `buf` has no room for a header: it stays as it was;
+/// - `TooSmall { expected, actual }` with the length of the message and that of `buf`, if `buf`
 ///   has no room for the SOFTWARE: the header alone is written, with the length 0.
 #[tactic(auto, using(crate::proofs::InSlicesLemmas::surely_written, crate::proofs::InSlicesLemmas::surely_refused))]
 pub fn software_in_slice(

@@ -6,7 +6,7 @@ use stun_types::message::MessageWriteVec;
 use stun_types::prelude::*;
 
 /// Overwrites all bytes that are written into a vector. The attributes and the ready room stay as
-/// they were, so the attributes bar what they barred before.
+/// they were, so the attributes bar what they blocked before.
 pub fn overwrite(byte: u8, message: &mut MessageWriteVec)
     ensures bytes { (⟦<MessageWriteVec as MessageWrite>⟧.state message.new).bytes ≡ replicate
         (length (⟦<MessageWriteVec as MessageWrite>⟧.state message.old).bytes) byte }

@@ -55,7 +55,7 @@ fn write_request(alloc: Global, id: TransactionId, name: &str) -> Result<Vec<u8>
 ///
 /// # Errors
 ///
-/// - `TooLarge { expected: 763, actual }` where the name is longer;
+/// - `TooLarge { expected: 763, actual }` if the name is longer;
 /// - else only `OutOfMemory`.
 #[tactic(auto, using(crate::proofs::RequestsLemmas::one_attribute, crate::proofs::RequestsLemmas::one_placed))]
 pub fn software_message(

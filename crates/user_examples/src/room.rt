@@ -70,7 +70,7 @@ fn add_use_candidate<B: MessageWrite>(message: &mut B) -> Result<(), StunWriteEr
     message.add_attribute(&UseCandidate)
 }
 
-/// Adds a USE-CANDIDATE for which there is room. It succeeds, and no attribute bars the next one.
+/// Adds a USE-CANDIDATE for which there is room. It succeeds, and no attribute blocks the next one.
 fn add_within_room<B: MessageWrite>(message: &mut B) -> Result<(), StunWriteError>
     requires room { HasReady (B.state message.old) 1 }
     requires short { length (B.state message.old).bytes ≤ 80 }

@@ -36,7 +36,7 @@ fn write_own(
 /// Writes a message by these steps, whose results it stores in `verdicts`, parses it, and validates
 /// it with this key; it returns the algorithm.
 ///
-/// Where the result is `Ok`, the list of messages that were sent may hold this one and any others
+/// If the result is `Ok`, the list of messages that were sent may hold this one and any others
 /// that steps wrote: either nobody signed the bytes that are covered, or the message type, the
 /// transaction ID and the attributes shown through the one that was checked are those of a message
 /// in that list, in which they were signed.

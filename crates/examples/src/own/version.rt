@@ -8,7 +8,7 @@ use stun_types::message::StunParseError;
 /// each, big-endian.
 #[derive(Clone, Copy, Debug, PartialEq, Eq)]
 pub struct Version {
-    /// It changes where programs no longer understand one another.
+    /// It changes if programs no longer understand one another.
     pub major: u16,
     /// It changes with each release.
     pub minor: u16,

@@ -1,10 +1,10 @@
 //! The tables by which CRC-32 takes sixteen bytes at a time.
 
-/// Table k tells what each byte becomes once it and k bytes of zeros behind it are shifted out of
+/// Table k has what each byte becomes once it and k bytes of zeros after it are shifted out of
 /// the register.
 ///
 /// Entry i of the first table is i after eight shifts by one bit, each of which XORs EDB88320 in
-/// where the bit that it shifted out was 1. An entry of each further table is that of the table
+/// if the bit that it shifted out was 1. An entry of each further table is that of the table
 /// before it after eight more shifts. A script made the numbers by this rule, and the proof of
 /// `shifted_out` computes each of them again.
 #[rattlefmt::skip]

@@ -184,7 +184,7 @@ fn hmac_under<const N: usize, H: HashFunction<N>>(key: &[u8], pieces: &[&[u8]]) 
 
 /// HMAC-SHA1 of the pieces, joined, under a key of any length: 20 bytes.
 ///
-/// It takes no memory, and the pieces are not copied. Only the joined bytes matter, not where they
+/// It takes no memory, and the pieces are not copied. Only the joined bytes matter, not how they
 /// are cut.
 pub fn hmac_sha1(key: &[u8], pieces: &[&[u8]]) -> [u8; 20]
     ensures { result
@@ -195,7 +195,7 @@ pub fn hmac_sha1(key: &[u8], pieces: &[&[u8]]) -> [u8; 20]
 
 /// HMAC-SHA256 of the pieces, joined, under a key of any length: 32 bytes.
 ///
-/// It takes no memory, and the pieces are not copied. Only the joined bytes matter, not where they
+/// It takes no memory, and the pieces are not copied. Only the joined bytes matter, not how they
 /// are cut.
 pub fn hmac_sha256(key: &[u8], pieces: &[&[u8]]) -> [u8; 32]
     ensures { result

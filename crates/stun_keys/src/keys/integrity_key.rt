@@ -191,7 +191,7 @@ impl IntegrityKey {
         }
     }
 
-    /// The bytes, and the ready blocks behind them.
+    /// The bytes, and the ready blocks after them.
     fn parts(&self) -> (&[u8], &[u8])
         ensures key { result.0.now ≡ key_bytes self.now }
         ensures ready { result.1.now ≡ ready_blocks (key_bytes self.now) }

@@ -17,7 +17,7 @@ use stun_grammar::StunWriteError;
 /// What stands for a secret in a Debug text.
 const HIDDEN: &str = "[hidden]";
 
-/// Writes zeros over all the memory of a vector, also behind its bytes.
+/// Writes zeros over all the memory of a vector, also after its bytes.
 #[inline(never)]
 fn overwrite(bytes: &mut Vec<u8>)
     ensures { bytes.new.items ≡ replicate (vec_capacity bytes.old) 0 }

@@ -30,7 +30,7 @@ impl Message<'_> {
     ///
     /// # Errors
     ///
-    /// Only `OutOfMemory`, and only where fewer than twenty bytes are ready; the writer is dropped
+    /// Only `OutOfMemory`, and only if fewer than twenty bytes are ready; the writer is dropped
     /// then.
     #[inline(always)]
     pub fn builder<B: MessageWrite + Drop>(
@@ -53,7 +53,7 @@ impl Message<'_> {
     ///
     /// # Errors
     ///
-    /// Only `OutOfMemory`, and only where fewer than twenty bytes are ready; nothing is written
+    /// Only `OutOfMemory`, and only if fewer than twenty bytes are ready; nothing is written
     /// then.
     #[inline(always)]
     pub fn builder_into<B: MessageWrite>(

@@ -12,10 +12,10 @@ use stun_read::nth_raw;
 
 impl<'a> Message<'a> {
     /// The attribute at place `n`, counted from 0, of the attributes of the type `atype` that the
-    /// message shows, with the offset of its header from the start of the message. `None` where it
+    /// message shows, with the offset of its header from the start of the message. `None` if it
     /// shows no more than `n` of them.
     ///
-    /// [`Message::iter_attributes`] says which attributes are shown. This goes over them once, up
+    /// [`Message::iter_attributes`] says which attributes are shown. This walks them once, up
     /// to the one that it finds, and takes no memory; it reads MESSAGE-INTEGRITY and
     /// MESSAGE-INTEGRITY-SHA256 at place 0 at once, and no other attribute. The value borrows the
     /// bytes of the message for `'a`, and may outlive the message.
@@ -56,8 +56,8 @@ impl<'a> Message<'a> {
     /// The first attribute of the type `atype` that the message shows:
     /// [`Message::nth_raw_attribute`] with 0.
     ///
-    /// Each look-up goes over the attributes anew, so one for each type of a message with n
-    /// attributes takes some n² steps. Where several types are wanted, one walk finds them all:
+    /// Each look-up walks the attributes anew, so one for each type of a message with n
+    /// attributes takes some n² steps. If several types are wanted, one walk finds them all:
     ///
     /// ```
     /// let (mut priority, mut username) = (None, None);
@@ -86,8 +86,8 @@ impl<'a> Message<'a> {
     /// that the message shows, and returns it with the offset of its header from the start of the
     /// message.
     ///
-    /// It goes over the attributes once, up to the one that it finds. It takes memory from `alloc`
-    /// only where `A::from_raw` does, and what that borrows is borrowed from the bytes of the
+    /// It walks the attributes once, up to the one that it finds. It takes memory from `alloc`
+    /// only if `A::from_raw` does, and what that borrows is borrowed from the bytes of the
     /// message for `'a`: `A::from_raw` is given a value that is borrowed (`reads_borrowed` of
     /// [`AttributeFromRaw`]).
     ///
@@ -97,8 +97,8 @@ impl<'a> Message<'a> {
     ///
     /// # Errors
     ///
-    /// `MissingAttribute(A::TYPE)` where the message shows no more than `n` attributes of the type.
-    /// Otherwise the errors of `A::from_raw`: those of the value, and `OutOfMemory` where it needs
+    /// `MissingAttribute(A::TYPE)` if the message shows no more than `n` attributes of the type.
+    /// Otherwise the errors of `A::from_raw`: those of the value, and `OutOfMemory` if it needs
     /// memory, as for a text or a list, and an allocation failed.
     pub fn nth_attribute_and_offset<A: AttributeFromRaw<'a> + AttributeStaticType>(
         &self,
@@ -120,7 +120,7 @@ impl<'a> Message<'a> {
     ///
     /// # Errors
     ///
-    /// `MissingAttribute(A::TYPE)` where the message shows no more than `n` attributes of the type.
+    /// `MissingAttribute(A::TYPE)` if the message shows no more than `n` attributes of the type.
     /// Otherwise the errors of `A::from_raw`, `OutOfMemory` among them, as for
     /// [`Message::nth_attribute_and_offset`].
     pub fn nth_attribute<A: AttributeFromRaw<'a> + AttributeStaticType>(
@@ -141,7 +141,7 @@ impl<'a> Message<'a> {
     ///
     /// # Errors
     ///
-    /// `MissingAttribute(A::TYPE)` where the message shows no attribute of the type. Otherwise the
+    /// `MissingAttribute(A::TYPE)` if the message shows no attribute of the type. Otherwise the
     /// errors of `A::from_raw`, `OutOfMemory` among them, as for
     /// [`Message::nth_attribute_and_offset`].
     pub fn attribute_and_offset<A: AttributeFromRaw<'a> + AttributeStaticType>(
@@ -164,8 +164,8 @@ impl<'a> Message<'a> {
     ///
     /// # Errors
     ///
-    /// `MissingAttribute(A::TYPE)` where the message shows no attribute of the type. Otherwise the
-    /// errors of `A::from_raw`: those of the value, and `OutOfMemory` where it needs memory, as for
+    /// `MissingAttribute(A::TYPE)` if the message shows no attribute of the type. Otherwise the
+    /// errors of `A::from_raw`: those of the value, and `OutOfMemory` if it needs memory, as for
     /// a text or a list, and an allocation failed.
     pub fn attribute<A: AttributeFromRaw<'a> + AttributeStaticType>(
         &self,

@@ -16,7 +16,7 @@ use stun_text::{PrintText, TextSink, TextTooLong, write_text};
 /// A message, borrowed from the bytes that [`Message::from_bytes`] parsed.
 ///
 /// It is `Copy`. The attributes that it shows borrow the bytes for `'a`, and may outlive it. Beside
-/// the bytes it keeps the offsets of MESSAGE-INTEGRITY and of MESSAGE-INTEGRITY-SHA256, each where
+/// the bytes it keeps the offsets of MESSAGE-INTEGRITY and of MESSAGE-INTEGRITY-SHA256, each if
 /// it shows that attribute.
 #[derive(Clone, Copy)]
 #[derive_where(Debug)]
@@ -42,10 +42,10 @@ impl<'a> Message<'a> {
     /// of `bytes` (RFC 8489, sections 5, 6.3 and 14). The message borrows `bytes`. Parsing takes no
     /// memory and copies nothing.
     ///
-    /// `bytes` are the message and nothing else, so more than 65555 of them never parse. Where
+    /// `bytes` are the message and nothing else, so more than 65555 of them never parse. If
     /// there may be more, as in a buffer for the bytes of a stream (TCP or TLS) or in one that is
     /// longer than the datagram that was received into it, cut them first to the length that
-    /// [`message_length`](crate::message::message_length) tells.
+    /// [`message_length`](crate::message::message_length) returns.
     ///
     /// ```
     /// let message = Message::from_bytes(packet)?;
@@ -53,7 +53,7 @@ impl<'a> Message<'a> {
     /// let id = message.transaction_id();
     /// ```
     ///
-    /// The scan goes over ordinary attributes, and then over ending ones (MESSAGE-INTEGRITY,
+    /// The scan passes ordinary attributes, and then ending ones (MESSAGE-INTEGRITY,
     /// MESSAGE-INTEGRITY-SHA256 and FINGERPRINT), each at most once and in any order. It stops,
     /// without an error, at an ordinary attribute after an ending one and at an ending type that it
     /// has met before; the bytes from there on aren't looked at. A FINGERPRINT that is scanned must
@@ -64,15 +64,15 @@ impl<'a> Message<'a> {
     /// The first of these that applies:
     ///
     /// - `NotStun` and `Truncated { expected: 20, actual }` as for [`MessageHeader::from_bytes`];
-    /// - `Truncated { expected, actual }` where fewer bytes follow the header than its length field
-    ///   states, and `TooLarge { expected, actual }` where more do: `expected` is 20 more than the
+    /// - `Truncated { expected, actual }` if fewer bytes follow the header than its length field
+    ///   states, and `TooLarge { expected, actual }` if more do: `expected` is 20 more than the
     ///   field, and `actual` the length of `bytes`;
-    /// - for each attribute in turn, `Truncated` where its header, its value or its padding is cut
-    ///   off: `expected` is the offset where that would end and `actual` the length of `bytes`,
-    ///   both plus 4 where the header is cut off;
+    /// - for each attribute in turn, `Truncated` if its header, its value or its padding is cut
+    ///   off: `expected` is the offset at which that would end and `actual` the length of `bytes`,
+    ///   both plus 4 if the header is cut off;
     /// - for a FINGERPRINT, also `Truncated { expected: 4, actual }` or
-    ///   `TooLarge { expected: 4, actual }` where its value doesn't have four bytes, and
-    ///   `FingerprintMismatch` where the value isn't right.
+    ///   `TooLarge { expected: 4, actual }` if its value doesn't have four bytes, and
+    ///   `FingerprintMismatch` if the value isn't right.
     #[inline(always)]
     pub fn from_bytes(bytes: &'a [u8]) -> Result<Message<'a>, StunParseError>
         ensures { MatchResult result
@@ -193,12 +193,12 @@ impl Message<'_> {
     ghost use Rattle.stun_types.specs.Message.{message_bytes};
 
     /// Writes what the message prints as, in UTF-8, at the start of `to`, and returns how many
-    /// bytes that is. The bytes of `to` behind the text stay as they were. It goes over the
-    /// attributes once, takes no memory, and where `to` has room it succeeds.
+    /// bytes that is. The bytes of `to` after the text stay as they were. It walks the
+    /// attributes once, takes no memory, and if `to` has room it succeeds.
     ///
     /// # Errors
     ///
-    /// [`TextTooLong`] where the text has more bytes than `to`, with the length of the text: a
+    /// [`TextTooLong`] if the text has more bytes than `to`, with the length of the text: a
     /// slice of that length has room. `to` then holds the first bytes of the text, as many as it
     /// has room for, and a character may be cut at its end.
     pub fn write_text(&self, to: &mut [u8]) -> Result<usize, TextTooLong>
@@ -212,7 +212,7 @@ impl Message<'_> {
 
 /// The class, the method, the transaction ID, and the attributes that the message shows, each as it
 /// is printed by itself: `Message(class: Request, method: 1(0x1: BINDING), transaction: 0x7392,
-/// attributes: [29(0x1d: PASSWORD-ALGORITHM): SHA256])`. It goes over the attributes once, and
+/// attributes: [29(0x1d: PASSWORD-ALGORITHM): SHA256])`. It walks the attributes once, and
 /// takes no memory.
 impl fmt::Display for Message<'_> {
     ghost use Rattle.std.specs.Prelude.{Some};

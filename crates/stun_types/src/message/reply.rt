@@ -298,9 +298,9 @@ impl Message<'_> {
     ///
     /// # Errors
     ///
-    /// - `TooSmall { expected, actual }` where the writer has no room for an attribute: the length
+    /// - `TooSmall { expected, actual }` if the writer has no room for an attribute: the length
     ///   of the message with it, and [`MessageWrite::max_size`];
-    /// - `OutOfMemory`, where an attribute couldn't be made, or fewer bytes or attributes are ready
+    /// - `OutOfMemory`, if an attribute couldn't be made, or fewer bytes or attributes are ready
     ///   than are written.
     ///
     /// The writer is dropped then.
@@ -329,7 +329,7 @@ impl Message<'_> {
     /// # Errors
     ///
     /// As for [`Message::bad_request`]. The header and the attributes before the refused one are
-    /// written then. Where an allocation failed, fewer may be; but the header is written where
+    /// written then. If an allocation failed, fewer may be; but the header is written if
     /// twenty bytes are ready.
     pub fn bad_request_into<B: MessageWrite>(
         alloc: Global,
@@ -362,12 +362,12 @@ impl Message<'_> {
     ///
     /// The first of these that applies, attribute for attribute:
     ///
-    /// - `TooLarge { expected: 32767, actual }` where there are more than 32767 types;
-    /// - `TooSmall { expected, actual }` where the writer has no room for the attribute: the length
+    /// - `TooLarge { expected: 32767, actual }` if there are more than 32767 types;
+    /// - `TooSmall { expected, actual }` if the writer has no room for the attribute: the length
     ///   of the message with it, and [`MessageWrite::max_size`];
-    /// - `TooLarge { expected: 65555, actual }` where the message would be longer than a message
+    /// - `TooLarge { expected: 65555, actual }` if the message would be longer than a message
     ///   may be;
-    /// - `OutOfMemory`, where an attribute couldn't be made, or fewer bytes or attributes are ready
+    /// - `OutOfMemory`, if an attribute couldn't be made, or fewer bytes or attributes are ready
     ///   than are written.
     ///
     /// The writer is dropped then.
@@ -397,7 +397,7 @@ impl Message<'_> {
     /// # Errors
     ///
     /// As for [`Message::unknown_attributes`]. The header and the attributes before the refused one
-    /// are written then. Where an allocation failed, fewer may be; but the header is written where
+    /// are written then. If an allocation failed, fewer may be; but the header is written if
     /// twenty bytes are ready.
     pub fn unknown_attributes_into<B: MessageWrite>(
         alloc: Global,
@@ -424,11 +424,11 @@ impl Message<'_> {
     /// Checks the attributes of a request, and writes the reply that it deserves, if it does
     /// (RFC 8489, section 6.3.1).
     ///
-    /// - Where the request shows attributes that must be understood (their types are below 0x8000)
+    /// - If the request shows attributes that must be understood (their types are below 0x8000)
     ///   and aren't among `supported`, the reply is that of [`Message::unknown_attributes`], with
     ///   their types in order and as often as shown. MESSAGE-INTEGRITY and its like are such
     ///   attributes too.
-    /// - Else, where one of the types in `required` isn't shown, it is that of
+    /// - Else, if one of the types in `required` isn't shown, it is that of
     ///   [`Message::bad_request`].
     /// - Else there is none: the result is `None`, and nothing is written or allocated.
     ///
@@ -446,7 +446,7 @@ impl Message<'_> {
     ///
     /// # Errors
     ///
-    /// As for [`Message::unknown_attributes`] and [`Message::bad_request`]. Where there is no reply
+    /// As for [`Message::unknown_attributes`] and [`Message::bad_request`]. If there is no reply
     /// there is no error either.
     pub fn check_attribute_types<B: MessageWrite + Drop>(
         alloc: Global,
@@ -483,7 +483,7 @@ impl Message<'_> {
     /// # Errors
     ///
     /// As for [`Message::check_attribute_types`]. The header and the attributes before the refused
-    /// one are written then. Where an allocation failed, fewer may be, or nothing.
+    /// one are written then. If an allocation failed, fewer may be, or nothing.
     pub fn check_attribute_types_into<B: MessageWrite>(
         alloc: Global,
         msg: &Message<'_>,

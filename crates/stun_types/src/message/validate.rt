@@ -26,7 +26,7 @@ impl Message<'_> {
     /// to the attribute, with a length field that counts through the end of the attribute. The
     /// length field as received, and what follows the attribute, aren't covered.
     ///
-    /// Where the result is `Ok`, the covered bytes, the key and the algorithm determine the message
+    /// If the result is `Ok`, the covered bytes, the key and the algorithm determine the message
     /// type, the transaction ID and every attribute that is shown, except a FINGERPRINT. It isn't
     /// proved that only a holder of the key can make such an HMAC.
     ///
@@ -37,15 +37,15 @@ impl Message<'_> {
     ///
     /// The first of these that applies:
     ///
-    /// - `Parse(MissingAttribute(0x0008))` where no integrity attribute is shown;
-    /// - `Parse(Truncated { expected, actual })` where the value has fewer than 20 bytes
+    /// - `Parse(MissingAttribute(0x0008))` if no integrity attribute is shown;
+    /// - `Parse(Truncated { expected, actual })` if the value has fewer than 20 bytes
     ///   (MESSAGE-INTEGRITY) or 16 (MESSAGE-INTEGRITY-SHA256),
-    ///   `Parse(TooLarge { expected, actual })` where it has more than 20 or 32, and
-    ///   `Parse(InvalidAttributeData)` where their number isn't a multiple of 4;
-    /// - `Parse(OutOfMemory)` where an allocation failed while the key was made. An attribute was
+    ///   `Parse(TooLarge { expected, actual })` if it has more than 20 or 32, and
+    ///   `Parse(InvalidAttributeData)` if their number isn't a multiple of 4;
+    /// - `Parse(OutOfMemory)` if an allocation failed while the key was made. An attribute was
     ///   found then, whose value has such a length, but nothing is known of its HMAC: the same call
     ///   may succeed later;
-    /// - `IntegrityFailed` where the value isn't the HMAC.
+    /// - `IntegrityFailed` if the value isn't the HMAC.
     #[tactic(auto, using(stun_grammar::proofs::ParsingLemmas::parsed_frame))]
     pub fn validate_integrity(
         &self,
@@ -60,7 +60,7 @@ impl Message<'_> {
             → ShowsLawful (message_bytes self.now) }
         ensures accepted { IfOk result
             (IsAuthentic (credentials_key credentials.now) (message_bytes self.now)) }
-        // it is Ok, and the bytes c are covered, exactly where the message carries c and its HMAC
+        // it is Ok, and the bytes c are covered, exactly if the message carries c and its HMAC
         ensures carried { (c : List ℕ) (a : IntegrityAlgorithm)
             → result ≢ Err (ValidateError.Parse StunParseError.OutOfMemory)
             → ((result ≡ Ok a) × (covered (is_checked_type None) (message_bytes self.now) ≡ Some c))
@@ -74,11 +74,11 @@ impl Message<'_> {
         )
     }
 
-    /// As [`Message::validate_integrity`], with a key. Where the key was made for an algorithm,
+    /// As [`Message::validate_integrity`], with a key. If the key was made for an algorithm,
     /// only the integrity attribute of that algorithm is checked; else the last one that is shown.
     /// It takes no memory.
     ///
-    /// Where the result is `Ok`, the covered bytes, the key and the algorithm determine the message
+    /// If the result is `Ok`, the covered bytes, the key and the algorithm determine the message
     /// type, the transaction ID and the attributes that are shown up to and including the one that
     /// was checked. With a key that was made for an algorithm, more attributes may be shown than
     /// these.
@@ -87,11 +87,11 @@ impl Message<'_> {
     ///
     /// The first of these that applies:
     ///
-    /// - `Parse(MissingAttribute(0x0008))` where no such attribute is shown. The number is 0x0008
+    /// - `Parse(MissingAttribute(0x0008))` if no such attribute is shown. The number is 0x0008
     ///   for every key: with one that was made for `Sha256` it reports a missing
-    ///   MESSAGE-INTEGRITY-SHA256 (0x001C), also where a MESSAGE-INTEGRITY (0x0008) is shown;
+    ///   MESSAGE-INTEGRITY-SHA256 (0x001C), also if a MESSAGE-INTEGRITY (0x0008) is shown;
     /// - the errors of the value's length as for [`Message::validate_integrity`];
-    /// - `IntegrityFailed` where the value isn't the HMAC.
+    /// - `IntegrityFailed` if the value isn't the HMAC.
     #[tactic(auto, using(stun_grammar::proofs::ParsingLemmas::parsed_frame))]
     pub fn validate_integrity_with_key(
         &self,
@@ -103,7 +103,7 @@ impl Message<'_> {
         ensures accepted { IfOk result
             (IsAuthenticThrough (key_algorithm key.now) (λ _. key_bytes key.now)
             (message_bytes self.now)) }
-        // it is Ok, and the bytes c are covered, exactly where the message carries c and its HMAC
+        // it is Ok, and the bytes c are covered, exactly if the message carries c and its HMAC
         ensures carried { (c : List ℕ) (a : IntegrityAlgorithm) → key_algorithm key.now ≡ None
             → ((result ≡ Ok a) × (covered (is_checked_type None) (message_bytes self.now) ≡ Some c))
             ↔ Carries (message_bytes self.now) c (key_bytes key.now) a }

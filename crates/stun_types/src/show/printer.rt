@@ -30,7 +30,7 @@ impl Printer {
     ///
     /// # Errors
     ///
-    /// `fmt::Error` where the function answers it.
+    /// `fmt::Error` if the function answers it.
     pub(crate) fn text(&self, alloc: Global, raw: &RawAttribute<'_>) -> Result<String, fmt::Error>
         ensures { MatchResult result
             (λ text. Gives (AttributeDisplay.post self.now.imp) raw.now

@@ -26,11 +26,11 @@ impl fmt::Display for Malformed<'_, '_> {
 }
 
 /// Reads the attribute as an `A`, in memory from `alloc`, and appends to `text` what that prints.
-/// Where reading refuses, it appends the text of a malformed attribute.
+/// If reading refuses, it appends the text of a malformed attribute.
 ///
 /// # Errors
 ///
-/// `fmt::Error` where reading finds no memory, where the text finds none, or where the attribute
+/// `fmt::Error` if reading finds no memory, if the text finds none, or if the attribute
 /// answers it.
 pub fn print_read<'a, A: AttributeFromRaw<'a> + fmt::Display + Drop>(
     alloc: Global,

@@ -45,7 +45,7 @@ impl Registry {
         }
     }
 
-    /// Registers a name for an attribute type, in place of the one that was registered for it. A
+    /// Registers a name for an attribute type, instead of the one that was registered for it. A
     /// type that the library has a name for keeps that one, whatever is registered.
     ///
     /// # Errors
@@ -65,7 +65,7 @@ impl Registry {
         self.names.set(atype.value(), name)
     }
 
-    /// Registers a name for a method, in place of the one that was registered for it. A method that
+    /// Registers a name for a method, instead of the one that was registered for it. A method that
     /// the library has a name for keeps that one, whatever is registered.
     ///
     /// # Errors
@@ -85,7 +85,7 @@ impl Registry {
         self.method_names.set(method.value(), name)
     }
 
-    /// Registers a function that prints the attributes of a type, in place of the one that was
+    /// Registers a function that prints the attributes of a type, instead of the one that was
     /// registered for it. An attribute of a type that the library has a typed attribute for is
     /// printed as that one, whatever is registered.
     ///
@@ -112,7 +112,7 @@ impl Registry {
         self.printers.set(atype.value(), Printer::new(imp))
     }
 
-    /// The name of a type: the one that [`AttributeType::name`] tells, and where that is `unknown`
+    /// The name of a type: the one that [`AttributeType::name`] returns, or if that is `unknown`
     /// the one that was registered last, if any.
     pub fn name(&self, atype: AttributeType) -> &'static str
         ensures { result.now ≡ name_of self.now atype.0 }
@@ -120,7 +120,7 @@ impl Registry {
         own_or(atype.name(), self.names.find(atype.value()))
     }
 
-    /// The name of a method: the one that [`Method::name`] tells, and where that is `unknown` the
+    /// The name of a method: the one that [`Method::name`] returns, or if that is `unknown` the
     /// one that was registered last, if any.
     pub fn method_name(&self, method: Method) -> &'static str
         ensures { result.now ≡ method_name_of self.now method }
@@ -143,13 +143,13 @@ impl Registry {
     /// that the library has a typed attribute for, or that no function is registered for, prints as
     /// by its own `Display`.
     ///
-    /// The function makes the whole text, in memory from the allocator of the registry, before any
+    /// The function makes the text, in memory from the allocator of the registry, before any
     /// of it is written.
     ///
     /// # Errors
     ///
-    /// `fmt::Error` where the function answers it, as where it finds no memory, with nothing
-    /// written; and where the formatter refuses a part of the text.
+    /// `fmt::Error` if the function answers it, as if it finds no memory, with nothing
+    /// written; and if the formatter refuses a part of the text.
     pub fn show<W: fmt::Write>(
         &self,
         raw: &RawAttribute<'_>,

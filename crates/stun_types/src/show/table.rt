@@ -21,7 +21,7 @@ impl<V: Copy + Drop> Table<V> {
         }
     }
 
-    /// Where the entry of this number stands.
+    /// The place of the entry of this number.
     fn place(&self, number: u16) -> Option<usize>
         ensures { result ≡ position (λ entry. entry.0 == number) self.now.entries.items }
     {
@@ -38,7 +38,7 @@ impl<V: Copy + Drop> Table<V> {
             .map(|entry| entry.1)
     }
 
-    /// Gives this number the value, in the place of the one that it had, if any.
+    /// Gives this number the value, instead of the one that it had, if any.
     ///
     /// # Errors
     ///

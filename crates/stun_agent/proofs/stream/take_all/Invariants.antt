@@ -2,7 +2,7 @@ use Rattle.std.proofs.Common.{ℕ, List, Option, length}
 use Rattle.stun_agent.specs.StreamSteps.{Serving}
 use Rattle.stun_agent.proofs.stream.take_all.Given as goal
 
--- what was handed over is answered
+-- what was passed is answered
 abbrev pub invariant-loop-rest : goal.invariant-loop-rest
 invariant-loop-rest g l =
     (left left' held : Option (List ℕ))
