@@ -10,8 +10,8 @@ use stun_types::message::{Message, StunParseError, StunWriteError};
 use stun_types::prelude::*;
 use stun_types::show::{Registry, Shown};
 
-/// Appends what a LOCATION prints: its name and its text, where a text attribute by itself prints the
-/// number of its type.
+/// Appends what a LOCATION prints: its name and its text. A text attribute by itself prints the number
+/// of its type instead.
 fn print_location(alloc: Global, raw: &RawAttribute<'_>, text: &mut String) -> fmt::Result {
     match Location::from_raw_ref(alloc, raw) {
         Ok(location) => {
@@ -24,7 +24,7 @@ fn print_location(alloc: Global, raw: &RawAttribute<'_>, text: &mut String) -> f
 }
 
 /// The class, the method and the transaction ID of a message, and then each attribute that it shows
-/// on a line of its own, behind the offset of its header.
+/// on a line of its own, after the offset of its header.
 ///
 /// # Errors
 ///
