@@ -53,7 +53,7 @@ static BOTH: [PasswordAlgorithmValue; 2] = [
     PasswordAlgorithmValue::SHA256,
 ];
 
-/// Where the requests come from.
+/// The address that the requests come from.
 fn source() -> SocketAddr {
     SocketAddr::new(IpAddr::V4(Ipv4Addr::new(192, 0, 2, 1)), 32853)
 }
