@@ -16,7 +16,7 @@ VERSION = 0x8F02
 abbrev pub version_value : Version → List ℕ
 version_value version = be16 version.major ++ be16 version.minor
 
--- what reading such a value answers
+-- what reading such a value returns
 abbrev pub ReadsVersion : List ℕ → Result Version StunParseError → Type 0
 ReadsVersion value = Reads (exact_fault 4 (length value)) (λ version.
     (version.major ≡ number (take 2 value)) × (version.minor ≡ number (drop 2 value)))

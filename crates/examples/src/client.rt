@@ -54,7 +54,7 @@ pub fn signed_request(
 }
 
 /// Writes a binding request with a FINGERPRINT into a slice, and returns how many bytes it has. It
-/// takes no memory.
+/// allocates nothing.
 pub fn request_in(alloc: Global, id: u128, slice: &mut [u8]) -> Result<usize, StunWriteError> {
     if slice.len() < 20 {
         return Err(StunWriteError::TooSmall {

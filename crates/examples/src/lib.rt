@@ -1,4 +1,4 @@
-//! Examples of what `stun_types` is used for, each a module that stands for itself.
+//! Examples of what `stun_types` is used for, each a module of its own.
 #![tactic(auto)]
 
 pub mod client;

@@ -10,8 +10,8 @@ use stun_types::message::{Message, StunParseError, StunWriteError};
 use stun_types::prelude::*;
 use stun_types::show::{Registry, Shown};
 
-/// Appends what a LOCATION prints: its name and its text. A text attribute by itself prints the
-/// number of its type.
+/// Appends what a LOCATION prints: its name and its text. A text attribute by itself prints the number
+/// of its type instead.
 fn print_location(alloc: Global, raw: &RawAttribute<'_>, text: &mut String) -> fmt::Result {
     match Location::from_raw_ref(alloc, raw) {
         Ok(location) => {

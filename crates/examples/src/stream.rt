@@ -3,8 +3,8 @@
 use stun_framing::{MessageStream, StreamError};
 use stun_types::message::{Message, MessageClass, StunParseError, message_length};
 
-/// The first message in a buffer that holds the bytes of a stream, and the bytes after it; `None`
-/// if more of the message has yet to come.
+/// The first message in a buffer that holds the bytes of a stream, and the bytes that follow it;
+/// `None` if more of the message has yet to come.
 pub fn first_message(buffer: &[u8]) -> Result<Option<(Message<'_>, &[u8])>, StunParseError> {
     let Some(length) = message_length(buffer)? else {
         return Ok(None);
@@ -25,7 +25,7 @@ fn is_request(bytes: &[u8]) -> bool {
 }
 
 /// Takes a received piece of a stream, and counts the requests that it completes. The stream keeps
-/// what has come of a message until the rest of it comes.
+/// an incomplete message until the rest of it comes.
 pub fn requests_in(stream: &mut MessageStream<'_>, piece: &[u8]) -> Result<usize, StreamError> {
     let mut requests: usize = 0;
     let mut rest = piece;

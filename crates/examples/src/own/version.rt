@@ -8,7 +8,7 @@ use stun_types::message::StunParseError;
 /// each, big-endian.
 #[derive(Clone, Copy, Debug, PartialEq, Eq)]
 pub struct Version {
-    /// It changes if programs no longer understand one another.
+    /// It changes when programs no longer understand one another.
     pub major: u16,
     /// It changes with each release.
     pub minor: u16,
@@ -42,7 +42,7 @@ impl EncodeValue for Version {
 }
 
 /// Reading refuses a value of another length than four bytes as
-/// `Truncated { expected: 4, actual }` or `TooLarge { expected: 4, actual }`. It takes no memory.
+/// `Truncated { expected: 4, actual }` or `TooLarge { expected: 4, actual }`. It allocates nothing.
 impl ReadValue for Version {
     ghost use Rattle.examples.specs.Own.{ReadsVersion};
 
