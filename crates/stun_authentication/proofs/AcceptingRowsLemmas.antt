@@ -1,4 +1,4 @@
--- What holds where the rows of a table accept.
+-- What holds if the rows of a table accept.
 use Rattle.std.proofs.Common.{◌≡◌, ℕ, Bool, true, false, List, [], ◌∷◌, length, nat_eq, Option, Some, None, Result, Ok, Err, refl, sym, ap, subst, ◌∙◌}
 use Rattle.std.specs.Prelude.{◌≢◌, ◌==◌, IfOk, if◌then◌else◌, option_and_then}
 use Rattle.std.specs.Cmp.Lexicographic.{pointwise, bytes_decides}
@@ -79,7 +79,7 @@ same_accept policy d k key b a s reply e same =
     let other : b ≡ a = ap algorithm_in same in
     ap (λ (n : List ℕ). proof_of policy n d) (sym one) ∙ e ∙ ap (λ (x : IntegrityAlgorithm). Some x) other
 
--- where both algorithms serve, by a validation that looks at both
+-- if both algorithms serve, by a validation that looks at both
 pub proved_by_both : (policy : Policy) (d key : List ℕ) (a : IntegrityAlgorithm) → policy.algorithm ≡ None → proof_of policy key d ≡ Some a → verdict (is_checked_type None) (λ _. key) d ≡ Ok a
 proved_by_both policy d key a both e = ap (λ (m : Option IntegrityAlgorithm). verdict (is_checked_type m) (λ _. key) d) (sym both) ∙ proved policy d key a e
 

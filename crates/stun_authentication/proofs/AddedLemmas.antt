@@ -19,7 +19,7 @@ use Rattle.stun_authentication.proofs.TypesLemmas.{free, ending_none, unended_mo
 
 -- ---- One attribute
 
--- what isn't barred is refused for want of room alone
+-- what isn't blocked is refused for want of room alone
 answers : (room : Option StunWriteError) (P : Type 0) (result : Result (Unit {0}) StunWriteError) → IsAddAnswer room P result → FailsFor (option_or room None) result
 answers None P (Ok done) told = refl
 answers None P (Err e) told = inl told.0
@@ -94,7 +94,7 @@ passed_on : (result : Result (Unit {0}) StunWriteError) (e : StunWriteError) →
 passed_on (Ok done) e told = absurd (cc told.0)
 passed_on (Err made) e told = ap Err told.1
 
--- where some can't be added, more can't
+-- if some can't be added, more can't
 pub failed : (result : Result (Unit {0}) StunWriteError) (old new : Writer) (e : StunWriteError) (first second : List Attribute) → Lengthens (Err e) old new first
     → IsErr result × IsErrAnd result (λ made. made ≡ e) → Lengthens result old new (first ++ second)
 failed result old new e first second one told = subst (λ (r : Result (Unit {0}) StunWriteError). Lengthens r old new (first ++ second)) (sym (passed_on result e told)) (record {

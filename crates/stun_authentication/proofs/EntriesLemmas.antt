@@ -67,7 +67,7 @@ entry_at (x ∷ xs) (suc i) d inside =
     behind_first MD5 xs = refl
     behind_first SHA256 xs = refl
 
--- what `!=` tells
+-- what `!=` says
 pub differs : (b told : Bool) → told ≡ not b → told ≡ true → b ≡ false
 differs true told is e = absurd (cc (is, e))
 differs false told is e = refl

@@ -108,7 +108,7 @@ cookie_length true false = refl
 cookie_length false true = refl
 cookie_length true true = refl
 
--- what stands before and behind sixteen characters
+-- what precedes and after sixteen characters
 first_sixteen : (t : ℕ) (x : List ℕ) → take 16 (hexed (be64 t) ++ x) ≡ hexed (be64 t)
 unfolding hexed
 first_sixteen t x = refl

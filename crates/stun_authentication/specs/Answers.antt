@@ -30,7 +30,7 @@ refusal_reason BadRequest = codes "Bad Request"
 refusal_reason Unauthenticated = codes "Unauthenticated"
 refusal_reason StaleNonce = codes "Stale Nonce"
 
--- an answer tells a decision
+-- an answer reports a decision
 pub record TellsAccept (key : List ℕ) (algorithm reply_algorithm : IntegrityAlgorithm)
     (told : Accepted) : Type 0 where
   pub key_is : IsKey None key told.key

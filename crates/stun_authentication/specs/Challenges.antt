@@ -42,8 +42,8 @@ asked_by c =
     asked_for c.realm.now c.nonce.now (option_map (λ value. value.now) c.list) c.algorithm
     c.anonymous
 
--- the algorithm by which the request is signed: SHA-256 alone where there is a list (the last
--- paragraph), and else SHA-1, for a server of RFC 5389
+-- the algorithm by which the request is signed: SHA-256 alone if there is a list (the last
+-- paragraph), otherwise SHA-1, for a server of RFC 5389
 abbrev pub signing_by : Option (List ℕ) → IntegrityAlgorithm
 signing_by None = Sha1
 signing_by (Some list) = Sha256
@@ -73,7 +73,7 @@ abbrev pub text_of : ℕ → ℕ → List ℕ → Option (List ℕ)
 text_of most type d = option_and_then (λ value. text_in most value) (value_of d type)
 
 -- the algorithm of the key: the first one on the list that the client supports (the second
--- paragraph), and MD5 where there is no list
+-- paragraph), and MD5 if there is no list
 abbrev pub selected : List PasswordAlgorithmValue → Option (List ℕ) → Option PasswordAlgorithmValue
 selected supported None = numbered supported (algorithm_number MD5)
 selected supported (Some list) = first_listed supported list

@@ -1,4 +1,4 @@
--- The code that a response tells (RFC 8489, section 14.8).
+-- The code that a response has (RFC 8489, section 14.8).
 use Rattle.std.specs.Prelude.{ℕ, Bool, false, ◌||◌, List, Option, None, Some, is_some, ◌==◌, if◌then◌else◌, option_and_then}
 use Rattle.stun_grammar.specs.AttributeTypes.{ERROR_CODE}
 use Rattle.stun_grammar.specs.Headers.{type_field}

@@ -1,4 +1,4 @@
--- The beginning of a nonce that tells the security features of its server (RFC 8489, sections 9.2
+-- The beginning of a nonce that has the security features of its server (RFC 8489, sections 9.2
 -- and 18.1).
 use Rattle.std.specs.Prelude.{ℕ, Bool, true, false, ◌&&◌, List, ◌++◌, codes, length, slice_index, Option, None, Some, is_some, nat_eq, nat_le, position, bit_and, ◌==◌, not, if◌then◌else◌}
 use Rattle.std.specs.List.{starts_with}
@@ -20,7 +20,7 @@ features_of first = record {
   username_anonymity = not (bit_and first 0x10 == 0);
 }
 
--- whether the nonce has four characters of base64 behind its first nine bytes
+-- whether the nonce has four characters of base64 after its first nine bytes
 abbrev pub spells_bits : List ℕ → Bool
 spells_bits nonce =
     is_some (six_bits (slice_index nonce 9)) && (is_some (six_bits (slice_index nonce 10))
@@ -31,12 +31,12 @@ abbrev pub has_cookie : List ℕ → Bool
 has_cookie nonce =
     nat_le 13 (length nonce) && (starts_with nat_eq nonce (codes "obMatJos2") && spells_bits nonce)
 
--- the features that a nonce tells of, if it begins with a nonce cookie
+-- the features of a nonce, if it begins with a nonce cookie
 unfoldable pub security_features : List ℕ → Option SecurityFeatures
 security_features nonce =
     if has_cookie nonce then option_map features_of (six_bits (slice_index nonce 9)) else None
 
--- whether it tells that PASSWORD-ALGORITHMS is sent with it
+-- whether it says that PASSWORD-ALGORITHMS is sent with it
 abbrev pub promises : Option SecurityFeatures → Bool
 promises None = false
 promises (Some features) = features.password_algorithms
@@ -44,7 +44,7 @@ promises (Some features) = features.password_algorithms
 abbrev pub promises_algorithms : List ℕ → Bool
 promises_algorithms nonce = promises (security_features nonce)
 
--- whether it tells that USERHASH serves
+-- whether it says that the server supports USERHASH
 abbrev pub is_anonymous : Option SecurityFeatures → Bool
 is_anonymous None = false
 is_anonymous (Some features) = features.username_anonymity

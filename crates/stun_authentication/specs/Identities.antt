@@ -11,7 +11,7 @@ pub data Who : Type 0 where
   named : List ℕ → Who
   hashed : List ℕ → Who
 
--- the user that an identity tells
+-- the user that an identity names
 abbrev pub who : Identity → Who
 who (Name name) = named name.now
 who (Hash hash) = hashed hash.now

@@ -51,7 +51,7 @@ by_both state (Some one) (Some list) = option_map (λ a. Chosen a) (chosen state
 by_both state None (Some list) = None
 by_both state (Some one) None = None
 
--- how d is processed, with this nonce; None where it is a bad request
+-- how d is processed, with this nonce; None if it is a bad request
 abbrev pub hashing_of : Known → List ℕ → List ℕ → Option Hashing
 hashing_of state nonce d =
     if promises_algorithms nonce
@@ -67,7 +67,7 @@ pub record Named : Type 0 where
 abbrev pub named : Names → Named
 named names = record { user = who names.user; nonce = names.nonce.now }
 
--- USERNAME or USERHASH, and NONCE, where REALM is there too
+-- USERNAME or USERHASH, and NONCE, if REALM is there too
 abbrev pub names_of : List ℕ → Option Named
 names_of d =
     option_and_then (λ user.

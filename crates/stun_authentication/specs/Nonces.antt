@@ -43,7 +43,7 @@ unhexed (one ∷ two ∷ more) = (16 * digit_of one + digit_of two) ∷ unhexed 
 
 -- ---- A nonce
 
--- what a server makes nonces by: a secret, the features that it tells of, and for how many seconds a
+-- what a server makes nonces by: a secret, its features, and for how many seconds a
 -- nonce is valid
 pub record Minting : Type 0 where
   pub secret : List ℕ
@@ -71,7 +71,7 @@ abbrev pub minted : Minting → (time : ℕ) → (place : List ℕ) → List ℕ
 minted minting time place =
     cookie minting.features ++ (hexed (be64 time) ++ hexed (minted_mac minting time place))
 
--- the time that a nonce tells
+-- the time of a nonce
 abbrev pub told_time : List ℕ → ℕ
 told_time nonce = number (unhexed (slice_range nonce 13 29))
 
@@ -83,13 +83,13 @@ aged minting now time =
     if nat_le time now && nat_le now (time + minting.window) then Fresh else Stale
 
 -- what is known of a nonce that comes from a place: it is the one that was made for that place at
--- the time that it tells, or it isn't the server's
+-- its time, or it isn't the server's
 abbrev pub freshness : Minting → (now : ℕ) → (place nonce : List ℕ) → Freshness
 freshness minting now place nonce =
     if pointwise nat_eq nonce (minted minting (told_time nonce) place)
     then aged minting now (told_time nonce) else Unknown
 
--- as `authenticate_long_term` asks for it, where these algorithms are sent with each nonce
+-- as `authenticate_long_term` asks for it, if these algorithms are sent with each nonce
 abbrev pub known_as : List PasswordAlgorithmValue → Freshness → Known
 known_as algorithms Fresh = valid algorithms
 known_as algorithms Stale = invalid

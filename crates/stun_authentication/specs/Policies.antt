@@ -16,7 +16,7 @@ use Rattle.stun_authentication.specs.declared.policy.Policy.{Policy}
 abbrev pub is_fingerprinted : List ℕ → Bool
 is_fingerprinted d = is_some (nth d FINGERPRINT 0)
 
--- whether d is taken: with a FINGERPRINT, where the usage uses them (sections 6.3 and 7)
+-- whether d is taken: with a FINGERPRINT, if the usage uses them (sections 6.3 and 7)
 abbrev pub is_taken : Policy → List ℕ → Bool
 is_taken policy d = if policy.fingerprint then is_fingerprinted d else true
 
@@ -45,7 +45,7 @@ abbrev pub is_long_enough : Policy → IntegrityAlgorithm → List ℕ → Bool
 is_long_enough policy algorithm d = has_least_length policy.shortest algorithm d
 
 -- what a validation of d answers with a key: of the attribute that counts, and of
--- MESSAGE-INTEGRITY-SHA256 where both do
+-- MESSAGE-INTEGRITY-SHA256 if both do
 abbrev pub validated : Policy → List ℕ → List ℕ → Result IntegrityAlgorithm ValidateError
 validated policy key d = verdict (is_checked_type policy.algorithm) (λ _. key) d
 
@@ -61,7 +61,7 @@ abbrev pub proved_by : Policy → List ℕ → Result IntegrityAlgorithm Validat
     → Option IntegrityAlgorithm
 proved_by policy d answer = proved_at policy.shortest d answer
 
--- the algorithm whose HMAC in d is right under the key, where it counts
+-- the algorithm whose HMAC in d is right under the key, if it counts
 abbrev pub proof_of : Policy → List ℕ → List ℕ → Option IntegrityAlgorithm
 proof_of policy key d = proved_by policy d (validated policy key d)
 

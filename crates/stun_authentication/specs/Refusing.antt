@@ -23,7 +23,7 @@ use Rattle.stun_authentication.specs.Writing.{finished, print_sizes, sizes}
 -- ---- What a client is asked for
 
 -- why a nonce isn't sent with these algorithms, or without a list: its cookie says that there is
--- one exactly where there is one (section 9.2.4, the first check)
+-- one exactly if there is one (section 9.2.4, the first check)
 abbrev pub mismatch : (nonce : List ℕ) → Option PasswordAlgorithms → Option Mismatch
 mismatch nonce None = if promises_algorithms nonce then Some NoList else None
 mismatch nonce (Some algorithms) = if promises_algorithms nonce then None else Some NotPromised
@@ -45,7 +45,7 @@ demanded demand = asked_for (text_bytes demand.realm) (text_bytes demand.nonce) 
 
 -- ---- The response
 
--- what a refusal carries beside its code: a 400 nothing, and under short-term credentials, where
+-- what a refusal carries beside its code: a 400 nothing, and under short-term credentials, if
 -- nothing is asked for, no refusal anything
 abbrev pub carried : Refusal → Option Demand → List Attribute
 carried BadRequest demand = []
@@ -59,7 +59,7 @@ abbrev pub refusal_attributes : Refusal → Option Demand → List Attribute
 refusal_attributes refusal demand =
     error_attribute (refusal_code refusal) (refusal_reason refusal) ∷ carried refusal demand
 
--- the response to r, with a FINGERPRINT where r has one
+-- the response to r, with a FINGERPRINT if r has one
 abbrev pub refusal_of : List ℕ → Refusal → Option Demand → List ℕ
 refusal_of r refusal demand =
     let kind = response_type ErrorClass r in

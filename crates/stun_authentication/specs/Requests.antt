@@ -26,7 +26,7 @@ signed_by_each (Some algorithm) kind id before key = signed kind id before algor
 signed_by_each None kind id before key =
     signed kind id (signed kind id before Sha1 key) Sha256 key
 
--- a request or an indication with these attributes, and behind them USERNAME and the integrity
+-- a request or an indication with these attributes, and after them USERNAME and the integrity
 -- attributes
 abbrev pub short_term_attributes : (fingerprint : Bool) → Option IntegrityAlgorithm → ℕ → ℕ
     → List Attribute → (name key : List ℕ) → List Attribute
@@ -55,12 +55,12 @@ abbrev pub identity : (anonymous : Bool) → (realm name : List ℕ) → Who
 identity false realm name = named name
 identity true realm name = hashed (user_hash name realm)
 
--- USERNAME, or USERHASH where the nonce says that it serves
+-- USERNAME, or USERHASH if the nonce says that it serves
 abbrev pub identity_attribute : Who → Attribute
 identity_attribute (named name) = canonical USERNAME name
 identity_attribute (hashed hash) = canonical USERHASH hash
 
--- PASSWORD-ALGORITHMS with the same content, and PASSWORD-ALGORITHM, where there was a list
+-- PASSWORD-ALGORITHMS with the same content, and PASSWORD-ALGORITHM, if there was a list
 abbrev pub algorithm_attributes : Option (List ℕ) → PasswordAlgorithmValue → List Attribute
 algorithm_attributes None algorithm = []
 algorithm_attributes (Some list) algorithm =
@@ -79,7 +79,7 @@ abbrev pub user_key : Asked → User → List ℕ
 user_key asked user =
     long_term_key (integrity_of asked.algorithm) user.name asked.realm user.password
 
--- a request with these attributes, and behind them what the challenge asks for, signed
+-- a request with these attributes, and after them what the challenge asks for, signed
 abbrev pub retried_attributes : (fingerprint : Bool) → Asked → User → ℕ → ℕ → List Attribute
     → List Attribute
 retried_attributes fingerprint asked user kind id before =

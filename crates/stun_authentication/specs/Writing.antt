@@ -15,7 +15,7 @@ use Rattle.stun_write.specs.Writers.{Writer}
 
 -- ---- What doesn't fit
 
--- why attributes with values of these lengths don't all fit behind a message of len bytes, in a
+-- why attributes with values of these lengths don't all fit after a message of len bytes, in a
 -- writer that takes at most so many: why the first that doesn't is refused
 abbrev pub no_room : Option ℕ → ℕ → List ℕ → Option StunWriteError
 no_room greatest len [] = None
@@ -23,7 +23,7 @@ no_room greatest len (n ∷ sizes) =
     option_or (room_refusal len greatest (grown_length len n))
     (no_room greatest (grown_length len n) sizes)
 
--- the length of a message of len bytes with these behind it
+-- the length of a message of len bytes with these after it
 abbrev pub longer : ℕ → List ℕ → ℕ
 longer len [] = len
 longer len (n ∷ sizes) = longer (grown_length len n) sizes
@@ -32,18 +32,18 @@ longer len (n ∷ sizes) = longer (grown_length len n) sizes
 abbrev pub sizes : List Attribute → List ℕ
 sizes attributes = map (λ a. length a.value) attributes
 
--- an error is the refusal, or tells that an allocation failed
+-- an error is the refusal, or says that an allocation failed
 abbrev pub FailsFor : {T : Type 0} → Option StunWriteError → Result T StunWriteError → Type 0
 FailsFor refusal result =
     MatchResult result (λ _. refusal ≡ None) (λ e. (e ≡ OutOfMemory) ⊎ (refusal ≡ Some e))
 
 -- ---- Ordinary attributes
 
--- nothing is written behind which no ordinary attribute may follow
+-- nothing is written after which no ordinary attribute may follow
 abbrev pub IsUnended : Writer → Type 0
 IsUnended w = list_any is_ending w.types ≡ false
 
--- a message that is written gets these attributes more, behind those that it has
+-- a message that is written gets these attributes more, after those that it has
 pub record Lengthens (result : Result (Unit {0}) StunWriteError) (old new : Writer)
     (more : List Attribute) : Type 0 where
   pub written : (kind id : ℕ) (before : List Attribute)
@@ -57,7 +57,7 @@ pub record Lengthens (result : Result (Unit {0}) StunWriteError) (old new : Writ
 
 -- ---- The end of a message
 
--- attributes, and behind them the integrity attribute of an algorithm under a key
+-- attributes, and after them the integrity attribute of an algorithm under a key
 abbrev pub signed : ℕ → ℕ → List Attribute → IntegrityAlgorithm → List ℕ → List Attribute
 signed kind id before algorithm key = with_step kind id before (sign algorithm key)
 
@@ -66,7 +66,7 @@ abbrev pub finished : (fingerprint : Bool) → ℕ → ℕ → List Attribute �
 finished false kind id attributes = attributes
 finished true kind id attributes = with_step kind id attributes finger
 
--- a reply that is signed by an algorithm under a key: a decision that accepts tells both
+-- a reply that is signed by an algorithm under a key: a decision that accepts has both
 abbrev pub signed_reply : (fingerprint : Bool) → ℕ → ℕ → List Attribute → IntegrityAlgorithm
     → List ℕ → List ℕ
 signed_reply fingerprint kind id before algorithm key =
@@ -78,7 +78,7 @@ print_sizes false = []
 print_sizes true = 4 ∷ []
 
 -- a message that is written, and that isn't signed and has no FINGERPRINT, is finished: it gets
--- attributes of these sizes, or an error tells which doesn't fit, or that an allocation failed
+-- attributes of these sizes, or an error says which doesn't fit, or that an allocation failed
 pub record Finishes {T : Type 0} (result : Result T StunWriteError) (old new : Writer)
     (finish : ℕ → ℕ → List Attribute → List Attribute) (more : List ℕ) : Type 0 where
   pub written : (kind id : ℕ) (before : List Attribute)

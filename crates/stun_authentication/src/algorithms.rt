@@ -55,7 +55,7 @@ fn named_by(
     numbered(wanted, entry.get_type().value())
 }
 
-/// The entry at an offset of a value, and the offset after it. `None` where none is whole.
+/// The entry at an offset of a value, and the offset after it. `None` if none is whole.
 fn entry_at<'a>(value: &'a [u8], offset: usize) -> Option<(RawAttribute<'a>, usize)>
     requires { offset ≤ length value.now }
     ensures { MatchOption result (first_attribute (drop offset value.now) ≡ None)

@@ -67,7 +67,7 @@ impl<'a> Challenge<'a> {
         }
     }
 
-    /// The realm, which the REALM of the request copies. It tells the user which name and password
+    /// The realm, which the REALM of the request copies. It shows the user which name and password
     /// are asked for.
     pub fn realm(&self) -> &'a str
         ensures realm { result.now ≡ (asked_by self.now).realm }
@@ -84,7 +84,7 @@ impl<'a> Challenge<'a> {
         self.nonce
     }
 
-    /// The value of PASSWORD-ALGORITHMS, which the request copies where there is one: it then has a
+    /// The value of PASSWORD-ALGORITHMS, which the request copies if there is one: it then has a
     /// PASSWORD-ALGORITHM too.
     pub fn password_algorithms(&self) -> Option<&'a [u8]>
         ensures list { option_map (λ value. value.now) result ≡ (asked_by self.now).list }
@@ -93,8 +93,8 @@ impl<'a> Challenge<'a> {
         self.list
     }
 
-    /// The password algorithm of the key, which the PASSWORD-ALGORITHM of the request names where
-    /// there is a PASSWORD-ALGORITHMS: the first one on the list that is supported, and MD5 where
+    /// The password algorithm of the key, which the PASSWORD-ALGORITHM of the request names if
+    /// there is a PASSWORD-ALGORITHMS: the first one on the list that is supported, and MD5 if
     /// there is no list.
     pub fn password_algorithm(&self) -> PasswordAlgorithmValue
         ensures { result ≡ (asked_by self.now).algorithm }
@@ -109,8 +109,8 @@ impl<'a> Challenge<'a> {
         self.anonymous
     }
 
-    /// The algorithm by which the request is signed: MESSAGE-INTEGRITY-SHA256 alone where there is
-    /// a PASSWORD-ALGORITHMS, and else MESSAGE-INTEGRITY alone, for a server of RFC 5389.
+    /// The algorithm by which the request is signed: MESSAGE-INTEGRITY-SHA256 alone if there is
+    /// a PASSWORD-ALGORITHMS, otherwise MESSAGE-INTEGRITY alone, for a server of RFC 5389.
     pub fn integrity_algorithm(&self) -> IntegrityAlgorithm
         ensures { result ≡ signing_algorithm (asked_by self.now) }
     {

@@ -1,4 +1,4 @@
-//! The code that a response tells (RFC 8489, section 14.8).
+//! The code that a response has (RFC 8489, section 14.8).
 
 ghost use Rattle.std.specs.Prelude.{◌≡◌};
 ghost use Rattle.stun_types.specs.Message.{message_bytes};
@@ -7,7 +7,7 @@ ghost use Rattle.stun_authentication.specs.Codes.{shown_code, response_code, is_
 use stun_types::attribute::{AttributeStaticType, ErrorCode, read_error};
 use stun_types::message::{Message, MessageClass};
 
-/// The code that a message shows, if its first ERROR-CODE tells one: 300 to 699, with a reason that
+/// The code that a message shows, if its first ERROR-CODE has one: 300 to 699, with a reason that
 /// is a text.
 pub fn shown_code(message: &Message<'_>) -> Option<u16>
     ensures { result ≡ shown_code (message_bytes message.now) }

@@ -1,4 +1,4 @@
-//! The beginning of a nonce that tells the security features of its server (RFC 8489, sections 9.2
+//! The beginning of a nonce that has the security features of its server (RFC 8489, sections 9.2
 //! and 18.1).
 
 ghost use Rattle.std.specs.Prelude.{◌≡◌};
@@ -8,7 +8,7 @@ ghost use Rattle.stun_authentication.specs.Cookies.{security_features, cookie, s
 /// 4).
 const BASE64: [u8; 64] = *b"ABCDEFGHIJKLMNOPQRSTUVWXYZabcdefghijklmnopqrstuvwxyz0123456789+/";
 
-/// The security features that a server tells a client of at the beginning of its nonces (RFC 8489,
+/// The security features that a server states at the beginning of its nonces (RFC 8489,
 /// section 18.1).
 #[derive(Clone, Copy, Debug, Default, PartialEq, Eq)]
 pub struct SecurityFeatures {
@@ -40,7 +40,7 @@ fn six_bits(character: u8) -> Option<usize>
     BASE64.iter().position(|known| *known == character)
 }
 
-/// The security features that a nonce tells of, or `None` where it doesn't begin with a nonce
+/// The security features of a nonce, or `None` if it doesn't begin with a nonce
 /// cookie: `obMatJos2`, and four characters of base64, which spell 24 bits (RFC 8489, section 9.2).
 /// Bits 2 to 23 may be anything.
 #[tactic(auto, unfolding(crate::specs::Cookies::security_features))]

@@ -31,7 +31,7 @@ pub(crate) fn value_of<'a>(message: &Message<'a>, atype: AttributeType) -> Optio
     }
 }
 
-/// Who a message says that it comes from: `None` where it shows neither USERNAME nor USERHASH, or
+/// Who a message says that it comes from: `None` if it shows neither USERNAME nor USERHASH, or
 /// both.
 pub(crate) fn identity_of<'a>(message: &Message<'a>) -> Option<Identity<'a>>
     ensures { identity_of (message_bytes message.now) ≡ option_map who result }

@@ -20,14 +20,14 @@ ghost use Rattle.stun_authentication.specs.Lookups.{Known};
 ghost use Rattle.stun_authentication.specs.LongTerm.{long_term};
 ghost use Rattle.stun_authentication.specs.ShortTerm.{short_term};
 
-/// A nonce that begins with a nonce cookie tells its features, whatever follows.
+/// A nonce that begins with a nonce cookie has its features, whatever follows.
 pub fn cookie_is_read()
     ensures { (features : SecurityFeatures) (more : List ℕ)
         → security_features (cookie features ++ more) ≡ Some features }
 {}
 
 /// A message that is accepted is its sender's: type, transaction ID and what is shown are authentic
-/// under the key of the user whom the look-up names, by the algorithm that was answered. Where only
+/// under the key of the user whom the look-up names, by the algorithm that was answered. If only
 /// one algorithm serves, this holds of what is shown through its integrity attribute. The key is the
 /// one that the look-up has for the user whom the message names, its HMAC is as long as the policy
 /// asks, and under long-term credentials its nonce is valid, and its password algorithm is one of
@@ -51,7 +51,7 @@ pub fn accepted_is_authentic()
         → IsBytes d → parse_fault d ≡ None
         → long_term policy realm nonces keys d ≡ accept key a reply
         → IsAuthenticThrough policy.algorithm (λ _. key) d a }
-    // where both algorithms serve, of the whole message
+    // if both algorithms serve, of the whole message
     ensures short_term_whole { (policy : Policy) (keys : List ℕ → Option (List ℕ))
         (d key : List ℕ) (a reply : IntegrityAlgorithm)
         → IsBytes d → parse_fault d ≡ None → policy.algorithm ≡ None

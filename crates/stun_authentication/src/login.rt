@@ -111,7 +111,7 @@ fn add_credentials<B: MessageWrite>(
     add_algorithms(challenge, write)
 }
 
-/// Answers a challenge (RFC 8489, section 9.2.5): behind the attributes that a request has already,
+/// Answers a challenge (RFC 8489, section 9.2.5): after the attributes that a request has already,
 /// adds USERNAME, or USERHASH if the challenge asks for it, REALM and NONCE, and PASSWORD-ALGORITHMS
 /// and PASSWORD-ALGORITHM if it has a list; signs all of it; and adds a FINGERPRINT if `fingerprint`
 /// is `true`. Returns the key, which protects the transaction of the request.

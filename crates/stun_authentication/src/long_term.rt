@@ -63,7 +63,7 @@ struct Names<'a> {
     nonce: &'a [u8],
 }
 
-/// These of a message, where REALM is there too.
+/// These of a message, if REALM is there too.
 fn names_of<'a>(message: &Message<'a>) -> Option<Names<'a>>
     ensures { names_of (message_bytes message.now) ≡ option_map named result }
 {
@@ -95,7 +95,7 @@ fn chosen(state: KnownNonce<'_>, one: &[u8], list: &[u8]) -> Option<PasswordAlgo
     first_listed(&[algorithm], list)
 }
 
-/// By which password algorithm a request is processed; `None` where it is a bad one.
+/// By which password algorithm a request is processed; `None` if it is a bad one.
 fn hashing_of(state: KnownNonce<'_>, nonce: &[u8], request: &Message<'_>) -> Option<Hashing>
     ensures { result ≡ hashing_of (known state.entry) nonce.now (message_bytes request.now) }
 {
@@ -169,26 +169,26 @@ fn by_algorithms<K: LongTermKeys>(
 /// - Without an integrity attribute that counts (see [`Policy`]) it is refused with 401.
 /// - Without REALM, without NONCE, with neither USERNAME nor USERHASH, or with both, it is refused
 ///   with 400.
-/// - Where the nonce promises PASSWORD-ALGORITHMS ([`security_features`]), and the request shows
+/// - If the nonce promises PASSWORD-ALGORITHMS ([`security_features`]), and the request shows
 ///   PASSWORD-ALGORITHM or PASSWORD-ALGORITHMS, it must show both, the list must be the one that
 ///   was sent with the nonce, and the algorithm on that list: else it is refused with 400. It is
 ///   processed with that algorithm; in every other case as though with MD5.
-/// - Where `keys` has no key for the user, it is refused with 401.
-/// - Where its last integrity attribute that counts isn't the HMAC under the key, or has fewer
+/// - If `keys` has no key for the user, it is refused with 401.
+/// - If its last integrity attribute that counts isn't the HMAC under the key, or has fewer
 ///   bytes than the policy asks for, it is refused with 401, as for an unknown user.
-/// - Where the nonce isn't valid, it is refused with 438. It is looked at last: a wrong password
+/// - If the nonce isn't valid, it is refused with 438. It is looked at last: a wrong password
 ///   with a stale nonce is 401.
 /// - Otherwise it is accepted, with the key. The reply is signed by MESSAGE-INTEGRITY-SHA256 alone,
-///   but by MESSAGE-INTEGRITY alone where the request was processed as though with MD5.
+///   but by MESSAGE-INTEGRITY alone if the request was processed as though with MD5.
 ///
 /// The realm makes the key, and not the REALM of the request, which only has to be there. A 401 and
-/// a 438 carry REALM and NONCE, and PASSWORD-ALGORITHMS where the nonce promises it; a 400 carries
+/// a 438 carry REALM and NONCE, and PASSWORD-ALGORITHMS if the nonce promises it; a 400 carries
 /// none of these. None carries USERNAME, USERHASH or an integrity attribute.
 /// [`refuse_long_term`](crate::refuse_long_term) writes them.
 ///
 /// # Errors
 ///
-/// Only where an allocation failed, while `keys` looked for the key: the third check and those before
+/// Only if an allocation failed, while `keys` looked for the key: the third check and those before
 /// it take no memory.
 pub fn authenticate_long_term<N: Nonces, K: LongTermKeys>(
     alloc: Global,

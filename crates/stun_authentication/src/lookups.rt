@@ -15,13 +15,13 @@ use stun_types::message::IntegrityKey;
 pub trait ShortTermKeys {
     ghost key_of: { Self → List ℕ → Option (List ℕ) };
 
-    /// The key of a user, the password (RFC 8489, section 9.1.1), or `None` where there is no such
+    /// The key of a user, the password (RFC 8489, section 9.1.1), or `None` if there is no such
     /// user. `username` is the value of a USERNAME. The algorithm that the key was made for doesn't
     /// matter.
     ///
     /// # Errors
     ///
-    /// Only where an allocation failed.
+    /// Only if an allocation failed.
     fn key(&self, alloc: Global, username: &[u8]) -> Result<Option<IntegrityKey>, AllocError>
         ensures { IfOk result (IsKeyOf (key_of self.now username.now)) };
 }
@@ -31,13 +31,13 @@ pub trait LongTermKeys {
     ghost key_of: { Self → Who → List ℕ → PasswordAlgorithmValue → Option (List ℕ) };
 
     /// The key of a user in a realm, by an algorithm: the MD5 or the SHA-256 of
-    /// `username:realm:password` (RFC 8489, sections 9.2.2 and 18.5.1); or `None` where there is no
+    /// `username:realm:password` (RFC 8489, sections 9.2.2 and 18.5.1); or `None` if there is no
     /// such user, or the server knows no users by USERHASH. The algorithm that the key was made for
     /// doesn't matter.
     ///
     /// # Errors
     ///
-    /// Only where an allocation failed.
+    /// Only if an allocation failed.
     fn key(
         &self,
         alloc: Global,

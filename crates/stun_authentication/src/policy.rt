@@ -16,7 +16,7 @@ use stun_types::message::{IntegrityAlgorithm, IntegrityKey, Message};
 /// messages without a FINGERPRINT.
 #[derive(Clone, Copy, Debug, PartialEq, Eq)]
 pub struct Policy {
-    /// The one algorithm that serves, or `None` where both do. The integrity attribute of an
+    /// The one algorithm that serves, or `None` if both do. The integrity attribute of an
     /// algorithm that doesn't serve counts as absent.
     pub algorithm: Option<IntegrityAlgorithm>,
     /// How many bytes a MESSAGE-INTEGRITY-SHA256 has at least. A usage may say 16, 20, 24 or 28;
@@ -28,7 +28,7 @@ pub struct Policy {
 }
 
 /// Whether the HMAC of an algorithm has at least `shortest` bytes in a message. That of a
-/// MESSAGE-INTEGRITY has 20 always, and only that of a MESSAGE-INTEGRITY-SHA256 may be cut, where the
+/// MESSAGE-INTEGRITY has 20 always, and only that of a MESSAGE-INTEGRITY-SHA256 may be cut, if the
 /// usage says so (RFC 8489, section 14.6).
 pub fn has_least_length(
     shortest: usize,
@@ -69,7 +69,7 @@ impl Policy {
     ghost use Rattle.stun_keys.specs.Keys.{key_bytes, IsKey};
     ghost use Rattle.stun_authentication.specs.Policies.{is_fingerprinted, is_taken, is_signed, proof_of, Proves};
 
-    /// Whether a message is taken: with a FINGERPRINT, where the usage uses them.
+    /// Whether a message is taken: with a FINGERPRINT, if the usage uses them.
     pub(crate) fn is_taken(self, message: &Message<'_>) -> bool
         ensures { result ≡ is_taken self (message_bytes message.now) }
     {
@@ -90,7 +90,7 @@ impl Policy {
         }
     }
 
-    /// The algorithm whose HMAC in a message is right under a key, where it counts; and the key,
+    /// The algorithm whose HMAC in a message is right under a key, if it counts; and the key,
     /// which then works with both algorithms.
     pub(crate) fn proof_of(
         self,

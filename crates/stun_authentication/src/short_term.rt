@@ -63,8 +63,8 @@ fn checked<K: ShortTermKeys>(
 /// - A response is [`Authentication::NotARequest`]: it is the client's to check.
 /// - Without an integrity attribute that counts (see [`Policy`]), or without USERNAME, it is
 ///   rejected as a bad request.
-/// - Where `keys` has no key for the USERNAME, it is rejected as unauthenticated.
-/// - Where its last integrity attribute that counts isn't the HMAC under the key, or has fewer
+/// - If `keys` has no key for the USERNAME, it is rejected as unauthenticated.
+/// - If its last integrity attribute that counts isn't the HMAC under the key, or has fewer
 ///   bytes than the policy asks for, it is rejected as unauthenticated.
 /// - Otherwise it is accepted, with the key and the algorithm of that attribute: the reply is
 ///   signed by these, and by one integrity attribute alone. It has no USERNAME.
@@ -75,7 +75,7 @@ fn checked<K: ShortTermKeys>(
 ///
 /// # Errors
 ///
-/// Only where an allocation failed, while `keys` looked for the key.
+/// Only if an allocation failed, while `keys` looked for the key.
 pub fn authenticate_short_term<K: ShortTermKeys>(
     alloc: Global,
     message: &Message<'_>,

@@ -63,7 +63,7 @@ ascii [] e i = omega arith
 ascii (b ∷ bs) e zero = ltb-true b 128 (first_true (ltb b 128) (small bs) e).0
 ascii (b ∷ bs) e (suc i) = ascii bs (first_true (ltb b 128) (small bs) e).1 i
 
--- the value of an ERROR-CODE tells the code of the refusal
+-- the value of an ERROR-CODE has the code of the refusal
 pub code_value : Refusal → List ℕ
 code_value refusal = error_value (refusal_code refusal) (refusal_reason refusal)
 

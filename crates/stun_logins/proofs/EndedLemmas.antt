@@ -57,7 +57,7 @@ nth_missing missing d c attributes shows none = missing d c 0 attributes shows (
 pub value_missing : IsMissing → (d : List ℕ) (c : ℕ) (attributes : List Attribute) → shown d ≡ placed 20 attributes → has c (types attributes) ≡ false → value_of d c ≡ None
 value_missing missing d c attributes shows none = ap (option_map (λ (x : Shown). x.value)) (nth_missing missing d c attributes shows none)
 
--- ---- Behind the ordinary attributes stand ending ones
+-- ---- Ending attributes follow the ordinary ones
 
 pub record Ended (xs all : List Attribute) : Type 0 where
   pub more : List Attribute

@@ -68,7 +68,7 @@ parts_unsigned Sha256 (hashed hash) realm nonce (Some list) a = refl
 added : (type : ℕ) (value : List ℕ) → type < 2 ^ 16 → length value < 2 ^ 16 → is_ending type ≡ false → IsAdded (canonical type value)
 added type value t v plain = record { written = refl; type_fits = t; value_fits = v; plain = plain }
 
--- the length of what tells the user
+-- the length of what names the user
 abbrev FitsWho : Who → Type 0
 FitsWho (named name) = length name < 2 ^ 16
 FitsWho (hashed hash) = length hash < 2 ^ 16

@@ -17,7 +17,7 @@ use Rattle.stun_transactions.specs.Guards.{signed_by, is_signed, signs_by}
 use Rattle.stun_logins.specs.Premises.{same_algorithm, checked}
 use Rattle.stun_logins.proofs.EndedLemmas.{HasHmac}
 
--- an algorithm counts where both do, or it is the one that does
+-- an algorithm counts if both do, or it is the one that does
 abbrev pub Counts : Option IntegrityAlgorithm → IntegrityAlgorithm → Type 0
 Counts counts a = (counts ≡ None) ⊎ (counts ≡ Some a)
 

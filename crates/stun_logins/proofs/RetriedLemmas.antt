@@ -31,7 +31,7 @@ ok_is : (a b : Asked) (r : Result Asked NoRetry) → r ≡ Ok a → r ≡ Ok b �
 ok_is a b r one two =
     let same : (let x : Result Asked NoRetry = Ok a in x) ≡ Ok b = sym one ∙ two in cc
 
--- for whatever the client was asked, where that is what the offer asks
+-- for whatever the client was asked, if that is what the offer asks
 of_asked : IsFirst → IsMissing → (policy : Policy) (nonces : List ℕ → Known) (keys : Who → List ℕ → PasswordAlgorithmValue → Option (List ℕ)) (offer : Offer) (supported : List PasswordAlgorithmValue) (algorithm : PasswordAlgorithmValue) (asked : Asked) (user : User) (fingerprint : Bool) (kind id : ℕ) (before : List Attribute)
     → asked_of offer algorithm ≡ asked → IsOffered nonces offer → Takes supported offer algorithm → IsShort offer user.name → class_of kind ≡ Request → IsOwn kind id before → HasRoom kind id (retried_attributes fingerprint asked user kind id before)
     → keys (identity asked.anonymous asked.realm user.name) asked.realm asked.algorithm ≡ Some (user_key asked user) → Serves policy (signing_algorithm asked) fingerprint

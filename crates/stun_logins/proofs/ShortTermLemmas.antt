@@ -41,7 +41,7 @@ own_free : (a : IntegrityAlgorithm) → first_of (barring_types finger) (type_of
 own_free Sha1 = refl
 own_free Sha256 = refl
 
--- what is written behind ordinary attributes
+-- what is written after ordinary attributes
 pub signed_writable : (kind id : ℕ) (xs : List Attribute) (a : IntegrityAlgorithm) (key : List ℕ) → IsWritable kind id xs → first_of (barring_types (sign a key)) (types xs) ≡ None → HasRoom kind id (signed kind id xs a key)
     → IsWritable kind id (signed kind id xs a key)
 signed_writable kind id xs a key so none room = one_more kind id xs (sign a key) so none tt tt room
@@ -86,7 +86,7 @@ pub each_writable : (fingerprint : Bool) (sent : Option IntegrityAlgorithm) (kin
 each_writable fingerprint (Some a) kind id xs key so none room = once_writable fingerprint kind id xs a key so none room
 each_writable fingerprint None kind id xs key so none room = twice_writable fingerprint kind id xs key so none room
 
--- ---- The attributes behind USERNAME
+-- ---- The attributes after USERNAME
 
 pub each_ended : (fingerprint : Bool) (sent : Option IntegrityAlgorithm) (kind id : ℕ) (xs : List Attribute) (key : List ℕ) → Ended xs (finished fingerprint kind id (signed_by_each sent kind id xs key))
 each_ended fingerprint (Some a) kind id xs key = ended_finished fingerprint kind id xs (signed kind id xs a key) (ended_signed kind id xs xs a key (ended_none xs))

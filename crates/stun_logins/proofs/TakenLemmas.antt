@@ -146,7 +146,7 @@ taken first sent counts a fingerprint print kind id other before answer name key
     let r = is_request fingerprint sent counts a kind id before name key own named room which in
     short_taken first a print other id answer key kept usage (signed_by d) (signs_is a d (signs_found first kind id all (is_checked_type counts) a key r.writable r.signs)) works plain fits suits
 
--- ---- What the transaction is told
+-- ---- What is reported to the transaction
 
 told_of : (ongoing parses answers : Bool) (kept : Option Discard) (out : Discard → Outcome) (taken : Outcome) → ongoing ≡ true → parses ≡ true → answers ≡ true → kept ≡ None
     → (if ongoing && parses then (if answers then option_map_or out kept taken else NotForThis) else NotForThis) ≡ taken

@@ -30,12 +30,12 @@ pub record Offer : Type 0 where
 abbrev pub offered_list : Offer → Option (List ℕ)
 offered_list offer = option_map (λ algorithms. algorithms_encoding algorithms) offer.algorithms
 
--- the algorithms, as they are known of the nonce: none where there is no list
+-- the algorithms, as they are known of the nonce: none if there is no list
 abbrev pub sent_with : Option (List PasswordAlgorithmValue) → List PasswordAlgorithmValue
 sent_with None = []
 sent_with (Some algorithms) = algorithms
 
--- the nonce is valid, was sent with these algorithms, and its cookie tells whether there is a list
+-- the nonce is valid, was sent with these algorithms, and its cookie says whether there is a list
 pub record IsOffered (nonces : List ℕ → Known) (offer : Offer) : Type 0 where
   pub known : nonces offer.nonce ≡ valid (sent_with offer.algorithms)
   pub agrees : promises_algorithms offer.nonce ≡ is_some offer.algorithms
@@ -50,7 +50,7 @@ asked_of offer algorithm = record {
   anonymous = is_anonymous (security_features offer.nonce);
 }
 
--- a client that supports these algorithms takes this one: the first on the list, or MD5 where there
+-- a client that supports these algorithms takes this one: the first on the list, or MD5 if there
 -- is none
 abbrev pub Takes : List PasswordAlgorithmValue → Offer → PasswordAlgorithmValue → Type 0
 Takes supported offer algorithm = selected supported (offered_list offer) ≡ Some algorithm
@@ -92,7 +92,7 @@ refused fingerprint kind id refusal demand =
     message_encoding kind id (refused_attributes fingerprint kind id refusal demand)
 
 -- nothing that a client knows from earlier challenges keeps it from answering one that offers this:
--- where it has seen a list, this has one, and where its credentials were tried, a 401 asks for
+-- if it has seen a list, this has one, and if its credentials were tried, a 401 asks for
 -- another realm
 pub record Retries (tried seen : Option (List ℕ)) (refusal : Refusal) (offer : Offer) : Type 0 where
   pub listed : is_some seen ≡ true → is_some offer.algorithms ≡ true

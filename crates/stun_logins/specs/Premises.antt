@@ -12,7 +12,7 @@ use Rattle.stun_keys.specs.Keys.{key_bytes, key_algorithm, serves}
 use Rattle.stun_authentication.specs.declared.policy.Policy.{Policy}
 use Rattle.stun_transactions.specs.declared.usage.Usage.{Usage}
 
--- the types of the attributes that tell who a client is, and what it was asked to copy
+-- the types of the attributes that say who a client is, and what it was asked to copy
 abbrev pub credential_types : List ℕ
 credential_types =
     USERNAME ∷ USERHASH ∷ REALM ∷ NONCE ∷ PASSWORD_ALGORITHM ∷ PASSWORD_ALGORITHMS ∷ []
@@ -49,7 +49,7 @@ same_algorithm Sha256 Sha1 = false
 same_algorithm Sha256 Sha256 = true
 
 -- the algorithm of the integrity attribute that a server checks, by which ones count for it, and
--- which ones a request has (None: both); none where they don't meet
+-- which ones a request has (None: both); none if they don't meet
 abbrev pub checked : (counts sent : Option IntegrityAlgorithm) → Option IntegrityAlgorithm
 checked None None = Some Sha256
 checked None (Some a) = Some a
@@ -60,7 +60,7 @@ checked (Some a) (Some b) = if same_algorithm a b then Some a else None
 abbrev pub IsPrinted : (asked fingerprint : Bool) → Type 0
 IsPrinted asked fingerprint = asked ≡ true → fingerprint ≡ true
 
--- a server's policy takes an algorithm, with a whole HMAC: where it takes both, or that one; and it
+-- a server's policy takes an algorithm, with a whole HMAC: if it takes both, or that one; and it
 -- asks for no FINGERPRINT that isn't there
 pub record Serves (policy : Policy) (algorithm : IntegrityAlgorithm) (fingerprint : Bool)
     : Type 0 where

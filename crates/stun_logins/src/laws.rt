@@ -66,8 +66,8 @@ pub fn challenge_is_read()
 /// A login by long-term credentials is accepted, and its reply is taken.
 ///
 /// A server offers a realm, a nonce that it knows as valid, and a list of password algorithms or
-/// none, as the nonce's cookie tells. A client takes one of the algorithms, and writes what it is
-/// asked for behind attributes of its own, for a user whose key the server has in that realm by that
+/// none, as the nonce's cookie says. A client takes one of the algorithms, and writes what it is
+/// asked for after attributes of its own, for a user whose key the server has in that realm by that
 /// algorithm. The request is accepted as that user's, with that key. A reply that is signed with the
 /// key, by the algorithm of the decision, is authentic for the client's transaction, which returns it
 /// with that algorithm, unless it shows an attribute that isn't understood or is an error without a

@@ -9,7 +9,7 @@ use Rattle.stun_attrs.specs.declared.raw.RawAttribute.{RawAttribute}
 use Rattle.stun_types.specs.Replies.{shown_types}
 use Rattle.stun_types.proofs.ShownTypesLemmas.{item_type, SoFar}
 
--- where none was found, the first of others is found
+-- if none was found, the first of others is found
 find_behind : (test : AttributeType → Bool) (front back : List AttributeType) → find test front ≡ None → find test (front ++ back) ≡ find test back
 find_behind test front back none = find-append test front back ∙ ap (λ (o : Option AttributeType). option_or o (find test back)) none
 

@@ -103,7 +103,7 @@ grows clock now = elim (cases_Bool (nat_lt (as_nanos clock) (as_nanos now))) [
 at : (parts : TransactionParts) (one other : RetransmissionState) → one ≡ other → Sound (at_state parts other) → parts_fault (at_state parts one) ≡ None
 at parts one other e sound = ap (λ (c : RetransmissionState). parts_fault (at_state parts c)) e ∙ sound_none (at_state parts other) sound
 
--- where a further request is to be sent, there is room for it
+-- if a further request is to be sent, there is room for it
 room : (stopped : Bool) (sent requests : ℕ) → (not stopped && nat_lt sent requests) ≡ true → sent < requests
 room false sent requests more = ltb-true sent requests more
 room true sent requests more = absurd cc

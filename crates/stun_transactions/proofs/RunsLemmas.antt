@@ -26,7 +26,7 @@ same_place : (plan : Plan) (moments : List ℕ) (sent last sent' last' : ℕ) �
 same_place plan moments sent last sent' last' e f spaced =
     subst (λ (n : ℕ). IsSpaced plan n last moments) e (subst (λ (n : ℕ). IsSpaced plan sent' n moments) f spaced)
 
--- where a further request is to be sent, sending isn't stopped, and not all were sent
+-- if a further request is to be sent, sending isn't stopped, and not all were sent
 going_on : (stopped : Bool) (sent requests : ℕ) → (not stopped && nat_lt sent requests) ≡ true → (stopped ≡ false) × (sent < requests)
 going_on false sent requests more = (refl, ltb-true sent requests more)
 going_on true sent requests more = absurd cc
@@ -132,7 +132,7 @@ receives_on terms state understood d =
 
 -- ---- Calls that are no polls
 
--- whatever is told, what was sent stays so
+-- whatever is reported, what was sent stays so
 same_sent : (o : Outcome) (state : RetransmissionState) → (after o state).sent ≡ state.sent
 same_sent NotForThis state = refl
 same_sent (Discarded NotAuthentic claim) state = refl
@@ -166,7 +166,7 @@ same_stopped (Failed failure) state = refl
 same_stopped (Success proof) state = refl
 same_stopped (Error code proof) state = refl
 
--- a test that fails where an end is there
+-- a test that fails if an end is there
 shut : (some ended parses : Bool) (o : Outcome) → ended ≡ true → (if (some && not ended) && parses then o else NotForThis) ≡ NotForThis
 shut true true parses o e = refl
 shut false true parses o e = refl

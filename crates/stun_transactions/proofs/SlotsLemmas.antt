@@ -30,7 +30,7 @@ record Was (o : Option Transaction) (u : Transaction) : Type 0 where
   is : o ≡ Some transaction
   same : id_of u ≡ id_of transaction
 
--- each transaction stood in its slot before, by its ID
+-- each transaction was in its slot before, by its ID
 abbrev Keeps : List (Option Transaction) → List (Option Transaction) → Type 0
 Keeps old new = (i : ℕ) (u : Transaction) → in_slot new i ≡ Some u → Was (in_slot old i) u
 
@@ -138,7 +138,7 @@ from_none : {T : Type 0} (o : Option T) → is_some o ≡ false → o ≡ None
 from_none None e = refl
 from_none (Some x) e = absurd cc
 
--- where no slot passes, none does at any place
+-- if no slot passes, none does at any place
 none_passes : (p : Option Transaction → Bool) (slots : List (Option Transaction)) (k : ℕ) → p None ≡ false → length slots ≤ position_or_len p slots → p (in_slot slots k) ≡ false
 none_passes p [] k free long = free
 none_passes p (x ∷ xs) zero free long = first_fails (p x) (position_or_len p xs) (length xs) long
@@ -194,7 +194,7 @@ add_distinct t old new (Ok x) added distinct =
     added_distinct t old new (position is_free old) distinct (by_unused (is_some (place_of (id_of t) old)) (is_some (position is_free old)) added.0) added.1
 add_distinct t old new (Err e) same distinct = let P : List (Option Transaction) → Type 0 = HasDistinctIds in subst P (sym same.1) distinct
 
--- what is told of a request that would begin alone
+-- what is reported of a request that would begin alone
 by_begin : (o : Option BeginError) (x : Option AddError) → o ≡ None → option_map_or (λ reason. Some (Begin reason)) o x ≡ x
 by_begin None x e = refl
 by_begin (Some reason) x e = absurd cc

@@ -117,14 +117,14 @@ proved_as (ShortTerm key) usage signed d bytes parses passes =
 proved_as (LongTerm key) usage signed d bytes parses passes =
     long usage.shortest key signed d (is_challenge d) (is_bid_down d) (is_unsigned_bad_request d) (proof_of (LongTerm key) usage signed d) bytes parses refl refl passes
 
--- it shows a FINGERPRINT where one must be there
+-- it shows a FINGERPRINT if one must be there
 shown : (lacks : Bool) (fault : Option Discard) → (if lacks then Some NoFingerprint else fault) ≡ None → (lacks ≡ false) × (fault ≡ None)
 shown true fault e = absurd cc
 shown false fault e = (refl, e)
 
 -- ---- What is taken
 
--- the algorithm that is handed out is the one that authenticates it
+-- the algorithm that is sent is the one that authenticates it
 by_code : (proof : Option IntegrityAlgorithm) (code : Option ℕ) → is_taken (option_map_or (λ n. Error n proof) code (Failed NoErrorCode)) ≡ true → proof_in (option_map_or (λ n. Error n proof) code (Failed NoErrorCode)) ≡ proof
 by_code proof None taken = absurd cc
 by_code proof (Some n) taken = refl

@@ -98,7 +98,7 @@ proof_of (LongTerm key) usage signed d = proved_at usage.shortest d (validated k
 -- ---- Which responses are discarded
 
 -- by a short-term credential what isn't authentic, by an algorithm of the request: one that is
--- signed, and by none of these, is told apart (section 9.1.4)
+-- signed, and by none of these, is distinguished (section 9.1.4)
 abbrev pub short_term_fault : (authentic : Bool) → Signed → List ℕ → Option Discard
 short_term_fault authentic signed d =
     if authentic then None
@@ -119,7 +119,7 @@ long_term_fault authentic d =
     else (if is_unsigned_bad_request d then Some UnsignedBadRequest
     else (if authentic then None else Some NotAuthentic)))
 
--- by the mechanism in use: where the first request has no key, nothing is to be authenticated
+-- by the mechanism in use: if the first request has no key, nothing is to be authenticated
 abbrev pub mechanism_fault : Protection → (authentic : Bool) → Signed → List ℕ → Option Discard
 mechanism_fault Unprotected authentic signed d = None
 mechanism_fault FirstLongTerm authentic signed d = long_term_fault true d
@@ -127,7 +127,7 @@ mechanism_fault (ShortTerm key) authentic signed d = short_term_fault authentic 
 mechanism_fault (LongTerm key) authentic signed d = long_term_fault authentic d
 
 -- why d is discarded as a response to a request that was protected so: a FINGERPRINT is missing
--- where the usage sends them (section 6.3), or the mechanism keeps it out
+-- if the usage sends them (section 6.3), or the mechanism keeps it out
 abbrev pub guard_fault : Protection → Usage → Signed → List ℕ → Option Discard
 guard_fault protection usage signed d =
     if lacks_fingerprint usage d then Some NoFingerprint

@@ -1,4 +1,4 @@
--- The address that a response tells (RFC 8489, sections 6.3.1 and 14.2).
+-- The address that a response reports (RFC 8489, sections 6.3.1 and 14.2).
 use Rattle.std.specs.Prelude.{◌≡◌, ℕ, List, Option, None, Some, Result, Ok, Err, MatchOption}
 use Rattle.std.specs.declared.net.socket_addr.SocketAddr.{SocketAddr}
 use Rattle.stun_grammar.specs.declared.error.StunParseError.{StunParseError}
@@ -13,7 +13,7 @@ use Rattle.stun_read.specs.LookingUp.{nth}
 use Rattle.stun_types.specs.Replies.{is_answer_to}
 use Rattle.stun_values.specs.Addresses.{Spells, IsXored, address_fault}
 
--- the value of an XOR-MAPPED-ADDRESS tells this address, in a message with this transaction ID
+-- the value of an XOR-MAPPED-ADDRESS has this address, in a message with this transaction ID
 pub record TellsAddress (id : ℕ) (value : List ℕ) (a : SocketAddr) : Type 0 where
   pub written : SocketAddr
   pub spelled : Spells value written
@@ -31,7 +31,7 @@ pub record IsSuccessOf (r d : List ℕ) : Type 0 where
   pub answers : is_answer_to r d ≡ true
   pub succeeds : class_of (type_field d) ≡ Success
 
--- what the bytes d tell of the request r: the address, where they are a success response to it
+-- what the bytes d say of the request r: the address, if they are a success response to it
 abbrev pub ReadsAnswer : List ℕ → List ℕ → Result (Option SocketAddr) StunParseError → Type 0
 ReadsAnswer r d (Ok None) = (parse_fault d ≡ None) × ¬ (IsSuccessOf r d)
 ReadsAnswer r d (Ok (Some a)) = (parse_fault d ≡ None) × IsSuccessOf r d × ReadsMapped d (Ok a)

@@ -1,4 +1,4 @@
--- What is told of a received message, and what it does to the state of the transaction.
+-- What is reported of a received message, and what it does to the state of the transaction.
 use Rattle.std.specs.Prelude.{◌≡◌, ℕ, List, Bool, true, not, ◌&&◌, Some, is_some, nat_lt}
 use Rattle.stun_types.specs.Message.{message_bytes}
 use Rattle.stun_transactions.specs.declared.received.Discard.TheVariants.{NotAuthentic, OtherAlgorithm, BidDown, UnsignedBadRequest, NoFingerprint}
@@ -9,7 +9,7 @@ use Rattle.stun_transactions.specs.declared.retransmission.RetransmissionState.{
 use Rattle.stun_transactions.specs.declared.retransmission.TransactionEnd.{TransactionEnd}
 use Rattle.stun_transactions.specs.declared.retransmission.TransactionEnd.TheVariants.{Answered, IntegrityViolated, Refused}
 
--- what is told, without the message
+-- what is reported, without the message
 abbrev pub outcome_of : Received → Outcome
 outcome_of Received.NotForThis = Outcome.NotForThis
 outcome_of (Received.Discarded reason claim) = Outcome.Discarded reason claim
@@ -17,7 +17,7 @@ outcome_of (Received.Failed failure) = Outcome.Failed failure
 outcome_of (Received.Success message proof) = Outcome.Success proof
 outcome_of (Received.Error message code proof) = Outcome.Error code proof
 
--- a message that is handed out has these bytes
+-- a message that is sent has these bytes
 abbrev pub Holds : Received → List ℕ → Type 0
 Holds (Received.Success message proof) d = message_bytes message ≡ d
 Holds (Received.Error message code proof) d = message_bytes message ≡ d

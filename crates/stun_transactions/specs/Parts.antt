@@ -88,13 +88,13 @@ signs (Some FirstLongTerm) = false
 signs (Some ShortTerm) = true
 signs (Some LongTerm) = true
 
--- a request is signed exactly where a credential protects it
+-- a request is signed exactly if a credential protects it
 abbrev pub is_signed_otherwise : TransactionParts → Bool
 is_signed_otherwise parts =
     if signs parts.mechanism then not (parts.sha1 || parts.sha256) else parts.sha1 || parts.sha256
 
 -- why these parts are no transaction's: the request is signed otherwise than it is protected, or was
--- sent more often than the schedule says, or later than the latest moment that was told
+-- sent more often than the schedule says, or later than the latest moment that was reported
 abbrev pub parts_fault : TransactionParts → Option PartsError
 parts_fault parts =
     if is_signed_otherwise parts then Some SignedOtherwise

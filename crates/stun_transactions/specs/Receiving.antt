@@ -29,7 +29,7 @@ use Rattle.stun_transactions.specs.Outcomes.{is_open}
 abbrev pub claim_of : List ℕ → Claim
 claim_of d = record { code = response_code d }
 
--- what is told of a response that is kept out: over a reliable transport one whose HMAC is wrong or
+-- the report on a response that is kept out: over a reliable transport one whose HMAC is wrong or
 -- missing ends the transaction
 abbrev pub discarded : TransportType → Claim → Discard → Outcome
 discarded Tcp claim NotAuthentic = Failed (IntegrityViolated claim)
@@ -39,14 +39,14 @@ discarded Tcp claim UnsignedBadRequest = Discarded UnsignedBadRequest claim
 discarded Tcp claim NoFingerprint = Discarded NoFingerprint claim
 discarded Udp claim reason = Discarded reason claim
 
--- a response of this class that shows only types that are understood: an error response tells a
+-- a response of this class that shows only types that are understood: an error response has a
 -- code
 abbrev pub content_by_class : Option IntegrityAlgorithm → MessageClass → List ℕ → Outcome
 content_by_class proof ErrorClass d =
     option_map_or (λ code. Error code proof) (shown_code d) (Failed NoErrorCode)
 content_by_class proof _ d = Success proof
 
--- what a response that isn't kept out tells, with the algorithm that authenticates it
+-- what a response that isn't kept out reports, with the algorithm that authenticates it
 abbrev pub content : Option IntegrityAlgorithm → List AttributeType → List ℕ → Outcome
 content proof understood d =
     option_map_or (λ type. Failed (UnknownAttribute type)) (first_beyond understood d)
@@ -61,7 +61,7 @@ outcome terms understood d =
     (content (proof_of terms.protection terms.usage terms.signed d) understood d)
     else NotForThis
 
--- what received bytes are for a transaction: nothing where it isn't in progress, or they are no
+-- what received bytes are for a transaction: nothing if it isn't in progress, or they are no
 -- message; what has a wrong FINGERPRINT is none
 abbrev pub received_outcome : Terms → RetransmissionState → List AttributeType → List ℕ → Outcome
 received_outcome terms state understood d =

@@ -11,7 +11,7 @@ use Rattle.stun_transactions.specs.declared.retransmission.TransactionEnd.{Trans
 use Rattle.stun_transactions.specs.declared.retransmission.TransactionEnd.TheVariants.{Answered, TimedOut, IntegrityViolated, Cancelled}
 use Rattle.stun_transactions.specs.Schedules.{requests_in, wait_in, rest_in}
 
--- the moment of a call: a clock that steps back stands still
+-- the moment of a call: a clock that steps back counts as stopped
 abbrev pub later : Duration → Duration → Duration
 later clock now = if nat_lt (as_nanos clock) (as_nanos now) then now else clock
 
@@ -26,8 +26,8 @@ begun now = record {
   end = None;
 }
 
--- how many milliseconds nothing is done after the last request was handed out: until the next one,
--- or until the end where the caller has stopped sending
+-- how many milliseconds nothing is done after the last request was sent: until the next one,
+-- or until the end if the caller has stopped sending
 abbrev pub wait_of : Plan → RetransmissionState → ℕ
 wait_of plan state = if state.stopped then rest_in plan state.sent else wait_in plan state.sent
 
@@ -39,20 +39,20 @@ due plan state = as_nanos state.last + wait_of plan state * 1_000_000
 abbrev pub has_more : Plan → RetransmissionState → Bool
 has_more plan state = not state.stopped && nat_lt state.sent (requests_in plan)
 
--- whether a poll hands out the request, or tells an end
+-- whether a poll sends the request, or reports an end
 abbrev pub is_ready : Plan → RetransmissionState → Duration → Bool
 is_ready plan state now =
     is_some state.end || nat_le (due plan state) (as_nanos (later state.clock now))
 
--- how a transaction ends when its time is up: where responses were discarded since they weren't
--- authentic, that is told instead (RFC 8489, sections 9.1.4 and 9.2.5); where the caller has stopped
+-- how a transaction ends when its time is up: if responses were discarded since they weren't
+-- authentic, that is reported instead (RFC 8489, 9.1.4 and 9.2.5); if the caller has stopped
 -- sending, that no response came is no failure (RFC 8445, section 7.3.1.4)
 abbrev pub end_of : RetransmissionState → TransactionEnd
 end_of state =
     if state.stopped then Cancelled
     else (if state.violated then IntegrityViolated else TimedOut)
 
--- a request is handed out: its moment has come, and not all were sent
+-- a request is sent: its moment has come, and not all were sent
 pub record Sends (plan : Plan) (old : RetransmissionState) (at : Duration)
     (new : RetransmissionState) : Type 0 where
   pub ongoing : old.end ≡ None
@@ -60,7 +60,7 @@ pub record Sends (plan : Plan) (old : RetransmissionState) (at : Duration)
   pub more : has_more plan old ≡ true
   pub new_is : new ≡ record old { sent = old.sent + 1; last = at; clock = at }
 
--- nothing is done before a moment, which is still to come; no moment is told past the greatest
+-- nothing is done before a moment, which is still to come; no moment is reported past the greatest
 -- that a `Duration` can hold
 pub record Waits (plan : Plan) (old : RetransmissionState) (at until : Duration)
     (new : RetransmissionState) : Type 0 where
@@ -110,7 +110,7 @@ is_answered _ = false
 abbrev pub is_timed : RetransmissionState → Bool
 is_timed state = is_answered state.end && (state.sent == 1)
 
--- the time is told from when the request was handed out to a moment, where it is known
+-- the time is known from when the request was sent to a moment, if it is reported
 abbrev pub TellsTime : RetransmissionState → Duration → Option Duration → Type 0
 TellsTime state now told =
     MatchOption told (is_timed state ≡ false)

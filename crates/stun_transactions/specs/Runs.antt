@@ -1,4 +1,4 @@
--- Sequences of calls on a transaction, and the moments at which its requests are handed out.
+-- Sequences of calls on a transaction, and the moments at which its requests are sent.
 use Rattle.std.specs.Prelude.{◌≡◌, ℕ, ◌+◌, ◌*◌, ◌<◌, ◌≤◌, Bool, true, false, List, [], ◌∷◌, Option, None, Some, is_some, MatchOption, if◌then◌else◌}
 use Rattle.std.specs.Duration.{as_nanos}
 use Rattle.std.specs.declared.time.Duration.{Duration}
@@ -32,7 +32,7 @@ abbrev pub IsRun : Plan → RetransmissionState → List Call → Type 0
 IsRun plan old [] = Unit {0}
 IsRun plan old (call ∷ calls) = IsCall plan old call × IsRun plan call.left calls
 
--- whether an action, and a call, hands out the request
+-- whether an action, and a call, sends the request
 abbrev pub is_send : Action → Bool
 is_send Send = true
 is_send (WaitUntil until) = false
@@ -42,7 +42,7 @@ abbrev pub hands_out : Option (Duration × Action) → Bool
 hands_out None = false
 hands_out (Some p) = is_send p.1
 
--- the moments, in nanoseconds, at which calls hand out the request
+-- the moments, in nanoseconds, at which calls send the request
 abbrev pub sends : List Call → List ℕ
 sends [] = []
 sends (call ∷ calls) =

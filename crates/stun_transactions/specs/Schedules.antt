@@ -1,4 +1,4 @@
--- Schedules: what they are made of, and how long they tell to wait (RFC 8489, section 6.2).
+-- Schedules: what they are made of, and how long they say to wait (RFC 8489, section 6.2).
 use Rattle.std.specs.Prelude.{◌≡◌, ℕ, ◌^◌, ◌||◌, Option, None, Some, nat_lt, ◌==◌, if◌then◌else◌}
 use Rattle.stun_base.specs.declared.transport.TransportType.{TransportType}
 use Rattle.stun_base.specs.declared.transport.TransportType.TheVariants.{Udp, Tcp}

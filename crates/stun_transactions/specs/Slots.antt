@@ -44,7 +44,7 @@ is_free (Some transaction) = false
 abbrev pub in_slot : List (Option Transaction) → ℕ → Option Transaction
 in_slot slots place = slice_index_or slots place None
 
--- the same, where there is a place
+-- the same, if there is a place
 abbrev pub held : List (Option Transaction) → Option ℕ → Option Transaction
 held slots place = option_and_then (in_slot slots) place
 
@@ -89,12 +89,12 @@ pub record Adds (r : List ℕ) (schedule : Schedule) (transport : TransportType)
   pub begins : Begins r schedule transport protection usage now transaction
   pub added : IsAdded transaction old new
 
--- whether a poll of the transaction in a slot hands out its request, or tells an end
+-- whether a poll of the transaction in a slot sends its request, or reports an end
 abbrev pub has_turn : Duration → Option Transaction → Bool
 has_turn now None = false
 has_turn now (Some t) = is_ready (terms_of t).plan (state_of t) now
 
--- when the transaction in a slot is to be polled next: at once where an end is yet to be told
+-- when the transaction in a slot is to be polled next: at once if an end is yet to be reported
 abbrev pub wake : Option Transaction → Option ℕ
 wake None = None
 wake (Some t) =
@@ -112,14 +112,14 @@ abbrev pub soonest : List (Option Transaction) → Option ℕ
 soonest [] = None
 soonest (slot ∷ slots) = sooner (wake slot) (soonest slots)
 
--- what is told where nothing is to be done
+-- what is reported if nothing is to be done
 abbrev pub IsWait : List (Option Transaction) → Task → Type 0
 IsWait slots (WaitUntil until) = soonest slots ≡ Some (as_nanos until)
 IsWait slots Idle = soonest slots ≡ None
 IsWait slots task = ⊥
 
--- what a poll of the transaction in a slot tells, and what the slot then holds: nothing once an end
--- was told
+-- what a poll of the transaction in a slot reports, and what the slot holds then: nothing if an end
+-- was reported
 abbrev pub PollsSlot : Option Transaction → Duration → Task → Option Transaction → Type 0
 PollsSlot (Some t) now (Send id) (Some u) =
     (id ≡ id_of t) × (terms_of u ≡ terms_of t)
@@ -130,7 +130,7 @@ PollsSlot (Some t) now (Ended id end) None =
     (Action.Ended end) last)
 PollsSlot _ now task _ = ⊥
 
--- what a poll of all of them tells and leaves: the first that has something to do is polled, and
+-- what a poll of all of them reports and leaves: the first that has something to do is polled, and
 -- each other slot is as it was
 abbrev pub PollsSlots : List (Option Transaction) → Duration → Task → List (Option Transaction)
     → Type 0
@@ -155,14 +155,14 @@ ending end t = record t { state = ended_by end (state_of t) }
 abbrev pub stopping : Transaction → Transaction
 stopping t = record t { state = stopped_by (state_of t) }
 
--- what is told of d for a transaction: its ID, and what d is for it alone
+-- what is reported of d for a transaction: its ID, and what d is for it alone
 pub record IsFor (t : Transaction) (understood : List AttributeType) (d : List ℕ)
     (told : ℕ × Received) : Type 0 where
   pub id : told.0 ≡ id_of t
   pub outcome : outcome_of told.1 ≡ received_outcome (terms_of t) (state_of t) understood d
   pub message : Holds told.1 d
 
--- the same, where there is a transaction, and else nothing
+-- the same, if there is a transaction, otherwise nothing
 abbrev pub Tells : Option Transaction → List AttributeType → List ℕ → Option (ℕ × Received) → Type 0
 Tells slot understood d told =
     MatchOption slot (told ≡ None) (λ t. IsSomeAnd told (IsFor t understood d))

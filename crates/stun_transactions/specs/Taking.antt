@@ -60,7 +60,7 @@ IsFitBy FirstLongTerm d = (is_challenge d ≡ true) ⊎ IsFit d
 IsFitBy (ShortTerm key) d = Unit {0}
 IsFitBy (LongTerm key) d = (is_challenge d ≡ true) ⊎ IsFit d
 
--- d is a message, a response to the request, and authentic; it shows a FINGERPRINT where the usage
+-- d is a message, a response to the request, and authentic; it shows a FINGERPRINT if the usage
 -- sends them
 pub record IsRightResponse (terms : Terms) (d : List ℕ)
     (proof : Option IntegrityAlgorithm) : Type 0 where

@@ -28,7 +28,7 @@ pub record Begins (r : List ℕ) (schedule : Schedule) (transport : TransportTyp
       (terms_of transaction)
   pub state : state_of transaction ≡ begun now
 
--- the moment at which it is to be polled next, where it goes on
+-- the moment at which it is to be polled next, if it goes on
 abbrev pub Wakes : Transaction → Option Duration → Type 0
 Wakes transaction moment =
     MatchOption moment (is_some (state_of transaction).end ≡ true)

@@ -68,7 +68,7 @@ impl Signed {
         (self.sha1 && other.sha1) || (self.sha256 && other.sha256)
     }
 
-    /// An algorithm, where there is its attribute.
+    /// An algorithm, if there is its attribute.
     fn matched_by(self, proof: Option<IntegrityAlgorithm>) -> Option<IntegrityAlgorithm>
         ensures { result ≡ matched_by self proof }
     {

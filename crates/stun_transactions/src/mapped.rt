@@ -30,7 +30,7 @@ pub fn response_address(alloc: Global, response: &Message<'_>) -> Result<SocketA
 ///
 /// # Errors
 ///
-/// Those of [`Message::from_bytes`] if the bytes are no message, and else those of
+/// Those of [`Message::from_bytes`] if the bytes are no message, otherwise those of
 /// [`response_address`].
 pub fn mapped_address(
     alloc: Global,

@@ -39,7 +39,7 @@ impl TransactionParts {
         }
     }
 
-    /// Goes on to where it has come.
+    /// Continues to the state that it has reached.
     fn go_on(&mut self, state: RetransmissionState)
         ensures { self.new ≡ at_state self.old state }
     {
@@ -131,7 +131,7 @@ impl TransactionParts {
     }
 
     /// How long the response took, as
-    /// [`Transaction::round_trip`](crate::Transaction::round_trip) tells.
+    /// [`Transaction::round_trip`](crate::Transaction::round_trip) returns.
     pub fn round_trip(&self, now: Duration) -> Option<Duration>
         ensures { TellsTime (state_in self.now) now result }
     {

@@ -42,11 +42,11 @@ pub enum Action {
 /// The state of a request's retransmissions: how far its transaction has come.
 #[derive(Clone, Copy, Debug, PartialEq, Eq)]
 pub struct RetransmissionState {
-    /// How many requests were handed out.
+    /// How many requests were sent.
     pub(crate) sent: u32,
     /// When the last of them was, and before the first the moment at which the transaction began.
     pub(crate) last: Duration,
-    /// The latest moment of which the caller has told.
+    /// The latest moment that the caller has reported.
     pub(crate) clock: Duration,
     /// Whether a response was discarded that wasn't authentic.
     pub(crate) violated: bool,
@@ -102,7 +102,7 @@ impl RetransmissionState {
         }
     }
 
-    /// How many milliseconds nothing is done after the last request was handed out.
+    /// How many milliseconds nothing is done after the last request was sent.
     fn wait(&self, plan: &Plan) -> u64
         ensures { result ≡ wait_of plan.now self.now }
     {
@@ -113,7 +113,7 @@ impl RetransmissionState {
         }
     }
 
-    /// When something is to be done, or the greatest moment where that is later still.
+    /// When something is to be done, or the greatest moment if that is later still.
     pub(crate) fn due(&self, plan: &Plan) -> Duration
         ensures { as_nanos result ≡ min (due plan.now self.now) max_nanos }
     {
@@ -129,7 +129,7 @@ impl RetransmissionState {
         has_passed(self.last, wait, at)
     }
 
-    /// Whether a poll now hands out the request, or tells an end.
+    /// Whether a poll now sends the request, or reports an end.
     pub(crate) fn is_ready(&self, plan: &Plan, now: Duration) -> bool
         ensures { result ≡ is_ready plan.now self.now now }
     {
@@ -178,7 +178,7 @@ impl RetransmissionState {
         Action::Ended(end)
     }
 
-    /// How long the response took, where one was taken and a single request was sent.
+    /// How long the response took, if one was taken and a single request was sent.
     pub(crate) fn round_trip(&self, now: Duration) -> Option<Duration>
         ensures { TellsTime self.now now result }
     {

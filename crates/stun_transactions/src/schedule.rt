@@ -82,7 +82,7 @@ impl Schedule {
     ///
     /// # Errors
     ///
-    /// `Zero` if one of the numbers is 0, and else `TooLong` if the end of the transaction needs more
+    /// `Zero` if one of the numbers is 0, `TooLong` if the end of the transaction needs more
     /// than 64 bits: it is `rto * (2 ^ (max_requests - 1) - 1 + last_wait_factor)` milliseconds after
     /// the first request.
     pub fn new(
@@ -158,7 +158,7 @@ impl Schedule {
     }
 
     /// When request number `n`, counted from 0, is sent over an unreliable transport if every poll
-    /// is in time: in milliseconds from the first request. `None` where there is no such request.
+    /// is in time: in milliseconds from the first request. `None` if there is no such request.
     #[tactic(auto, using(crate::proofs::RowsLemmas::moment_fits, crate::proofs::RowsLemmas::pow_fits, crate::proofs::RowsLemmas::moment_at))]
     pub fn moment(&self, n: u32) -> Option<u64>
         ensures { MatchOption result

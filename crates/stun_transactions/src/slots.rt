@@ -96,7 +96,7 @@ pub(crate) fn add(
     Ok(())
 }
 
-/// The place of the first slot where something is to be done now.
+/// The place of the first slot in which something is to be done now.
 fn next_turn(slots: &[Option<Transaction>], now: Duration) -> Option<usize>
     ensures { result ≡ position (has_turn now) slots.now }
 {
@@ -231,7 +231,7 @@ pub(crate) fn receive<'m>(
     }
 }
 
-/// Sends the request with this ID no more, unless its transaction has ended, and tells whether there
+/// Sends the request with this ID no more, unless its transaction has ended; returns whether there
 /// is one.
 pub(crate) fn stop_sending(slots: &mut [Option<Transaction>], id: TransactionId) -> bool
     ensures found { result ≡ is_some (place_of id slots.old) }
@@ -246,7 +246,7 @@ pub(crate) fn stop_sending(slots: &mut [Option<Transaction>], id: TransactionId)
     true
 }
 
-/// Ends the transaction with this ID, unless it has ended, and tells whether there is one.
+/// Ends the transaction with this ID, unless it has ended, and returns whether there is one.
 pub(crate) fn end_by(
     slots: &mut [Option<Transaction>],
     id: TransactionId,

@@ -21,7 +21,7 @@ use stun_types::message::{IntegrityKey, Message, StunWriteError, TransactionId};
 /// The caller keeps the bytes of the request, sends them each time that [`Transaction::poll`] says
 /// so, and hands each message that it receives to [`Transaction::receive`]. A moment is a
 /// `Duration` since a beginning of the caller's choice, the same for all calls. A clock that steps
-/// back is taken to stand still.
+/// back counts as stopped.
 #[derive(Debug, Drop)]
 pub struct Transaction {
     terms: Terms,
@@ -41,7 +41,7 @@ impl Transaction {
 
     /// A transaction of a request, which is to be sent over a transport, by a schedule. Its first
     /// poll answers `Send`. `usage` is what the STUN usage specifies of responses:
-    /// `Usage::default()` where it specifies nothing.
+    /// `Usage::default()` if it specifies nothing.
     ///
     /// # Errors
     ///

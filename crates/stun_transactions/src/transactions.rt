@@ -16,7 +16,7 @@ use stun_types::attribute::AttributeType;
 use stun_types::message::{Message, TransactionId};
 
 /// Up to `N` transactions, each found by its transaction ID, for a client with many requests under
-/// way. They lie in the value itself: it allocates nothing.
+/// way. They are in the value itself: it allocates nothing.
 ///
 /// Each call is that of one transaction, and leaves the others as they are. The caller keeps the
 /// bytes of the requests, and sends the one whose ID [`Transactions::poll`] returns. A transaction
