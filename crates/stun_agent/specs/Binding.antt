@@ -1,5 +1,5 @@
 <<<<<<< HEAD
--- The binding request, and what a datagram tells of it (RFC 8489, sections 6.1, 6.3.3, 6.3.4 and 9.1).
+-- The binding request, and what a datagram says of it (RFC 8489, sections 6.1, 6.3.3, 6.3.4 and 9.1).
 use Rattle.std.specs.Prelude.{◌≡◌, ℕ, ◌∷◌, ◌++◌, List, [], Bool, true, false, not, ◌&&◌, codes, Option, None, Some, Ok, Err, is_some, if◌then◌else◌}
 =======
 -- The binding request, and what a datagram says of it (RFC 8489, 6.1, 6.3.3, 6.3.4 and 9.1).
@@ -72,7 +72,7 @@ usage = record { shortest = 32; fingerprint = false }
 -- ---- What a datagram is
 
 <<<<<<< HEAD
--- what a transaction of the request r, by a login or without one, tells of d
+-- what a transaction of the request r, by a login or without one, reports of d
 =======
 -- whether d is a response to the request r
 abbrev pub is_answer_to : List ℕ → List ℕ → Bool

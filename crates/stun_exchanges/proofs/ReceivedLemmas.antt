@@ -50,7 +50,7 @@ unguarded false e = refl
 unguarded true e = absurd cc
 
 <<<<<<< HEAD
--- a message that answers the request is told by what it has in it
+-- the transaction reports a message that answers the request by what the message has in it
 pub received_as : (told : Outcome) (r d : List ℕ) → parse_fault d ≡ None → is_answer_to r d ≡ true → (is_some (nth r FINGERPRINT 0) ≡ true → is_some (nth d FINGERPRINT 0) ≡ true) → content None [] d ≡ told → IsReceivedAs told r d
 =======
 -- a message that answers the request is judged by what it has in it
