@@ -31,12 +31,6 @@ told_of false parses answers kept out taken told o p a k same = absurd cc
 <<<<<<< HEAD
 -- where the usage sends FINGERPRINT, d shows one if r does
 =======
-both : (a b c : Bool) → a ≡ true → b ≡ true → c ≡ true → (a && (b && c)) ≡ true
-both true true true x y z = refl
-both true true false x y z = absurd cc
-both true false c x y z = absurd cc
-both false b c x y z = absurd cc
-
 -- if the usage sends FINGERPRINT, d shows one if r does
 >>>>>>> f7302090dd0e4d7be763cdd472f94fe895805d5c
 not_lacking : (used in_r in_d : Bool) → (used && not in_r) ≡ false → (in_r ≡ true → in_d ≡ true) → (used && not in_d) ≡ false
