@@ -20,6 +20,30 @@
 #include <stddef.h>
 #include <stdint.h>
 
+/* A compiler warns where what such a call answers isn't looked at (C++17, C23, gcc, clang). */
+#if (defined(__cplusplus) && __cplusplus >= 201703L)                                              \
+    || (defined(__STDC_VERSION__) && __STDC_VERSION__ >= 202311L)
+#define STUN_TYPES_NODISCARD [[nodiscard]]
+#elif defined(__GNUC__)
+#define STUN_TYPES_NODISCARD __attribute__((warn_unused_result))
+#else
+#define STUN_TYPES_NODISCARD
+#endif
+
+/* The parameters that are never NULL, by their places: STUN_TYPES_NONNULL((3, 4)). */
+#if defined(__GNUC__)
+#define STUN_TYPES_NONNULL(places) __attribute__((nonnull places))
+#else
+#define STUN_TYPES_NONNULL(places)
+#endif
+
+/* An enumeration of 32 bits. */
+#if defined(__cplusplus) || (defined(__STDC_VERSION__) && __STDC_VERSION__ >= 202311L)
+#define STUN_TYPES_ENUM(name) enum name : uint32_t
+#else
+#define STUN_TYPES_ENUM(name) enum name
+#endif
+
 #ifdef __cplusplus
 extern "C" {
 #endif
@@ -27,7 +51,7 @@ extern "C" {
 /* ---- Answers ---------------------------------------------------------------------------------- */
 
 /* What a code says, and which fields of the answer it uses; the others are 0. */
-enum {
+typedef STUN_TYPES_ENUM(stun_types_status) {
     STUN_TYPES_OK = 0,
     STUN_TYPES_NOT_STUN = 1,             /* no STUN message begins so */
     STUN_TYPES_TRUNCATED = 2,            /* expected, actual: too few bytes */
@@ -52,13 +76,13 @@ enum {
     STUN_TYPES_INCOMPLETE = 21,          /* REALM or NONCE is missing */
     STUN_TYPES_NO_ALGORITHM = 22,        /* no password algorithm is supported by both */
     STUN_TYPES_SAME_CREDENTIALS = 23     /* the credentials were refused already */
-};
+} stun_types_status;
 
 typedef struct {
-    uint32_t code;     /* one of the above */
-    uint32_t type;     /* of an attribute */
-    uint64_t expected; /* in bytes */
-    uint64_t actual;   /* in bytes */
+    stun_types_status code; /* one of the above */
+    uint32_t type;          /* of an attribute */
+    uint64_t expected;      /* in bytes */
+    uint64_t actual;        /* in bytes */
 } stun_types_answer;
 
 /* A short English text for a code. */
@@ -95,15 +119,15 @@ static inline const char *stun_types_message_of(uint32_t code) {
 /* ---- Numbers ---------------------------------------------------------------------------------- */
 
 /* The class of a message (RFC 8489, section 5). */
-enum {
+typedef STUN_TYPES_ENUM(stun_types_class) {
     STUN_TYPES_CLASS_REQUEST = 0,
     STUN_TYPES_CLASS_INDICATION = 1,
     STUN_TYPES_CLASS_SUCCESS = 2,
     STUN_TYPES_CLASS_ERROR = 3
-};
+} stun_types_class;
 
 /* Methods: of RFC 8489, section 18.2; of TURN (RFC 8656, section 17, and RFC 6062, section 6.1). */
-enum {
+typedef STUN_TYPES_ENUM(stun_types_method) {
     STUN_TYPES_METHOD_BINDING = 0x001,
     STUN_TYPES_METHOD_ALLOCATE = 0x003,
     STUN_TYPES_METHOD_REFRESH = 0x004,
@@ -114,7 +138,7 @@ enum {
     STUN_TYPES_METHOD_CONNECT = 0x00A,
     STUN_TYPES_METHOD_CONNECTION_BIND = 0x00B,
     STUN_TYPES_METHOD_CONNECTION_ATTEMPT = 0x00C
-};
+} stun_types_method;
 
 /* Attribute types. */
 enum {
@@ -168,7 +192,7 @@ enum {
 };
 
 /* Codes of error responses (RFC 8489, section 14.8; RFC 8656, section 19; RFC 6062; RFC 8445). */
-enum {
+typedef STUN_TYPES_ENUM(stun_types_code) {
     STUN_TYPES_CODE_TRY_ALTERNATE = 300,
     STUN_TYPES_CODE_BAD_REQUEST = 400,
     STUN_TYPES_CODE_UNAUTHORIZED = 401,
@@ -187,22 +211,23 @@ enum {
     STUN_TYPES_CODE_ROLE_CONFLICT = 487,
     STUN_TYPES_CODE_SERVER_ERROR = 500,
     STUN_TYPES_CODE_INSUFFICIENT_CAPACITY = 508
-};
+} stun_types_code;
 
 /* Integrity algorithms. */
-enum {
+typedef STUN_TYPES_ENUM(stun_types_integrity) {
     STUN_TYPES_INTEGRITY_ANY = 0,    /* of a key: it serves both */
     STUN_TYPES_INTEGRITY_SHA1 = 1,   /* MESSAGE-INTEGRITY */
     STUN_TYPES_INTEGRITY_SHA256 = 2  /* MESSAGE-INTEGRITY-SHA256 */
-};
+} stun_types_integrity;
 
 /* The type, the first two bytes, of a message of a class and a method (RFC 8489, section 5). Of the
    method the low 12 bits count, of the class the low two. */
-uint16_t stun_types_message_type(uint32_t message_class, uint32_t method);
+STUN_TYPES_NODISCARD
+uint16_t stun_types_message_type(stun_types_class message_class, stun_types_method method);
 
 /* Which protocol a packet is of by its first byte, where several share a socket (RFC 7983, section
    7). */
-enum {
+typedef STUN_TYPES_ENUM(stun_types_protocol) {
     STUN_TYPES_PROTOCOL_UNKNOWN = 0,
     STUN_TYPES_PROTOCOL_STUN = 1,         /* 0 to 3 */
     STUN_TYPES_PROTOCOL_ZRTP = 2,         /* 16 to 19 */
@@ -210,8 +235,9 @@ enum {
     STUN_TYPES_PROTOCOL_CHANNEL_DATA = 4, /* 64 to 79 */
     STUN_TYPES_PROTOCOL_RTP = 5,          /* RTP or RTCP: 128 to 191 */
     STUN_TYPES_PROTOCOL_QUIC = 6          /* 80 to 127 and 192 to 255 (RFC 9443, section 3) */
-};
-uint32_t stun_types_protocol_of(uint8_t first);
+} stun_types_protocol;
+STUN_TYPES_NODISCARD
+stun_types_protocol stun_types_protocol_of(uint8_t first);
 
 /* ---- Reading ---------------------------------------------------------------------------------- */
 
@@ -238,15 +264,18 @@ typedef struct {
 /* Tells how many bytes the message has that begins here, in a stream's buffer or in a longer one:
    20 and its length field. *message_length is 0 where more bytes are needed to tell.
    NOT_STUN: no message begins so. */
+STUN_TYPES_NODISCARD STUN_TYPES_NONNULL((3))
 stun_types_answer stun_types_framed_length(const uint8_t *bytes, size_t length, size_t *message_length);
 
 /* Whether the bytes are a message, no fewer and no more: its header, its attributes, and its
    FINGERPRINT where there is one (RFC 8489, sections 5, 6.3 and 14.7). It goes over the attributes
    once, and over the bytes before a FINGERPRINT once more.
    NOT_STUN, TRUNCATED, TOO_LARGE, FINGERPRINT_MISMATCH. */
+STUN_TYPES_NODISCARD
 stun_types_answer stun_types_parse(const uint8_t *bytes, size_t length);
 
 /* Reads the header, the first 20 bytes. NOT_STUN, TRUNCATED. */
+STUN_TYPES_NODISCARD STUN_TYPES_NONNULL((3))
 stun_types_answer stun_types_read_header(const uint8_t *bytes, size_t length, stun_types_header *header);
 
 /* Where a walk over the attributes stands: all zeros at first. */
@@ -260,11 +289,13 @@ typedef struct {
    sections 14.5 to 14.7). False where there are no more, and from then on: cursor and attribute stay
    as they were. The bytes need not parse: they show nothing where they have no header or another
    length than it states. */
+STUN_TYPES_NODISCARD STUN_TYPES_NONNULL((3, 4))
 bool stun_types_next(const uint8_t *bytes, size_t length, stun_types_cursor *cursor,
                      stun_types_attribute *attribute);
 
 /* The first attribute of a type that the message shows; false where there is none, and *attribute
    stays as it was. */
+STUN_TYPES_NODISCARD STUN_TYPES_NONNULL((4))
 bool stun_types_find(const uint8_t *bytes, size_t length, uint16_t type, stun_types_attribute *attribute);
 
 /* A transport address. */
@@ -280,24 +311,28 @@ typedef struct {
 /* The address in an XOR-MAPPED-ADDRESS, XOR-PEER-ADDRESS or XOR-RELAYED-ADDRESS (RFC 8489, section
    14.2). NOT_STUN, TRUNCATED: the bytes begin with no header, whose transaction ID is needed.
    TRUNCATED, TOO_LARGE, INVALID_DATA: the value is no address. */
+STUN_TYPES_NODISCARD STUN_TYPES_NONNULL((3, 4))
 stun_types_answer stun_types_read_xor_address(const uint8_t *bytes, size_t length,
                                               const stun_types_attribute *attribute,
                                               stun_types_address *address);
 
 /* The address in a MAPPED-ADDRESS, ALTERNATE-SERVER, RESPONSE-ORIGIN or OTHER-ADDRESS (RFC 8489,
    section 14.1). TRUNCATED, TOO_LARGE, INVALID_DATA: the value is no address. */
+STUN_TYPES_NODISCARD STUN_TYPES_NONNULL((3, 4))
 stun_types_answer stun_types_read_address(const uint8_t *bytes, size_t length,
                                           const stun_types_attribute *attribute,
                                           stun_types_address *address);
 
 /* The code, 300 to 699, in an ERROR-CODE (RFC 8489, section 14.8), and where its reason stands in
    the message: UTF-8, at most 763 bytes. TRUNCATED, TOO_LARGE, INVALID_DATA. */
+STUN_TYPES_NODISCARD STUN_TYPES_NONNULL((3, 4, 5, 6))
 stun_types_answer stun_types_read_error(const uint8_t *bytes, size_t length,
                                         const stun_types_attribute *attribute, uint16_t *code,
                                         size_t *reason_at, size_t *reason_length);
 
 /* The types in an UNKNOWN-ATTRIBUTES (RFC 8489, section 14.13). *count is how many there are, also
    where it is more than room; the first room of them are written. INVALID_DATA: an odd length. */
+STUN_TYPES_NODISCARD STUN_TYPES_NONNULL((3, 6))
 stun_types_answer stun_types_read_types(const uint8_t *bytes, size_t length,
                                         const stun_types_attribute *attribute, uint16_t *types,
                                         size_t room, size_t *count);
@@ -305,6 +340,7 @@ stun_types_answer stun_types_read_types(const uint8_t *bytes, size_t length,
 /* The types of attributes that the message shows, that must be understood (below 0x8000) and are
    none of those supported, in order and as often as they are shown (RFC 8489, section 6.3.1).
    Returns how many there are, also where it is more than room; the first room are written. */
+STUN_TYPES_NODISCARD
 size_t stun_types_unknown_types(const uint8_t *bytes, size_t length, const uint16_t *supported,
                                 size_t supported_count, uint16_t *types, size_t room);
 
@@ -312,6 +348,7 @@ size_t stun_types_unknown_types(const uint8_t *bytes, size_t length, const uint1
    which are UTF-8. NOT_STUN, TRUNCATED, TOO_LARGE,
    FINGERPRINT_MISMATCH: it is no message. TOO_SMALL: expected is how many bytes the text has, and
    the first room of them are written. *written is how many bytes are written. */
+STUN_TYPES_NODISCARD STUN_TYPES_NONNULL((5))
 stun_types_answer stun_types_print(const uint8_t *bytes, size_t length, char *text, size_t room,
                                    size_t *written);
 
@@ -332,6 +369,7 @@ typedef struct {
 
 /* The key of a short-term credential, the password (RFC 8489, section 9.1.1). It serves both
    algorithms. Allocates: OUT_OF_MEMORY, and the key stays as it was. */
+STUN_TYPES_NODISCARD STUN_TYPES_NONNULL((1))
 stun_types_answer stun_types_key_short_term(stun_types_key *key, const void *password,
                                             size_t password_length);
 
@@ -339,6 +377,7 @@ stun_types_answer stun_types_key_short_term(stun_types_key *key, const void *pas
    user:realm:password for STUN_TYPES_INTEGRITY_SHA1, its SHA-256 for STUN_TYPES_INTEGRITY_SHA256. The texts are taken
    as they are, with no SASLprep and no OpaqueString. BAD_ARGUMENT: another algorithm. INVALID_DATA: a
    text isn't UTF-8. Allocates: OUT_OF_MEMORY, and the key stays. */
+STUN_TYPES_NODISCARD STUN_TYPES_NONNULL((1))
 stun_types_answer stun_types_key_long_term(stun_types_key *key, const void *user,
                                            size_t user_length, const void *realm,
                                            size_t realm_length, const void *password,
@@ -346,8 +385,9 @@ stun_types_answer stun_types_key_long_term(stun_types_key *key, const void *user
 
 /* The key with these bytes, made for an algorithm or, by STUN_TYPES_INTEGRITY_ANY, for both: as a server
    stores them. BAD_ARGUMENT: no such algorithm. Allocates: OUT_OF_MEMORY, and the key stays. */
+STUN_TYPES_NODISCARD STUN_TYPES_NONNULL((1))
 stun_types_answer stun_types_key_from_bytes(stun_types_key *key, const void *bytes, size_t length,
-                                            uint32_t algorithm);
+                                            stun_types_integrity algorithm);
 
 /* A user's hash: what a USERHASH holds. */
 typedef struct {
@@ -356,6 +396,7 @@ typedef struct {
 
 /* The SHA-256 of user:realm, by which a request names its user where the server asks for that (RFC
    8489, section 14.4). INVALID_DATA: a text isn't UTF-8. */
+STUN_TYPES_NODISCARD STUN_TYPES_NONNULL((5))
 stun_types_answer stun_types_userhash(const void *user, size_t user_length, const void *realm,
                                       size_t realm_length, stun_types_hash *hash);
 
@@ -370,15 +411,18 @@ void stun_types_key_free(stun_types_key *key);
    What stands behind the attribute that was checked, and the length field, are not authentic.
    The errors of stun_types_parse; NO_KEY; MISSING_ATTRIBUTE; TRUNCATED, TOO_LARGE, INVALID_DATA: the
    attribute has no lawful length; INTEGRITY_FAILED. */
+STUN_TYPES_NODISCARD STUN_TYPES_NONNULL((3, 4))
 stun_types_answer stun_types_validate(const uint8_t *bytes, size_t length,
                                       const stun_types_key *key, uint32_t *algorithm);
 
 /* The same by a short-term or a long-term credential, of which the key is made and freed: of the
    long-term one that of the algorithm that is checked. After the errors of stun_types_parse comes
    INVALID_DATA: a text of the long-term one isn't UTF-8. Allocates: OUT_OF_MEMORY. */
+STUN_TYPES_NODISCARD STUN_TYPES_NONNULL((5))
 stun_types_answer stun_types_validate_short_term(const uint8_t *bytes, size_t length,
                                                  const void *password, size_t password_length,
                                                  uint32_t *algorithm);
+STUN_TYPES_NODISCARD STUN_TYPES_NONNULL((9))
 stun_types_answer stun_types_validate_long_term(const uint8_t *bytes, size_t length,
                                                 const void *user, size_t user_length,
                                                 const void *realm, size_t realm_length,
@@ -405,37 +449,45 @@ stun_types_answer stun_types_validate_long_term(const uint8_t *bytes, size_t len
 
 /* Begins a message: its header, with length 0. BAD_ARGUMENT: the two top bits of the type are not 0.
    TOO_SMALL: fewer than 20 bytes. */
+STUN_TYPES_NODISCARD STUN_TYPES_NONNULL((4, 5))
 stun_types_answer stun_types_begin(uint8_t *room, size_t size, uint16_t type, const stun_types_id *id,
                                    size_t *written);
 
 /* Adds an attribute by its type and value: header, value, zeros up to a multiple of 4.
    TOO_LARGE: the value has more than 65,535 bytes. */
+STUN_TYPES_NODISCARD STUN_TYPES_NONNULL((3))
 stun_types_answer stun_types_add(uint8_t *room, size_t size, size_t *written, uint16_t type,
                                  const void *value, size_t value_length);
 
 /* Adds an address, XORed with the message's transaction ID or as it is. BAD_ARGUMENT: the family is
    neither 4 nor 6. */
+STUN_TYPES_NODISCARD STUN_TYPES_NONNULL((3, 5))
 stun_types_answer stun_types_add_xor_address(uint8_t *room, size_t size, size_t *written,
                                              uint16_t type, const stun_types_address *address);
+STUN_TYPES_NODISCARD STUN_TYPES_NONNULL((3, 5))
 stun_types_answer stun_types_add_address(uint8_t *room, size_t size, size_t *written, uint16_t type,
                                          const stun_types_address *address);
 
 /* Adds an ERROR-CODE with a reason, UTF-8. OUT_OF_RANGE: the code is none of 300 to 699.
    TOO_LARGE: the reason has more than 763 bytes. INVALID_DATA: it isn't UTF-8. */
+STUN_TYPES_NODISCARD STUN_TYPES_NONNULL((3))
 stun_types_answer stun_types_add_error(uint8_t *room, size_t size, size_t *written, uint16_t code,
                                        const void *reason, size_t reason_length);
 
 /* Adds an UNKNOWN-ATTRIBUTES of types. TOO_LARGE: more than 32,767 of them. */
+STUN_TYPES_NODISCARD STUN_TYPES_NONNULL((3))
 stun_types_answer stun_types_add_unknown_types(uint8_t *room, size_t size, size_t *written,
                                                const uint16_t *types, size_t count);
 
 /* Signs what is written: adds MESSAGE-INTEGRITY (STUN_TYPES_INTEGRITY_SHA1, 20 bytes of HMAC-SHA1) or
    MESSAGE-INTEGRITY-SHA256 (STUN_TYPES_INTEGRITY_SHA256, 32 bytes), whichever algorithm the key was made for.
    BAD_ARGUMENT: another algorithm. NO_KEY. */
+STUN_TYPES_NODISCARD STUN_TYPES_NONNULL((3, 4))
 stun_types_answer stun_types_add_integrity(uint8_t *room, size_t size, size_t *written,
-                                           const stun_types_key *key, uint32_t algorithm);
+                                           const stun_types_key *key, stun_types_integrity algorithm);
 
 /* Ends the message with a FINGERPRINT, the CRC-32 of what is written, XORed with 0x5354554E. */
+STUN_TYPES_NODISCARD STUN_TYPES_NONNULL((3))
 stun_types_answer stun_types_add_fingerprint(uint8_t *room, size_t size, size_t *written);
 
 /* ---- A server without credentials -------------------------------------------------------------- */
@@ -448,6 +500,7 @@ stun_types_answer stun_types_add_fingerprint(uint8_t *room, size_t size, size_t 
    request has one. *reply_length is 0 where none is owed. A reply is at most 48 bytes longer than
    its request and at most three times as long.
    BAD_ARGUMENT: the family. TOO_SMALL: expected is what the reply takes, and nothing is written. */
+STUN_TYPES_NODISCARD STUN_TYPES_NONNULL((3, 6))
 stun_types_answer stun_types_binding_reply(const uint8_t *bytes, size_t length,
                                            const stun_types_address *source, uint8_t *room,
                                            size_t size, size_t *reply_length);
@@ -459,45 +512,49 @@ stun_types_answer stun_types_binding_reply(const uint8_t *bytes, size_t length,
    section 14.6); and, unless it is 0, that the usage uses FINGERPRINT, as ICE does: a message
    without one is discarded (sections 6.3 and 7). */
 typedef struct {
-    uint32_t algorithm;
+    stun_types_integrity algorithm;
     uint32_t shortest;
     uint32_t fingerprint;
 } stun_types_policy;
 
-enum { /* stun_types_authentication.kind; a call that fails leaves STUN_TYPES_NOT_DECIDED */
+/* stun_types_authentication.kind; a call that fails leaves STUN_TYPES_NOT_DECIDED. */
+typedef STUN_TYPES_ENUM(stun_types_authentication_kind) {
     STUN_TYPES_NOT_DECIDED = 0,
     STUN_TYPES_ACCEPTED = 1,  /* it is this user's; sign the reply by reply_algorithm with their key */
     STUN_TYPES_REFUSED = 2,   /* answer by an error response with error_code: 400, 401 or 438 */
     STUN_TYPES_DISCARDED = 3, /* answer nothing */
     STUN_TYPES_NOT_CHECKED = 4 /* a response, or an indication under long-term credentials, such as
                                   TURN's Send: the mechanism doesn't authenticate it here */
-};
+} stun_types_authentication_kind;
 
 typedef struct {
-    uint32_t kind;
-    uint32_t error_code;
-    uint32_t algorithm;       /* whose HMAC in the message was right */
-    uint32_t reply_algorithm; /* by which the reply is signed */
+    stun_types_authentication_kind kind;
+    stun_types_code error_code;
+    stun_types_integrity algorithm;       /* whose HMAC in the message was right */
+    stun_types_integrity reply_algorithm; /* by which the reply is signed */
 } stun_types_authentication;
 
 /* Authenticates a message by short-term credentials (RFC 8489, section 9.1.3). key is that of the
    user whom its USERNAME names, and holds none where there is no such user: find the USERNAME first.
    The errors of stun_types_parse. BAD_ARGUMENT: the policy's algorithm. Allocates: OUT_OF_MEMORY. */
+STUN_TYPES_NODISCARD STUN_TYPES_NONNULL((3, 4, 5))
 stun_types_answer stun_types_authenticate_short_term(const uint8_t *bytes, size_t length,
                                                      const stun_types_policy *policy,
                                                      const stun_types_key *key,
                                                      stun_types_authentication *authentication);
 
-enum { /* what a server knows of a nonce */
+/* What a server knows of a nonce. */
+typedef STUN_TYPES_ENUM(stun_types_nonce_state) {
     STUN_TYPES_NONCE_VALID = 0,
     STUN_TYPES_NONCE_STALE = 1,
     STUN_TYPES_NONCE_UNKNOWN = 2
-};
+} stun_types_nonce_state;
 
-enum { /* password algorithms (RFC 8489, section 18.5) */
+/* Password algorithms (RFC 8489, section 18.5). */
+typedef STUN_TYPES_ENUM(stun_types_password) {
     STUN_TYPES_PASSWORD_MD5 = 1,
     STUN_TYPES_PASSWORD_SHA256 = 2
-};
+} stun_types_password;
 
 /* Authenticates a request by long-term credentials (RFC 8489, section 9.2.4). nonce_state is what the
    server knows of its NONCE, and algorithms are the password algorithms that it sent with a valid
@@ -505,9 +562,11 @@ enum { /* password algorithms (RFC 8489, section 18.5) */
    USERHASH names, by either password algorithm; one that holds none says that there is no such user.
    The errors of stun_types_parse. BAD_ARGUMENT: the policy's algorithm, the state, a password
    algorithm, or more than 16 of them. Allocates: OUT_OF_MEMORY. */
+STUN_TYPES_NODISCARD STUN_TYPES_NONNULL((3, 7, 8, 9))
 stun_types_answer stun_types_authenticate_long_term(const uint8_t *bytes, size_t length,
                                                     const stun_types_policy *policy,
-                                                    uint32_t nonce_state, const uint16_t *algorithms,
+                                                    stun_types_nonce_state nonce_state,
+                                                    const uint16_t *algorithms,
                                                     size_t algorithms_count,
                                                     const stun_types_key *md5_key,
                                                     const stun_types_key *sha256_key,
@@ -515,7 +574,10 @@ stun_types_answer stun_types_authenticate_long_term(const uint8_t *bytes, size_t
 
 /* ---- A client -------------------------------------------------------------------------------- */
 
-enum { STUN_TYPES_UDP = 0, STUN_TYPES_TCP = 1 };
+typedef STUN_TYPES_ENUM(stun_types_transport) {
+    STUN_TYPES_UDP = 0,
+    STUN_TYPES_TCP = 1
+} stun_types_transport;
 
 /* When a request is sent again and given up, in milliseconds (RFC 8489, section 6.2), and which
    responses the usage takes. If the last two fields are 0, the defaults of RFC 8489 apply. */
@@ -533,12 +595,13 @@ typedef struct {
 /* What RFC 8489 recommends. */
 #define STUN_TYPES_SCHEDULE { 500, 39500, 7, 16, 32, 0 }
 
-enum { /* how a request is protected */
+/* How a request is protected. */
+typedef STUN_TYPES_ENUM(stun_types_protection) {
     STUN_TYPES_UNPROTECTED = 0,
     STUN_TYPES_SHORT_TERM = 1,
     STUN_TYPES_LONG_TERM = 2,
     STUN_TYPES_FIRST_LONG_TERM = 3 /* not signed, as the first request by the long-term mechanism */
-};
+} stun_types_protection;
 
 /* A transaction of a request. The fields are the library's own. Times are milliseconds since a
    beginning of the caller's choice; one that steps back is taken to stand still. */
@@ -556,38 +619,44 @@ typedef struct {
    The errors of stun_types_parse; BAD_ARGUMENT: transport or protection; OUT_OF_RANGE, of no number:
    one of the schedule is 0, or they are too large; NOT_A_REQUEST; NOT_SIGNED, SIGNED: against
    protection; NO_KEY. */
+STUN_TYPES_NODISCARD STUN_TYPES_NONNULL((1, 4, 7))
 stun_types_answer stun_types_transaction_begin(stun_types_transaction *transaction,
                                                const uint8_t *request, size_t length,
                                                const stun_types_schedule *schedule,
-                                               uint32_t transport, uint32_t protection,
+                                               stun_types_transport transport,
+                                               stun_types_protection protection,
                                                const stun_types_key *key, uint64_t now);
 
-enum { /* stun_types_action.kind */
+/* stun_types_action.kind */
+typedef STUN_TYPES_ENUM(stun_types_action_kind) {
     STUN_TYPES_SEND_NOW = 0, /* send the request, now */
     STUN_TYPES_WAIT = 1,     /* nothing before the moment until, unless a message is received */
     STUN_TYPES_ENDED = 2     /* the transaction has ended, or ends now */
-};
+} stun_types_action_kind;
 
-enum { /* how a transaction ended */
+/* How a transaction ended. */
+typedef STUN_TYPES_ENUM(stun_types_end) {
     STUN_TYPES_ANSWERED = 1,
     STUN_TYPES_TIMED_OUT = 2,
     STUN_TYPES_INTEGRITY_VIOLATED = 3, /* responses came, and none was authentic */
     STUN_TYPES_RESPONSE_REFUSED = 4,   /* a response came that a client can't take */
     STUN_TYPES_CANCELLED = 5,          /* also where sending was stopped, and none was taken in time */
     STUN_TYPES_TRANSPORT_FAILED = 6
-};
+} stun_types_end;
 
 typedef struct {
-    uint32_t kind;
-    uint32_t end;
+    stun_types_action_kind kind;
+    stun_types_end end;
     uint64_t until;
 } stun_types_action;
 
 /* What is to be done now. BAD_ARGUMENT: the transaction isn't one. */
+STUN_TYPES_NODISCARD STUN_TYPES_NONNULL((1, 3))
 stun_types_answer stun_types_transaction_poll(stun_types_transaction *transaction, uint64_t now,
                                               stun_types_action *action);
 
-enum { /* stun_types_received.kind */
+/* stun_types_received.kind */
+typedef STUN_TYPES_ENUM(stun_types_received_kind) {
     STUN_TYPES_NOT_FOR_THIS = 0,             /* no response to this request */
     STUN_TYPES_DISCARDED_NOT_AUTHENTIC = 1,  /* the transaction goes on, as for 2 to 5 */
     STUN_TYPES_DISCARDED_BID_DOWN = 2,
@@ -599,7 +668,7 @@ enum { /* stun_types_received.kind */
     STUN_TYPES_FAILED_NO_ERROR_CODE = 8,
     STUN_TYPES_TAKEN_SUCCESS = 9,            /* the success response */
     STUN_TYPES_TAKEN_ERROR = 10              /* the error response; number: its code */
-};
+} stun_types_received_kind;
 
 /* Of a response that is discarded, or fails by its integrity, number is the code that it claims, or 0:
    it isn't authentic, and nothing follows from it. algorithm is that of the attribute that
@@ -607,9 +676,9 @@ enum { /* stun_types_received.kind */
    requests are signed (9.1.5); 0 if no credential protects the request, and for a 401 or 438 that
    isn't authentic. A 300 with the algorithm 0 must not be followed (14.8). */
 typedef struct {
-    uint32_t kind;
+    stun_types_received_kind kind;
     uint32_t number;
-    uint32_t algorithm;
+    stun_types_integrity algorithm;
 } stun_types_received;
 
 /* What received bytes are for the transaction (RFC 8489, sections 6.3.3, 6.3.4, 9.1.4 and 9.2.5).
@@ -617,6 +686,7 @@ typedef struct {
    most 64 of them. key is that which the transaction began with.
    BAD_ARGUMENT: the transaction isn't one, or more types. NO_KEY. Allocates where a credential
    protects the request, for a copy of the key: OUT_OF_MEMORY, and the transaction stays as it was. */
+STUN_TYPES_NODISCARD STUN_TYPES_NONNULL((1, 2, 7))
 stun_types_answer stun_types_transaction_receive(stun_types_transaction *transaction,
                                                  const stun_types_key *key, const uint8_t *bytes,
                                                  size_t length, const uint16_t *understood,
@@ -626,11 +696,14 @@ stun_types_answer stun_types_transaction_receive(stun_types_transaction *transac
 /* Stops sending the request, unless the transaction has ended. A response is still taken until the
    transaction would have timed out; if none is, it ends as cancelled (RFC 8445, section 7.3.1.4).
    BAD_ARGUMENT: the transaction isn't one. */
+STUN_TYPES_NODISCARD STUN_TYPES_NONNULL((1))
 stun_types_answer stun_types_transaction_stop_sending(stun_types_transaction *transaction);
 
 /* Ends the transaction, unless it has ended: the caller wants no response, or the transport failed.
    BAD_ARGUMENT: the transaction isn't one. */
+STUN_TYPES_NODISCARD STUN_TYPES_NONNULL((1))
 stun_types_answer stun_types_transaction_cancel(stun_types_transaction *transaction);
+STUN_TYPES_NODISCARD STUN_TYPES_NONNULL((1))
 stun_types_answer stun_types_transaction_fail(stun_types_transaction *transaction);
 
 /* What a 401 or a 438 asks the next request to carry: where texts stand in its bytes, the value of
@@ -642,7 +715,7 @@ typedef struct {
     size_t algorithms_at, algorithms_length;
     uint16_t password_algorithm;
     uint16_t anonymous;
-    uint32_t integrity_algorithm;
+    stun_types_integrity integrity_algorithm;
 } stun_types_challenge;
 
 /* Reads it (RFC 8489, section 9.2.5). supported are the password algorithms that the client knows;
@@ -650,6 +723,7 @@ typedef struct {
    BAD_ARGUMENT: a password algorithm, or more than 16 of them; before is no message, or no challenge
    that such a client could have answered. The errors of stun_types_parse;
    NOT_A_CHALLENGE, BID_DOWN, INCOMPLETE, NO_ALGORITHM, SAME_CREDENTIALS. */
+STUN_TYPES_NODISCARD STUN_TYPES_NONNULL((7))
 stun_types_answer stun_types_challenge_of(const uint8_t *bytes, size_t length,
                                           const uint16_t *supported, size_t supported_count,
                                           const uint8_t *before, size_t before_length,
@@ -674,6 +748,7 @@ typedef struct {
    NOT_STUN, NOT_PADDED, TOO_LARGE (expected is the buffer's size): no message begins where one had
    to, at stream->offset; close the connection. The bytes that were pending stay, and stream->message
    is 0. */
+STUN_TYPES_NODISCARD STUN_TYPES_NONNULL((1, 6))
 stun_types_answer stun_types_stream_push(stun_types_stream *stream, uint8_t *buffer, size_t size,
                                          const uint8_t *piece, size_t piece_length, size_t *taken);
 
@@ -688,15 +763,18 @@ typedef struct {
 /* How many bytes the ChannelData message has that begins here on a stream: 4, its data, and zeros up
    to a multiple of 4; *message_length is 0 where more bytes are needed to tell. NOT_STUN: the first
    byte is none of 0x40 to 0x4F. */
+STUN_TYPES_NODISCARD STUN_TYPES_NONNULL((3))
 stun_types_answer stun_types_channel_data_length(const uint8_t *bytes, size_t length,
                                                  size_t *message_length);
 
 /* Reads a ChannelData message. NOT_STUN, TRUNCATED, TOO_LARGE. */
+STUN_TYPES_NODISCARD STUN_TYPES_NONNULL((3))
 stun_types_answer stun_types_read_channel_data(const uint8_t *bytes, size_t length,
                                                stun_types_channel_data *channel_data);
 
 /* Writes one, padded with zeros to a multiple of 4 where padded. OUT_OF_RANGE: the channel.
    TOO_LARGE: more than 65,535 bytes of data. TOO_SMALL. */
+STUN_TYPES_NODISCARD STUN_TYPES_NONNULL((7))
 stun_types_answer stun_types_write_channel_data(uint16_t channel, const void *data,
                                                 size_t data_length, bool padded, uint8_t *room,
                                                 size_t size, size_t *written);

@@ -268,8 +268,11 @@ static int exchange(carrier *by, stun_types_transaction *transaction, const stun
         if (action.kind == STUN_TYPES_ENDED) return tell_end(action.end);
         if (action.kind == STUN_TYPES_SEND_NOW) works = send_message(by, &request);
         else works = hear(by, transaction, key, action.until, taken);
-        if (!works) stun_types_transaction_fail(transaction);
-        else if (action.kind == STUN_TYPES_WAIT && taken->kind >= STUN_TYPES_TAKEN_SUCCESS) {
+        if (!works) {
+            if (stun_types_transaction_fail(transaction).code != STUN_TYPES_OK) {
+                return say(FAILED, "the transaction broke");
+            }
+        } else if (action.kind == STUN_TYPES_WAIT && taken->kind >= STUN_TYPES_TAKEN_SUCCESS) {
             return TOLD;
         }
     }
@@ -309,8 +312,10 @@ static int tell_error(void) {
     stun_types_attribute found;
     uint16_t code = 0;
     size_t at = 0, length = 0;
-    if (stun_types_find(response.bytes, response.length, STUN_TYPES_ATTRIBUTE_ERROR_CODE, &found)) {
-        stun_types_read_error(response.bytes, response.length, &found, &code, &at, &length);
+    if (stun_types_find(response.bytes, response.length, STUN_TYPES_ATTRIBUTE_ERROR_CODE, &found) &&
+        stun_types_read_error(response.bytes, response.length, &found, &code, &at, &length).code !=
+            STUN_TYPES_OK) {
+        code = 0;
     }
     fprintf(stderr, "client: error %u ", (unsigned)code);
     for (size_t i = at; i < at + length; i++) {

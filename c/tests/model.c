@@ -7,7 +7,9 @@
 
 static const uint8_t COOKIE[4] = {0x21, 0x12, 0xA4, 0x42};
 
-enum { OK = STUN_TYPES_OK, NOT_STUN = STUN_TYPES_NOT_STUN, TRUNCATED = STUN_TYPES_TRUNCATED };
+#define OK STUN_TYPES_OK
+#define NOT_STUN STUN_TYPES_NOT_STUN
+#define TRUNCATED STUN_TYPES_TRUNCATED
 
 stun_types_answer model_answer(uint32_t code, uint32_t type, uint64_t expected, uint64_t actual) {
     stun_types_answer answer;

@@ -26,7 +26,7 @@ typedef struct {
     uint32_t algorithm[KEYS];
     stun_types_answer short_term, long_term;
     stun_types_authentication by_short_term, by_long_term;
-    stun_types_answer begun, received;
+    stun_types_answer begun, polled, received;
     stun_types_transaction transaction;
     stun_types_received outcome;
 } signed_message;
@@ -91,7 +91,7 @@ static void ask(signed_message *made, const stun_types_key *key, uint32_t algori
                                                &schedule, STUN_TYPES_UDP, STUN_TYPES_SHORT_TERM, key,
                                                0);
     if (made->begun.code) return;
-    stun_types_transaction_poll(&made->transaction, 0, &action);
+    made->polled = stun_types_transaction_poll(&made->transaction, 0, &action);
     write_message(&response, key, STUN_TYPES_CLASS_SUCCESS, algorithm);
     made->received = stun_types_transaction_receive(&made->transaction, key, response.message,
                                                     response.length, none, 0, &made->outcome);
@@ -178,6 +178,7 @@ static void check_expected(void) {
             CHECK(made->by_short_term.kind == STUN_TYPES_ACCEPTED);
             CHECK(!made->long_term.code);
             CHECK(!made->begun.code);
+            CHECK(!made->polled.code);
             CHECK(!made->received.code);
         }
 }
