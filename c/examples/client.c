@@ -210,12 +210,10 @@ static bool add_login(const stun_types_challenge *challenge, const char *user) {
 /* Makes the key of the user in the realm of the challenge that stands in `before`. */
 static bool make_key(const stun_types_challenge *challenge, const task *asked,
                      stun_types_key *key) {
-    uint32_t digest = challenge->password_algorithm == STUN_TYPES_PASSWORD_SHA256
-                          ? STUN_TYPES_INTEGRITY_SHA256
-                          : STUN_TYPES_INTEGRITY_SHA1;
     return stun_types_key_long_term(key, asked->user, strlen(asked->user),
                                     before.bytes + challenge->realm_at, challenge->realm_length,
-                                    asked->password, strlen(asked->password), digest)
+                                    asked->password, strlen(asked->password),
+                                    challenge->password_algorithm)
                .code == STUN_TYPES_OK;
 }
 
@@ -233,7 +231,7 @@ static bool login_request(const stun_types_challenge *challenge, const task *ask
 /* ---- A transaction --------------------------------------------------------------------------- */
 
 /* What the end of a transaction without a response is called. */
-static int tell_end(uint32_t end) {
+static int tell_end(stun_types_end end) {
     switch (end) {
     case STUN_TYPES_TIMED_OUT: return say(SILENT, "no response");
     case STUN_TYPES_INTEGRITY_VIOLATED: return say(SILENT, "no response is authentic");
@@ -279,7 +277,7 @@ static int exchange(carrier *by, stun_types_transaction *transaction, const stun
 }
 
 /* Begins the request's transaction and carries it through, as `exchange` tells. */
-static int ask(carrier *by, uint32_t protection, const stun_types_key *key,
+static int ask(carrier *by, stun_types_protection protection, const stun_types_key *key,
                stun_types_received *taken) {
     const stun_types_schedule schedule = STUN_TYPES_SCHEDULE;
     stun_types_transaction transaction;
@@ -360,7 +358,8 @@ static int login(carrier *by, const task *asked, stun_types_key *key, stun_types
 /* Asks, with credentials where the server wants them, and prints what it answers. */
 static int run(const task *asked) {
     stun_types_key key = STUN_TYPES_NO_KEY_YET;
-    stun_types_received taken = {0, 0, 0};
+    stun_types_received taken;
+    memset(&taken, 0, sizeof taken);
     if (!connect_to(&connection, asked)) return say(SILENT, strerror(errno));
     if (!end_request(begin_request())) return say(FAILED, "the request can't be made");
     int status = ask(&connection,

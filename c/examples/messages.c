@@ -40,13 +40,14 @@ static stun_types_answer write_request(const stun_types_key *key, uint8_t *room,
 
 int main(void) {
     stun_types_key key = STUN_TYPES_NO_KEY_YET;
+    stun_types_policy policy = {STUN_TYPES_INTEGRITY_ANY, 0, 0, 0}; /* the strictest */
+    stun_types_validated validated;
     uint8_t request[200];
     size_t length = 0;
-    uint32_t algorithm;
     stun_types_answer a = show_address(RESPONSE, sizeof RESPONSE);
     if (!a.code) a = stun_types_key_short_term(&key, "wonderland", 10);
     if (!a.code) a = write_request(&key, request, sizeof request, &length);
-    if (!a.code) a = stun_types_validate(request, length, &key, &algorithm);
+    if (!a.code) a = stun_types_validate_by_policy(request, length, &policy, &key, &validated);
     stun_types_key_free(&key);
     if (a.code) return fprintf(stderr, "%s\n", stun_types_message_of(a.code)), 1;
     for (size_t at = 0; at < length; at++) printf("%02x", request[at]);

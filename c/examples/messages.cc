@@ -58,8 +58,10 @@ int main() try {
     std::printf("%d.%d.%d.%d:%d\n", ip[0], ip[1], ip[2], ip[3], address.port);
     Key key("wonderland");
     auto request = signed_request("alice", key);
-    uint32_t algorithm;
-    check(stun_types_validate(request.data(), request.size(), &key.key, &algorithm));
+    const stun_types_policy strictest{};
+    stun_types_validated validated;
+    check(stun_types_validate_by_policy(request.data(), request.size(), &strictest, &key.key,
+                                        &validated));
     for (auto byte : request) std::printf("%02x", byte);
     std::printf("\n");
 } catch (const std::exception &error) {

@@ -20,9 +20,14 @@ class Address(Structure):
     _fields_ = [("octets", c_uint8 * 16), ("port", c_uint16), ("family", c_uint16)]
 class Key(Structure):
     _fields_ = [("at", c_void_p), ("held", c_uint64)]
+class Policy(Structure):
+    _fields_ = [("algorithm", c_uint32), ("shortest", c_uint32), ("fingerprint", c_uint32),
+                ("reserved", c_uint32)]
+class Validated(Structure):
+    _fields_ = [("algorithm", c_uint32), ("hmac_length", c_uint32), ("reserved", c_uint64)]
 STUN_TYPES_CLASS_REQUEST, STUN_TYPES_METHOD_BINDING = 0, 0x001
 STUN_TYPES_ATTRIBUTE_USERNAME, STUN_TYPES_ATTRIBUTE_XOR_MAPPED_ADDRESS = 0x0006, 0x0020
-STUN_TYPES_INTEGRITY_SHA256 = 2
+STUN_TYPES_INTEGRITY_SHA256 = 0x001C
 RESPONSE = bytes.fromhex("0101000c2112a442b7e7a701bc34d686fa87dfae002000080001a147e112a643")
 
 # The result and the arguments of each call.
@@ -32,13 +37,14 @@ CALLS = {
     "stun_types_find": (c_bool, c_char_p, c_size_t, c_uint16, POINTER(Attribute)),
     "stun_types_read_xor_address": (Answer, c_char_p, c_size_t, POINTER(Attribute), POINTER(Address)),
     "stun_types_key_short_term": (Answer, POINTER(Key), c_char_p, c_size_t),
-    "stun_types_key_free": (None, POINTER(Key)),
+    "stun_types_keys_free": (None, POINTER(Key), c_size_t),
     "stun_types_message_type": (c_uint16, c_uint32, c_uint32),
     "stun_types_begin": (Answer, c_char_p, c_size_t, c_uint16, POINTER(Id), POINTER(c_size_t)),
     "stun_types_add": (Answer, *ROOM, c_uint16, c_char_p, c_size_t),
     "stun_types_add_integrity": (Answer, *ROOM, POINTER(Key), c_uint32),
     "stun_types_add_fingerprint": (Answer, *ROOM),
-    "stun_types_validate": (Answer, c_char_p, c_size_t, POINTER(Key), POINTER(c_uint32)),
+    "stun_types_validate_by_policy": (Answer, c_char_p, c_size_t, POINTER(Policy), POINTER(Key),
+                                      POINTER(Validated)),
 }
 
 
@@ -86,8 +92,10 @@ def main():
     key, password = Key(), b"wonderland"
     stun.stun_types_key_short_term(byref(key), password, len(password))
     request = signed_request(stun, b"alice", key)
-    stun.stun_types_validate(request, len(request), byref(key), byref(c_uint32()))
-    stun.stun_types_key_free(byref(key))
+    strictest, validated = Policy(), Validated()
+    stun.stun_types_validate_by_policy(request, len(request), byref(strictest), byref(key),
+                                       byref(validated))
+    stun.stun_types_keys_free(byref(key), 1)
     print(request.hex())
 
 

@@ -14,12 +14,16 @@ mod stun {
     pub struct Address { pub octets: [u8; 16], pub port: u16, pub family: u16 }
     #[repr(C)]
     pub struct Key { pub at: *mut u8, pub held: u64 }
+    #[repr(C)] #[derive(Default)]
+    pub struct Policy { pub algorithm: u32, pub shortest: u32, pub fingerprint: u32, pub reserved: u32 }
+    #[repr(C)] #[derive(Default)]
+    pub struct Validated { pub algorithm: u32, pub hmac_length: u32, pub reserved: u64 }
 
     pub const STUN_TYPES_CLASS_REQUEST: u32 = 0;
     pub const STUN_TYPES_METHOD_BINDING: u32 = 0x001;
     pub const STUN_TYPES_ATTRIBUTE_USERNAME: u16 = 0x0006;
     pub const STUN_TYPES_ATTRIBUTE_XOR_MAPPED_ADDRESS: u16 = 0x0020;
-    pub const STUN_TYPES_INTEGRITY_SHA256: u32 = 2;
+    pub const STUN_TYPES_INTEGRITY_SHA256: u32 = 0x001C;
 
     #[link(name = "stun_types")]
     extern "C" {
@@ -27,13 +31,13 @@ mod stun {
         pub fn stun_types_find(bytes: *const u8, length: usize, r#type: u16, found: *mut Attribute) -> bool;
         pub fn stun_types_read_xor_address(bytes: *const u8, length: usize, found: *const Attribute, address: *mut Address) -> Answer;
         pub fn stun_types_key_short_term(key: *mut Key, password: *const u8, length: usize) -> Answer;
-        pub fn stun_types_key_free(key: *mut Key);
+        pub fn stun_types_keys_free(keys: *mut Key, count: usize);
         pub fn stun_types_message_type(class: u32, method: u32) -> u16;
         pub fn stun_types_begin(room: *mut u8, size: usize, r#type: u16, id: *const Id, written: *mut usize) -> Answer;
         pub fn stun_types_add(room: *mut u8, size: usize, written: *mut usize, r#type: u16, value: *const u8, length: usize) -> Answer;
         pub fn stun_types_add_integrity(room: *mut u8, size: usize, written: *mut usize, key: *const Key, algorithm: u32) -> Answer;
         pub fn stun_types_add_fingerprint(room: *mut u8, size: usize, written: *mut usize) -> Answer;
-        pub fn stun_types_validate(bytes: *const u8, length: usize, key: *const Key, algorithm: *mut u32) -> Answer;
+        pub fn stun_types_validate_by_policy(bytes: *const u8, length: usize, policy: *const Policy, key: *const Key, validated: *mut Validated) -> Answer;
     }
 }
 use stun::*;
@@ -59,7 +63,7 @@ impl Key {
 
 impl Drop for Key {
     fn drop(&mut self) {
-        unsafe { stun_types_key_free(self) }
+        unsafe { stun_types_keys_free(self, 1) }
     }
 }
 
@@ -115,8 +119,11 @@ fn main() -> Result<(), String> {
     println!("{ip}:{port}");
     let key = Key::short_term("wonderland")?;
     let request = signed_request("alice", &key)?;
-    let mut algorithm = 0;
-    check(unsafe { stun_types_validate(request.as_ptr(), request.len(), &key, &mut algorithm) })?;
+    let (strictest, mut validated) = (Policy::default(), Validated::default());
+    let (bytes, length) = (request.as_ptr(), request.len());
+    check(unsafe {
+        stun_types_validate_by_policy(bytes, length, &strictest, &key, &mut validated)
+    })?;
     let hex: String = request.iter().map(|byte| format!("{byte:02x}")).collect();
     println!("{hex}");
     Ok(())

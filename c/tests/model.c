@@ -26,6 +26,12 @@ unsigned model_number(const uint8_t *bytes) { return (unsigned)bytes[0] << 8 | b
 
 bool model_is_ending(unsigned type) { return type == 0x0008 || type == 0x001C || type == 0x8028; }
 
+bool model_is_xored(unsigned type) { return type == 0x0012 || type == 0x0016 || type == 0x0020; }
+
+bool model_is_plain(unsigned type) {
+    return type == 0x0001 || type == 0x8023 || type == 0x802B || type == 0x802C;
+}
+
 /* "The first byte is 64 or more, or what is there of bytes 4 to 7 differs from the cookie." */
 static bool may_begin(const uint8_t *bytes, size_t length) {
     size_t i;
