@@ -32,13 +32,13 @@ static inline bool read_number(const char *text, uint32_t least, uint32_t most, 
 }
 
 /* Reads an IPv6 address, which may name an interface: fe80::1%eth0. */
-static inline bool read_six(const char *text, uint16_t port, socket_address *read) {
+static inline bool read_six(const char *text, uint16_t port, int type, socket_address *read) {
     struct addrinfo hints, *found;
     struct sockaddr_in6 six;
     memset(&hints, 0, sizeof hints);
     hints.ai_family = AF_INET6;
     hints.ai_flags = AI_NUMERICHOST;
-    hints.ai_socktype = SOCK_DGRAM;
+    hints.ai_socktype = type;
     if (getaddrinfo(text, NULL, &hints, &found) != 0) return false;
     memcpy(&six, found->ai_addr, sizeof six);
     freeaddrinfo(found);
@@ -48,16 +48,17 @@ static inline bool read_six(const char *text, uint16_t port, socket_address *rea
     return true;
 }
 
-/* Reads an IP address and a port from 1 to 65535, both as numbers; nothing is asked of a name
+/* Reads an IP address and a port from 0 to 65535, both as numbers; nothing is asked of a name
  * server. */
-static inline bool read_address(const char *address, const char *port, socket_address *read) {
+static inline bool read_address(const char *address, const char *port, int type,
+                                socket_address *read) {
     struct sockaddr_in four;
     uint32_t number;
-    if (!read_number(port, 1, 65535, &number)) return false;
+    if (!read_number(port, 0, 65535, &number)) return false;
     memset(read, 0, sizeof *read);
     memset(&four, 0, sizeof four);
     if (inet_pton(AF_INET, address, &four.sin_addr) != 1) {
-        return read_six(address, (uint16_t)number, read);
+        return read_six(address, (uint16_t)number, type, read);
     }
     four.sin_family = AF_INET;
     four.sin_port = htons((uint16_t)number);
@@ -86,6 +87,12 @@ static inline bool address_of(const struct sockaddr_storage *from, stun_types_ad
     to->port = ntohs(six.sin6_port);
     to->family = mapped ? 4 : 6;
     return true;
+}
+
+/* Whether an address has a port; 0 is none. */
+static inline bool has_port(const socket_address *address) {
+    stun_types_address read;
+    return address_of(&address->bytes, &read) && read.port != 0;
 }
 
 /* Prints an address: 192.0.2.1:32853, or [2001:db8::1]:32853. */

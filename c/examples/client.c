@@ -383,6 +383,10 @@ int main(int count, char **arguments) {
         else return usage();
     }
     if (count - optind != 2 || (asked.user == NULL) != (asked.password == NULL)) return usage();
-    if (!read_address(arguments[optind], arguments[optind + 1], &asked.server)) return usage();
+    if (!read_address(arguments[optind], arguments[optind + 1],
+                      asked.reliable ? SOCK_STREAM : SOCK_DGRAM, &asked.server) ||
+        !has_port(&asked.server)) {
+        return usage();
+    }
     return run(&asked);
 }

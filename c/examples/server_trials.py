@@ -22,6 +22,8 @@ import time
 import zlib
 
 HERE = pathlib.Path(__file__).resolve().parent
+STRICT = ["-std=c11", "-O2", "-Wall", "-Wextra", "-Wpedantic", "-Wconversion", "-Werror"]
+SANITIZED = ["-fsanitize=address,undefined", "-fno-sanitize-recover=all", "-g"]
 REQUEST = bytes.fromhex("000100002112A442")  # and a transaction ID
 INDICATION = bytes.fromhex("001100002112A442") + bytes(12)
 LOAD = {"clients": 20, "requests": 200}
@@ -68,6 +70,40 @@ def wait_until(holds, what):
         check(time.monotonic() < end, f"after {PATIENCE} s: {what}")
         time.sleep(0.02)
     return found
+
+
+# ---- Building
+
+
+def build(compiler, *words):
+    """Compiles sources, if the compiler has no complaint."""
+    command = [compiler, *STRICT, "-I", HERE.parent, *words]
+    status, out, told = run(list(map(str, command)), 60)
+    check(status == 0, (out + told)[:2000])
+
+
+def has_sanitizers(compiler, folder):
+    """Whether the compiler has AddressSanitizer and UndefinedBehaviorSanitizer."""
+    (folder / "empty.c").write_text("int main(void) { return 0; }\n")
+    words = [folder / "empty.c", *SANITIZED, "-o", folder / "empty"]
+    return run([compiler, *map(str, words)], 60)[0] == 0
+
+
+def built(compiler, folder, archives):
+    """The server and what tries its sandbox, as far as they can be built: by the compiler, and looked
+    at by clang if it's there. The server is also built with sanitizers if the compiler has them."""
+    server = sorted((HERE / "server").glob("*.c"))
+    trial = [HERE / "sandbox_trial.c", HERE / "server/sandbox.c"]
+    kinds = {"server": [*server, *archives], "sandbox_trial": trial}
+    if has_sanitizers(compiler, folder):
+        kinds["sanitized"] = [*server, *archives, *SANITIZED]
+    for name, words in kinds.items():
+        with step(f"c/examples/server is built: {name}"):
+            build(compiler, *words, "-o", folder / name)
+    if shutil.which("clang"):
+        with step("c/examples/server, by clang"):
+            build("clang", "-fsyntax-only", *server, HERE / "sandbox_trial.c")
+    return {name: str(folder / name) for name in kinds}
 
 
 # ---- Servers

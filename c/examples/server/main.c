@@ -118,7 +118,9 @@ static size_t read_addresses(char **arguments, int count, socket_address *addres
     size_t read = 0;
     if (count % 2 != 0 || count / 2 > MOST_WORKERS) return 0;
     for (; read < (size_t)count / 2; read++) {
-        if (!read_address(arguments[2 * read], arguments[2 * read + 1], &addresses[read])) return 0;
+        const char *address = arguments[2 * read], *port = arguments[2 * read + 1];
+        if (!read_address(address, port, 0, &addresses[read])) return 0;
+        if (!has_port(&addresses[read])) return 0;
     }
     return read * options.processes <= MOST_WORKERS ? read : 0;
 }
