@@ -4,9 +4,9 @@
  *     cc -O2 -I c c/examples/client.c libstun_types_c.a liblibc_c.a -o client
  *     ./client [-s] [-u USER -p PASSWORD] ADDRESS PORT
  *
- * With -s it asks over TCP. With a name and a password it answers a server that asks for long-term
- * credentials (RFC 8489, section 9.2). The other users of a machine can see a program's arguments:
- * take a password that may be seen.
+ * PORT is a number from 1 to 65535. With -s it asks over TCP. With a name and a password it answers
+ * a server that asks for long-term credentials (RFC 8489, section 9.2). The other users of a machine
+ * can see a program's arguments: take a password that may be seen.
  *
  * Status | When; what is printed to standard error
  * 0      | the address was printed
@@ -388,7 +388,8 @@ int main(int count, char **arguments) {
     }
     if (count - optind != 2 || (asked.user == NULL) != (asked.password == NULL)) return usage();
     if (!read_address(arguments[optind], arguments[optind + 1],
-                      asked.reliable ? SOCK_STREAM : SOCK_DGRAM, &asked.server)) {
+                      asked.reliable ? SOCK_STREAM : SOCK_DGRAM, &asked.server) ||
+        !has_port(&asked.server)) {
         return usage();
     }
     return run(&asked);
