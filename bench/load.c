@@ -338,11 +338,13 @@ static int usage(void) {
     return 2;
 }
 
-/* A number from 1 to most, or 0. */
+/* A number from 1 to most, in decimal digits; 0 for anything else. */
 static int number_in(const char *text, long most) {
-    char *end;
-    long number = strtol(text, &end, 10);
-    return *text != 0 && *end == 0 && number >= 1 && number <= most ? (int)number : 0;
+    long number = 0;
+    for (; *text >= '0' && *text <= '9' && number <= most; text++) {
+        number = number * 10 + (*text - '0');
+    }
+    return *text == 0 && number <= most ? (int)number : 0;
 }
 
 /* Reads a loopback address and a port; false for any other address. */

@@ -123,7 +123,7 @@ static void append(text *message, unsigned type, const void *value, size_t lengt
     put_length(message);
 }
 
-static void sign(text *message, uint32_t algorithm) {
+static void sign(text *message, stun_types_integrity algorithm) {
     uint8_t hmac[32];
     size_t length = algorithm == STUN_TYPES_INTEGRITY_SHA1 ? 20 : 32;
     model_hmac(message->bytes, message->length, length, algorithm, PASSWORD, hmac);
@@ -144,20 +144,23 @@ static void finger(text *message) {
 
 static void check_values(const uint8_t *bytes, size_t length, const stun_types_attribute *shown) {
     const uint8_t *value = bytes + shown->value_at;
+    const stun_types_answer bad_argument = model_answer(STUN_TYPES_BAD_ARGUMENT, 0, 0, 0);
     stun_types_address told, expected;
     uint16_t code = 0, expected_code = 0, types[4];
     size_t at = 0, reason = 0, count = 0, i;
     stun_types_answer answer = model_address(value, shown->length, &expected);
     memset(&told, 0, sizeof told);
-    HOLDS(is_same(stun_types_read_address(bytes, length, shown, &told), answer));
-    if (answer.code == STUN_TYPES_OK) {
+    HOLDS(is_same(stun_types_read_address(bytes, length, shown, &told),
+                  model_is_xored(shown->type) ? bad_argument : answer));
+    if (answer.code == STUN_TYPES_OK && !model_is_xored(shown->type)) {
         size_t octets = expected.family == 4 ? 4 : 16;
         HOLDS(told.family == expected.family && told.port == expected.port);
         HOLDS(memcmp(told.octets, expected.octets, octets) == 0);
-        model_xor(bytes, &expected);
     }
-    HOLDS(is_same(stun_types_read_xor_address(bytes, length, shown, &told), answer));
-    if (answer.code == STUN_TYPES_OK) {
+    if (answer.code == STUN_TYPES_OK) model_xor(bytes, &expected);
+    HOLDS(is_same(stun_types_read_xor_address(bytes, length, shown, &told),
+                  model_is_plain(shown->type) ? bad_argument : answer));
+    if (answer.code == STUN_TYPES_OK && !model_is_plain(shown->type)) {
         size_t octets = expected.family == 4 ? 4 : 16;
         HOLDS(told.family == expected.family && told.port == expected.port);
         HOLDS(memcmp(told.octets, expected.octets, octets) == 0);
@@ -201,7 +204,7 @@ static void check_outside(const uint8_t *bytes, size_t length, source *from) {
 static void check_walk(const uint8_t *bytes, size_t length, const model_list *shown) {
     static uint16_t types[MODEL_ATTRIBUTES];
     static const uint16_t supported[] = {0x0006, 0x0008, 0x001C, 0x0020};
-    stun_types_cursor cursor = {0, 0};
+    stun_types_cursor cursor = STUN_TYPES_CURSOR;
     stun_types_attribute told;
     size_t i, j, unknown = 0;
     for (i = 0; i < shown->count; i++) {
@@ -250,21 +253,31 @@ static void check_text(const uint8_t *bytes, size_t length, stun_types_answer pa
 }
 
 static void check_validation(const uint8_t *bytes, size_t length) {
-    uint32_t told = 99, expected = 99, by_password = 99;
+    static const stun_types_policy lax = {STUN_TYPES_INTEGRITY_ANY, 16, 0, 0};
+    static const stun_types_policy strict = {STUN_TYPES_INTEGRITY_ANY, 0, 0, 0};
+    stun_types_validated told, other;
+    uint32_t expected = 0;
     stun_types_answer answer = model_validate(bytes, length, PASSWORD, &expected);
     HOLDS(is_same(stun_types_validate(bytes, length, &key, &told), answer));
-    if (answer.code == STUN_TYPES_OK) HOLDS(told == expected);
-    else HOLDS(told == 99);
+    HOLDS(told.algorithm == (answer.code == STUN_TYPES_OK ? expected : 0) && told.reserved == 0);
+    HOLDS((told.hmac_length == 0) == (answer.code != STUN_TYPES_OK));
+    HOLDS(is_same(stun_types_validate_by_policy(bytes, length, &lax, &key, &other), answer));
+    HOLDS(memcmp(&told, &other, sizeof told) == 0);
+    if (told.algorithm == STUN_TYPES_INTEGRITY_SHA256 && told.hmac_length < 32)
+        answer = model_answer(STUN_TYPES_HMAC_TOO_SHORT, 0, 32, told.hmac_length);
+    HOLDS(is_same(stun_types_validate_by_policy(bytes, length, &strict, &key, &other), answer));
+    HOLDS((other.algorithm == 0) == (answer.code != STUN_TYPES_OK));
     if (length % 8 == 0) {
+        answer = model_validate(bytes, length, PASSWORD, &expected);
         HOLDS(is_same(stun_types_validate_short_term(bytes, length, PASSWORD,
-                                                     PASSWORD_LENGTH, &by_password), answer));
-        HOLDS(by_password == told);
+                                                     PASSWORD_LENGTH, &other), answer));
+        HOLDS(memcmp(&told, &other, sizeof told) == 0);
     }
 }
 
 static void check_login(const uint8_t *bytes, size_t length, const model_list *shown,
                         stun_types_answer parsed) {
-    static const stun_types_policy policy = {STUN_TYPES_INTEGRITY_ANY, 16, 0};
+    static const stun_types_policy policy = {STUN_TYPES_INTEGRITY_ANY, 16, 0, 0};
     stun_types_authentication told;
     uint32_t algorithm = 0;
     size_t i;
@@ -604,7 +617,7 @@ static void add_error(writing *one, source *from) {
     value[0] = value[1] = 0;
     value[2] = (uint8_t)(code / 100);
     value[3] = (uint8_t)(code % 100);
-    answer = stun_types_add_error(one->room, one->size, &one->written, (uint16_t)code,
+    answer = stun_types_add_error(one->room, one->size, &one->written, (stun_types_code)code,
                                   give(value + 4, length), length);
     if (!model_is_utf8(value + 4, length)) fault = model_answer(STUN_TYPES_INVALID_DATA, 0, 0, 0);
     if (length > 763 && answer.code != STUN_TYPES_INVALID_DATA)
@@ -645,7 +658,7 @@ static void add_value(writing *one, source *from) {
     check_added(one, answer, type, value, length, fault);
 }
 
-static void add_integrity(writing *one, uint32_t algorithm) {
+static void add_integrity(writing *one, stun_types_integrity algorithm) {
     uint8_t hmac[32] = {0};
     size_t length = algorithm == STUN_TYPES_INTEGRITY_SHA1 ? 20 : 32;
     stun_types_answer answer
@@ -669,10 +682,10 @@ static void add_fingerprint(writing *one) {
 
 /* What was written is read: each attribute, in order, where it was added. */
 static void check_written(const writing *one, source *from) {
-    stun_types_cursor cursor = {0, 0};
+    stun_types_cursor cursor = STUN_TYPES_CURSOR;
     stun_types_attribute told;
     size_t i;
-    uint32_t algorithm = 99;
+    stun_types_validated told_of;
     stun_types_answer answer;
     for (i = 0; i < one->count; i++) {
         HOLDS(stun_types_next(one->room, one->written, &cursor, &told));
@@ -681,10 +694,14 @@ static void check_written(const writing *one, source *from) {
     }
     HOLDS(!stun_types_next(one->room, one->written, &cursor, &told));
     HOLDS(stun_types_parse(one->room, one->written).code == STUN_TYPES_OK);
-    answer = stun_types_validate(one->room, one->written, &key, &algorithm);
-    if (has(one, 0x001C)) HOLDS(answer.code == STUN_TYPES_OK && algorithm == STUN_TYPES_INTEGRITY_SHA256);
-    else if (has(one, 0x0008)) HOLDS(answer.code == STUN_TYPES_OK && algorithm == STUN_TYPES_INTEGRITY_SHA1);
-    else HOLDS(answer.code == STUN_TYPES_MISSING_ATTRIBUTE);
+    answer = stun_types_validate(one->room, one->written, &key, &told_of);
+    if (has(one, 0x001C))
+        HOLDS(answer.code == STUN_TYPES_OK && told_of.algorithm == STUN_TYPES_INTEGRITY_SHA256
+              && told_of.hmac_length == 32);
+    else if (has(one, 0x0008))
+        HOLDS(answer.code == STUN_TYPES_OK && told_of.algorithm == STUN_TYPES_INTEGRITY_SHA1
+              && told_of.hmac_length == 20);
+    else HOLDS(answer.code == STUN_TYPES_MISSING_ATTRIBUTE && told_of.algorithm == 0);
     if (one->written < 2000) check_read(one->wanted.bytes, one->written, from);
 }
 
@@ -742,7 +759,7 @@ static void check_stream(source *from) {
     size_t size = buffers[take(from) % COUNT(buffers)], length = 0, at = 0, whole = 0, i;
     unsigned count = take(from) % 6, cut = take(from);
     uint8_t *buffer = guarded_place(room_region, side, size);
-    stun_types_stream stream = {0, 0, 0};
+    stun_types_stream stream = {0, 0, 0, 0};
     stun_types_answer end = FINE;
     for (i = 0; i < count; i++) {
         seed(&message, take(from) % 64);

@@ -1,17 +1,24 @@
 /* STUN messages (RFC 8489) for C: read, validated, written and answered by a library that is proved.
  *
- * - A slice is a pointer and a length in bytes. The pointer is never NULL; a slice of length 0 is
- *   nothing, whatever its pointer. What a call writes overlaps no other argument of it.
- *   Messages are uint8_t; a text or a value that is handed in may be char or uint8_t (const void *).
+ * - A slice is a pointer and a length in bytes. A slice of length 0 may be NULL. Every other pointer
+ *   is valid and not NULL, but for that of stun_types_key_free. What a call writes overlaps no other
+ *   argument of it. Messages are uint8_t; a text or a value that is passed in may be char or uint8_t
+ *   (const void *).
  * - No call keeps a pointer, prints, blocks or aborts. Only the calls whose comments say so allocate
  *   (by malloc). All may run in several threads at once. One key may be used by any number of calls
  *   at once that take it as const stun_types_key *; a call that takes it as stun_types_key * makes or
  *   frees it, and has it alone.
  * - Numbers in messages are big-endian; numbers in these structs are the machine's.
- * - Most calls return a stun_types_answer. Where its code isn't STUN_TYPES_OK, nothing else that the
- *   call was to write is written, unless its comment says otherwise. Where several codes apply, the
- *   one that the comment lists first is told; OUT_OF_MEMORY may come before the last of them.
- * - What C hands in is tested. Only a key has to be what the library made (see Keys).
+ * - Most calls return a stun_types_answer. If its code isn't STUN_TYPES_OK, the call writes nothing
+ *   else, unless its comment says otherwise. Where several codes apply, the answer has the one that
+ *   the comment lists first; OUT_OF_MEMORY may come before the last of them.
+ * - No zero permits anything. A verdict is a struct of type stun_types_validated,
+ *   stun_types_authentication, stun_types_action or stun_types_received: a call that fails fills it
+ *   with zeros, which say that nothing is decided. A stun_types_policy of zeros is the strictest of
+ *   RFC 8489, and where an argument of an enumeration has no meaning for 0, 0 is BAD_ARGUMENT.
+ * - Arguments are tested. Only a key has to be what the library made (see Keys).
+ * - The layout of the structs is part of the ABI. `reserved` is for fields of later versions: it is 0
+ *   in what is passed in, or the call returns BAD_ARGUMENT, and 0 in what a call writes.
  */
 #ifndef STUN_TYPES_H
 #define STUN_TYPES_H
@@ -20,6 +27,34 @@
 #include <stddef.h>
 #include <stdint.h>
 
+/* The version: 1,000,000 times its first number, 1,000 times its second, and its third. */
+#define STUN_TYPES_VERSION 1000
+#define STUN_TYPES_VERSION_TEXT "0.1.0"
+
+/* A compiler warns where what such a call answers isn't looked at (C++17, C23, gcc, clang). */
+#if (defined(__cplusplus) && __cplusplus >= 201703L)                                              \
+    || (defined(__STDC_VERSION__) && __STDC_VERSION__ >= 202311L)
+#define STUN_TYPES_NODISCARD [[nodiscard]]
+#elif defined(__GNUC__)
+#define STUN_TYPES_NODISCARD __attribute__((warn_unused_result))
+#else
+#define STUN_TYPES_NODISCARD
+#endif
+
+/* The parameters that are never NULL, by their places: STUN_TYPES_NONNULL((3, 4)). */
+#if defined(__GNUC__)
+#define STUN_TYPES_NONNULL(places) __attribute__((nonnull places))
+#else
+#define STUN_TYPES_NONNULL(places)
+#endif
+
+/* An enumeration of 32 bits. */
+#if defined(__cplusplus) || (defined(__STDC_VERSION__) && __STDC_VERSION__ >= 202311L)
+#define STUN_TYPES_ENUM(name) enum name : uint32_t
+#else
+#define STUN_TYPES_ENUM(name) enum name
+#endif
+
 #ifdef __cplusplus
 extern "C" {
 #endif
@@ -27,7 +62,7 @@ extern "C" {
 /* ---- Answers ---------------------------------------------------------------------------------- */
 
 /* What a code says, and which fields of the answer it uses; the others are 0. */
-enum {
+typedef STUN_TYPES_ENUM(stun_types_status) {
     STUN_TYPES_OK = 0,
     STUN_TYPES_NOT_STUN = 1,             /* no STUN message begins so */
     STUN_TYPES_TRUNCATED = 2,            /* expected, actual: too few bytes */
@@ -51,17 +86,25 @@ enum {
     STUN_TYPES_BID_DOWN = 20,            /* somebody may have taken out PASSWORD-ALGORITHMS */
     STUN_TYPES_INCOMPLETE = 21,          /* REALM or NONCE is missing */
     STUN_TYPES_NO_ALGORITHM = 22,        /* no password algorithm is supported by both */
-    STUN_TYPES_SAME_CREDENTIALS = 23     /* the credentials were refused already */
-};
+    STUN_TYPES_SAME_CREDENTIALS = 23,    /* the credentials were refused already */
+    STUN_TYPES_HMAC_TOO_SHORT = 24       /* expected, actual: bytes of an HMAC that is right, and cut */
+} stun_types_status;
 
 typedef struct {
-    uint32_t code;     /* one of the above */
-    uint32_t type;     /* of an attribute */
-    uint64_t expected; /* in bytes */
-    uint64_t actual;   /* in bytes */
+    stun_types_status code; /* one of the above */
+    uint32_t type;          /* of an attribute */
+    uint64_t expected;      /* in bytes */
+    uint64_t actual;        /* in bytes */
 } stun_types_answer;
 
-/* A short English text for a code. */
+/* The STUN_TYPES_VERSION of the library that the program runs with. */
+STUN_TYPES_NODISCARD
+uint32_t stun_types_version(void);
+
+/* A short English text for a code. For languages that read no headers, stun_types_text writes it, and
+   a 0 behind it, as far as there is room, and returns how many bytes both have. */
+STUN_TYPES_NODISCARD
+size_t stun_types_text(stun_types_status code, char *text, size_t size);
 static inline const char *stun_types_message_of(uint32_t code) {
     switch (code) {
     case STUN_TYPES_OK: return "no error";
@@ -88,6 +131,7 @@ static inline const char *stun_types_message_of(uint32_t code) {
     case STUN_TYPES_INCOMPLETE: return "REALM or NONCE is missing";
     case STUN_TYPES_NO_ALGORITHM: return "no password algorithm is supported";
     case STUN_TYPES_SAME_CREDENTIALS: return "the credentials were refused already";
+    case STUN_TYPES_HMAC_TOO_SHORT: return "the HMAC is cut to too few bytes";
     default: return "unknown code";
     }
 }
@@ -95,15 +139,15 @@ static inline const char *stun_types_message_of(uint32_t code) {
 /* ---- Numbers ---------------------------------------------------------------------------------- */
 
 /* The class of a message (RFC 8489, section 5). */
-enum {
+typedef STUN_TYPES_ENUM(stun_types_class) {
     STUN_TYPES_CLASS_REQUEST = 0,
     STUN_TYPES_CLASS_INDICATION = 1,
     STUN_TYPES_CLASS_SUCCESS = 2,
     STUN_TYPES_CLASS_ERROR = 3
-};
+} stun_types_class;
 
 /* Methods: of RFC 8489, section 18.2; of TURN (RFC 8656, section 17, and RFC 6062, section 6.1). */
-enum {
+typedef STUN_TYPES_ENUM(stun_types_method) {
     STUN_TYPES_METHOD_BINDING = 0x001,
     STUN_TYPES_METHOD_ALLOCATE = 0x003,
     STUN_TYPES_METHOD_REFRESH = 0x004,
@@ -114,7 +158,7 @@ enum {
     STUN_TYPES_METHOD_CONNECT = 0x00A,
     STUN_TYPES_METHOD_CONNECTION_BIND = 0x00B,
     STUN_TYPES_METHOD_CONNECTION_ATTEMPT = 0x00C
-};
+} stun_types_method;
 
 /* Attribute types. */
 enum {
@@ -168,7 +212,7 @@ enum {
 };
 
 /* Codes of error responses (RFC 8489, section 14.8; RFC 8656, section 19; RFC 6062; RFC 8445). */
-enum {
+typedef STUN_TYPES_ENUM(stun_types_code) {
     STUN_TYPES_CODE_TRY_ALTERNATE = 300,
     STUN_TYPES_CODE_BAD_REQUEST = 400,
     STUN_TYPES_CODE_UNAUTHORIZED = 401,
@@ -187,22 +231,30 @@ enum {
     STUN_TYPES_CODE_ROLE_CONFLICT = 487,
     STUN_TYPES_CODE_SERVER_ERROR = 500,
     STUN_TYPES_CODE_INSUFFICIENT_CAPACITY = 508
-};
+} stun_types_code;
 
-/* Integrity algorithms. */
-enum {
-    STUN_TYPES_INTEGRITY_ANY = 0,    /* of a key: it serves both */
-    STUN_TYPES_INTEGRITY_SHA1 = 1,   /* MESSAGE-INTEGRITY */
-    STUN_TYPES_INTEGRITY_SHA256 = 2  /* MESSAGE-INTEGRITY-SHA256 */
-};
+/* Password algorithms (RFC 8489, section 18.5). */
+typedef STUN_TYPES_ENUM(stun_types_password) {
+    STUN_TYPES_PASSWORD_MD5 = 1,
+    STUN_TYPES_PASSWORD_SHA256 = 2
+} stun_types_password;
+
+/* Integrity algorithms, by the types of their attributes. No password algorithm has one of these
+   numbers: a call that takes one refuses the other. */
+typedef STUN_TYPES_ENUM(stun_types_integrity) {
+    STUN_TYPES_INTEGRITY_ANY = 0,        /* of a key: it serves both */
+    STUN_TYPES_INTEGRITY_SHA1 = 0x0008,  /* MESSAGE-INTEGRITY */
+    STUN_TYPES_INTEGRITY_SHA256 = 0x001C /* MESSAGE-INTEGRITY-SHA256 */
+} stun_types_integrity;
 
 /* The type, the first two bytes, of a message of a class and a method (RFC 8489, section 5). Of the
    method the low 12 bits count, of the class the low two. */
-uint16_t stun_types_message_type(uint32_t message_class, uint32_t method);
+STUN_TYPES_NODISCARD
+uint16_t stun_types_message_type(stun_types_class message_class, stun_types_method method);
 
 /* Which protocol a packet is of by its first byte, where several share a socket (RFC 7983, section
    7). */
-enum {
+typedef STUN_TYPES_ENUM(stun_types_protocol) {
     STUN_TYPES_PROTOCOL_UNKNOWN = 0,
     STUN_TYPES_PROTOCOL_STUN = 1,         /* 0 to 3 */
     STUN_TYPES_PROTOCOL_ZRTP = 2,         /* 16 to 19 */
@@ -210,8 +262,9 @@ enum {
     STUN_TYPES_PROTOCOL_CHANNEL_DATA = 4, /* 64 to 79 */
     STUN_TYPES_PROTOCOL_RTP = 5,          /* RTP or RTCP: 128 to 191 */
     STUN_TYPES_PROTOCOL_QUIC = 6          /* 80 to 127 and 192 to 255 (RFC 9443, section 3) */
-};
-uint32_t stun_types_protocol_of(uint8_t first);
+} stun_types_protocol;
+STUN_TYPES_NODISCARD
+stun_types_protocol stun_types_protocol_of(uint8_t first);
 
 /* ---- Reading ---------------------------------------------------------------------------------- */
 
@@ -238,34 +291,49 @@ typedef struct {
 /* Tells how many bytes the message has that begins here, in a stream's buffer or in a longer one:
    20 and its length field. *message_length is 0 where more bytes are needed to tell.
    NOT_STUN: no message begins so. */
-stun_types_answer stun_types_framed_length(const uint8_t *bytes, size_t length, size_t *message_length);
+STUN_TYPES_NODISCARD STUN_TYPES_NONNULL((3))
+stun_types_answer stun_types_framed_length(const uint8_t *bytes, size_t length,
+                                           size_t *message_length);
 
 /* Whether the bytes are a message, no fewer and no more: its header, its attributes, and its
    FINGERPRINT where there is one (RFC 8489, sections 5, 6.3 and 14.7). It goes over the attributes
    once, and over the bytes before a FINGERPRINT once more.
    NOT_STUN, TRUNCATED, TOO_LARGE, FINGERPRINT_MISMATCH. */
+STUN_TYPES_NODISCARD
 stun_types_answer stun_types_parse(const uint8_t *bytes, size_t length);
 
 /* Reads the header, the first 20 bytes. NOT_STUN, TRUNCATED. */
-stun_types_answer stun_types_read_header(const uint8_t *bytes, size_t length, stun_types_header *header);
+STUN_TYPES_NODISCARD STUN_TYPES_NONNULL((3))
+stun_types_answer stun_types_read_header(const uint8_t *bytes, size_t length,
+                                         stun_types_header *header);
 
-/* Where a walk over the attributes stands: all zeros at first. */
+/* How far a walk over the attributes has come: it begins as STUN_TYPES_CURSOR. */
 typedef struct {
-    size_t offset; /* of the next attribute's header */
-    uint16_t last; /* the type of the attribute before it */
+    size_t index; /* how many attributes it has yielded */
+    uint64_t reserved;
 } stun_types_cursor;
+
+#define STUN_TYPES_CURSOR { 0, 0 }
+
+/* STUN_TYPES_CURSOR, for languages that read no macros. */
+STUN_TYPES_NODISCARD
+stun_types_cursor stun_types_cursor_first(void);
 
 /* The next attribute that the message shows: ordinary ones, and then at most one of
    MESSAGE-INTEGRITY, MESSAGE-INTEGRITY-SHA256 and FINGERPRINT each, in this order (RFC 8489,
    sections 14.5 to 14.7). False where there are no more, and from then on: cursor and attribute stay
    as they were. The bytes need not parse: they show nothing where they have no header or another
-   length than it states. */
+   length than it states. The cursor may be any: it yields the attribute of its index, and none if
+   `reserved` isn't 0. Each call goes over the attributes before the one that it yields. */
+STUN_TYPES_NODISCARD STUN_TYPES_NONNULL((3, 4))
 bool stun_types_next(const uint8_t *bytes, size_t length, stun_types_cursor *cursor,
                      stun_types_attribute *attribute);
 
 /* The first attribute of a type that the message shows; false where there is none, and *attribute
    stays as it was. */
-bool stun_types_find(const uint8_t *bytes, size_t length, uint16_t type, stun_types_attribute *attribute);
+STUN_TYPES_NODISCARD STUN_TYPES_NONNULL((4))
+bool stun_types_find(const uint8_t *bytes, size_t length, uint16_t type,
+                     stun_types_attribute *attribute);
 
 /* A transport address. */
 typedef struct {
@@ -278,26 +346,32 @@ typedef struct {
    BAD_ARGUMENT: the attribute isn't within the bytes. */
 
 /* The address in an XOR-MAPPED-ADDRESS, XOR-PEER-ADDRESS or XOR-RELAYED-ADDRESS (RFC 8489, section
-   14.2). NOT_STUN, TRUNCATED: the bytes begin with no header, whose transaction ID is needed.
+   14.2), or in an attribute of a type that the library doesn't know. BAD_ARGUMENT: the type is one of
+   the next call. NOT_STUN, TRUNCATED: the bytes begin with no header, whose transaction ID is needed.
    TRUNCATED, TOO_LARGE, INVALID_DATA: the value is no address. */
+STUN_TYPES_NODISCARD STUN_TYPES_NONNULL((3, 4))
 stun_types_answer stun_types_read_xor_address(const uint8_t *bytes, size_t length,
                                               const stun_types_attribute *attribute,
                                               stun_types_address *address);
 
 /* The address in a MAPPED-ADDRESS, ALTERNATE-SERVER, RESPONSE-ORIGIN or OTHER-ADDRESS (RFC 8489,
-   section 14.1). TRUNCATED, TOO_LARGE, INVALID_DATA: the value is no address. */
+   section 14.1), or in an attribute of a type that the library doesn't know. BAD_ARGUMENT: the type
+   is one of the call before. TRUNCATED, TOO_LARGE, INVALID_DATA: the value is no address. */
+STUN_TYPES_NODISCARD STUN_TYPES_NONNULL((3, 4))
 stun_types_answer stun_types_read_address(const uint8_t *bytes, size_t length,
                                           const stun_types_attribute *attribute,
                                           stun_types_address *address);
 
 /* The code, 300 to 699, in an ERROR-CODE (RFC 8489, section 14.8), and where its reason stands in
    the message: UTF-8, at most 763 bytes. TRUNCATED, TOO_LARGE, INVALID_DATA. */
+STUN_TYPES_NODISCARD STUN_TYPES_NONNULL((3, 4, 5, 6))
 stun_types_answer stun_types_read_error(const uint8_t *bytes, size_t length,
                                         const stun_types_attribute *attribute, uint16_t *code,
                                         size_t *reason_at, size_t *reason_length);
 
 /* The types in an UNKNOWN-ATTRIBUTES (RFC 8489, section 14.13). *count is how many there are, also
    where it is more than room; the first room of them are written. INVALID_DATA: an odd length. */
+STUN_TYPES_NODISCARD STUN_TYPES_NONNULL((3, 6))
 stun_types_answer stun_types_read_types(const uint8_t *bytes, size_t length,
                                         const stun_types_attribute *attribute, uint16_t *types,
                                         size_t room, size_t *count);
@@ -305,13 +379,18 @@ stun_types_answer stun_types_read_types(const uint8_t *bytes, size_t length,
 /* The types of attributes that the message shows, that must be understood (below 0x8000) and are
    none of those supported, in order and as often as they are shown (RFC 8489, section 6.3.1).
    Returns how many there are, also where it is more than room; the first room are written. */
+STUN_TYPES_NODISCARD
 size_t stun_types_unknown_types(const uint8_t *bytes, size_t length, const uint16_t *supported,
                                 size_t supported_count, uint16_t *types, size_t room);
 
-/* The message as a text, by its names and values, without a final 0: ASCII but for the texts in it,
-   which are UTF-8. NOT_STUN, TRUNCATED, TOO_LARGE,
+/* The message as a text, by its names and values, without a final 0: one line of printable ASCII, for
+   logs and terminals. In the texts of the message, each byte that is no printable character of ASCII,
+   and each backslash, is escaped: \xHH. Attributes and methods of ICE, TURN and NAT discovery have
+   their names too, PRIORITY and LIFETIME are numbers, addresses are addresses, and the values of all
+   others are hexadecimal. NOT_STUN, TRUNCATED, TOO_LARGE,
    FINGERPRINT_MISMATCH: it is no message. TOO_SMALL: expected is how many bytes the text has, and
    the first room of them are written. *written is how many bytes are written. */
+STUN_TYPES_NODISCARD STUN_TYPES_NONNULL((5))
 stun_types_answer stun_types_print(const uint8_t *bytes, size_t length, char *text, size_t room,
                                    size_t *written);
 
@@ -330,24 +409,44 @@ typedef struct {
 
 #define STUN_TYPES_NO_KEY_YET { NULL, 0 }
 
+/* STUN_TYPES_NO_KEY_YET, for languages that read no macros. */
+STUN_TYPES_NODISCARD
+stun_types_key stun_types_key_none(void);
+
 /* The key of a short-term credential, the password (RFC 8489, section 9.1.1). It serves both
    algorithms. Allocates: OUT_OF_MEMORY, and the key stays as it was. */
+STUN_TYPES_NODISCARD STUN_TYPES_NONNULL((1))
 stun_types_answer stun_types_key_short_term(stun_types_key *key, const void *password,
                                             size_t password_length);
 
-/* The key of a long-term credential (RFC 8489, sections 9.2.2 and 18.5.1): the MD5 of
-   user:realm:password for STUN_TYPES_INTEGRITY_SHA1, its SHA-256 for STUN_TYPES_INTEGRITY_SHA256. The texts are taken
-   as they are, with no SASLprep and no OpaqueString. BAD_ARGUMENT: another algorithm. INVALID_DATA: a
-   text isn't UTF-8. Allocates: OUT_OF_MEMORY, and the key stays. */
+/* The key of a long-term credential (RFC 8489, sections 9.2.2 and 18.5.1): the MD5 or the SHA-256 of
+   user:realm:password, by the password algorithm. It serves both integrity attributes (section
+   9.2.5). The texts are taken as they are, with no SASLprep and no OpaqueString. BAD_ARGUMENT:
+   another password algorithm. INVALID_DATA: a text isn't UTF-8. Allocates: OUT_OF_MEMORY, and the key
+   stays. */
+STUN_TYPES_NODISCARD STUN_TYPES_NONNULL((1))
 stun_types_answer stun_types_key_long_term(stun_types_key *key, const void *user,
                                            size_t user_length, const void *realm,
                                            size_t realm_length, const void *password,
-                                           size_t password_length, uint32_t algorithm);
+                                           size_t password_length, stun_types_password algorithm);
 
-/* The key with these bytes, made for an algorithm or, by STUN_TYPES_INTEGRITY_ANY, for both: as a server
-   stores them. BAD_ARGUMENT: no such algorithm. Allocates: OUT_OF_MEMORY, and the key stays. */
+/* The key with these bytes, made for one integrity attribute or, by STUN_TYPES_INTEGRITY_ANY, for
+   both: as a server stores them. BAD_ARGUMENT: no such algorithm. Allocates: OUT_OF_MEMORY, and the
+   key stays. */
+STUN_TYPES_NODISCARD STUN_TYPES_NONNULL((1))
 stun_types_answer stun_types_key_from_bytes(stun_types_key *key, const void *bytes, size_t length,
-                                            uint32_t algorithm);
+                                            stun_types_integrity algorithm);
+
+/* Another key with the same bytes, made for the same. NO_KEY: `from` holds none. Allocates:
+   OUT_OF_MEMORY. If the call fails, the key stays. */
+STUN_TYPES_NODISCARD STUN_TYPES_NONNULL((1, 2))
+stun_types_answer stun_types_key_copy(stun_types_key *key, const stun_types_key *from);
+
+/* The bytes of a key, and what it was made for, as stun_types_key_from_bytes takes them. They are a
+   secret: overwrite them after use. NO_KEY. TOO_SMALL: expected is how many bytes the key has. */
+STUN_TYPES_NODISCARD STUN_TYPES_NONNULL((1, 4, 5))
+stun_types_answer stun_types_key_bytes(const stun_types_key *key, uint8_t *room, size_t size,
+                                       size_t *written, stun_types_integrity *algorithm);
 
 /* A user's hash: what a USERHASH holds. */
 typedef struct {
@@ -356,34 +455,78 @@ typedef struct {
 
 /* The SHA-256 of user:realm, by which a request names its user where the server asks for that (RFC
    8489, section 14.4). INVALID_DATA: a text isn't UTF-8. */
+STUN_TYPES_NODISCARD STUN_TYPES_NONNULL((5))
 stun_types_answer stun_types_userhash(const void *user, size_t user_length, const void *realm,
                                       size_t realm_length, stun_types_hash *hash);
 
-/* Overwrites the key's bytes, frees it, and leaves STUN_TYPES_NO_KEY_YET. Of that it does nothing. */
-void stun_types_key_free(stun_types_key *key);
+/* Overwrites the bytes of these keys, one after the other in memory, frees them, and leaves
+   STUN_TYPES_NO_KEY_YET in place of each. */
+void stun_types_keys_free(stun_types_key *keys, size_t count);
 
-/* Whether a message is authentic under a key (RFC 8489, sections 9.1.3, 9.2.4, 14.5 and 14.6). It
-   parses the bytes, as stun_types_parse does, and checks MESSAGE-INTEGRITY-SHA256 if it is shown,
-   and else MESSAGE-INTEGRITY; with a key for one algorithm that one's alone. *algorithm says which
-   was checked: act on it, since who takes MESSAGE-INTEGRITY-SHA256 out of a message that has both
-   leaves one that validates by SHA-1. It allocates nothing.
-   What stands behind the attribute that was checked, and the length field, are not authentic.
+/* The same with one key. With STUN_TYPES_NO_KEY_YET, and with NULL, it does nothing. */
+static inline void stun_types_key_free(stun_types_key *key) {
+    stun_types_keys_free(key, key == NULL ? 0 : 1);
+}
+
+/* Which messages a usage takes. All zeros are the strictest policy: both algorithms serve, an HMAC
+   isn't cut, and a message without a FINGERPRINT is taken, as RFC 8489 has it where no usage says
+   otherwise. */
+typedef struct {
+    stun_types_integrity algorithm; /* whose attribute counts, or STUN_TYPES_INTEGRITY_ANY: of both */
+    uint32_t shortest;    /* bytes that a MESSAGE-INTEGRITY-SHA256 has at least (section 14.6): a usage
+                             may say 16, 20, 24 or 28; 0 is 32 */
+    uint32_t fingerprint; /* not 0: the usage uses FINGERPRINT, as ICE does, and a message without one
+                             isn't taken (sections 6.3 and 7) */
+    uint32_t reserved;
+} stun_types_policy;
+
+/* What was checked of a message that is valid; all zeros if it isn't. */
+typedef struct {
+    stun_types_integrity algorithm; /* whose attribute was checked */
+    uint32_t hmac_length;           /* in bytes: 20 of a MESSAGE-INTEGRITY; 32 of a
+                                       MESSAGE-INTEGRITY-SHA256, or 16, 20, 24 or 28 if it is cut */
+    uint64_t reserved;
+} stun_types_validated;
+
+/* Whether a message is authentic under a key, by a policy (RFC 8489, sections 9.1.3, 9.2.4, 14.5 and
+   14.6). It parses the bytes, as stun_types_parse does. Of the integrity attributes that count, and
+   that the key serves, it checks MESSAGE-INTEGRITY-SHA256 if it is shown, and else MESSAGE-INTEGRITY.
+   With an algorithm in the policy and a key for both, it allocates. What follows the attribute that
+   was checked, and the length field, are not authentic.
+   The errors of stun_types_parse. BAD_ARGUMENT: the policy. NO_KEY. MISSING_ATTRIBUTE, of type
+   FINGERPRINT: the usage uses it. BAD_ARGUMENT: the key was made for one algorithm, and the other
+   counts. MISSING_ATTRIBUTE, of type MESSAGE-INTEGRITY: none that counts is shown. TRUNCATED,
+   TOO_LARGE, INVALID_DATA: it has no lawful length. INTEGRITY_FAILED. HMAC_TOO_SHORT: expected is
+   what the policy asks for. Allocates: OUT_OF_MEMORY. */
+STUN_TYPES_NODISCARD STUN_TYPES_NONNULL((3, 4, 5))
+stun_types_answer stun_types_validate_by_policy(const uint8_t *bytes, size_t length,
+                                                const stun_types_policy *policy,
+                                                const stun_types_key *key,
+                                                stun_types_validated *validated);
+
+/* The same by no policy: both attributes count, and an HMAC-SHA256 may be cut to 16 bytes, which RFC
+   8489 allows a usage alone. Look at validated->hmac_length, and at validated->algorithm: without its
+   MESSAGE-INTEGRITY-SHA256, a message that has both attributes validates by SHA-1. It allocates
+   nothing.
    The errors of stun_types_parse; NO_KEY; MISSING_ATTRIBUTE; TRUNCATED, TOO_LARGE, INVALID_DATA: the
    attribute has no lawful length; INTEGRITY_FAILED. */
+STUN_TYPES_NODISCARD STUN_TYPES_NONNULL((3, 4))
 stun_types_answer stun_types_validate(const uint8_t *bytes, size_t length,
-                                      const stun_types_key *key, uint32_t *algorithm);
+                                      const stun_types_key *key, stun_types_validated *validated);
 
 /* The same by a short-term or a long-term credential, of which the key is made and freed: of the
    long-term one that of the algorithm that is checked. After the errors of stun_types_parse comes
    INVALID_DATA: a text of the long-term one isn't UTF-8. Allocates: OUT_OF_MEMORY. */
+STUN_TYPES_NODISCARD STUN_TYPES_NONNULL((5))
 stun_types_answer stun_types_validate_short_term(const uint8_t *bytes, size_t length,
                                                  const void *password, size_t password_length,
-                                                 uint32_t *algorithm);
+                                                 stun_types_validated *validated);
+STUN_TYPES_NODISCARD STUN_TYPES_NONNULL((9))
 stun_types_answer stun_types_validate_long_term(const uint8_t *bytes, size_t length,
                                                 const void *user, size_t user_length,
                                                 const void *realm, size_t realm_length,
                                                 const void *password, size_t password_length,
-                                                uint32_t *algorithm);
+                                                stun_types_validated *validated);
 
 /* ---- Writing ---------------------------------------------------------------------------------- */
 
@@ -405,37 +548,48 @@ stun_types_answer stun_types_validate_long_term(const uint8_t *bytes, size_t len
 
 /* Begins a message: its header, with length 0. BAD_ARGUMENT: the two top bits of the type are not 0.
    TOO_SMALL: fewer than 20 bytes. */
-stun_types_answer stun_types_begin(uint8_t *room, size_t size, uint16_t type, const stun_types_id *id,
-                                   size_t *written);
+STUN_TYPES_NODISCARD STUN_TYPES_NONNULL((4, 5))
+stun_types_answer stun_types_begin(uint8_t *room, size_t size, uint16_t type,
+                                   const stun_types_id *id, size_t *written);
 
 /* Adds an attribute by its type and value: header, value, zeros up to a multiple of 4.
    TOO_LARGE: the value has more than 65,535 bytes. */
+STUN_TYPES_NODISCARD STUN_TYPES_NONNULL((3))
 stun_types_answer stun_types_add(uint8_t *room, size_t size, size_t *written, uint16_t type,
                                  const void *value, size_t value_length);
 
 /* Adds an address, XORed with the message's transaction ID or as it is. BAD_ARGUMENT: the family is
-   neither 4 nor 6. */
+   neither 4 nor 6; or the type is known to have the other form: XOR-MAPPED-ADDRESS, XOR-PEER-ADDRESS
+   and XOR-RELAYED-ADDRESS are XORed, and MAPPED-ADDRESS, ALTERNATE-SERVER, RESPONSE-ORIGIN and
+   OTHER-ADDRESS are not. */
+STUN_TYPES_NODISCARD STUN_TYPES_NONNULL((3, 5))
 stun_types_answer stun_types_add_xor_address(uint8_t *room, size_t size, size_t *written,
                                              uint16_t type, const stun_types_address *address);
+STUN_TYPES_NODISCARD STUN_TYPES_NONNULL((3, 5))
 stun_types_answer stun_types_add_address(uint8_t *room, size_t size, size_t *written, uint16_t type,
                                          const stun_types_address *address);
 
 /* Adds an ERROR-CODE with a reason, UTF-8. OUT_OF_RANGE: the code is none of 300 to 699.
    TOO_LARGE: the reason has more than 763 bytes. INVALID_DATA: it isn't UTF-8. */
-stun_types_answer stun_types_add_error(uint8_t *room, size_t size, size_t *written, uint16_t code,
-                                       const void *reason, size_t reason_length);
+STUN_TYPES_NODISCARD STUN_TYPES_NONNULL((3))
+stun_types_answer stun_types_add_error(uint8_t *room, size_t size, size_t *written,
+                                       stun_types_code code, const void *reason,
+                                       size_t reason_length);
 
 /* Adds an UNKNOWN-ATTRIBUTES of types. TOO_LARGE: more than 32,767 of them. */
+STUN_TYPES_NODISCARD STUN_TYPES_NONNULL((3))
 stun_types_answer stun_types_add_unknown_types(uint8_t *room, size_t size, size_t *written,
                                                const uint16_t *types, size_t count);
 
 /* Signs what is written: adds MESSAGE-INTEGRITY (STUN_TYPES_INTEGRITY_SHA1, 20 bytes of HMAC-SHA1) or
-   MESSAGE-INTEGRITY-SHA256 (STUN_TYPES_INTEGRITY_SHA256, 32 bytes), whichever algorithm the key was made for.
-   BAD_ARGUMENT: another algorithm. NO_KEY. */
+   MESSAGE-INTEGRITY-SHA256 (STUN_TYPES_INTEGRITY_SHA256, 32 bytes). BAD_ARGUMENT: another algorithm.
+   NO_KEY. BAD_ARGUMENT: the key was made for the other algorithm. */
+STUN_TYPES_NODISCARD STUN_TYPES_NONNULL((3, 4))
 stun_types_answer stun_types_add_integrity(uint8_t *room, size_t size, size_t *written,
-                                           const stun_types_key *key, uint32_t algorithm);
+                                           const stun_types_key *key, stun_types_integrity algorithm);
 
 /* Ends the message with a FINGERPRINT, the CRC-32 of what is written, XORed with 0x5354554E. */
+STUN_TYPES_NODISCARD STUN_TYPES_NONNULL((3))
 stun_types_answer stun_types_add_fingerprint(uint8_t *room, size_t size, size_t *written);
 
 /* ---- A server without credentials -------------------------------------------------------------- */
@@ -448,66 +602,58 @@ stun_types_answer stun_types_add_fingerprint(uint8_t *room, size_t size, size_t 
    request has one. *reply_length is 0 where none is owed. A reply is at most 48 bytes longer than
    its request and at most three times as long.
    BAD_ARGUMENT: the family. TOO_SMALL: expected is what the reply takes, and nothing is written. */
+STUN_TYPES_NODISCARD STUN_TYPES_NONNULL((3, 6))
 stun_types_answer stun_types_binding_reply(const uint8_t *bytes, size_t length,
                                            const stun_types_address *source, uint8_t *room,
                                            size_t size, size_t *reply_length);
 
 /* ---- A server with credentials ----------------------------------------------------------------- */
 
-/* Which integrity attributes count: those of one algorithm, or by STUN_TYPES_INTEGRITY_ANY of both; how many
-   bytes a MESSAGE-INTEGRITY-SHA256 has at least: 32 unless a usage says 16, 20, 24 or 28 (RFC 8489,
-   section 14.6); and, unless it is 0, that the usage uses FINGERPRINT, as ICE does: a message
-   without one is discarded (sections 6.3 and 7). */
-typedef struct {
-    uint32_t algorithm;
-    uint32_t shortest;
-    uint32_t fingerprint;
-} stun_types_policy;
-
-enum { /* stun_types_authentication.kind; a call that fails leaves STUN_TYPES_NOT_DECIDED */
+/* stun_types_authentication.kind; a call that fails leaves STUN_TYPES_NOT_DECIDED. */
+typedef STUN_TYPES_ENUM(stun_types_authentication_kind) {
     STUN_TYPES_NOT_DECIDED = 0,
     STUN_TYPES_ACCEPTED = 1,  /* it is this user's; sign the reply by reply_algorithm with their key */
     STUN_TYPES_REFUSED = 2,   /* answer by an error response with error_code: 400, 401 or 438 */
     STUN_TYPES_DISCARDED = 3, /* answer nothing */
     STUN_TYPES_NOT_CHECKED = 4 /* a response, or an indication under long-term credentials, such as
                                   TURN's Send: the mechanism doesn't authenticate it here */
-};
+} stun_types_authentication_kind;
 
 typedef struct {
-    uint32_t kind;
-    uint32_t error_code;
-    uint32_t algorithm;       /* whose HMAC in the message was right */
-    uint32_t reply_algorithm; /* by which the reply is signed */
+    stun_types_authentication_kind kind;
+    stun_types_code error_code;
+    stun_types_integrity algorithm;       /* whose HMAC in the message was right */
+    stun_types_integrity reply_algorithm; /* by which the reply is signed */
+    uint64_t reserved;
 } stun_types_authentication;
 
 /* Authenticates a message by short-term credentials (RFC 8489, section 9.1.3). key is that of the
    user whom its USERNAME names, and holds none where there is no such user: find the USERNAME first.
-   The errors of stun_types_parse. BAD_ARGUMENT: the policy's algorithm. Allocates: OUT_OF_MEMORY. */
+   The errors of stun_types_parse. BAD_ARGUMENT: the policy. Allocates: OUT_OF_MEMORY. */
+STUN_TYPES_NODISCARD STUN_TYPES_NONNULL((3, 4, 5))
 stun_types_answer stun_types_authenticate_short_term(const uint8_t *bytes, size_t length,
                                                      const stun_types_policy *policy,
                                                      const stun_types_key *key,
                                                      stun_types_authentication *authentication);
 
-enum { /* what a server knows of a nonce */
-    STUN_TYPES_NONCE_VALID = 0,
-    STUN_TYPES_NONCE_STALE = 1,
-    STUN_TYPES_NONCE_UNKNOWN = 2
-};
-
-enum { /* password algorithms (RFC 8489, section 18.5) */
-    STUN_TYPES_PASSWORD_MD5 = 1,
-    STUN_TYPES_PASSWORD_SHA256 = 2
-};
+/* What a server knows of a nonce. */
+typedef STUN_TYPES_ENUM(stun_types_nonce_state) {
+    STUN_TYPES_NONCE_UNKNOWN = 0,
+    STUN_TYPES_NONCE_VALID = 1,
+    STUN_TYPES_NONCE_STALE = 2 /* it was valid */
+} stun_types_nonce_state;
 
 /* Authenticates a request by long-term credentials (RFC 8489, section 9.2.4). nonce_state is what the
    server knows of its NONCE, and algorithms are the password algorithms that it sent with a valid
    one. md5_key and sha256_key are the keys, in the server's realm, of the user whom its USERNAME or
    USERHASH names, by either password algorithm; one that holds none says that there is no such user.
-   The errors of stun_types_parse. BAD_ARGUMENT: the policy's algorithm, the state, a password
-   algorithm, or more than 16 of them. Allocates: OUT_OF_MEMORY. */
+   The errors of stun_types_parse. BAD_ARGUMENT: the policy, the state, a password algorithm, or more
+   than 16 of them. Allocates: OUT_OF_MEMORY. */
+STUN_TYPES_NODISCARD STUN_TYPES_NONNULL((3, 7, 8, 9))
 stun_types_answer stun_types_authenticate_long_term(const uint8_t *bytes, size_t length,
                                                     const stun_types_policy *policy,
-                                                    uint32_t nonce_state, const uint16_t *algorithms,
+                                                    stun_types_nonce_state nonce_state,
+                                                    const uint16_t *algorithms,
                                                     size_t algorithms_count,
                                                     const stun_types_key *md5_key,
                                                     const stun_types_key *sha256_key,
@@ -515,7 +661,10 @@ stun_types_answer stun_types_authenticate_long_term(const uint8_t *bytes, size_t
 
 /* ---- A client -------------------------------------------------------------------------------- */
 
-enum { STUN_TYPES_UDP = 0, STUN_TYPES_TCP = 1 };
+typedef STUN_TYPES_ENUM(stun_types_transport) {
+    STUN_TYPES_UDP = 1,
+    STUN_TYPES_TCP = 2
+} stun_types_transport;
 
 /* When a request is sent again and given up, in milliseconds (RFC 8489, section 6.2), and which
    responses the usage takes. If the last two fields are 0, the defaults of RFC 8489 apply. */
@@ -528,17 +677,23 @@ typedef struct {
                                usage may say 16, 20, 24 or 28; 0 is 32 */
     uint32_t fingerprint;   /* not 0: the usage sends FINGERPRINT, so that a response without one is
                                discarded (sections 6.3 and 7) */
+    uint64_t reserved;
 } stun_types_schedule;
 
 /* What RFC 8489 recommends. */
-#define STUN_TYPES_SCHEDULE { 500, 39500, 7, 16, 32, 0 }
+#define STUN_TYPES_SCHEDULE { 500, 39500, 7, 16, 0, 0, 0 }
 
-enum { /* how a request is protected */
-    STUN_TYPES_UNPROTECTED = 0,
+/* STUN_TYPES_SCHEDULE, for languages that read no macros. */
+STUN_TYPES_NODISCARD
+stun_types_schedule stun_types_schedule_default(void);
+
+/* How a request is protected. */
+typedef STUN_TYPES_ENUM(stun_types_protection) {
     STUN_TYPES_SHORT_TERM = 1,
     STUN_TYPES_LONG_TERM = 2,
-    STUN_TYPES_FIRST_LONG_TERM = 3 /* not signed, as the first request by the long-term mechanism */
-};
+    STUN_TYPES_FIRST_LONG_TERM = 3, /* not signed, as the first request by the long-term mechanism */
+    STUN_TYPES_UNPROTECTED = 4
+} stun_types_protection;
 
 /* A transaction of a request. The fields are the library's own. Times are milliseconds since a
    beginning of the caller's choice; one that steps back is taken to stand still. */
@@ -549,46 +704,56 @@ typedef struct {
     uint32_t sent;
     uint16_t method;
     uint8_t transport, protection, signed_by, violated, end, stopped;
+    uint64_t reserved;
 } stun_types_transaction;
 
 /* Begins the transaction of a request, signed where it is protected. key is that of the credential
    that protects it, and isn't looked at otherwise. Nothing allocates.
-   The errors of stun_types_parse; BAD_ARGUMENT: transport or protection; OUT_OF_RANGE, of no number:
-   one of the schedule is 0, or they are too large; NOT_A_REQUEST; NOT_SIGNED, SIGNED: against
-   protection; NO_KEY. */
+   The errors of stun_types_parse; BAD_ARGUMENT: transport, protection, or schedule->shortest, which
+   is none of 0, 16, 20, 24, 28 and 32; OUT_OF_RANGE, of no number: one of the schedule is 0, or they
+   are too large; NOT_A_REQUEST; NOT_SIGNED, SIGNED: against protection; NO_KEY; BAD_ARGUMENT: a key of
+   a long-term credential serves both integrity attributes, and this one was made for one. */
+STUN_TYPES_NODISCARD STUN_TYPES_NONNULL((1, 4, 7))
 stun_types_answer stun_types_transaction_begin(stun_types_transaction *transaction,
                                                const uint8_t *request, size_t length,
                                                const stun_types_schedule *schedule,
-                                               uint32_t transport, uint32_t protection,
+                                               stun_types_transport transport,
+                                               stun_types_protection protection,
                                                const stun_types_key *key, uint64_t now);
 
-enum { /* stun_types_action.kind */
-    STUN_TYPES_SEND_NOW = 0, /* send the request, now */
-    STUN_TYPES_WAIT = 1,     /* nothing before the moment until, unless a message is received */
-    STUN_TYPES_ENDED = 2     /* the transaction has ended, or ends now */
-};
+/* stun_types_action.kind */
+typedef STUN_TYPES_ENUM(stun_types_action_kind) {
+    STUN_TYPES_NO_ACTION = 0, /* the call failed */
+    STUN_TYPES_SEND_NOW = 1,  /* send the request, now */
+    STUN_TYPES_WAIT = 2,      /* nothing before the moment until, unless a message is received */
+    STUN_TYPES_ENDED = 3      /* the transaction has ended, or ends now */
+} stun_types_action_kind;
 
-enum { /* how a transaction ended */
+/* How a transaction ended. */
+typedef STUN_TYPES_ENUM(stun_types_end) {
     STUN_TYPES_ANSWERED = 1,
     STUN_TYPES_TIMED_OUT = 2,
     STUN_TYPES_INTEGRITY_VIOLATED = 3, /* responses came, and none was authentic */
     STUN_TYPES_RESPONSE_REFUSED = 4,   /* a response came that a client can't take */
     STUN_TYPES_CANCELLED = 5,          /* also where sending was stopped, and none was taken in time */
     STUN_TYPES_TRANSPORT_FAILED = 6
-};
+} stun_types_end;
 
 typedef struct {
-    uint32_t kind;
-    uint32_t end;
+    stun_types_action_kind kind;
+    stun_types_end end;
     uint64_t until;
+    uint64_t reserved;
 } stun_types_action;
 
 /* What is to be done now. BAD_ARGUMENT: the transaction isn't one. */
+STUN_TYPES_NODISCARD STUN_TYPES_NONNULL((1, 3))
 stun_types_answer stun_types_transaction_poll(stun_types_transaction *transaction, uint64_t now,
                                               stun_types_action *action);
 
-enum { /* stun_types_received.kind */
-    STUN_TYPES_NOT_FOR_THIS = 0,             /* no response to this request */
+/* stun_types_received.kind */
+typedef STUN_TYPES_ENUM(stun_types_received_kind) {
+    STUN_TYPES_NOT_FOR_THIS = 0,             /* no response to this request, or the call failed */
     STUN_TYPES_DISCARDED_NOT_AUTHENTIC = 1,  /* the transaction goes on, as for 2 to 5 */
     STUN_TYPES_DISCARDED_BID_DOWN = 2,
     STUN_TYPES_DISCARDED_UNSIGNED = 3,
@@ -599,24 +764,27 @@ enum { /* stun_types_received.kind */
     STUN_TYPES_FAILED_NO_ERROR_CODE = 8,
     STUN_TYPES_TAKEN_SUCCESS = 9,            /* the success response */
     STUN_TYPES_TAKEN_ERROR = 10              /* the error response; number: its code */
-};
+} stun_types_received_kind;
 
 /* Of a response that is discarded, or fails by its integrity, number is the code that it claims, or 0:
    it isn't authentic, and nothing follows from it. algorithm is that of the attribute that
-   authenticates a response that is taken, STUN_TYPES_INTEGRITY_SHA1 or STUN_TYPES_INTEGRITY_SHA256, by which later
-   requests are signed (9.1.5); 0 if no credential protects the request, and for a 401 or 438 that
-   isn't authentic. A 300 with the algorithm 0 must not be followed (14.8). */
+   authenticates a response that is taken, STUN_TYPES_INTEGRITY_SHA1 or STUN_TYPES_INTEGRITY_SHA256,
+   by which later requests are signed (9.1.5); 0 if no credential protects the request, and for a 401
+   or 438 that isn't authentic. A 300 with the algorithm 0 must not be followed (14.8). */
 typedef struct {
-    uint32_t kind;
+    stun_types_received_kind kind;
     uint32_t number;
-    uint32_t algorithm;
+    stun_types_integrity algorithm;
+    uint32_t reserved;
 } stun_types_received;
 
 /* What received bytes are for the transaction (RFC 8489, sections 6.3.3, 6.3.4, 9.1.4 and 9.2.5).
    understood are the types below 0x8000 that the caller understands, but for those of RFC 8489, at
    most 64 of them. key is that which the transaction began with.
-   BAD_ARGUMENT: the transaction isn't one, or more types. NO_KEY. Allocates where a credential
-   protects the request, for a copy of the key: OUT_OF_MEMORY, and the transaction stays as it was. */
+   BAD_ARGUMENT: the transaction isn't one, or more types. NO_KEY, BAD_ARGUMENT: the key isn't one that
+   the transaction can have begun with. Allocates where a credential protects the request, for a copy
+   of the key: OUT_OF_MEMORY. If the call fails, the transaction stays as it was. */
+STUN_TYPES_NODISCARD STUN_TYPES_NONNULL((1, 2, 7))
 stun_types_answer stun_types_transaction_receive(stun_types_transaction *transaction,
                                                  const stun_types_key *key, const uint8_t *bytes,
                                                  size_t length, const uint16_t *understood,
@@ -626,11 +794,14 @@ stun_types_answer stun_types_transaction_receive(stun_types_transaction *transac
 /* Stops sending the request, unless the transaction has ended. A response is still taken until the
    transaction would have timed out; if none is, it ends as cancelled (RFC 8445, section 7.3.1.4).
    BAD_ARGUMENT: the transaction isn't one. */
+STUN_TYPES_NODISCARD STUN_TYPES_NONNULL((1))
 stun_types_answer stun_types_transaction_stop_sending(stun_types_transaction *transaction);
 
 /* Ends the transaction, unless it has ended: the caller wants no response, or the transport failed.
    BAD_ARGUMENT: the transaction isn't one. */
+STUN_TYPES_NODISCARD STUN_TYPES_NONNULL((1))
 stun_types_answer stun_types_transaction_cancel(stun_types_transaction *transaction);
+STUN_TYPES_NODISCARD STUN_TYPES_NONNULL((1))
 stun_types_answer stun_types_transaction_fail(stun_types_transaction *transaction);
 
 /* What a 401 or a 438 asks the next request to carry: where texts stand in its bytes, the value of
@@ -640,9 +811,10 @@ typedef struct {
     size_t realm_at, realm_length;
     size_t nonce_at, nonce_length;
     size_t algorithms_at, algorithms_length;
-    uint16_t password_algorithm;
-    uint16_t anonymous;
-    uint32_t integrity_algorithm;
+    stun_types_password password_algorithm;
+    uint32_t anonymous;
+    stun_types_integrity integrity_algorithm;
+    uint32_t reserved;
 } stun_types_challenge;
 
 /* Reads it (RFC 8489, section 9.2.5). supported are the password algorithms that the client knows;
@@ -650,6 +822,7 @@ typedef struct {
    BAD_ARGUMENT: a password algorithm, or more than 16 of them; before is no message, or no challenge
    that such a client could have answered. The errors of stun_types_parse;
    NOT_A_CHALLENGE, BID_DOWN, INCOMPLETE, NO_ALGORITHM, SAME_CREDENTIALS. */
+STUN_TYPES_NODISCARD STUN_TYPES_NONNULL((7))
 stun_types_answer stun_types_challenge_of(const uint8_t *bytes, size_t length,
                                           const uint16_t *supported, size_t supported_count,
                                           const uint8_t *before, size_t before_length,
@@ -666,6 +839,7 @@ typedef struct {
     uint64_t offset; /* in the stream, of the bytes that are pending */
     size_t pending;  /* how many bytes at the start of the buffer belong to a message that isn't whole */
     size_t message;  /* how many bytes the message there has that the last call made whole, or 0 */
+    uint64_t reserved;
 } stun_types_stream;
 
 /* Takes the bytes at the start of a piece that belong to the message that is coming; *taken is how
@@ -674,6 +848,7 @@ typedef struct {
    NOT_STUN, NOT_PADDED, TOO_LARGE (expected is the buffer's size): no message begins where one had
    to, at stream->offset; close the connection. The bytes that were pending stay, and stream->message
    is 0. */
+STUN_TYPES_NODISCARD STUN_TYPES_NONNULL((1, 6))
 stun_types_answer stun_types_stream_push(stun_types_stream *stream, uint8_t *buffer, size_t size,
                                          const uint8_t *piece, size_t piece_length, size_t *taken);
 
@@ -688,15 +863,18 @@ typedef struct {
 /* How many bytes the ChannelData message has that begins here on a stream: 4, its data, and zeros up
    to a multiple of 4; *message_length is 0 where more bytes are needed to tell. NOT_STUN: the first
    byte is none of 0x40 to 0x4F. */
+STUN_TYPES_NODISCARD STUN_TYPES_NONNULL((3))
 stun_types_answer stun_types_channel_data_length(const uint8_t *bytes, size_t length,
                                                  size_t *message_length);
 
 /* Reads a ChannelData message. NOT_STUN, TRUNCATED, TOO_LARGE. */
+STUN_TYPES_NODISCARD STUN_TYPES_NONNULL((3))
 stun_types_answer stun_types_read_channel_data(const uint8_t *bytes, size_t length,
                                                stun_types_channel_data *channel_data);
 
 /* Writes one, padded with zeros to a multiple of 4 where padded. OUT_OF_RANGE: the channel.
    TOO_LARGE: more than 65,535 bytes of data. TOO_SMALL. */
+STUN_TYPES_NODISCARD STUN_TYPES_NONNULL((7))
 stun_types_answer stun_types_write_channel_data(uint16_t channel, const void *data,
                                                 size_t data_length, bool padded, uint8_t *room,
                                                 size_t size, size_t *written);

@@ -17,17 +17,53 @@ typedef struct {
     socklen_t length;
 } socket_address;
 
-/* Reads an IP address and a port, both as numbers; nothing is asked of a name server. */
+/* Reads a decimal number from least to most: digits, and nothing before or after them. */
+static inline bool read_number(const char *text, uint32_t least, uint32_t most, uint32_t *number) {
+    uint64_t read = 0;
+    if (*text == 0) return false;
+    for (; *text != 0; text++) {
+        if (*text < '0' || *text > '9') return false;
+        read = read * 10 + (uint64_t)(*text - '0');
+        if (read > most) return false;
+    }
+    if (read < least) return false;
+    *number = (uint32_t)read;
+    return true;
+}
+
+/* Reads an IPv6 address, which may name an interface: fe80::1%eth0. */
+static inline bool read_six(const char *text, uint16_t port, int type, socket_address *read) {
+    struct addrinfo hints, *found;
+    struct sockaddr_in6 six;
+    memset(&hints, 0, sizeof hints);
+    hints.ai_family = AF_INET6;
+    hints.ai_flags = AI_NUMERICHOST;
+    hints.ai_socktype = type;
+    if (getaddrinfo(text, NULL, &hints, &found) != 0) return false;
+    memcpy(&six, found->ai_addr, sizeof six);
+    freeaddrinfo(found);
+    six.sin6_port = htons(port);
+    memcpy(&read->bytes, &six, sizeof six);
+    read->length = sizeof six;
+    return true;
+}
+
+/* Reads an IP address and a port from 0 to 65535, both as numbers; nothing is asked of a name
+ * server. */
 static inline bool read_address(const char *address, const char *port, int type,
                                 socket_address *read) {
-    struct addrinfo hints, *found;
-    memset(&hints, 0, sizeof hints);
-    hints.ai_flags = AI_NUMERICHOST | AI_NUMERICSERV;
-    hints.ai_socktype = type;
-    if (getaddrinfo(address, port, &hints, &found) != 0) return false;
-    memcpy(&read->bytes, found->ai_addr, found->ai_addrlen);
-    read->length = found->ai_addrlen;
-    freeaddrinfo(found);
+    struct sockaddr_in four;
+    uint32_t number;
+    if (!read_number(port, 0, 65535, &number)) return false;
+    memset(read, 0, sizeof *read);
+    memset(&four, 0, sizeof four);
+    if (inet_pton(AF_INET, address, &four.sin_addr) != 1) {
+        return read_six(address, (uint16_t)number, type, read);
+    }
+    four.sin_family = AF_INET;
+    four.sin_port = htons((uint16_t)number);
+    memcpy(&read->bytes, &four, sizeof four);
+    read->length = sizeof four;
     return true;
 }
 
@@ -51,6 +87,12 @@ static inline bool address_of(const struct sockaddr_storage *from, stun_types_ad
     to->port = ntohs(six.sin6_port);
     to->family = mapped ? 4 : 6;
     return true;
+}
+
+/* Whether an address has a port; 0 is none. */
+static inline bool has_port(const socket_address *address) {
+    stun_types_address read;
+    return address_of(&address->bytes, &read) && read.port != 0;
 }
 
 /* Prints an address: 192.0.2.1:32853, or [2001:db8::1]:32853. */

@@ -4,9 +4,9 @@
  *     cc -O2 -I c c/examples/client.c libstun_types_c.a liblibc_c.a -o client
  *     ./client [-s] [-u USER -p PASSWORD] ADDRESS PORT
  *
- * With -s it asks over TCP. With a name and a password it answers a server that asks for long-term
- * credentials (RFC 8489, section 9.2). The other users of a machine can see a program's arguments:
- * take a password that may be seen.
+ * PORT is a number from 1 to 65535. With -s it asks over TCP. With a name and a password it answers
+ * a server that asks for long-term credentials (RFC 8489, section 9.2). The other users of a machine
+ * can see a program's arguments: take a password that may be seen.
  *
  * Status | When; what is printed to standard error
  * 0      | the address was printed
@@ -210,12 +210,10 @@ static bool add_login(const stun_types_challenge *challenge, const char *user) {
 /* Makes the key of the user in the realm of the challenge that stands in `before`. */
 static bool make_key(const stun_types_challenge *challenge, const task *asked,
                      stun_types_key *key) {
-    uint32_t digest = challenge->password_algorithm == STUN_TYPES_PASSWORD_SHA256
-                          ? STUN_TYPES_INTEGRITY_SHA256
-                          : STUN_TYPES_INTEGRITY_SHA1;
     return stun_types_key_long_term(key, asked->user, strlen(asked->user),
                                     before.bytes + challenge->realm_at, challenge->realm_length,
-                                    asked->password, strlen(asked->password), digest)
+                                    asked->password, strlen(asked->password),
+                                    challenge->password_algorithm)
                .code == STUN_TYPES_OK;
 }
 
@@ -233,7 +231,7 @@ static bool login_request(const stun_types_challenge *challenge, const task *ask
 /* ---- A transaction --------------------------------------------------------------------------- */
 
 /* What the end of a transaction without a response is called. */
-static int tell_end(uint32_t end) {
+static int tell_end(stun_types_end end) {
     switch (end) {
     case STUN_TYPES_TIMED_OUT: return say(SILENT, "no response");
     case STUN_TYPES_INTEGRITY_VIOLATED: return say(SILENT, "no response is authentic");
@@ -268,15 +266,18 @@ static int exchange(carrier *by, stun_types_transaction *transaction, const stun
         if (action.kind == STUN_TYPES_ENDED) return tell_end(action.end);
         if (action.kind == STUN_TYPES_SEND_NOW) works = send_message(by, &request);
         else works = hear(by, transaction, key, action.until, taken);
-        if (!works) stun_types_transaction_fail(transaction);
-        else if (action.kind == STUN_TYPES_WAIT && taken->kind >= STUN_TYPES_TAKEN_SUCCESS) {
+        if (!works) {
+            if (stun_types_transaction_fail(transaction).code != STUN_TYPES_OK) {
+                return say(FAILED, "the transaction broke");
+            }
+        } else if (action.kind == STUN_TYPES_WAIT && taken->kind >= STUN_TYPES_TAKEN_SUCCESS) {
             return TOLD;
         }
     }
 }
 
 /* Begins the request's transaction and carries it through, as `exchange` tells. */
-static int ask(carrier *by, uint32_t protection, const stun_types_key *key,
+static int ask(carrier *by, stun_types_protection protection, const stun_types_key *key,
                stun_types_received *taken) {
     const stun_types_schedule schedule = STUN_TYPES_SCHEDULE;
     stun_types_transaction transaction;
@@ -309,8 +310,10 @@ static int tell_error(void) {
     stun_types_attribute found;
     uint16_t code = 0;
     size_t at = 0, length = 0;
-    if (stun_types_find(response.bytes, response.length, STUN_TYPES_ATTRIBUTE_ERROR_CODE, &found)) {
-        stun_types_read_error(response.bytes, response.length, &found, &code, &at, &length);
+    if (stun_types_find(response.bytes, response.length, STUN_TYPES_ATTRIBUTE_ERROR_CODE, &found) &&
+        stun_types_read_error(response.bytes, response.length, &found, &code, &at, &length).code !=
+            STUN_TYPES_OK) {
+        code = 0;
     }
     fprintf(stderr, "client: error %u ", (unsigned)code);
     for (size_t i = at; i < at + length; i++) {
@@ -355,7 +358,8 @@ static int login(carrier *by, const task *asked, stun_types_key *key, stun_types
 /* Asks, with credentials where the server wants them, and prints what it answers. */
 static int run(const task *asked) {
     stun_types_key key = STUN_TYPES_NO_KEY_YET;
-    stun_types_received taken = {0, 0, 0};
+    stun_types_received taken;
+    memset(&taken, 0, sizeof taken);
     if (!connect_to(&connection, asked)) return say(SILENT, strerror(errno));
     if (!end_request(begin_request())) return say(FAILED, "the request can't be made");
     int status = ask(&connection,
@@ -384,7 +388,8 @@ int main(int count, char **arguments) {
     }
     if (count - optind != 2 || (asked.user == NULL) != (asked.password == NULL)) return usage();
     if (!read_address(arguments[optind], arguments[optind + 1],
-                      asked.reliable ? SOCK_STREAM : SOCK_DGRAM, &asked.server)) {
+                      asked.reliable ? SOCK_STREAM : SOCK_DGRAM, &asked.server) ||
+        !has_port(&asked.server)) {
         return usage();
     }
     return run(&asked);

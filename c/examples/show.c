@@ -67,7 +67,7 @@ static void print_attribute(const uint8_t *message, const stun_types_attribute *
 }
 
 static void print_attributes(const uint8_t *message, size_t length) {
-    stun_types_cursor cursor = {0, 0};
+    stun_types_cursor cursor = STUN_TYPES_CURSOR;
     stun_types_attribute attribute;
     while (stun_types_next(message, length, &cursor, &attribute)) {
         print_attribute(message, &attribute);
@@ -86,7 +86,7 @@ static void print_refusal(stun_types_answer answer) {
 }
 
 /* What the last line says of the integrity. */
-static const char *verdict(stun_types_answer answer, uint32_t algorithm) {
+static const char *verdict(stun_types_answer answer, stun_types_integrity algorithm) {
     switch (answer.code) {
     case STUN_TYPES_OK: return algorithm == STUN_TYPES_INTEGRITY_SHA1 ? "Sha1" : "Sha256";
     case STUN_TYPES_MISSING_ATTRIBUTE: return "missing";
@@ -99,7 +99,7 @@ static const char *verdict(stun_types_answer answer, uint32_t algorithm) {
 static int report(const uint8_t *message, size_t length, const stun_types_key *key) {
     stun_types_answer answer = stun_types_parse(message, length);
     stun_types_header header;
-    uint32_t algorithm = 0;
+    stun_types_validated validated;
     if (answer.code == STUN_TYPES_OK) answer = stun_types_read_header(message, length, &header);
     if (answer.code != STUN_TYPES_OK) {
         print_refusal(answer);
@@ -108,8 +108,8 @@ static int report(const uint8_t *message, size_t length, const stun_types_key *k
     print_header(&header);
     print_attributes(message, length);
     if (key == NULL) return SHOWN;
-    answer = stun_types_validate(message, length, key, &algorithm);
-    printf("integrity: %s\n", verdict(answer, algorithm));
+    answer = stun_types_validate(message, length, key, &validated);
+    printf("integrity: %s\n", verdict(answer, validated.algorithm));
     return answer.code == STUN_TYPES_OK ? SHOWN : REFUSED;
 }
 

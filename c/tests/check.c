@@ -227,3 +227,11 @@ uint8_t *guarded_end(uint8_t *place, size_t size, size_t length) {
 }
 
 bool is_untouched(const void *bytes, size_t length) { return is_filled(bytes, length); }
+
+bool is_zero(const void *bytes, size_t length) {
+    const uint8_t *all = bytes;
+    size_t i;
+    for (i = 0; i < length; i++)
+        if (all[i] != 0) return false;
+    return true;
+}

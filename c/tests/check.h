@@ -90,6 +90,9 @@ uint8_t *guarded_end(uint8_t *place, size_t size, size_t length);
 /* Whether all bytes are those that rooms are filled with. */
 bool is_untouched(const void *bytes, size_t length);
 
+/* Whether all bytes are 0. */
+bool is_zero(const void *bytes, size_t length);
+
 /* A struct of this type, as a room. */
 #define NEW(type) ((type *)(void *)room(sizeof(type)))
 

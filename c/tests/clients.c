@@ -17,6 +17,7 @@ static const uint16_t NO_TYPES[1] = {0};
 static stun_types_action polled(stun_types_transaction *transaction, uint64_t now) {
     stun_types_action *action = NEW(stun_types_action);
     ANSWERS(stun_types_transaction_poll(transaction, now, action), OK_ANSWER);
+    CHECK(action->reserved == 0);
     return *action;
 }
 
@@ -53,17 +54,21 @@ static void test_moments(void) {
 static const struct {
     const char *name, *request;
     uint32_t transport, protection;
-    bool has_key;
+    enum { NO_KEY, BOTH, ONE } key;
     uint32_t code;
 } begun[] = {
-    {"a key that isn't looked at", REQUEST, 0, 0, true, STUN_TYPES_OK},
-    {"short-term, without a key", REQUEST_SHA1, 0, 1, false, STUN_TYPES_NO_KEY},
-    {"long-term, without a key", REQUEST_SHA1, 0, 2, false, STUN_TYPES_NO_KEY},
-    {"another transport", REQUEST, 2, 0, false, STUN_TYPES_BAD_ARGUMENT},
-    {"the greatest transport", REQUEST, UINT32_MAX, 0, false, STUN_TYPES_BAD_ARGUMENT},
-    {"a first request, and a key that isn't looked at", REQUEST, 0, 3, true, STUN_TYPES_OK},
-    {"another protection", REQUEST, 0, 4, true, STUN_TYPES_BAD_ARGUMENT},
-    {"the greatest protection", REQUEST, 0, UINT32_MAX, true, STUN_TYPES_BAD_ARGUMENT},
+    {"a key that isn't looked at", REQUEST, 1, 4, BOTH, STUN_TYPES_OK},
+    {"short-term, without a key", REQUEST_SHA1, 1, 1, NO_KEY, STUN_TYPES_NO_KEY},
+    {"long-term, without a key", REQUEST_SHA1, 1, 2, NO_KEY, STUN_TYPES_NO_KEY},
+    {"short-term, a key for one algorithm", REQUEST_SHA1, 1, 1, ONE, STUN_TYPES_OK},
+    {"long-term, a key for one algorithm", REQUEST_SHA1, 1, 2, ONE, STUN_TYPES_BAD_ARGUMENT},
+    {"transport 0", REQUEST, 0, 4, NO_KEY, STUN_TYPES_BAD_ARGUMENT},
+    {"another transport", REQUEST, 3, 4, NO_KEY, STUN_TYPES_BAD_ARGUMENT},
+    {"the greatest transport", REQUEST, UINT32_MAX, 4, NO_KEY, STUN_TYPES_BAD_ARGUMENT},
+    {"a first request, and a key that isn't looked at", REQUEST, 1, 3, BOTH, STUN_TYPES_OK},
+    {"protection 0", REQUEST, 1, 0, NO_KEY, STUN_TYPES_BAD_ARGUMENT},
+    {"another protection", REQUEST, 1, 5, BOTH, STUN_TYPES_BAD_ARGUMENT},
+    {"the greatest protection", REQUEST, 1, UINT32_MAX, BOTH, STUN_TYPES_BAD_ARGUMENT},
 };
 
 static void test_begin(void) {
@@ -75,12 +80,50 @@ static void test_begin(void) {
         row("stun_types_transaction_begin", begun[i].name);
         request = hex(begun[i].request);
         transaction = NEW(stun_types_transaction);
-        key = begun[i].has_key ? password_key(text("secret")) : no_key();
+        key = begun[i].key == NO_KEY ? no_key()
+            : begun[i].key == BOTH   ? password_key(text("secret"))
+                                     : bytes_key(text("secret"), STUN_TYPES_INTEGRITY_SHA1);
         ANSWERS(stun_types_transaction_begin(transaction, request.bytes, request.length, &DEFAULT,
-                                             begun[i].transport, begun[i].protection, key, 0),
+                                             (stun_types_transport)begun[i].transport,
+                                             (stun_types_protection)begun[i].protection, key, 0),
                 PLAIN(begun[i].code));
         if (begun[i].code != STUN_TYPES_OK) CHECK(is_untouched(transaction, sizeof *transaction));
         stun_types_key_free(key);
+    }
+}
+
+static const struct {
+    const char *name;
+    stun_types_schedule schedule;
+    uint32_t code;
+} schedules[] = {
+    {"16 bytes", {500, 39500, 7, 16, 16, 0, 0}, STUN_TYPES_OK},
+    {"32 bytes", {500, 39500, 7, 16, 32, 0, 0}, STUN_TYPES_OK},
+    {"zero bytes, for 32", {500, 39500, 7, 16, 0, 0, 0}, STUN_TYPES_OK},
+    {"12 bytes", {500, 39500, 7, 16, 12, 0, 0}, STUN_TYPES_BAD_ARGUMENT},
+    {"17 bytes", {500, 39500, 7, 16, 17, 0, 0}, STUN_TYPES_BAD_ARGUMENT},
+    {"100 bytes", {500, 39500, 7, 16, 100, 0, 0}, STUN_TYPES_BAD_ARGUMENT},
+    {"a spare word that isn't 0", {500, 39500, 7, 16, 0, 0, 1}, STUN_TYPES_BAD_ARGUMENT},
+    {"no first interval", {0, 39500, 7, 16, 0, 0, 0}, STUN_TYPES_OUT_OF_RANGE},
+};
+
+static void test_schedules(void) {
+    size_t i;
+    for (i = 0; i < COUNT(schedules); i++) {
+        slice request, schedule;
+        stun_types_transaction *transaction;
+        row("stun_types_transaction_begin, a schedule", schedules[i].name);
+        request = hex(REQUEST);
+        schedule = given(&schedules[i].schedule, sizeof schedules[i].schedule);
+        transaction = NEW(stun_types_transaction);
+        ANSWERS(stun_types_transaction_begin(transaction, request.bytes, request.length,
+                                             (const void *)schedule.bytes, STUN_TYPES_UDP,
+                                             STUN_TYPES_UNPROTECTED, no_key(), 0),
+                PLAIN(schedules[i].code));
+        if (schedules[i].code != STUN_TYPES_OK)
+            CHECK(is_untouched(transaction, sizeof *transaction));
+        else
+            CHECK(transaction->reserved == 0);
     }
 }
 
@@ -95,7 +138,7 @@ static void check_refused(stun_types_transaction *transaction, const stun_types_
                                            (const void *)understood.bytes, understood.length / 2,
                                            received),
             PLAIN(code));
-    CHECK(is_untouched(received, sizeof *received));
+    CHECK(is_zero(received, sizeof *received));
     CHECK(memcmp(&before, transaction, sizeof before) == 0);
 }
 
@@ -112,7 +155,7 @@ static void check_success(stun_types_transaction *transaction, const stun_types_
 }
 
 /* A transaction whose request is signed by SHA-1, and was sent at 0. */
-static stun_types_transaction *sent(uint32_t protection, const stun_types_key *key) {
+static stun_types_transaction *sent(stun_types_protection protection, const stun_types_key *key) {
     slice request = hex(REQUEST_SHA1);
     stun_types_transaction *transaction = NEW(stun_types_transaction);
     ANSWERS(stun_types_transaction_begin(transaction, request.bytes, request.length, &DEFAULT,
@@ -141,12 +184,26 @@ static void test_arguments(void) {
     check_refused(transaction, no_key(), bytes, hex(""), STUN_TYPES_NO_KEY);
     check_success(transaction, key, bytes, hex(""));
     stun_types_key_free(key);
+    row("stun_types_transaction_receive", "long-term, a key for one algorithm");
+    key = bytes_key(text("secret"), STUN_TYPES_INTEGRITY_ANY);
+    transaction = sent(STUN_TYPES_LONG_TERM, key);
+    stun_types_key_free(key);
+    key = bytes_key(text("secret"), STUN_TYPES_INTEGRITY_SHA1);
+    bytes = hex(SUCCESS_SHA1);
+    check_refused(transaction, key, bytes, hex(""), STUN_TYPES_BAD_ARGUMENT);
+    stun_types_key_free(key);
+    row("what is no transaction", "a spare word that isn't 0");
+    transaction = begun_at(0);
+    transaction->reserved = 1;
+    check_refused(transaction, no_key(), hex(SUCCESS), hex(""), STUN_TYPES_BAD_ARGUMENT);
 }
 
 /* A copy of the key is made. Each allocation is refused in turn, which changes nothing. */
 static void test_memory(void) {
-    uint32_t protection;
-    for (protection = STUN_TYPES_SHORT_TERM; protection <= STUN_TYPES_LONG_TERM; protection++) {
+    static const stun_types_protection protections[] = {STUN_TYPES_SHORT_TERM, STUN_TYPES_LONG_TERM};
+    size_t i;
+    for (i = 0; i < COUNT(protections); i++) {
+        stun_types_protection protection = protections[i];
         stun_types_key *key;
         stun_types_transaction *transaction;
         slice bytes;
@@ -178,7 +235,7 @@ static void test_memory(void) {
             }
             ANSWERS(answer, PLAIN(STUN_TYPES_OUT_OF_MEMORY));
             CHECK(memcmp(&before, transaction, sizeof before) == 0);
-            CHECK(is_untouched(received, sizeof *received));
+            CHECK(is_zero(received, sizeof *received));
         }
         CHECK(number > 1 && number < 100);
         stun_types_key_free(key);
@@ -212,7 +269,7 @@ static void test_no_transactions(void) {
         ANSWERS(stun_types_transaction_stop_sending(transaction), PLAIN(STUN_TYPES_BAD_ARGUMENT));
         ANSWERS(stun_types_transaction_cancel(transaction), PLAIN(STUN_TYPES_BAD_ARGUMENT));
         ANSWERS(stun_types_transaction_fail(transaction), PLAIN(STUN_TYPES_BAD_ARGUMENT));
-        CHECK(is_untouched(action, sizeof *action) && is_untouched(received, sizeof *received));
+        CHECK(is_zero(action, sizeof *action) && is_zero(received, sizeof *received));
     }
 }
 
@@ -254,6 +311,7 @@ static void test_challenges(void) {
 void test_clients(void) {
     test_moments();
     test_begin();
+    test_schedules();
     test_arguments();
     test_memory();
     test_no_transactions();

@@ -17,7 +17,7 @@ stun_types_key *password_key(slice password) {
     return key;
 }
 
-stun_types_key *bytes_key(slice bytes, uint32_t algorithm) {
+stun_types_key *bytes_key(slice bytes, stun_types_integrity algorithm) {
     stun_types_key *key = no_key();
     heap_allow(true);
     ANSWERS(stun_types_key_from_bytes(key, bytes.bytes, bytes.length, algorithm), OK_ANSWER);
@@ -25,7 +25,7 @@ stun_types_key *bytes_key(slice bytes, uint32_t algorithm) {
     return key;
 }
 
-stun_types_key *login_key(uint32_t algorithm) {
+stun_types_key *login_key(stun_types_password algorithm) {
     slice user = text("user"), realm = text("realm"), password = text("pass");
     stun_types_key *key = no_key();
     heap_allow(true);

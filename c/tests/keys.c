@@ -14,13 +14,13 @@
 
 static void test_no_key(void) {
     slice bytes;
-    uint32_t *algorithm;
+    stun_types_validated *validated;
     row("stun_types_validate", "a key that holds none");
     bytes = hex(CHECK_SHA1);
-    algorithm = NEW(uint32_t);
-    ANSWERS(stun_types_validate(bytes.bytes, bytes.length, no_key(), algorithm),
+    validated = NEW(stun_types_validated);
+    ANSWERS(stun_types_validate(bytes.bytes, bytes.length, no_key(), validated),
             PLAIN(STUN_TYPES_NO_KEY));
-    CHECK(is_untouched(algorithm, sizeof *algorithm));
+    CHECK(is_zero(validated, sizeof *validated));
 }
 
 /* Each byte of a signed message that is changed is told. (A type of another attribute in the
@@ -38,13 +38,14 @@ static void test_changes(void) {
         key = password_key(text("pass"));
         for (at = 0; at < bytes.length; at++) {
             uint8_t other[200];
-            uint32_t algorithm;
+            stun_types_validated validated;
             stun_types_answer answer;
             if (bytes.length > sizeof other) abort();
             memcpy(other, bytes.bytes, bytes.length);
             other[at] ^= 0x04;
-            answer = stun_types_validate(other, bytes.length, key, &algorithm);
-            if (answer.code == STUN_TYPES_OK && (i < 2 || algorithm == STUN_TYPES_INTEGRITY_SHA256))
+            answer = stun_types_validate(other, bytes.length, key, &validated);
+            if (answer.code != STUN_TYPES_OK) CHECK(is_zero(&validated, sizeof validated));
+            else if (i < 2 || validated.algorithm == STUN_TYPES_INTEGRITY_SHA256)
                 fail("the byte at %zu", at);
         }
         stun_types_key_free(key);
@@ -72,20 +73,20 @@ static void test_logins(void) {
     size_t i;
     for (i = 0; i < COUNT(logins); i++) {
         slice bytes, user, realm, password;
-        uint32_t *algorithm;
+        stun_types_validated *validated;
         row("stun_types_validate_long_term", logins[i].name);
         bytes = hex(logins[i].message);
         user = hex(logins[i].user);
         realm = hex(logins[i].realm);
         password = hex(logins[i].password);
-        algorithm = NEW(uint32_t);
+        validated = NEW(stun_types_validated);
         heap_allow(true);
         ANSWERS(stun_types_validate_long_term(bytes.bytes, bytes.length, user.bytes, user.length,
                                               realm.bytes, realm.length, password.bytes,
-                                              password.length, algorithm),
+                                              password.length, validated),
                 LENGTHS(logins[i].code, logins[i].expected, logins[i].actual));
         heap_allow(false);
-        CHECK(is_untouched(algorithm, sizeof *algorithm));
+        CHECK(is_zero(validated, sizeof *validated));
         CHECK(heap_held() == 0);
     }
 }
@@ -111,44 +112,66 @@ static void test_hashes(void) {
 typedef stun_types_answer (*key_call)(stun_types_key *key);
 
 static stun_types_answer long_term(stun_types_key *key, const char *user, const char *realm,
-                                   const char *password, uint32_t algorithm) {
+                                   const char *password, stun_types_password algorithm) {
     slice name = hex(user), place = hex(realm), secret = hex(password);
     return stun_types_key_long_term(key, name.bytes, name.length, place.bytes, place.length,
                                     secret.bytes, secret.length, algorithm);
 }
 
 static stun_types_answer long_user(stun_types_key *key) {
-    return long_term(key, "FF", "61", "61", STUN_TYPES_INTEGRITY_SHA1);
+    return long_term(key, "FF", "61", "61", STUN_TYPES_PASSWORD_MD5);
 }
 
 static stun_types_answer long_realm(stun_types_key *key) {
-    return long_term(key, "61", "C3", "61", STUN_TYPES_INTEGRITY_SHA256);
+    return long_term(key, "61", "C3", "61", STUN_TYPES_PASSWORD_SHA256);
 }
 
 static stun_types_answer long_password(stun_types_key *key) {
-    return long_term(key, "61", "61", "80", STUN_TYPES_INTEGRITY_SHA1);
+    return long_term(key, "61", "61", "80", STUN_TYPES_PASSWORD_MD5);
 }
 
-static stun_types_answer long_any(stun_types_key *key) {
-    return long_term(key, "61", "61", "61", STUN_TYPES_INTEGRITY_ANY);
+static stun_types_answer long_zero(stun_types_key *key) {
+    return long_term(key, "61", "61", "61", (stun_types_password)0);
+}
+
+/* (an integrity algorithm by mistake) */
+static stun_types_answer long_sha1(stun_types_key *key) {
+    return long_term(key, "61", "61", "61", (stun_types_password)STUN_TYPES_INTEGRITY_SHA1);
+}
+
+static stun_types_answer long_sha256(stun_types_key *key) {
+    return long_term(key, "61", "61", "61", (stun_types_password)STUN_TYPES_INTEGRITY_SHA256);
 }
 
 static stun_types_answer long_three(stun_types_key *key) {
-    return long_term(key, "61", "61", "61", 3);
+    return long_term(key, "61", "61", "61", (stun_types_password)3);
 }
 
 static stun_types_answer long_most(stun_types_key *key) {
-    return long_term(key, "61", "61", "61", UINT32_MAX);
+    return long_term(key, "61", "61", "61", (stun_types_password)UINT32_MAX);
 }
 
-static stun_types_answer bytes_three(stun_types_key *key) {
+/* (a password algorithm by mistake) */
+static stun_types_answer bytes_md5(stun_types_key *key) {
     slice bytes = hex("61*16");
-    return stun_types_key_from_bytes(key, bytes.bytes, bytes.length, 3);
+    return stun_types_key_from_bytes(key, bytes.bytes, bytes.length,
+                                     (stun_types_integrity)STUN_TYPES_PASSWORD_MD5);
+}
+
+static stun_types_answer bytes_sha256(stun_types_key *key) {
+    slice bytes = hex("61*16");
+    return stun_types_key_from_bytes(key, bytes.bytes, bytes.length,
+                                     (stun_types_integrity)STUN_TYPES_PASSWORD_SHA256);
+}
+
+static stun_types_answer copy_none(stun_types_key *key) {
+    return stun_types_key_copy(key, no_key());
 }
 
 static stun_types_answer bytes_most(stun_types_key *key) {
     slice bytes = hex("61*16");
-    return stun_types_key_from_bytes(key, bytes.bytes, bytes.length, UINT32_MAX);
+    return stun_types_key_from_bytes(key, bytes.bytes, bytes.length,
+                                     (stun_types_integrity)UINT32_MAX);
 }
 
 static const struct {
@@ -159,18 +182,24 @@ static const struct {
     {"long-term, the user isn't UTF-8", long_user, STUN_TYPES_INVALID_DATA},
     {"long-term, the realm isn't UTF-8", long_realm, STUN_TYPES_INVALID_DATA},
     {"long-term, the password isn't UTF-8", long_password, STUN_TYPES_INVALID_DATA},
-    {"long-term, for both algorithms", long_any, STUN_TYPES_BAD_ARGUMENT},
+    {"long-term, password algorithm 0", long_zero, STUN_TYPES_BAD_ARGUMENT},
+    {"long-term, an integrity algorithm for a password algorithm", long_sha1,
+     STUN_TYPES_BAD_ARGUMENT},
+    {"long-term, the other one", long_sha256, STUN_TYPES_BAD_ARGUMENT},
     {"long-term, algorithm 3", long_three, STUN_TYPES_BAD_ARGUMENT},
     {"long-term, the greatest algorithm", long_most, STUN_TYPES_BAD_ARGUMENT},
-    {"bytes, algorithm 3", bytes_three, STUN_TYPES_BAD_ARGUMENT},
+    {"bytes, a password algorithm for an integrity algorithm", bytes_md5, STUN_TYPES_BAD_ARGUMENT},
+    {"bytes, the other one", bytes_sha256, STUN_TYPES_BAD_ARGUMENT},
     {"bytes, the greatest algorithm", bytes_most, STUN_TYPES_BAD_ARGUMENT},
+    {"a copy of no key", copy_none, STUN_TYPES_NO_KEY},
 };
 
 static void check_key_is_pass(const stun_types_key *key) {
     slice bytes = hex(CHECK_SHA256);
-    uint32_t algorithm = 0;
-    ANSWERS(stun_types_validate(bytes.bytes, bytes.length, key, &algorithm), OK_ANSWER);
-    CHECK(algorithm == STUN_TYPES_INTEGRITY_SHA256);
+    stun_types_validated *validated = NEW(stun_types_validated);
+    ANSWERS(stun_types_validate(bytes.bytes, bytes.length, key, validated), OK_ANSWER);
+    CHECK(validated->algorithm == STUN_TYPES_INTEGRITY_SHA256 && validated->hmac_length == 32);
+    CHECK(validated->reserved == 0);
 }
 
 static void check_refused_key(size_t i, stun_types_key *key) {
@@ -207,17 +236,22 @@ static stun_types_answer make_short(stun_types_key *key) {
 }
 
 static stun_types_answer make_md5(stun_types_key *key) {
-    return long_term(key, "75736572", "7265616C6D", "70617373", STUN_TYPES_INTEGRITY_SHA1);
+    return long_term(key, "75736572", "7265616C6D", "70617373", STUN_TYPES_PASSWORD_MD5);
 }
 
 static stun_types_answer make_sha256(stun_types_key *key) {
-    return long_term(key, "75736572", "7265616C6D", "70617373", STUN_TYPES_INTEGRITY_SHA256);
+    return long_term(key, "75736572", "7265616C6D", "70617373", STUN_TYPES_PASSWORD_SHA256);
 }
 
 static stun_types_answer make_bytes(stun_types_key *key) {
     slice bytes = hex(KEY_MD5);
     return stun_types_key_from_bytes(key, bytes.bytes, bytes.length, STUN_TYPES_INTEGRITY_SHA1);
 }
+
+/* (of a key that was made before, by which nothing is allocated here) */
+static stun_types_key *copied;
+
+static stun_types_answer make_copy(stun_types_key *key) { return stun_types_key_copy(key, copied); }
 
 static stun_types_answer make_empty(stun_types_key *key) {
     slice bytes = hex("");
@@ -228,7 +262,7 @@ static const struct {
     const char *name;
     key_call call;
     const char *message;
-    uint32_t algorithm;
+    stun_types_integrity algorithm;
 } made[] = {
     {"stun_types_key_short_term", make_short, CHECK_SHA1, STUN_TYPES_INTEGRITY_SHA1},
     {"stun_types_key_long_term, by MD5", make_md5, CHECK_LONG_MD5, STUN_TYPES_INTEGRITY_SHA1},
@@ -236,6 +270,7 @@ static const struct {
      STUN_TYPES_INTEGRITY_SHA256},
     {"stun_types_key_from_bytes", make_bytes, CHECK_LONG_MD5, STUN_TYPES_INTEGRITY_SHA1},
     {"stun_types_key_from_bytes, none", make_empty, CHECK_EMPTY, STUN_TYPES_INTEGRITY_SHA1},
+    {"stun_types_key_copy", make_copy, CHECK_LONG_SHA256, STUN_TYPES_INTEGRITY_SHA256},
 };
 
 static void add_secrets(void) {
@@ -249,9 +284,10 @@ static void add_secrets(void) {
 
 static void check_makes_one(size_t i, const stun_types_key *key) {
     slice bytes = hex(made[i].message);
-    uint32_t algorithm = 0;
-    ANSWERS(stun_types_validate(bytes.bytes, bytes.length, key, &algorithm), OK_ANSWER);
-    CHECK(algorithm == made[i].algorithm);
+    stun_types_validated *validated = NEW(stun_types_validated);
+    ANSWERS(stun_types_validate(bytes.bytes, bytes.length, key, validated), OK_ANSWER);
+    CHECK(validated->algorithm == made[i].algorithm);
+    CHECK(validated->hmac_length == (made[i].algorithm == STUN_TYPES_INTEGRITY_SHA1 ? 20 : 32));
 }
 
 /* Makes the key over what it holds, and refuses each allocation of it in turn. With no memory for
@@ -287,31 +323,43 @@ static void check_made(size_t i, stun_types_key *key, bool is_pass) {
     CHECK(unprepared == 1);
 }
 
-static void check_makes(size_t i, stun_types_key *key) {
+static void check_makes(size_t i, stun_types_key *key, long held) {
     check_makes_one(i, key);
     stun_types_key_free(key);
     CHECK(key->at == NULL && key->held == 0);
-    CHECK(heap_held() == 0);
+    CHECK(heap_held() == held);
     stun_types_key_free(key);
     CHECK(key->at == NULL && key->held == 0);
+}
+
+/* What a copy is made of. */
+static long hold_copied(size_t i) {
+    copied = made[i].call == make_copy ? login_key(STUN_TYPES_PASSWORD_SHA256) : no_key();
+    return heap_held();
 }
 
 static void test_memory(void) {
     size_t i;
     for (i = 0; i < COUNT(made); i++) {
         stun_types_key *key;
+        long held;
         row("each allocation refused in turn", made[i].name);
         add_secrets();
+        held = hold_copied(i);
         key = no_key();
         check_made(i, key, false);
-        check_makes(i, key);
+        check_makes(i, key, held);
+        stun_types_key_free(copied);
         row("each allocation refused in turn, over another key", made[i].name);
+        held = hold_copied(i);
         key = password_key(text("pass"));
         check_made(i, key, true);
-        check_makes(i, key);
+        check_makes(i, key, held);
+        stun_types_key_free(copied);
     }
-    row("stun_types_key_free", "a key that holds none");
+    row("stun_types_key_free", "a key that holds none, and NULL");
     stun_types_key_free(no_key());
+    stun_types_key_free(NULL);
     heap_forget_secrets();
 }
 
@@ -321,7 +369,7 @@ static void test_refused_validations(void) {
     size_t i;
     for (i = 0; i < COUNT(names); i++) {
         slice bytes, user, realm, password;
-        uint32_t *algorithm;
+        stun_types_validated *validated;
         long number, asked;
         row("a validation, each allocation refused in turn", names[i]);
         add_secrets();
@@ -329,18 +377,18 @@ static void test_refused_validations(void) {
         user = text("user");
         realm = text("realm");
         password = text("pass");
-        algorithm = NEW(uint32_t);
+        validated = NEW(stun_types_validated);
         for (number = 1; number < 100; number++) {
             stun_types_answer answer;
             heap_allow(true);
             heap_refuse(number);
             if (i == 0)
                 answer = stun_types_validate_short_term(bytes.bytes, bytes.length, password.bytes,
-                                                        password.length, algorithm);
+                                                        password.length, validated);
             else
                 answer = stun_types_validate_long_term(bytes.bytes, bytes.length, user.bytes,
                                                        user.length, realm.bytes, realm.length,
-                                                       password.bytes, password.length, algorithm);
+                                                       password.bytes, password.length, validated);
             asked = heap_asked();
             heap_allow(false);
             CHECK(heap_held() == 0);
@@ -349,15 +397,172 @@ static void test_refused_validations(void) {
                 break;
             }
             ANSWERS(answer, PLAIN(STUN_TYPES_OUT_OF_MEMORY));
-            CHECK(is_untouched(algorithm, sizeof *algorithm));
+            CHECK(is_zero(validated, sizeof *validated));
         }
         CHECK(number > 1 && number < 100);
         heap_forget_secrets();
     }
 }
 
+/* ---- keys that are told */
+
+static const struct {
+    const char *name, *bytes;
+    stun_types_integrity algorithm;
+    size_t size;
+    uint32_t code;
+} told[] = {
+    {"of both algorithms", KEY_MD5, STUN_TYPES_INTEGRITY_ANY, 16, STUN_TYPES_OK},
+    {"of SHA-1, in more room", KEY_MD5, STUN_TYPES_INTEGRITY_SHA1, 20, STUN_TYPES_OK},
+    {"of SHA-256", KEY_SHA256, STUN_TYPES_INTEGRITY_SHA256, 32, STUN_TYPES_OK},
+    {"of no bytes, in no room", "", STUN_TYPES_INTEGRITY_ANY, 0, STUN_TYPES_OK},
+    {"in less room", KEY_SHA256, STUN_TYPES_INTEGRITY_SHA256, 31, STUN_TYPES_TOO_SMALL},
+};
+
+static void test_told(void) {
+    size_t i;
+    for (i = 0; i < COUNT(told); i++) {
+        slice bytes;
+        stun_types_key *key;
+        uint8_t *place;
+        size_t *written;
+        stun_types_integrity *algorithm;
+        row("stun_types_key_bytes", told[i].name);
+        bytes = hex(told[i].bytes);
+        key = bytes_key(bytes, told[i].algorithm);
+        place = room(told[i].size);
+        written = NEW(size_t);
+        algorithm = NEW(stun_types_integrity);
+        if (told[i].code == STUN_TYPES_OK) {
+            ANSWERS(stun_types_key_bytes(key, place, told[i].size, written, algorithm), OK_ANSWER);
+            CHECK(*written == bytes.length && *algorithm == told[i].algorithm);
+            CHECK_BYTES(place, bytes.length, bytes);
+            CHECK(is_untouched(place + bytes.length, told[i].size - bytes.length));
+        } else {
+            ANSWERS(stun_types_key_bytes(key, place, told[i].size, written, algorithm),
+                    LENGTHS(STUN_TYPES_TOO_SMALL, bytes.length, told[i].size));
+            CHECK(is_untouched(place, told[i].size) && is_untouched(written, sizeof *written));
+            CHECK(is_untouched(algorithm, sizeof *algorithm));
+        }
+        stun_types_key_free(key);
+    }
+    row("stun_types_key_bytes", "a key that holds none");
+    {
+        size_t *written = NEW(size_t);
+        stun_types_integrity *algorithm = NEW(stun_types_integrity);
+        ANSWERS(stun_types_key_bytes(no_key(), room(4), 4, written, algorithm),
+                PLAIN(STUN_TYPES_NO_KEY));
+    }
+}
+
+/* ---- by a policy */
+
+static const struct {
+    const char *name, *message;
+    stun_types_policy policy;
+    stun_types_integrity made_for;
+    uint32_t code, type;
+    uint64_t expected, actual;
+    stun_types_integrity algorithm;
+    uint32_t hmac_length;
+} policies[] = {
+    {"a policy of zeros, SHA-1", CHECK_SHA1, {STUN_TYPES_INTEGRITY_ANY, 0, 0, 0},
+     STUN_TYPES_INTEGRITY_ANY, STUN_TYPES_OK, 0, 0, 0, STUN_TYPES_INTEGRITY_SHA1, 20},
+    {"a policy of zeros, SHA-256", CHECK_SHA256, {STUN_TYPES_INTEGRITY_ANY, 0, 0, 0},
+     STUN_TYPES_INTEGRITY_ANY, STUN_TYPES_OK, 0, 0, 0, STUN_TYPES_INTEGRITY_SHA256, 32},
+    {"a policy of zeros, an HMAC of 16 bytes", CHECK_CUT, {STUN_TYPES_INTEGRITY_ANY, 0, 0, 0},
+     STUN_TYPES_INTEGRITY_ANY, STUN_TYPES_HMAC_TOO_SHORT, 0, 32, 16, STUN_TYPES_INTEGRITY_ANY, 0},
+    {"20 bytes, an HMAC of 16 bytes", CHECK_CUT, {STUN_TYPES_INTEGRITY_ANY, 20, 0, 0},
+     STUN_TYPES_INTEGRITY_ANY, STUN_TYPES_HMAC_TOO_SHORT, 0, 20, 16, STUN_TYPES_INTEGRITY_ANY, 0},
+    {"16 bytes, an HMAC of 16 bytes", CHECK_CUT, {STUN_TYPES_INTEGRITY_ANY, 16, 0, 0},
+     STUN_TYPES_INTEGRITY_ANY, STUN_TYPES_OK, 0, 0, 0, STUN_TYPES_INTEGRITY_SHA256, 16},
+    {"SHA-1 alone, both", CHECK_BOTH, {STUN_TYPES_INTEGRITY_SHA1, 0, 0, 0},
+     STUN_TYPES_INTEGRITY_ANY, STUN_TYPES_OK, 0, 0, 0, STUN_TYPES_INTEGRITY_SHA1, 20},
+    {"SHA-256 alone, both", CHECK_BOTH, {STUN_TYPES_INTEGRITY_SHA256, 0, 0, 0},
+     STUN_TYPES_INTEGRITY_ANY, STUN_TYPES_OK, 0, 0, 0, STUN_TYPES_INTEGRITY_SHA256, 32},
+    {"SHA-256 alone, SHA-1", CHECK_SHA1, {STUN_TYPES_INTEGRITY_SHA256, 0, 0, 0},
+     STUN_TYPES_INTEGRITY_ANY, STUN_TYPES_MISSING_ATTRIBUTE, 8, 0, 0, STUN_TYPES_INTEGRITY_ANY, 0},
+    {"both, a key for SHA-1", CHECK_BOTH, {STUN_TYPES_INTEGRITY_ANY, 0, 0, 0},
+     STUN_TYPES_INTEGRITY_SHA1, STUN_TYPES_OK, 0, 0, 0, STUN_TYPES_INTEGRITY_SHA1, 20},
+    {"SHA-1 alone, a key for SHA-1", CHECK_BOTH, {STUN_TYPES_INTEGRITY_SHA1, 0, 0, 0},
+     STUN_TYPES_INTEGRITY_SHA1, STUN_TYPES_OK, 0, 0, 0, STUN_TYPES_INTEGRITY_SHA1, 20},
+    {"SHA-256 alone, a key for SHA-1", CHECK_BOTH, {STUN_TYPES_INTEGRITY_SHA256, 0, 0, 0},
+     STUN_TYPES_INTEGRITY_SHA1, STUN_TYPES_BAD_ARGUMENT, 0, 0, 0, STUN_TYPES_INTEGRITY_ANY, 0},
+    {"a FINGERPRINT, which is missing", CHECK_SHA1, {STUN_TYPES_INTEGRITY_ANY, 0, 1, 0},
+     STUN_TYPES_INTEGRITY_ANY, STUN_TYPES_MISSING_ATTRIBUTE, 0x8028, 0, 0, STUN_TYPES_INTEGRITY_ANY,
+     0},
+    {"an HMAC of at least 17 bytes", CHECK_SHA1, {STUN_TYPES_INTEGRITY_ANY, 17, 0, 0},
+     STUN_TYPES_INTEGRITY_ANY, STUN_TYPES_BAD_ARGUMENT, 0, 0, 0, STUN_TYPES_INTEGRITY_ANY, 0},
+    {"of at least 36 bytes", CHECK_SHA1, {STUN_TYPES_INTEGRITY_ANY, 36, 0, 0},
+     STUN_TYPES_INTEGRITY_ANY, STUN_TYPES_BAD_ARGUMENT, 0, 0, 0, STUN_TYPES_INTEGRITY_ANY, 0},
+    {"a spare word that isn't 0", CHECK_SHA1, {STUN_TYPES_INTEGRITY_ANY, 0, 0, 1},
+     STUN_TYPES_INTEGRITY_ANY, STUN_TYPES_BAD_ARGUMENT, 0, 0, 0, STUN_TYPES_INTEGRITY_ANY, 0},
+    {"a password algorithm for an integrity algorithm", CHECK_SHA1,
+     {(stun_types_integrity)STUN_TYPES_PASSWORD_MD5, 0, 0, 0}, STUN_TYPES_INTEGRITY_ANY,
+     STUN_TYPES_BAD_ARGUMENT, 0, 0, 0, STUN_TYPES_INTEGRITY_ANY, 0},
+};
+
+static void test_policies(void) {
+    size_t i;
+    for (i = 0; i < COUNT(policies); i++) {
+        slice bytes, policy;
+        stun_types_key *key;
+        stun_types_validated *validated;
+        row("stun_types_validate_by_policy", policies[i].name);
+        bytes = hex(policies[i].message);
+        policy = given(&policies[i].policy, sizeof policies[i].policy);
+        key = bytes_key(text("pass"), policies[i].made_for);
+        validated = NEW(stun_types_validated);
+        heap_allow(true);
+        ANSWERS(stun_types_validate_by_policy(bytes.bytes, bytes.length,
+                                              (const void *)policy.bytes, key, validated),
+                answer_of(policies[i].code, policies[i].type, policies[i].expected,
+                          policies[i].actual));
+        heap_allow(false);
+        CHECK(validated->algorithm == policies[i].algorithm && validated->reserved == 0);
+        CHECK(validated->hmac_length == policies[i].hmac_length);
+        stun_types_key_free(key);
+    }
+    row("stun_types_validate_by_policy", "a key that holds none");
+    {
+        static const stun_types_policy strict = {STUN_TYPES_INTEGRITY_ANY, 0, 0, 0};
+        slice bytes = hex(CHECK_SHA1);
+        stun_types_validated *validated = NEW(stun_types_validated);
+        ANSWERS(stun_types_validate_by_policy(bytes.bytes, bytes.length, &strict, no_key(),
+                                              validated),
+                PLAIN(STUN_TYPES_NO_KEY));
+        CHECK(is_zero(validated, sizeof *validated));
+    }
+    row("stun_types_validate", "an HMAC of 16 bytes");
+    {
+        slice bytes = hex(CHECK_CUT);
+        stun_types_key *key = password_key(text("pass"));
+        stun_types_validated *validated = NEW(stun_types_validated);
+        ANSWERS(stun_types_validate(bytes.bytes, bytes.length, key, validated), OK_ANSWER);
+        CHECK(validated->algorithm == STUN_TYPES_INTEGRITY_SHA256 && validated->hmac_length == 16);
+        stun_types_key_free(key);
+    }
+    /* (the copy of the key that serves one algorithm alone) */
+    row("stun_types_validate_by_policy", "an allocation that is refused");
+    {
+        static const stun_types_policy one = {STUN_TYPES_INTEGRITY_SHA1, 0, 0, 0};
+        slice bytes = hex(CHECK_SHA1);
+        stun_types_key *key = password_key(text("pass"));
+        stun_types_validated *validated = NEW(stun_types_validated);
+        heap_allow(true);
+        heap_refuse(1);
+        ANSWERS(stun_types_validate_by_policy(bytes.bytes, bytes.length, &one, key, validated),
+                PLAIN(STUN_TYPES_OUT_OF_MEMORY));
+        heap_allow(false);
+        CHECK(is_zero(validated, sizeof *validated));
+        stun_types_key_free(key);
+    }
+}
+
 void test_keys(void) {
     test_no_key();
+    test_told();
+    test_policies();
     test_changes();
     test_logins();
     test_hashes();

@@ -7,7 +7,9 @@
 
 static const uint8_t COOKIE[4] = {0x21, 0x12, 0xA4, 0x42};
 
-enum { OK = STUN_TYPES_OK, NOT_STUN = STUN_TYPES_NOT_STUN, TRUNCATED = STUN_TYPES_TRUNCATED };
+#define OK STUN_TYPES_OK
+#define NOT_STUN STUN_TYPES_NOT_STUN
+#define TRUNCATED STUN_TYPES_TRUNCATED
 
 stun_types_answer model_answer(uint32_t code, uint32_t type, uint64_t expected, uint64_t actual) {
     stun_types_answer answer;
@@ -23,6 +25,12 @@ size_t model_padded(size_t length) { return (length + 3) / 4 * 4; }
 unsigned model_number(const uint8_t *bytes) { return (unsigned)bytes[0] << 8 | bytes[1]; }
 
 bool model_is_ending(unsigned type) { return type == 0x0008 || type == 0x001C || type == 0x8028; }
+
+bool model_is_xored(unsigned type) { return type == 0x0012 || type == 0x0016 || type == 0x0020; }
+
+bool model_is_plain(unsigned type) {
+    return type == 0x0001 || type == 0x8023 || type == 0x802B || type == 0x802C;
+}
 
 /* "The first byte is 64 or more, or what is there of bytes 4 to 7 differs from the cookie." */
 static bool may_begin(const uint8_t *bytes, size_t length) {

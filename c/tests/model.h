@@ -58,6 +58,10 @@ bool model_is_utf8(const uint8_t *bytes, size_t length);
 size_t model_padded(size_t length);
 unsigned model_number(const uint8_t *bytes);
 bool model_is_ending(unsigned type);
+
+/* Whether addresses in attributes of this type are known to be XORed, or known not to be. */
+bool model_is_xored(unsigned type);
+bool model_is_plain(unsigned type);
 stun_types_answer model_answer(uint32_t code, uint32_t type, uint64_t expected, uint64_t actual);
 
 #endif

@@ -9,21 +9,22 @@
 #define HEADER(length) "0001" length "2112A442 0000000000000000000003E8"
 #define HEADER_5769(length) "0101" length "2112A442 B7E7A701BC34D686FA87DFAE"
 
-/* A cursor that no walk left: whatever it is, what is shown lies within the bytes. */
+/* A cursor that no walk over these bytes left: it yields the attributes from its index on that they
+   show, and no others. */
 static const struct {
     const char *name;
     stun_types_cursor cursor;
-    bool is_over;
+    size_t count;
 } cursors[] = {
-    {"behind the bytes", {33, 0}, true},
-    {"at their end", {32, 0x8022}, true},
-    {"far behind", {SIZE_MAX, 0}, true},
-    {"far behind, in 32 bits", {UINT32_MAX, 0}, true},
-    {"a wrapped one", {SIZE_MAX - 3, 0x8022}, true},
-    {"within a value", {25, 0x8022}, false},
-    {"within the header", {4, 0}, false},
-    {"behind the greatest type", {20, 0xFFFF}, false},
-    {"behind a FINGERPRINT", {20, 0x8028}, true},
+    {"the first", STUN_TYPES_CURSOR, 2},
+    {"of a message with one attribute", {1, 0}, 1},
+    {"of a message with two", {2, 0}, 0},
+    {"of a message with more", {20, 0}, 0},
+    {"the greatest", {SIZE_MAX, 0}, 0},
+    {"the greatest of 32 bits", {UINT32_MAX, 0}, 0},
+    {"a spare word that isn't 0", {0, 1}, 0},
+    {"a spare word that has the highest bit", {0, UINT64_C(1) << 63}, 0},
+    {"not zeroed", {(size_t)UINT64_C(0xEEEEEEEEEEEEEEEE), UINT64_C(0xEEEEEEEEEEEEEEEE)}, 0},
 };
 
 static void test_cursors(void) {
@@ -33,17 +34,30 @@ static void test_cursors(void) {
         stun_types_cursor *cursor;
         stun_types_attribute *attribute;
         row("stun_types_next, a cursor of the caller's", cursors[i].name);
-        bytes = hex(HEADER("000C") "80220003 61626300 80220000");
+        bytes = hex(HEADER("000C") "80220003 61626300 80290000");
         cursor = NEW(stun_types_cursor);
         *cursor = cursors[i].cursor;
         attribute = NEW(stun_types_attribute);
         for (count = 0; count < 40; count++) {
-            if (!stun_types_next(bytes.bytes, bytes.length, cursor, attribute)) break;
-            CHECK(attribute->value_at >= 4 && attribute->value_at <= bytes.length
-                  && attribute->length <= bytes.length - attribute->value_at);
+            stun_types_cursor before = *cursor;
+            size_t index = cursor->index;
+            if (!stun_types_next(bytes.bytes, bytes.length, cursor, attribute)) {
+                CHECK(memcmp(&before, cursor, sizeof before) == 0);
+                break;
+            }
+            CHECK(attribute->value_at == (index == 0 ? 24 : 32));
+            CHECK(attribute->type == (index == 0 ? 0x8022 : 0x8029));
+            CHECK(attribute->length == (index == 0 ? 3 : 0));
+            CHECK(cursor->index == index + 1 && cursor->reserved == 0);
         }
-        CHECK(count < 40);
-        if (cursors[i].is_over) CHECK(count == 0);
+        CHECK(count == cursors[i].count);
+        if (count == 0) CHECK(is_untouched(attribute, sizeof *attribute));
+    }
+    row("stun_types_cursor_first", "STUN_TYPES_CURSOR");
+    {
+        const stun_types_cursor first = STUN_TYPES_CURSOR;
+        const stun_types_cursor other = stun_types_cursor_first();
+        CHECK(first.index == other.index && first.reserved == other.reserved);
     }
 }
 
@@ -115,6 +129,24 @@ static const struct {
      STUN_TYPES_BAD_ARGUMENT},
     {"an XORed address, no header", read_xor_address, "0001A147E112A643 00*4", {4, 0x20, 8},
      STUN_TYPES_NOT_STUN},
+    {"an XORed address, of a type that isn't XORed", read_xor_address,
+     HEADER_5769("000C") "00010008 0001A147E112A643", {24, 0x0001, 8}, STUN_TYPES_BAD_ARGUMENT},
+    {"the same, ALTERNATE-SERVER", read_xor_address,
+     HEADER_5769("000C") "80230008 0001A147E112A643", {24, 0x8023, 8}, STUN_TYPES_BAD_ARGUMENT},
+    {"the same, RESPONSE-ORIGIN", read_xor_address,
+     HEADER_5769("000C") "802B0008 0001A147E112A643", {24, 0x802B, 8}, STUN_TYPES_BAD_ARGUMENT},
+    {"the same, OTHER-ADDRESS", read_xor_address,
+     HEADER_5769("000C") "802C0008 0001A147E112A643", {24, 0x802C, 8}, STUN_TYPES_BAD_ARGUMENT},
+    {"an XORed address, of a type that isn't known", read_xor_address,
+     HEADER_5769("000C") "80200008 0001A147E112A643", {24, 0x8020, 8}, STUN_TYPES_OK},
+    {"an address, of a type that is XORed", read_address, HEADER("000C") "00200008 00018055C0000201",
+     {24, 0x0020, 8}, STUN_TYPES_BAD_ARGUMENT},
+    {"the same, XOR-PEER-ADDRESS", read_address, HEADER("000C") "00120008 00018055C0000201",
+     {24, 0x0012, 8}, STUN_TYPES_BAD_ARGUMENT},
+    {"the same, XOR-RELAYED-ADDRESS", read_address, HEADER("000C") "00160008 00018055C0000201",
+     {24, 0x0016, 8}, STUN_TYPES_BAD_ARGUMENT},
+    {"an address, of a type that isn't known", read_address, HEADER("000C") "00020008 00018055C0000201",
+     {24, 0x0002, 8}, STUN_TYPES_OK},
     {"an address, no header", read_address, "00018055C0000201", {0, 0x8023, 8}, STUN_TYPES_OK},
     {"an address, it ends one byte behind the bytes", read_address, WITH_PLAIN, {24, 1, 9},
      STUN_TYPES_BAD_ARGUMENT},

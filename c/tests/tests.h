@@ -9,5 +9,7 @@ void test_writing(void);
 void test_servers(void);
 void test_clients(void);
 void test_streams(void);
+void test_layout(void);
+void test_nulls(void);
 
 #endif

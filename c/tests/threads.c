@@ -22,11 +22,11 @@ static stun_types_key keys[KEYS];
 typedef struct {
     uint8_t message[ROOM];
     size_t length;
-    stun_types_answer written, valid[KEYS], changed;
-    uint32_t algorithm[KEYS];
+    stun_types_answer written, valid[KEYS], changed, by_policy;
+    stun_types_validated validated[KEYS], validated_by_policy;
     stun_types_answer short_term, long_term;
     stun_types_authentication by_short_term, by_long_term;
-    stun_types_answer begun, received;
+    stun_types_answer begun, polled, received;
     stun_types_transaction transaction;
     stun_types_received outcome;
 } signed_message;
@@ -57,21 +57,24 @@ static stun_types_answer write_message(signed_message *made, const stun_types_ke
 }
 
 static void validate(signed_message *made) {
+    static const stun_types_policy one = {STUN_TYPES_INTEGRITY_SHA1, 0, 0, 0};
     uint8_t changed[ROOM];
-    uint32_t algorithm;
+    stun_types_validated validated;
     size_t i;
     for (i = 0; i < KEYS; i++)
         made->valid[i] = stun_types_validate(made->message, made->length, &keys[i],
-                                             &made->algorithm[i]);
+                                             &made->validated[i]);
+    made->by_policy = stun_types_validate_by_policy(made->message, made->length, &one, &keys[1],
+                                                    &made->validated_by_policy);
     /* (without its FINGERPRINT, which tells of a change too) */
     memcpy(changed, made->message, ROOM);
     changed[3] = (uint8_t)(changed[3] - 8);
     changed[24] ^= 1;
-    made->changed = stun_types_validate(changed, made->length - 8, &keys[0], &algorithm);
+    made->changed = stun_types_validate(changed, made->length - 8, &keys[0], &validated);
 }
 
 static void serve(signed_message *made, const stun_types_key *key) {
-    const stun_types_policy policy = {STUN_TYPES_INTEGRITY_ANY, 16, 0};
+    const stun_types_policy policy = {STUN_TYPES_INTEGRITY_ANY, 16, 0, 0};
     const uint16_t no_algorithms[1] = {0};
     made->short_term = stun_types_authenticate_short_term(made->message, made->length, &policy, key,
                                                           &made->by_short_term);
@@ -91,7 +94,7 @@ static void ask(signed_message *made, const stun_types_key *key, uint32_t algori
                                                &schedule, STUN_TYPES_UDP, STUN_TYPES_SHORT_TERM, key,
                                                0);
     if (made->begun.code) return;
-    stun_types_transaction_poll(&made->transaction, 0, &action);
+    made->polled = stun_types_transaction_poll(&made->transaction, 0, &action);
     write_message(&response, key, STUN_TYPES_CLASS_SUCCESS, algorithm);
     made->received = stun_types_transaction_receive(&made->transaction, key, response.message,
                                                     response.length, none, 0, &made->outcome);
@@ -149,9 +152,9 @@ static void make_keys(void) {
     size_t i;
     for (i = 0; i < KEYS; i++) keys[i] = none;
     CHECK(!stun_types_key_short_term(&keys[0], "pass", 4).code);
-    CHECK(!stun_types_key_long_term(&keys[1], "user", 4, "realm", 5, "pass", 4, STUN_TYPES_INTEGRITY_SHA1)
+    CHECK(!stun_types_key_long_term(&keys[1], "user", 4, "realm", 5, "pass", 4, STUN_TYPES_PASSWORD_MD5)
                .code);
-    CHECK(!stun_types_key_long_term(&keys[2], "user", 4, "realm", 5, "pass", 4, STUN_TYPES_INTEGRITY_SHA256)
+    CHECK(!stun_types_key_long_term(&keys[2], "user", 4, "realm", 5, "pass", 4, STUN_TYPES_PASSWORD_SHA256)
                .code);
     CHECK(!stun_types_key_from_bytes(&keys[3], "pass", 4, STUN_TYPES_INTEGRITY_ANY).code);
 }
@@ -167,17 +170,17 @@ static void check_expected(void) {
             CHECK(made->changed.code == STUN_TYPES_INTEGRITY_FAILED);
             for (i = 0; i < KEYS; i++) {
                 int same = i == k || (i + k == 3 && (i == 0 || k == 0));
-                int serves = i == 0 || i == 3 || i == a + 1;
-                if (!same || !serves) CHECK(made->valid[i].code != STUN_TYPES_OK);
+                if (!same) CHECK(made->valid[i].code != STUN_TYPES_OK);
                 else {
                     CHECK(!made->valid[i].code);
-                    CHECK(made->algorithm[i] == algorithm);
+                    CHECK(made->validated[i].algorithm == algorithm);
                 }
             }
             CHECK(!made->short_term.code);
             CHECK(made->by_short_term.kind == STUN_TYPES_ACCEPTED);
             CHECK(!made->long_term.code);
             CHECK(!made->begun.code);
+            CHECK(!made->polled.code);
             CHECK(!made->received.code);
         }
 }

@@ -88,7 +88,8 @@ static const struct {
      200,
      NULL,
      {{SIGN, STUN_TYPES_INTEGRITY_ANY, "pass", OTHER(STUN_TYPES_BAD_ARGUMENT)},
-      {SIGN, 3, "pass", OTHER(STUN_TYPES_BAD_ARGUMENT)},
+      {SIGN, STUN_TYPES_PASSWORD_MD5, "pass", OTHER(STUN_TYPES_BAD_ARGUMENT)},
+      {SIGN, STUN_TYPES_PASSWORD_SHA256, "pass", OTHER(STUN_TYPES_BAD_ARGUMENT)},
       {SIGN, 0xFFFF, "pass", OTHER(STUN_TYPES_BAD_ARGUMENT)}},
      HEADER("0000")},
     {"what else the greatest message has no room for", 70000, HEADER_5769("0001", "0000"),
@@ -98,6 +99,22 @@ static const struct {
       {ERROR, 400, "6E6F", LARGE(65555, 65564)},
       {UNKNOWN, 0, "001D", LARGE(65555, 65560)}},
      NULL},
+    {"addresses of the other form",
+     128,
+     HEADER_5769("0101", "0000"),
+     {{ADDRESS, 0x0020, "C0000201", OTHER(STUN_TYPES_BAD_ARGUMENT)},
+      {ADDRESS, 0x0012, "C0000201", OTHER(STUN_TYPES_BAD_ARGUMENT)},
+      {ADDRESS, 0x0016, "C0000201", OTHER(STUN_TYPES_BAD_ARGUMENT)},
+      {XORED, 0x0001, "C0000201", OTHER(STUN_TYPES_BAD_ARGUMENT)},
+      {XORED, 0x8023, "C0000201", OTHER(STUN_TYPES_BAD_ARGUMENT)},
+      {XORED, 0x802B, "C0000201", OTHER(STUN_TYPES_BAD_ARGUMENT)},
+      {XORED, 0x802C, "C0000201", OTHER(STUN_TYPES_BAD_ARGUMENT)}},
+     HEADER_5769("0101", "0000")},
+    {"addresses of types that have none",
+     128,
+     HEADER_5769("0101", "0000"),
+     {{XORED, 0x8020, "C0000201", DONE}, {ADDRESS, 0x0002, "C0000201", DONE}},
+     HEADER_5769("0101", "0018") "80200008 0001A147E112A643" "00020008 00018055C0000201"},
     {"addresses",
      128,
      HEADER_5769("0101", "0000"),
@@ -247,7 +264,8 @@ static stun_types_answer take_step(const step *one, uint8_t *bytes, size_t size,
     }
     case SIGN: {
         stun_types_key *key = password_key(value);
-        uint32_t algorithm = one->number == 0xFFFF ? UINT32_MAX : one->number;
+        stun_types_integrity algorithm =
+            (stun_types_integrity)(one->number == 0xFFFF ? UINT32_MAX : one->number);
         stun_types_answer answer = stun_types_add_integrity(bytes, size, written, key, algorithm);
         stun_types_key_free(key);
         return answer;
@@ -346,21 +364,31 @@ static void test_signing_keys(void) {
     uint8_t *bytes;
     size_t *written;
     stun_types_key *key;
-    uint32_t algorithm;
+    stun_types_validated *validated;
     row("stun_types_add_integrity", "a key that holds none");
     written = NEW(size_t);
     bytes = begin_message(NULL, 100, written);
     ANSWERS(stun_types_add_integrity(bytes, 100, written, no_key(), STUN_TYPES_INTEGRITY_SHA1),
             PLAIN(STUN_TYPES_NO_KEY));
     CHECK(*written == 20 && is_untouched(bytes + 20, 80));
+    /* (such a client signs as its server validates: a long-term key serves both attributes) */
+    row("stun_types_add_integrity", "a long-term key by SHA-256, for a MESSAGE-INTEGRITY");
+    written = NEW(size_t);
+    validated = NEW(stun_types_validated);
+    bytes = begin_message(HEADER("0000"), 44, written);
+    key = login_key(STUN_TYPES_PASSWORD_SHA256);
+    ANSWERS(stun_types_add_integrity(bytes, 44, written, key, STUN_TYPES_INTEGRITY_SHA1), OK_ANSWER);
+    CHECK_BYTES(bytes + 20, *written - 20, hex(SIGNED_BY_OTHER_KEY));
+    ANSWERS(stun_types_validate(bytes, *written, key, validated), OK_ANSWER);
+    CHECK(validated->algorithm == STUN_TYPES_INTEGRITY_SHA1 && validated->hmac_length == 20);
+    stun_types_key_free(key);
     row("stun_types_add_integrity", "a key that was made for the other algorithm");
     written = NEW(size_t);
     bytes = begin_message(HEADER("0000"), 44, written);
-    key = login_key(STUN_TYPES_INTEGRITY_SHA256);
-    ANSWERS(stun_types_add_integrity(bytes, 44, written, key, STUN_TYPES_INTEGRITY_SHA1), OK_ANSWER);
-    CHECK_BYTES(bytes + 20, *written - 20, hex(SIGNED_BY_OTHER_KEY));
-    ANSWERS(stun_types_validate(bytes, *written, key, &algorithm),
-            OF_TYPE(STUN_TYPES_MISSING_ATTRIBUTE, 0x0008));
+    key = bytes_key(hex(KEY_SHA256), STUN_TYPES_INTEGRITY_SHA256);
+    ANSWERS(stun_types_add_integrity(bytes, 44, written, key, STUN_TYPES_INTEGRITY_SHA1),
+            PLAIN(STUN_TYPES_BAD_ARGUMENT));
+    CHECK(*written == 20 && is_untouched(bytes + 20, 24));
     stun_types_key_free(key);
     row("stun_types_add_integrity", "a key twice");
     key = password_key(text("pass"));
@@ -382,7 +410,7 @@ static void test_many(void) {
     size_t size = 20 + 4 * MANY + 24 + 8, i, count = 0;
     uint8_t *bytes;
     size_t *written;
-    stun_types_cursor cursor = {0, 0};
+    stun_types_cursor cursor = STUN_TYPES_CURSOR;
     stun_types_attribute told;
     slice value;
     row("adds", "hundreds of attributes");

@@ -60,7 +60,7 @@ static stun_types_policy call_policy(void) {
     char *word = call_word();
     char *algorithm = next_part(&word, ':');
     char *length = word == NULL ? NULL : next_part(&word, ':');
-    stun_types_policy policy = {0, 0, 0};
+    stun_types_policy policy = {STUN_TYPES_INTEGRITY_ANY, 0, 0, 0};
     if (length == NULL) {
         answer_unknown();
         return policy;
@@ -76,7 +76,8 @@ static stun_types_answer add(draft *to, uint16_t type, slice value) {
 }
 
 /* The reply to a request that is accepted: an address, or the error 420. */
-static void answer_accepted(slice request, const stun_types_key *key, uint32_t algorithm) {
+static void answer_accepted(slice request, const stun_types_key *key,
+                            stun_types_integrity algorithm) {
     static const uint16_t known[] = {
         STUN_TYPES_ATTRIBUTE_USERNAME, STUN_TYPES_ATTRIBUTE_USERHASH, STUN_TYPES_ATTRIBUTE_REALM, STUN_TYPES_ATTRIBUTE_NONCE,
         STUN_TYPES_ATTRIBUTE_PASSWORD_ALGORITHM, STUN_TYPES_ATTRIBUTE_MESSAGE_INTEGRITY,
@@ -101,14 +102,15 @@ static void answer_accepted(slice request, const stun_types_key *key, uint32_t a
 
 /* The reply to a request that is refused. A 401 and a 438 of long-term credentials carry the realm
    and a nonce. */
-static void answer_refused(slice request, uint32_t code, const slice *fresh) {
-    const char *reason = code == 400 ? "Bad Request" : code == 401 ? "Unauthenticated" : "Stale Nonce";
+static void answer_refused(slice request, stun_types_code code, const slice *fresh) {
+    const char *reason = code == STUN_TYPES_CODE_BAD_REQUEST    ? "Bad Request"
+                         : code == STUN_TYPES_CODE_UNAUTHORIZED ? "Unauthenticated"
+                                                                : "Stale Nonce";
     draft to;
     ANSWERS(draft_reply(&to, ROOM, request, STUN_TYPES_CLASS_ERROR), OK_ANSWER);
-    ANSWERS(stun_types_add_error(to.room, to.size, &to.written, (uint16_t)code, reason,
-                                 strlen(reason)),
+    ANSWERS(stun_types_add_error(to.room, to.size, &to.written, code, reason, strlen(reason)),
             OK_ANSWER);
-    if (fresh != NULL && code != 400) {
+    if (fresh != NULL && code != STUN_TYPES_CODE_BAD_REQUEST) {
         ANSWERS(add(&to, STUN_TYPES_ATTRIBUTE_REALM, text(realm)), OK_ANSWER);
         ANSWERS(add(&to, STUN_TYPES_ATTRIBUTE_NONCE, *fresh), OK_ANSWER);
         if (promises(*fresh))
@@ -165,7 +167,8 @@ static void short_term(void) {
 }
 
 /* Makes the key of a user by a password algorithm. */
-static stun_types_answer make_long_term(stun_types_key *key, size_t user, uint32_t algorithm) {
+static stun_types_answer make_long_term(stun_types_key *key, size_t user,
+                                        stun_types_password algorithm) {
     const char *name = users[user].name, *password = users[user].password;
     keep_secret(text(password));
     return stun_types_key_long_term(key, name, strlen(name), realm, strlen(realm), password,
@@ -173,7 +176,7 @@ static stun_types_answer make_long_term(stun_types_key *key, size_t user, uint32
 }
 
 /* What the server knows of the nonce of a message. */
-static uint32_t nonce_state(slice message, slice fresh, slice stale) {
+static stun_types_nonce_state nonce_state(slice message, slice fresh, slice stale) {
     slice nonce;
     if (!find_value(message, STUN_TYPES_ATTRIBUTE_NONCE, &nonce)) return STUN_TYPES_NONCE_UNKNOWN;
     if (is_same(nonce, fresh)) return STUN_TYPES_NONCE_VALID;
@@ -194,12 +197,13 @@ static void long_term(void) {
     size_t user = user_of(message);
     stun_types_key md5 = STUN_TYPES_NO_KEY_YET, sha256 = STUN_TYPES_NO_KEY_YET;
     stun_types_authentication *decision = NEW(stun_types_authentication);
-    uint32_t state = nonce_state(message, fresh, stale);
+    stun_types_nonce_state state = nonce_state(message, fresh, stale);
     bool is_promised = state == STUN_TYPES_NONCE_VALID && promises(fresh);
     stun_types_answer answer = OK_ANSWER;
     if (user < COUNT(users)) {
-        answer = make_long_term(&md5, user, STUN_TYPES_INTEGRITY_SHA1);
-        if (answer.code == STUN_TYPES_OK) answer = make_long_term(&sha256, user, STUN_TYPES_INTEGRITY_SHA256);
+        answer = make_long_term(&md5, user, STUN_TYPES_PASSWORD_MD5);
+        if (answer.code == STUN_TYPES_OK)
+            answer = make_long_term(&sha256, user, STUN_TYPES_PASSWORD_SHA256);
     }
     if (is_taken(answer)
         && has_decided(stun_types_authenticate_long_term(
@@ -281,8 +285,7 @@ static void answer_challenge(void) {
     keep_secret(text("pass"));
     if (is_taken(stun_types_key_long_term(
             &key, "user", 4, response.bytes + asked.realm_at, asked.realm_length, "pass", 4,
-            asked.password_algorithm == STUN_TYPES_PASSWORD_MD5 ? STUN_TYPES_INTEGRITY_SHA1
-                                                                : STUN_TYPES_INTEGRITY_SHA256))) {
+            asked.password_algorithm))) {
         ANSWERS(draft_begin(&to, ROOM, STUN_TYPES_CLASS_REQUEST, STUN_TYPES_METHOD_BINDING, &header.id),
                 OK_ANSWER);
         add_login(&to, response, &asked);

@@ -35,7 +35,7 @@ stun_types_id id_of(const char *digits);
 size_t types_of(char *list, uint16_t *types, size_t room);
 
 /* The algorithm of a word: sha1, sha256 or any. */
-uint32_t algorithm_of(const char *word);
+stun_types_integrity algorithm_of(const char *word);
 
 /* ---- answers */
 
@@ -53,7 +53,7 @@ void answer_refusal_with(stun_types_answer answer, char mark);
 bool is_taken(stun_types_answer answer);
 
 /* Appends the word of an algorithm. */
-void answer_algorithm(uint32_t algorithm);
+void answer_algorithm(stun_types_integrity algorithm);
 
 /* Appends a separating space, unless the answer is empty. */
 void answer_space(void);
@@ -71,7 +71,7 @@ void answer_each_way(void (*way)(uint32_t number), uint32_t count);
 
 /* A key of these bytes for an algorithm; false, and refused, if there is no memory. No freed block
    may hold the bytes. */
-bool make_key(stun_types_key *key, slice bytes, uint32_t algorithm);
+bool make_key(stun_types_key *key, slice bytes, stun_types_integrity algorithm);
 
 /* From now on no block that is given back may hold these octets. */
 void keep_secret(slice octets);
@@ -88,11 +88,12 @@ typedef struct {
 } draft;
 
 /* Begins a message of a class and a method in a room of this size. */
-stun_types_answer draft_begin(draft *message, size_t size, uint32_t message_class, uint32_t method,
-                              const stun_types_id *id);
+stun_types_answer draft_begin(draft *message, size_t size, stun_types_class message_class,
+                              stun_types_method method, const stun_types_id *id);
 
 /* Begins the response to a request, of class success or error. */
-stun_types_answer draft_reply(draft *message, size_t size, slice request, uint32_t message_class);
+stun_types_answer draft_reply(draft *message, size_t size, slice request,
+                              stun_types_class message_class);
 
 /* Adds SOFTWARE, which names the library, and the error 420 with these types: the first refusal. */
 stun_types_answer draft_unknown(draft *message, const uint16_t *types, size_t count);
@@ -129,6 +130,6 @@ extern const verb verbs_of_parse[], verbs_of_show[], verbs_of_validate[], verbs_
 extern const char *const class_words[4];
 
 /* The number of a class of this word. */
-uint32_t class_of(const char *word);
+stun_types_class class_of(const char *word);
 
 #endif

@@ -4,8 +4,8 @@
 #include <stdlib.h>
 #include <string.h>
 
-stun_types_answer draft_begin(draft *message, size_t size, uint32_t message_class, uint32_t method,
-                              const stun_types_id *id) {
+stun_types_answer draft_begin(draft *message, size_t size, stun_types_class message_class,
+                              stun_types_method method, const stun_types_id *id) {
     uint16_t type = stun_types_message_type(message_class, method);
     message->room = room(size);
     message->size = size;
@@ -27,9 +27,10 @@ bool is_response_to(const stun_types_header *request, const stun_types_header *r
         && memcmp(response->id.bytes, request->id.bytes, sizeof request->id.bytes) == 0;
 }
 
-stun_types_answer draft_reply(draft *message, size_t size, slice request, uint32_t message_class) {
+stun_types_answer draft_reply(draft *message, size_t size, slice request,
+                              stun_types_class message_class) {
     stun_types_header header = header_of(request);
-    return draft_begin(message, size, message_class, header.method, &header.id);
+    return draft_begin(message, size, message_class, (stun_types_method)header.method, &header.id);
 }
 
 stun_types_answer draft_unknown(draft *message, const uint16_t *types, size_t count) {

@@ -61,7 +61,7 @@ void answer_or_nothing(void) {
     if (answer_length == 0) answer_text("-");
 }
 
-void answer_algorithm(uint32_t algorithm) {
+void answer_algorithm(stun_types_integrity algorithm) {
     CHECK(algorithm == STUN_TYPES_INTEGRITY_SHA1 || algorithm == STUN_TYPES_INTEGRITY_SHA256);
     answer_text(algorithm == STUN_TYPES_INTEGRITY_SHA1 ? "sha1" : "sha256");
 }
@@ -216,7 +216,7 @@ size_t types_of(char *list, uint16_t *types, size_t most) {
     return count;
 }
 
-uint32_t algorithm_of(const char *word) {
+stun_types_integrity algorithm_of(const char *word) {
     if (strcmp(word, "sha1") == 0) return STUN_TYPES_INTEGRITY_SHA1;
     if (strcmp(word, "sha256") == 0) return STUN_TYPES_INTEGRITY_SHA256;
     if (strcmp(word, "any") != 0) answer_unknown();
@@ -225,12 +225,12 @@ uint32_t algorithm_of(const char *word) {
 
 const char *const class_words[4] = {"request", "indication", "success", "error"};
 
-uint32_t class_of(const char *word) {
+stun_types_class class_of(const char *word) {
     uint32_t number;
     for (number = 0; number < 4; number++)
-        if (strcmp(class_words[number], word) == 0) return number;
+        if (strcmp(class_words[number], word) == 0) return (stun_types_class)number;
     answer_unknown();
-    return 0;
+    return STUN_TYPES_CLASS_REQUEST;
 }
 
 /* ---- keys */
@@ -239,7 +239,7 @@ void keep_secret(slice octets) {
     heap_add_secret(octets.bytes, octets.length < 64 ? octets.length : 64);
 }
 
-bool make_key(stun_types_key *key, slice bytes, uint32_t algorithm) {
+bool make_key(stun_types_key *key, slice bytes, stun_types_integrity algorithm) {
     keep_secret(bytes);
     return is_taken(stun_types_key_from_bytes(key, bytes.bytes, bytes.length, algorithm));
 }

@@ -1,4 +1,4 @@
-/* The text of a message. C prints nothing else. */
+/* The text of a message in printable ASCII. C prints nothing else. */
 #include "call.h"
 
 #include <string.h>
@@ -38,4 +38,4 @@ static void print_message(void) {
     check_room(octets, text, length, length + 3);
 }
 
-const verb verbs_of_print[] = {{"print-message", print_message, false}, {NULL, NULL, false}};
+const verb verbs_of_print[] = {{"print-plain", print_message, false}, {NULL, NULL, false}};

@@ -88,7 +88,7 @@ static bool is_for(slice request, slice response, bool *is_response) {
     const stun_types_key none = STUN_TYPES_NO_KEY_YET;
     stun_types_transaction transaction;
     stun_types_action action;
-    stun_types_received received = {0, 0, 0};
+    stun_types_received received;
     stun_types_answer result = stun_types_transaction_begin(
         &transaction, request.bytes, request.length, &schedule, STUN_TYPES_UDP,
         STUN_TYPES_UNPROTECTED, &none, 0);

@@ -3,7 +3,7 @@
 
 /* Answers with each attribute that is shown. */
 static void answer_shown(slice octets, bool with_values) {
-    stun_types_cursor cursor = {0, 0}, before;
+    stun_types_cursor cursor = STUN_TYPES_CURSOR, before;
     stun_types_attribute attribute;
     while (stun_types_next(octets.bytes, octets.length, &cursor, &attribute)) {
         answer_space();
@@ -14,7 +14,7 @@ static void answer_shown(slice octets, bool with_values) {
     }
     before = cursor;
     CHECK(!stun_types_next(octets.bytes, octets.length, &cursor, &attribute));
-    CHECK(cursor.offset == before.offset && cursor.last == before.last);
+    CHECK(cursor.index == before.index && cursor.reserved == before.reserved);
     answer_or_nothing();
 }
 
@@ -24,7 +24,7 @@ static void list(void) { answer_shown(call_octets(), false); }
 
 static void count(void) {
     slice octets = call_octets();
-    stun_types_cursor cursor = {0, 0};
+    stun_types_cursor cursor = STUN_TYPES_CURSOR;
     stun_types_attribute attribute;
     size_t found = 0, last = 0;
     while (stun_types_next(octets.bytes, octets.length, &cursor, &attribute)) {
@@ -38,7 +38,7 @@ static void find(void) {
     uint16_t type = call_number();
     uint64_t left = call_count();
     slice octets = call_octets();
-    stun_types_cursor cursor = {0, 0};
+    stun_types_cursor cursor = STUN_TYPES_CURSOR;
     stun_types_attribute attribute, first;
     bool is_found = stun_types_find(octets.bytes, octets.length, type, &first), is_first = true;
     if (!is_taken(stun_types_parse(octets.bytes, octets.length))) return;

@@ -58,7 +58,7 @@ static stun_types_answer push_rest(stun_types_stream *stream, size_t at, size_t 
 
 /* Answers with what a stream yields that is cut at these places. */
 static void yields(const cut_places *cuts) {
-    stun_types_stream stream = {0, 0, 0};
+    stun_types_stream stream = {0, 0, 0, 0};
     size_t at = 0, taken;
     while (at < octets.length) {
         size_t end = end_of(cuts, at, octets.length);
@@ -144,7 +144,7 @@ static stun_types_answer push_piece(stun_types_stream *kept, slice piece) {
 
 /* (a connection is closed at the end: what more comes is no more pushed, and answered as before) */
 static void pieces(void) {
-    stun_types_stream kept = {0, 0, 0};
+    stun_types_stream kept = {0, 0, 0, 0};
     stun_types_answer result = OK_ANSWER;
     char *word;
     buffer_size = (size_t)call_count();
@@ -157,7 +157,7 @@ static void pieces(void) {
 }
 
 static void push(void) {
-    stun_types_stream kept = {0, 0, 0};
+    stun_types_stream kept = {0, 0, 0, 0};
     stun_types_answer result;
     slice held, piece;
     size_t shown;

@@ -19,7 +19,8 @@ typedef struct {
 
 /* A call's transaction. */
 static struct {
-    uint32_t transport, protection;
+    stun_types_transport transport;
+    stun_types_protection protection;
     stun_types_schedule schedule;
     slice key, request;
     event events[EVENTS];
@@ -31,7 +32,7 @@ static stun_types_received last_received;
 
 /* The schedule of four numbers. */
 static stun_types_schedule schedule_of(char *word) {
-    stun_types_schedule schedule = {0, 0, 0, 0, 0, 0};
+    stun_types_schedule schedule = {0, 0, 0, 0, 0, 0, 0};
     uint64_t numbers[4] = {0, 0, 0, 0};
     char *part;
     size_t at;
@@ -92,10 +93,10 @@ static bool was_taken(void) {
 
 /* The algorithm that authenticates it. */
 static void answer_authenticated(void) {
-    static const char *const names[] = {"no", "sha1", "sha256"};
     CHECK(was_taken() || last_received.algorithm == STUN_TYPES_INTEGRITY_ANY);
     answer_space();
-    answer_text(names[last_received.algorithm < COUNT(names) ? last_received.algorithm : 0]);
+    if (last_received.algorithm == STUN_TYPES_INTEGRITY_ANY) answer_text("no");
+    else answer_algorithm(last_received.algorithm);
 }
 
 /* The code that it claims, if it is discarded. */
@@ -137,8 +138,8 @@ static void read_events(void) {
 /* Takes an event, and answers if it asks; false if there is no memory. */
 static bool take(const event *it, stun_types_transaction *transaction, const stun_types_key *key,
                  const event *understood) {
-    stun_types_action action = {9, 9, 9};
-    stun_types_received received = {99, 0, 0};
+    stun_types_action action;
+    stun_types_received received;
     if (strcmp(it->name, "at") == 0) {
         ANSWERS(stun_types_transaction_poll(transaction, it->time, &action), OK_ANSWER);
         answer_action(&action);
@@ -164,8 +165,8 @@ static bool take(const event *it, stun_types_transaction *transaction, const stu
     return true;
 }
 
-/* Runs the script with a key for both algorithms, or for one. */
-static void run(uint32_t made_for) {
+/* Runs the script. */
+static void run(void) {
     static const event nothing;
     const event *understood = &nothing;
     stun_types_key key = STUN_TYPES_NO_KEY_YET;
@@ -175,7 +176,7 @@ static void run(uint32_t made_for) {
     bool goes_on;
     bool is_protected = script.protection == STUN_TYPES_SHORT_TERM ||
                         script.protection == STUN_TYPES_LONG_TERM;
-    if (is_protected && !make_key(&key, script.key, made_for)) return;
+    if (is_protected && !make_key(&key, script.key, STUN_TYPES_INTEGRITY_ANY)) return;
     result = stun_types_transaction_begin(&transaction, script.request.bytes, script.request.length,
                                         &script.schedule, script.transport, script.protection,
                                         &key, 0);
@@ -210,8 +211,7 @@ static void transaction(void) {
     script.key = call_octets();
     script.request = call_octets();
     read_events();
-    /* (by the numbers of the algorithms, the first of which is any; a short-term key is for any) */
-    answer_each_way(run, script.protection == STUN_TYPES_LONG_TERM ? 3 : 1);
+    run();
 }
 
 /* A client that asks at each moment that it is asked to wait for. */
@@ -220,7 +220,7 @@ static void schedule(void) {
     stun_types_schedule given_schedule = schedule_of(call_word());
     stun_types_id id = id_of("1");
     stun_types_transaction begun;
-    stun_types_action action = {STUN_TYPES_SEND_NOW, 0, 0};
+    stun_types_action action = {STUN_TYPES_SEND_NOW, (stun_types_end)0, 0, 0};
     draft request;
     uint64_t now = 0;
     ANSWERS(draft_begin(&request, 20, STUN_TYPES_CLASS_REQUEST, STUN_TYPES_METHOD_BINDING, &id), OK_ANSWER);

@@ -14,7 +14,7 @@ typedef struct {
     uint16_t type;
     slice value;
     stun_types_key key;
-    uint32_t algorithm;
+    stun_types_integrity algorithm;
 } step;
 
 static step steps[STEPS];
@@ -28,7 +28,7 @@ static slice octets_part(char **word) {
 }
 
 /* The key of `short:PASSWORD` or `long:USER:REALM:PASSWORD`. */
-static bool make_credentials(stun_types_key *key, uint32_t algorithm, char *word) {
+static bool make_credentials(stun_types_key *key, stun_types_integrity algorithm, char *word) {
     const char *kind = next_part(&word, ':');
     slice first = octets_part(&word), realm, password;
     if (kind != NULL && strcmp(kind, "short") == 0) {
@@ -40,7 +40,9 @@ static bool make_credentials(stun_types_key *key, uint32_t algorithm, char *word
     keep_secret(password);
     return is_taken(stun_types_key_long_term(key, first.bytes, first.length, realm.bytes,
                                              realm.length, password.bytes, password.length,
-                                             algorithm));
+                                             algorithm == STUN_TYPES_INTEGRITY_SHA1
+                                                 ? STUN_TYPES_PASSWORD_MD5
+                                                 : STUN_TYPES_PASSWORD_SHA256));
 }
 
 /* Reads the step of a word; false if it has no key. */
@@ -129,7 +131,7 @@ static bool start(draft *message, size_t size, char *word) {
     }
     id = id_of(word);
     return is_taken(draft_begin(message, size, class_of(message_class),
-                                (uint32_t)strtoul(method, NULL, 16), &id));
+                                (stun_types_method)strtoul(method, NULL, 16), &id));
 }
 
 static void write(void) {
@@ -156,7 +158,7 @@ static void resume(void) {
     size_t size = call_room();
     slice octets = call_octets();
     draft message = there(size, octets), probe = there(size, octets);
-    step finger = {FINGER, 0, {NULL, 0}, STUN_TYPES_NO_KEY_YET, 0};
+    step finger = {FINGER, 0, {NULL, 0}, STUN_TYPES_NO_KEY_YET, STUN_TYPES_INTEGRITY_ANY};
     bool is_there = take(&finger, &probe).code != STUN_TYPES_BAD_ARGUMENT;
     if (read_steps()) {
         if (is_there) answer_steps(&message);
@@ -211,7 +213,7 @@ static void rooms(void) {
 }
 
 /* The response to a request, step by step. */
-static void reply(uint32_t message_class) {
+static void reply(stun_types_class message_class) {
     size_t size = call_room();
     slice request = call_octets();
     draft message;

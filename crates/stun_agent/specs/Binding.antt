@@ -1,10 +1,5 @@
-<<<<<<< HEAD
 -- The binding request, and what a datagram says of it (RFC 8489, sections 6.1, 6.3.3, 6.3.4 and 9.1).
 use Rattle.std.specs.Prelude.{◌≡◌, ℕ, ◌∷◌, ◌++◌, List, [], Bool, true, false, not, ◌&&◌, codes, Option, None, Some, Ok, Err, is_some, if◌then◌else◌}
-=======
--- The binding request, and what a datagram says of it (RFC 8489, 6.1, 6.3.3, 6.3.4 and 9.1).
-use Rattle.std.specs.Prelude.{◌≡◌, ℕ, ◌∷◌, ◌++◌, List, [], Bool, true, false, not, ◌&&◌, codes, Option, None, Some, Ok, Err, is_some, ◌==◌, if◌then◌else◌}
->>>>>>> f7302090dd0e4d7be763cdd472f94fe895805d5c
 use Rattle.std.specs.Option.{option_map_or}
 use Rattle.std.specs.Fmt.{decimal}
 use Rattle.std.specs.Net.Text.{socket_text}
@@ -71,17 +66,7 @@ usage = record { shortest = 32; fingerprint = false }
 
 -- ---- What a datagram is
 
-<<<<<<< HEAD
 -- what a transaction of the request r, by a login or without one, reports of d
-=======
--- whether d is a response to the request r
-abbrev pub is_answer_to : List ℕ → List ℕ → Bool
-is_answer_to r d =
-    is_response (class_of (type_field d))
-    && ((method_of (type_field d) == method_of (type_field r)) && (id_field d == id_field r))
-
--- what a transaction of the request r, by a login or without one, reports of d
->>>>>>> f7302090dd0e4d7be763cdd472f94fe895805d5c
 abbrev pub told : Option Login → List ℕ → List ℕ → Outcome
 told login r d =
     if not (is_some (parse_fault d)) && is_answer_to r d then

@@ -1,8 +1,8 @@
 -- What a response is for a transaction that waits for one.
-use Rattle.std.proofs.Common.{◌≡◌, ℕ, Bool, true, false, List, [], Option, None, Some, refl, sym, ap, ◌∙◌}
+use Rattle.std.proofs.Common.{◌≡◌, ℕ, Bool, true, false, List, [], Option, None, Some, refl, ap, ◌∙◌}
 use Rattle.std.specs.Prelude.{not, ◌&&◌, is_some, if◌then◌else◌}
 use Rattle.std.specs.Option.{option_map_or}
-use Rattle.stun_grammar.specs.Headers.{type_field, id_field}
+use Rattle.stun_grammar.specs.Headers.{type_field}
 use Rattle.stun_grammar.specs.Parsing.{parse_fault}
 use Rattle.stun_grammar.specs.AttributeTypes.{FINGERPRINT}
 use Rattle.stun_read.specs.LookingUp.{nth}
@@ -28,17 +28,7 @@ told_of true true false kept out taken told o p a k same = absurd cc
 told_of true false answers kept out taken told o p a k same = absurd cc
 told_of false parses answers kept out taken told o p a k same = absurd cc
 
-<<<<<<< HEAD
--- where the usage sends FINGERPRINT, d shows one if r does
-=======
-both : (a b c : Bool) → a ≡ true → b ≡ true → c ≡ true → (a && (b && c)) ≡ true
-both true true true x y z = refl
-both true true false x y z = absurd cc
-both true false c x y z = absurd cc
-both false b c x y z = absurd cc
-
 -- if the usage sends FINGERPRINT, d shows one if r does
->>>>>>> f7302090dd0e4d7be763cdd472f94fe895805d5c
 not_lacking : (used in_r in_d : Bool) → (used && not in_r) ≡ false → (in_r ≡ true → in_d ≡ true) → (used && not in_d) ≡ false
 not_lacking false in_r in_d e same = refl
 not_lacking true true in_d e same = rw (same refl) refl
@@ -49,13 +39,8 @@ unguarded : (lacks : Bool) → lacks ≡ false → (if lacks then Some NoFingerp
 unguarded false e = refl
 unguarded true e = absurd cc
 
-<<<<<<< HEAD
 -- the transaction reports a message that answers the request by what the message has in it
 pub received_as : (told : Outcome) (r d : List ℕ) → parse_fault d ≡ None → is_answer_to r d ≡ true → (is_some (nth r FINGERPRINT 0) ≡ true → is_some (nth d FINGERPRINT 0) ≡ true) → content None [] d ≡ told → IsReceivedAs told r d
-=======
--- a message that answers the request is judged by what it has in it
-pub received_as : (told : Outcome) (r d : List ℕ) → parse_fault d ≡ None → Answers d r → (is_some (nth r FINGERPRINT 0) ≡ true → is_some (nth d FINGERPRINT 0) ≡ true) → content None [] d ≡ told → IsReceivedAs told r d
->>>>>>> f7302090dd0e4d7be763cdd472f94fe895805d5c
 received_as told r d parses answers printed has = record {
   parses = parses;
   answers = answers;

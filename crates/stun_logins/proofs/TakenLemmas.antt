@@ -3,7 +3,7 @@ use Rattle.std.proofs.Common.{◌≡◌, ℕ, Bool, true, false, eqb, List, Opti
 use Rattle.std.specs.Prelude.{◌&&◌, is_some, not, if◌then◌else◌}
 use Rattle.std.specs.List.{list_any}
 use Rattle.std.specs.Option.{option_map_or}
-use Rattle.std.proofs.lemmas.Bool.{eq-eqb, ne_eqb}
+use Rattle.std.proofs.lemmas.Bool.{ne_eqb}
 use Rattle.stun_grammar.specs.declared.attribute_type.AttributeType.{AttributeType}
 use Rattle.stun_grammar.specs.declared.error.StunParseError.{StunParseError}
 use Rattle.stun_grammar.specs.declared.error.ValidateError.{ValidateError}
@@ -11,7 +11,7 @@ use Rattle.stun_grammar.specs.declared.integrity_algorithm.IntegrityAlgorithm.{I
 use Rattle.stun_grammar.specs.declared.integrity_algorithm.IntegrityAlgorithm.TheVariants.{Sha1, Sha256}
 use Rattle.stun_grammar.specs.Attributes.{Attribute, types}
 use Rattle.stun_grammar.specs.AttributeTypes.{NONCE, FINGERPRINT, is_ending}
-use Rattle.stun_grammar.specs.Headers.{type_field, id_field}
+use Rattle.stun_grammar.specs.Headers.{type_field}
 use Rattle.stun_grammar.specs.Parsing.{parse_fault}
 use Rattle.stun_grammar.specs.ScannedOrder.{has}
 use Rattle.stun_grammar.specs.Verdicts.{type_of_algorithm, is_checked_type}

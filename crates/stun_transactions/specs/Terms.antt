@@ -1,7 +1,7 @@
 -- What a transaction is begun with.
 use Rattle.std.specs.Prelude.{◌≡◌, ℕ, Bool, true, false, List, Option, None, Some, if◌then◌else◌}
 use Rattle.stun_grammar.specs.Headers.{type_field, id_field}
-use Rattle.stun_base.specs.MessageTypes.{class_of}
+use Rattle.stun_base.specs.MessageTypes.{class_of, method_of}
 use Rattle.stun_types.specs.Replies.{responds_to}
 use Rattle.stun_authentication.specs.LongTerm.{is_request}
 use Rattle.stun_transactions.specs.declared.plan.Plan.{Plan}

@@ -28,6 +28,7 @@ use Rattle.stun_transactions.specs.declared.received.Outcome.{Outcome}
 use Rattle.stun_transactions.specs.declared.received.Outcome.TheVariants.{NotForThis, Discarded, Failed, Success, Error}
 use Rattle.stun_transactions.specs.declared.schedule.Schedule.{Schedule}
 use Rattle.stun_transactions.specs.declared.transaction.Transaction.{Transaction}
+use Rattle.stun_transactions.specs.declared.usage.Usage.{Usage}
 use Rattle.stun_transactions.specs.Retransmissions.{later, ended_by, stopped_by, Polls}
 use Rattle.stun_transactions.specs.Outcomes.{after}
 use Rattle.stun_transactions.specs.Parts.{plan_in, state_in, at_state, mechanism_of, signs, parts_of, is_signed_otherwise, parts_fault}
@@ -42,7 +43,7 @@ use Rattle.stun_types_c.specs.declared.transactions.Waits.{Waits}
 use Rattle.stun_types_c.specs.declared.transactions.Wanted.{Wanted}
 use Rattle.stun_types_c.specs.CallResults.{plain}
 use Rattle.stun_types_c.specs.Codes.{OK}
-use Rattle.stun_types_c.specs.Transactions.{transport_numbered, mechanism_numbered, number_of_end, signed_number, IsAt, millis_of, Schedules, usage_in, TellsParts, Keeps, AreSame, with_state, GoesOn, Ends, StopsKept, PollsKept, wanted_of, begun_in_c}
+use Rattle.stun_types_c.specs.Transactions.{transport_numbered, mechanism_numbered, number_of_end, signed_number, IsAt, millis_of, Schedules, usage_named, TellsParts, Keeps, AreSame, with_state, GoesOn, Ends, StopsKept, PollsKept, wanted_of, begun_in_c}
 
 -- ---- Numbers
 
@@ -114,7 +115,7 @@ same_meant kept one other a b =
       sha1 = shown.0 ∙ sym told.0;
       sha256 = shown.1 ∙ sym told.1;
       mechanism = cc (a.mechanism, b.mechanism);
-      usage = a.usage ∙ sym b.usage;
+      usage = cc (a.usage, b.usage);
       sent = a.state.sent ∙ sym b.state.sent;
       last = a.state.last.nanos ∙ sym b.state.last.nanos;
       clock = a.state.clock.nanos ∙ sym b.state.clock.nanos;
@@ -282,6 +283,7 @@ module _ (kept : KeptTransaction) (parts : TransactionParts) (keeps : Keeps kept
         signed = keeps.tells.signed;
         mechanism = keeps.tells.mechanism;
         usage = keeps.tells.usage;
+        reserved = keeps.tells.reserved;
         state = record { sent = refl; last = is.last; clock = is.clock; violated = refl; stopped = refl; end = refl };
       };
       sound = sound;
@@ -367,10 +369,10 @@ as_signed true false (ShortTerm key) free = absurd cc
 as_signed true true (LongTerm key) free = refl
 as_signed true false (LongTerm key) free = absurd cc
 
-pub begun_keeps : (d : List ℕ) (waits : Waits) (transport protection now : ℕ) (schedule : Schedule) (over : TransportType) (by : Protection) (moment : Duration) (transaction : Transaction)
-    → Schedules waits schedule → transport_numbered transport ≡ Some over → mechanism_numbered protection ≡ Some (mechanism_of by) → IsAt now moment → begin_fault by d ≡ None → Begins d schedule over by (usage_in waits) moment transaction
+pub begun_keeps : (d : List ℕ) (waits : Waits) (transport protection now : ℕ) (schedule : Schedule) (usage : Usage) (over : TransportType) (by : Protection) (moment : Duration) (transaction : Transaction)
+    → Schedules waits schedule → usage_named waits ≡ Some usage → transport_numbered transport ≡ Some over → mechanism_numbered protection ≡ Some (mechanism_of by) → IsAt now moment → begin_fault by d ≡ None → Begins d schedule over by usage moment transaction
     → Keeps (begun_in_c d waits transport protection now) (parts_of transaction)
-begun_keeps d waits transport protection now schedule over by moment transaction scheduled moves protected at free begins =
+begun_keeps d waits transport protection now schedule usage over by moment transaction scheduled named moves protected at free begins =
     let parts = parts_of transaction in
     let state = state_of transaction in
     let mechanism = same_mechanism by (terms_of transaction).protection begins.terms.protection_is in
@@ -387,7 +389,8 @@ begun_keeps d waits transport protection now schedule over by moment transaction
         id = begins.terms.id_is;
         signed = ap (λ (s : Signed). signed_number s.sha1 s.sha256) (sym begins.terms.signed_is);
         mechanism = protected ∙ ap Some (sym mechanism);
-        usage = begins.terms.usage_is;
+        usage = named ∙ ap Some (sym begins.terms.usage_is);
+        reserved = refl;
         state = record {
           sent = sent;
           last = subst (IsAt now) (sym (ap (λ (c : RetransmissionState). c.last) begins.state)) at;

@@ -1,11 +1,15 @@
 -- Addresses as C sees them, and what reading one answers (RFC 8489, sections 14.1 and 14.2).
-use Rattle.std.specs.Prelude.{◌≡◌, ℕ, List, take, Option, None, Some, MatchOption, IsSomeAnd, ◌==◌, if◌then◌else◌}
+use Rattle.std.specs.Prelude.{◌≡◌, ℕ, Bool, ◌||◌, List, take, Option, None, Some, MatchOption, IsSomeAnd, ◌==◌, if◌then◌else◌}
 use Rattle.std.specs.Net.Addr.{segments_of}
 use Rattle.std.specs.Net.Socket.{socket_ip, socket_port}
 use Rattle.std.specs.declared.net.ip_addr.IpAddr.{IpAddr}
 use Rattle.std.specs.declared.net.ip_addr.IpAddr.TheVariants.{V4, V6}
 use Rattle.std.specs.declared.net.socket_addr.SocketAddr.{SocketAddr}
+use Rattle.stun_grammar.specs.AttributeTypes.{MAPPED_ADDRESS, XOR_MAPPED_ADDRESS, ALTERNATE_SERVER}
 use Rattle.stun_grammar.specs.Headers.{header_fault, id_field}
+use Rattle.turn_basics.specs.TurnBasics.{XOR_PEER_ADDRESS}
+use Rattle.turn_attrs.specs.Turn.{XOR_RELAYED_ADDRESS}
+use Rattle.discovery_attrs.specs.Discovery.{RESPONSE_ORIGIN, OTHER_ADDRESS}
 use Rattle.stun_values.specs.Addresses.{octets, octets_count, address_fault, address_in, IsPlain, IsXored}
 use Rattle.stun_types_c.specs.declared.address.Address.{Address}
 use Rattle.stun_types_c.specs.declared.call_result.CallResult.{CallResult}
@@ -56,10 +60,22 @@ ReadsFrom Told value result old new =
     ((result ≡ plain OK) × Told (address_in value) new)
     (λ e. (result ≡ parse_result e) × (new ≡ old))
 
+-- the types of attributes whose address is XORed with the transaction ID (RFC 8489, section 14.2, and
+-- RFC 8656, sections 18.3 and 18.5), and those whose address isn't (RFC 8489, sections 14.1 and 14.15,
+-- and RFC 5780, sections 7.3 and 7.4). Of another type nothing is known
+abbrev pub is_xored_type : ℕ → Bool
+is_xored_type type =
+    (type == XOR_MAPPED_ADDRESS) || ((type == XOR_PEER_ADDRESS) || (type == XOR_RELAYED_ADDRESS))
+
+abbrev pub is_plain_type : ℕ → Bool
+is_plain_type type =
+    (type == MAPPED_ADDRESS)
+    || ((type == ALTERNATE_SERVER) || ((type == RESPONSE_ORIGIN) || (type == OTHER_ADDRESS)))
+
 -- what reading the address in an attribute of the message d answers
 abbrev pub ReadsAddress : ShownAttribute → List ℕ → CallResult → Address → Address → Type 0
 ReadsAddress attribute d result old new =
-    MatchOption (value_of attribute d)
+    MatchOption (if is_xored_type attribute.atype then None else value_of attribute d)
     ((result ≡ plain BAD_ARGUMENT) × (new ≡ old))
     (λ value. ReadsFrom Holds value result old new)
 
@@ -70,7 +86,7 @@ HoldsXored id written address = (a : SocketAddr) × (IsXored id written a × Hol
 -- the same for an address that is XORed with the transaction ID of d
 abbrev pub ReadsXorAddress : ShownAttribute → List ℕ → CallResult → Address → Address → Type 0
 ReadsXorAddress attribute d result old new =
-    MatchOption (value_of attribute d)
+    MatchOption (if is_plain_type attribute.atype then None else value_of attribute d)
     ((result ≡ plain BAD_ARGUMENT) × (new ≡ old))
     (λ value. MatchOption (header_fault d)
     (ReadsFrom (HoldsXored (id_field d)) value result old new)

@@ -1,8 +1,7 @@
 -- Attributes that a message shows, as C sees them (RFC 8489, section 14).
-use Rattle.std.specs.Prelude.{◌≡◌, ℕ, ◌+◌, Bool, true, false, List, [], ◌∷◌, length, Option, nat_le, ◌==◌, if◌then◌else◌, MatchOption, filter, slice_get}
+use Rattle.std.specs.Prelude.{◌≡◌, ℕ, ◌+◌, Bool, true, false, List, [], ◌∷◌, length, drop, Option, ◌==◌, if◌then◌else◌, MatchOption, filter, slice_get}
 use Rattle.stun_grammar.specs.Chains.{Shown}
 use Rattle.stun_grammar.specs.Showing.{shown}
-use Rattle.stun_read.specs.Iterating.{shown_behind}
 use Rattle.stun_types_c.specs.declared.attribute.ShownAttribute.{ShownAttribute}
 use Rattle.stun_types_c.specs.declared.attribute.Cursor.{Cursor}
 
@@ -14,12 +13,10 @@ in_c a = record { value_at = a.offset + 4; atype = a.type; length = length a.val
 abbrev pub first_of_type : ℕ → List Shown → Option Shown
 first_of_type type attributes = slice_get (filter (λ a. a.type == type) attributes) 0
 
--- the attributes that a walk has yet to yield: all that d shows where it stands at its beginning,
--- and else what d shows from there on
+-- the attributes that a walk has yet to yield, whatever its cursor: those that d shows, but for as
+-- many as it has yielded; none where the cursor's spare word isn't 0
 abbrev pub left : Cursor → List ℕ → List Shown
-left cursor d =
-    if cursor.offset == 0 then shown d
-    else (if nat_le cursor.offset (length d) then shown_behind cursor.last cursor.offset d else [])
+left cursor d = if cursor.reserved == 0 then drop cursor.index (shown d) else []
 
 -- a step of a walk yields the first attribute that is left, and leaves the others; where none is
 -- left, nothing changes

@@ -17,6 +17,7 @@ use Rattle.stun_types_c.specs.Codes.{OK, OUT_OF_MEMORY, BAD_ARGUMENT}
 use Rattle.stun_types_c.specs.CallResults.{plain, parse_result}
 use Rattle.stun_types_c.specs.Keys.{algorithm_named, number_of}
 use Rattle.stun_types_c.specs.PasswordAlgorithms.{password_algorithms_named}
+use Rattle.stun_types_c.specs.Usages.{shortest_named}
 use Rattle.stun_types_c.specs.Users.{bytes_of, long_term_key_of, nonce_in}
 
 -- ---- What C hands in
@@ -26,15 +27,16 @@ abbrev pub algorithms_counted : ℕ → Option (Option IntegrityAlgorithm)
 algorithms_counted number =
     if number == 0 then Some None else option_map (λ a. Some a) (algorithm_named number)
 
--- the policy of C's numbers
+-- the policy of C's numbers, whose spare word is 0
 abbrev pub policy_named : CountedIntegrity → Option Policy
 policy_named counted =
-    option_map (λ a. record {
+    if counted.reserved == 0 then option_and_then (λ a. option_map (λ shortest. record {
       algorithm = a;
-      shortest = counted.shortest;
+      shortest = shortest;
       fingerprint = not (counted.fingerprint == 0);
     })
-    (algorithms_counted counted.algorithm)
+    (shortest_named counted.shortest))
+    (algorithms_counted counted.algorithm) else None
 
 -- what C knows of a nonce, by the number of its state, and the numbers of the algorithms that it
 -- was sent with
@@ -60,7 +62,13 @@ by_long_term counted nonce md5 sha256 d =
 
 -- what C reads where nothing is decided: a call that failed has written this
 abbrev pub undecided : Authenticated
-undecided = record { kind = 0; error_code = 0; algorithm = 0; reply_algorithm = 0 }
+undecided = record {
+  kind = 0;
+  error_code = 0;
+  algorithm = 0;
+  reply_algorithm = 0;
+  reserved = 0;
+}
 
 -- a decision in C's numbers: accepted, refused, dropped or not authenticated
 abbrev pub in_c : Decision → Authenticated
@@ -69,12 +77,14 @@ in_c (accept key algorithm reply) = record {
   error_code = 0;
   algorithm = number_of algorithm;
   reply_algorithm = number_of reply;
+  reserved = 0;
 }
 in_c (refuse refusal) = record {
   kind = 2;
   error_code = refusal_code refusal;
   algorithm = 0;
   reply_algorithm = 0;
+  reserved = 0;
 }
 in_c discard = record undecided { kind = 3 }
 in_c not_a_request = record undecided { kind = 4 }

@@ -42,6 +42,7 @@ in_c d asked = record {
   password_algorithm = algorithm_number asked.algorithm;
   anonymous = if asked.anonymous then 1 else 0;
   integrity_algorithm = number_of (signing_algorithm asked);
+  reserved = 0;
 }
 
 -- what is asked for stands in d where C is told that it does

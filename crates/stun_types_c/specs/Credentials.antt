@@ -8,12 +8,15 @@ use Rattle.stun_grammar.specs.Verdicts.{is_checked_type, verdict}
 use Rattle.stun_integrity.specs.Userhash.{user_hash}
 use Rattle.stun_keys.specs.declared.keys.integrity_key.IntegrityKey.{IntegrityKey}
 use Rattle.stun_keys.specs.declared.keys.long_term_key.LongTermKeyCredentials.{LongTermKeyCredentials}
+use Rattle.stun_values.specs.Algorithms.{integrity_of}
 use Rattle.stun_keys.specs.Keys.{IsKey, long_term_key, long_term_username, long_term_realm, long_term_password}
 use Rattle.stun_types_c.specs.declared.call_result.CallResult.{CallResult}
 use Rattle.stun_types_c.specs.declared.keys.Hash.{Hash}
+use Rattle.stun_types_c.specs.declared.validating.Validated.{Validated}
 use Rattle.stun_types_c.specs.Codes.{OK, INVALID_DATA, OUT_OF_MEMORY, BAD_ARGUMENT}
 use Rattle.stun_types_c.specs.CallResults.{plain, parse_result, Refuses}
-use Rattle.stun_types_c.specs.Keys.{algorithm_named, TellsVerdict}
+use Rattle.stun_types_c.specs.PasswordAlgorithms.{password_numbered}
+use Rattle.stun_types_c.specs.Validating.{TellsVerdict, Invalidates}
 
 -- ---- Texts
 
@@ -25,14 +28,14 @@ texts_refusal texts = if list_all is_utf8 texts then None else Some (plain INVAL
 abbrev pub credential_texts : (user realm password : List ℕ) → List (List ℕ)
 credential_texts user realm password = user ∷ realm ∷ password ∷ []
 
--- something is done with the texts of a long-term credential, or one of them isn't UTF-8; or an
--- allocation failed, and then the first is a text at least: it is tested before any allocation
-abbrev pub WithTexts : {T : Type 0} → (user realm password : List ℕ) → (Done : Type 0) → CallResult
-    → (old new : T) → Type 0
-WithTexts user realm password Done result old new =
-    MatchOption (texts_refusal (credential_texts user realm password))
-    Done (λ answer. Refuses answer result old new)
-    ⊎ ((is_utf8 user ≡ true) × Refuses (plain OUT_OF_MEMORY) result old new)
+-- something is done with the texts of a long-term credential, or one of them isn't UTF-8 and the call
+-- is refused; or an allocation failed, and then the first is a text at least: it is tested before any
+-- allocation
+abbrev pub WithTexts : (user realm password : List ℕ) → (Done : Type 0)
+    → (Refused : CallResult → Type 0) → Type 0
+WithTexts user realm password Done Refused =
+    MatchOption (texts_refusal (credential_texts user realm password)) Done Refused
+    ⊎ ((is_utf8 user ≡ true) × Refused (plain OUT_OF_MEMORY))
 
 -- why bytes give no text: they aren't UTF-8, or an allocation failed
 abbrev pub RefusesText : List ℕ → CallResult → Type 0
@@ -56,37 +59,37 @@ RefusesLongTerm user realm password answer =
 
 -- ---- What the calls answer
 
--- a handle holds the long-term key for the algorithm of a number
+-- a handle holds the long-term key by the password algorithm of a number: it serves both integrity
+-- attributes (section 9.2.5)
 abbrev pub HoldsLongTerm : ℕ → (user realm password : List ℕ) → CallResult
     → (old new : Option IntegrityKey) → Type 0
 HoldsLongTerm number user realm password result old new =
-    MatchOption (algorithm_named number)
+    MatchOption (password_numbered number)
     (Refuses (plain BAD_ARGUMENT) result old new)
     (λ algorithm. WithTexts user realm password
     ((result ≡ plain OK)
-    × IsSomeAnd new (IsKey (Some algorithm) (long_term_key algorithm user realm password)))
-    result old new)
+    × IsSomeAnd new (IsKey None (long_term_key (integrity_of algorithm) user realm password)))
+    (λ answer. Refuses answer result old new))
 
 -- validating d under a password: why it is no message, or the verdict where the password is the key
 -- for both algorithms, or an allocation failed
-abbrev pub ValidatesShortTerm : (password d : List ℕ) → CallResult → (old new : ℕ) → Type 0
-ValidatesShortTerm password d result old new =
+abbrev pub ValidatesShortTerm : (password d : List ℕ) → CallResult → Validated → Type 0
+ValidatesShortTerm password d result new =
     MatchOption (parse_fault d)
-    (TellsVerdict (verdict (is_checked_type None) (λ _. password) d) result old new
-    ⊎ Refuses (plain OUT_OF_MEMORY) result old new)
-    (λ e. Refuses (parse_result e) result old new)
+    (TellsVerdict d (verdict (is_checked_type None) (λ _. password) d) result new
+    ⊎ Invalidates (plain OUT_OF_MEMORY) result new)
+    (λ e. Invalidates (parse_result e) result new)
 
 -- the same with a long-term credential, which gives each algorithm its key
-abbrev pub ValidatesLongTerm : (user realm password d : List ℕ) → CallResult → (old new : ℕ)
-    → Type 0
-ValidatesLongTerm user realm password d result old new =
+abbrev pub ValidatesLongTerm : (user realm password d : List ℕ) → CallResult → Validated → Type 0
+ValidatesLongTerm user realm password d result new =
     MatchOption (parse_fault d)
     (WithTexts user realm password
-    (TellsVerdict
+    (TellsVerdict d
     (verdict (is_checked_type None) (λ algorithm. long_term_key algorithm user realm password) d)
-    result old new)
-    result old new)
-    (λ e. Refuses (parse_result e) result old new)
+    result new)
+    (λ answer. Invalidates answer result new))
+    (λ e. Invalidates (parse_result e) result new)
 
 -- the hash of a user in a realm is told, or one of the two isn't UTF-8
 abbrev pub TellsUserhash : (user realm : List ℕ) → CallResult → (old new : Hash) → Type 0

@@ -1,27 +1,26 @@
--- What making a key and validating with one answers (RFC 8489, sections 9.1.1, 9.2.2, 9.1.3, 9.2.4
--- and 14.5 to 14.6).
-use Rattle.std.specs.Prelude.{◌≡◌, ℕ, List, Option, None, Some, Result, Ok, Err, MatchOption, MatchResult, IsSomeAnd, ◌==◌, if◌then◌else◌, ◌⊎◌}
-use Rattle.std.specs.Option.{option_map}
+-- What making, copying and reading a key answers (RFC 8489, sections 9.1.1 and 9.2.2).
+use Rattle.std.specs.Prelude.{◌≡◌, ℕ, ◌++◌, List, length, drop, Option, None, Some, Result, Ok, Err, MatchOption, IsSomeAnd, nat_lt, ◌==◌, if◌then◌else◌, ◌⊎◌}
+use Rattle.std.specs.Option.{option_map, option_map_or}
 use Rattle.stun_grammar.specs.declared.error.StunWriteError.{StunWriteError}
 use Rattle.stun_grammar.specs.declared.integrity_algorithm.IntegrityAlgorithm.{IntegrityAlgorithm}
 use Rattle.stun_grammar.specs.declared.integrity_algorithm.IntegrityAlgorithm.TheVariants.{Sha1, Sha256}
-use Rattle.stun_grammar.specs.declared.error.ValidateError.{ValidateError}
-use Rattle.stun_grammar.specs.Parsing.{parse_fault}
-use Rattle.stun_grammar.specs.Verdicts.{is_checked_type, verdict}
+use Rattle.stun_grammar.specs.AttributeTypes.{MESSAGE_INTEGRITY, MESSAGE_INTEGRITY_SHA256}
+use Rattle.stun_grammar.specs.Verdicts.{type_of_algorithm}
 use Rattle.stun_keys.specs.declared.keys.integrity_key.IntegrityKey.{IntegrityKey}
 use Rattle.stun_keys.specs.Keys.{IsKey, key_bytes, key_algorithm}
 use Rattle.stun_types_c.specs.declared.call_result.CallResult.{CallResult}
-use Rattle.stun_types_c.specs.Codes.{OK, OUT_OF_MEMORY, BAD_ARGUMENT, NO_KEY}
-use Rattle.stun_types_c.specs.CallResults.{plain, parse_result, validate_result, write_result}
+use Rattle.stun_types_c.specs.Codes.{OK, OUT_OF_MEMORY, BAD_ARGUMENT, NO_KEY, TOO_SMALL}
+use Rattle.stun_types_c.specs.CallResults.{plain, counted, write_result, Refuses}
 
--- the algorithm of a number, and the number of an algorithm
+-- the algorithm of a number, which is the type of its integrity attribute, and the number of an
+-- algorithm
 abbrev pub algorithm_named : ℕ → Option IntegrityAlgorithm
 algorithm_named number =
-    if number == 1 then Some Sha1 else (if number == 2 then Some Sha256 else None)
+    if number == MESSAGE_INTEGRITY then Some Sha1
+    else (if number == MESSAGE_INTEGRITY_SHA256 then Some Sha256 else None)
 
 abbrev pub number_of : IntegrityAlgorithm → ℕ
-number_of Sha1 = 1
-number_of Sha256 = 2
+number_of algorithm = type_of_algorithm algorithm
 
 -- a handle holds the key that was made, prepared or not; or an allocation failed, and it holds what it
 -- held
@@ -54,22 +53,35 @@ HoldsNamed number bytes result old new =
     ((result ≡ plain BAD_ARGUMENT) × (new ≡ old))
     (λ made_for. Holds made_for bytes result old new)
 
--- a verdict as C sees it: the number of the algorithm that was checked, or why the message isn't
--- valid
-abbrev pub TellsVerdict :
-    Result IntegrityAlgorithm ValidateError → CallResult → (old new : ℕ) → Type 0
-TellsVerdict told result old new =
-    MatchResult told
-    (λ algorithm. (result ≡ plain OK) × (new ≡ number_of algorithm))
-    (λ e. (result ≡ validate_result e) × (new ≡ old))
+-- the number of the algorithm that a key was made for, and 0 for one that serves both
+abbrev pub made_for_number : Option IntegrityAlgorithm → ℕ
+made_for_number made_for = option_map_or number_of made_for 0
 
--- validating d with the key of a handle: why it is no message, or that there is no key, or the
--- verdict
-abbrev pub ValidatesWith : Option IntegrityKey → List ℕ → CallResult → (old new : ℕ) → Type 0
-ValidatesWith held d result old new =
-    MatchOption (parse_fault d)
-    (MatchOption held
-    ((result ≡ plain NO_KEY) × (new ≡ old))
-    (λ key. TellsVerdict (verdict (is_checked_type (key_algorithm key)) (λ _. key_bytes key) d)
-    result old new))
-    (λ e. (result ≡ parse_result e) × (new ≡ old))
+-- a handle holds a copy of a key, or there is none to copy
+abbrev pub HoldsCopy : Option IntegrityKey → CallResult → (old new : Option IntegrityKey) → Type 0
+HoldsCopy held result old new =
+    MatchOption held (Refuses (plain NO_KEY) result old new)
+    (λ key. Holds (key_algorithm key) (key_bytes key) result old new)
+
+-- what C is told of a key: its bytes in a slice, how many they are, and what it was made for
+pub record ToldKey : Type 0 where
+  pub slice : List ℕ
+  pub count : ℕ
+  pub algorithm : ℕ
+
+-- why so many bytes are not told: the slice has no room for them
+abbrev pub room_answer : (needed room : ℕ) → Option CallResult
+room_answer needed room =
+    if nat_lt room needed then Some (counted TOO_SMALL needed room) else None
+
+-- the bytes of a key are told, or there is no key, or no room for them
+abbrev pub TellsKey : Option IntegrityKey → CallResult → (old new : ToldKey) → Type 0
+TellsKey held result old new =
+    MatchOption held (Refuses (plain NO_KEY) result old new)
+    (λ key. MatchOption (room_answer (length (key_bytes key)) (length old.slice))
+    ((result ≡ plain OK) × (new ≡ record {
+      slice = key_bytes key ++ drop (length (key_bytes key)) old.slice;
+      count = length (key_bytes key);
+      algorithm = made_for_number (key_algorithm key);
+    }))
+    (λ answer. Refuses answer result old new))

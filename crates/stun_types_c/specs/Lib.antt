@@ -1,5 +1,6 @@
 pub mod Codes
 pub mod CallResults
+pub mod CodeTexts
 pub mod Attributes
 pub mod Reading
 pub mod Values
@@ -8,6 +9,7 @@ pub mod Printing
 pub mod KeyHandles
 pub mod KeyMemory
 pub mod Keys
+pub mod Usages
 pub mod Writing
 pub mod Server
 pub mod Channels
@@ -15,7 +17,9 @@ pub mod Streams
 pub mod Users
 pub mod TypeLists
 pub mod Transactions
-pub mod Credentials
 pub mod PasswordAlgorithms
 pub mod Authentication
+pub mod Validating
+pub mod Credentials
 pub mod Challenges
+pub mod Versions

@@ -11,6 +11,10 @@ names_password_algorithm number = number == 1 || number == 2
 abbrev pub password_algorithm_named : ℕ → PasswordAlgorithmValue
 password_algorithm_named number = if number == 1 then MD5 else SHA256
 
+abbrev pub password_numbered : ℕ → Option PasswordAlgorithmValue
+password_numbered number =
+    if names_password_algorithm number then Some (password_algorithm_named number) else None
+
 -- the algorithms of these numbers; none where another number is among them, or there are more than
 -- sixteen
 abbrev pub password_algorithms_named : List ℕ → Option (List PasswordAlgorithmValue)

@@ -1,5 +1,5 @@
 -- Streams of messages, as C keeps them between its calls (RFC 8489, section 6.2.2).
-use Rattle.std.specs.Prelude.{◌≡◌, ℕ, true, false, List, length, take, Option, None, Some, Result, Ok, Err}
+use Rattle.std.specs.Prelude.{◌≡◌, ℕ, ◌==◌, ◌&&◌, true, false, List, length, take, Option, None, Some, Result, Ok, Err}
 use Rattle.std.specs.Option.{option_map_or}
 use Rattle.stun_framing.specs.declared.carries.Carries.TheVariants.{Messages}
 use Rattle.stun_framing.specs.declared.error.StreamError.{StreamError}
@@ -30,6 +30,7 @@ kept_of stream = record {
   offset = stream.offset;
   pending = length stream.pending;
   message = option_map_or length stream.message 0;
+  reserved = 0;
 }
 
 -- what a piece is answered by: OK, or why no message begins where one has to
@@ -49,7 +50,7 @@ abbrev pub PushesPiece : (piece buffer filled : List ℕ) → CallResult → (ol
     → (before after : ℕ) → Type 0
 PushesPiece piece buffer filled result old new before after =
     let stream = stream_kept old buffer in
-    elim (can_resume Messages buffer old.pending) [
+    elim ((old.reserved == 0) && can_resume Messages buffer old.pending) [
       | false ↦ (result ≡ plain BAD_ARGUMENT) × (new ≡ old) × (filled ≡ buffer) × (after ≡ before)
       | true ↦ (result ≡ piece_answer (length buffer) (refusal stream piece))
           × (new ≡ kept_of (left stream piece))

@@ -1,13 +1,12 @@
 -- A client's transaction, which C keeps as plain numbers (RFC 8489, sections 6.2, 6.3.3, 6.3.4, 9.1.4
 -- and 9.2.5). Moments are whole milliseconds since a beginning of C's choice.
-use Rattle.std.specs.Prelude.{◌≡◌, ℕ, ◌+◌, ◌-◌, ◌*◌, ◌/◌, ◌^◌, ◌<◌, ◌≤◌, ◌==◌, ◌⊎◌, Bool, List, length, slice_range, Option, None, Some, Result, Ok, Err, is_some, min, not, ◌&&◌, MatchOption, MatchResult, IsSomeAnd, option_map, if◌then◌else◌}
+use Rattle.std.specs.Prelude.{◌≡◌, ℕ, ◌+◌, ◌-◌, ◌*◌, ◌/◌, ◌^◌, ◌<◌, ◌≤◌, ◌==◌, ◌⊎◌, Bool, true, false, List, length, slice_range, Option, None, Some, Result, Ok, Err, is_some, min, not, ◌&&◌, MatchOption, MatchResult, IsSomeAnd, option_map, if◌then◌else◌}
 use Rattle.std.specs.Int.{from_bool}
 use Rattle.std.specs.Option.{option_map_or, option_or}
 use Rattle.std.specs.Duration.{as_nanos}
 use Rattle.std.specs.declared.time.Duration.{Duration}
 use Rattle.stun_grammar.specs.declared.attribute_type.AttributeType.{AttributeType}
 use Rattle.stun_grammar.specs.declared.integrity_algorithm.IntegrityAlgorithm.{IntegrityAlgorithm}
-use Rattle.stun_grammar.specs.declared.integrity_algorithm.IntegrityAlgorithm.TheVariants.{Sha1, Sha256}
 use Rattle.stun_grammar.specs.Headers.{type_field}
 use Rattle.stun_grammar.specs.Numbers.{number}
 use Rattle.stun_grammar.specs.Parsing.{parse_fault}
@@ -51,7 +50,9 @@ use Rattle.stun_types_c.specs.declared.transactions.ReceivedOutcome.{ReceivedOut
 use Rattle.stun_types_c.specs.declared.transactions.Waits.{Waits}
 use Rattle.stun_types_c.specs.declared.transactions.Wanted.{Wanted}
 use Rattle.stun_types_c.specs.CallResults.{plain, parse_result}
+use Rattle.stun_types_c.specs.Keys.{number_of}
 use Rattle.stun_types_c.specs.TypeLists.{types_numbered}
+use Rattle.stun_types_c.specs.Usages.{shortest_named}
 use Rattle.stun_types_c.specs.Codes.{OK, OUT_OF_MEMORY, OUT_OF_RANGE, BAD_ARGUMENT, NO_KEY, NOT_A_REQUEST, NOT_SIGNED, SIGNED}
 
 -- ---- What each number means
@@ -59,15 +60,15 @@ use Rattle.stun_types_c.specs.Codes.{OK, OUT_OF_MEMORY, OUT_OF_RANGE, BAD_ARGUME
 -- the transport of a number
 abbrev pub transport_numbered : ℕ → Option TransportType
 transport_numbered number =
-    if number == 0 then Some Udp else (if number == 1 then Some Tcp else None)
+    if number == 1 then Some Udp else (if number == 2 then Some Tcp else None)
 
--- the mechanism of a number, which is that of one or of none
+-- the mechanism of a number, which is that of one or, 4, of none
 abbrev pub mechanism_numbered : ℕ → Option (Option Mechanism)
 mechanism_numbered number =
-    if number == 0 then Some None else (
     if number == 1 then Some (Some ShortTerm) else (
     if number == 2 then Some (Some LongTerm) else (
-    if number == 3 then Some (Some FirstLongTerm) else None)))
+    if number == 3 then Some (Some FirstLongTerm) else (
+    if number == 4 then Some None else None)))
 
 -- the number of an end, and of no end
 abbrev pub end_number : TransactionEnd → ℕ
@@ -104,12 +105,14 @@ pub record Schedules (waits : Waits) (schedule : Schedule) : Type 0 where
   pub numbers :
       IsSchedule waits.rto waits.requests waits.last_wait waits.reliable_wait schedule
 
--- what the usage specifies of responses: where C says nothing, an HMAC-SHA256 has 32 bytes
-abbrev pub usage_in : Waits → Usage
-usage_in waits = record {
-  shortest = if waits.shortest == 0 then 32 else waits.shortest;
-  fingerprint = not (waits.fingerprint == 0);
-}
+-- what the usage specifies of responses, where the spare word is 0
+abbrev pub usage_named : Waits → Option Usage
+usage_named waits =
+    if waits.reserved == 0 then option_map (λ shortest. record {
+      shortest = shortest;
+      fingerprint = not (waits.fingerprint == 0);
+    })
+    (shortest_named waits.shortest) else None
 
 -- ---- Which transaction C keeps
 
@@ -131,7 +134,8 @@ pub record TellsParts (kept : KeptTransaction) (parts : TransactionParts) : Type
   pub id : parts.id ≡ number kept.id.bytes
   pub signed : kept.signed_by ≡ signed_number parts.sha1 parts.sha256
   pub mechanism : mechanism_numbered kept.protection ≡ Some parts.mechanism
-  pub usage : parts.usage ≡ usage_in kept.schedule
+  pub usage : usage_named kept.schedule ≡ Some parts.usage
+  pub reserved : kept.reserved ≡ 0
   pub state : TellsState kept (state_in parts)
 
 -- the numbers keep a transaction of these parts
@@ -197,11 +201,15 @@ StopsKept result old new =
     MatchKept old ((result ≡ plain BAD_ARGUMENT) × (new ≡ old))
     (λ parts. (result ≡ plain OK) × GoesOn parts (stopped_by (state_in parts)) old new)
 
+-- what C reads where nothing is decided: a call that fails writes this
+abbrev pub nothing_wanted : Wanted
+nothing_wanted = record { kind = 0; end = 0; until = 0; reserved = 0 }
+
 -- what is wanted, in C's numbers
 abbrev pub wanted_of : Action → Wanted
-wanted_of Send = record { kind = 0; end = 0; until = 0 }
-wanted_of (WaitUntil until) = record { kind = 1; end = 0; until = millis_of until }
-wanted_of (Ended end) = record { kind = 2; end = end_number end; until = 0 }
+wanted_of Send = record nothing_wanted { kind = 1 }
+wanted_of (WaitUntil until) = record nothing_wanted { kind = 2; until = millis_of until }
+wanted_of (Ended end) = record nothing_wanted { kind = 3; end = end_number end }
 
 -- what C keeps, and what it is told to do
 pub record Polled : Type 0 where
@@ -221,7 +229,8 @@ pub record PollsParts (parts : TransactionParts) (now : ℕ) (old new : Polled) 
 -- the transaction that C keeps is polled, unless it keeps none
 abbrev pub PollsKept : ℕ → CallResult → Polled → Polled → Type 0
 PollsKept now result old new =
-    MatchKept old.kept ((result ≡ plain BAD_ARGUMENT) × (new ≡ old))
+    MatchKept old.kept
+    ((result ≡ plain BAD_ARGUMENT) × (new ≡ record old { wanted = nothing_wanted }))
     (λ parts. (result ≡ plain OK) × PollsParts parts now old new)
 
 -- ---- What begins
@@ -241,20 +250,32 @@ request_answer NotARequest = plain NOT_A_REQUEST
 request_answer NotSigned = plain NOT_SIGNED
 request_answer Signed = plain SIGNED
 
+-- why a key isn't that of a request that a mechanism protects: there is none; or the mechanism is the
+-- long-term one, whose key serves both integrity attributes (RFC 8489, section 9.2.5), and the key
+-- was made for one of them
+abbrev pub key_answer : Option Mechanism → Option IntegrityKey → Option CallResult
+key_answer None held = None
+key_answer (Some FirstLongTerm) held = None
+key_answer (Some ShortTerm) None = Some (plain NO_KEY)
+key_answer (Some ShortTerm) (Some key) = None
+key_answer (Some LongTerm) None = Some (plain NO_KEY)
+key_answer (Some LongTerm) (Some key) =
+    if is_some (key_algorithm key) then Some (plain BAD_ARGUMENT) else None
+
 -- why no transaction begins by a mechanism, or by none: by the schedule, the request or the key
 abbrev pub terms_answer : Waits → Option Mechanism → Option IntegrityKey → List ℕ
     → Option CallResult
 terms_answer waits mechanism held d =
     if is_some (waits_fault waits) then Some (plain OUT_OF_RANGE)
     else option_or (option_map request_answer (request_fault (signs mechanism) d))
-    (if signs mechanism && not (is_some held) then Some (plain NO_KEY) else None)
+    (key_answer mechanism held)
 
 -- why none begins with the bytes d: they are no message, or a number has no meaning, or by the terms
 abbrev pub begin_answer : Waits → (transport protection : ℕ) → Option IntegrityKey → List ℕ
     → Option CallResult
 begin_answer waits transport protection held d =
     option_or (option_map parse_result (parse_fault d))
-    (if is_some (transport_numbered transport) then
+    (if is_some (transport_numbered transport) && is_some (usage_named waits) then
     option_map_or (λ mechanism. terms_answer waits mechanism held d) (mechanism_numbered protection)
     (Some (plain BAD_ARGUMENT))
     else Some (plain BAD_ARGUMENT))
@@ -274,6 +295,7 @@ begun_in_c d waits transport protection now = record {
   violated = 0;
   end = 0;
   stopped = 0;
+  reserved = 0;
 }
 
 -- a transaction of the request d begins, or it is told why none does, and nothing changes
@@ -298,49 +320,54 @@ discard_kind NoFingerprint = 5
 abbrev pub claim_number : Claim → ℕ
 claim_number claim = option_map_or (λ code. code) claim.code 0
 
-abbrev pub algorithm_number : IntegrityAlgorithm → ℕ
-algorithm_number Sha1 = 1
-algorithm_number Sha256 = 2
-
 abbrev pub proof_number : Option IntegrityAlgorithm → ℕ
-proof_number proof = option_map_or algorithm_number proof 0
+proof_number proof = option_map_or number_of proof 0
+
+-- what C reads where nothing is decided: a call that fails writes this
+abbrev pub nothing_received : ReceivedOutcome
+nothing_received = record { kind = 0; number = 0; algorithm = 0; reserved = 0 }
 
 -- what a message is for a transaction, in C's numbers
 abbrev pub outcome_in_c : Outcome → ReceivedOutcome
-outcome_in_c NotForThis = record { kind = 0; number = 0; algorithm = 0 }
+outcome_in_c NotForThis = nothing_received
 outcome_in_c (Discarded reason claim) =
-    record { kind = discard_kind reason; number = claim_number claim; algorithm = 0 }
+    record nothing_received { kind = discard_kind reason; number = claim_number claim }
 outcome_in_c (Failed (Violated claim)) =
-    record { kind = 6; number = claim_number claim; algorithm = 0 }
+    record nothing_received { kind = 6; number = claim_number claim }
 outcome_in_c (Failed (UnknownAttribute type)) =
-    record { kind = 7; number = type.0; algorithm = 0 }
-outcome_in_c (Failed NoErrorCode) = record { kind = 8; number = 0; algorithm = 0 }
-outcome_in_c (Success proof) = record { kind = 9; number = 0; algorithm = proof_number proof }
+    record nothing_received { kind = 7; number = type.0 }
+outcome_in_c (Failed NoErrorCode) = record nothing_received { kind = 8 }
+outcome_in_c (Success proof) =
+    record nothing_received { kind = 9; algorithm = proof_number proof }
 outcome_in_c (Error code proof) =
-    record { kind = 10; number = code; algorithm = proof_number proof }
+    record nothing_received { kind = 10; number = code; algorithm = proof_number proof }
 
 -- what C keeps, and what received bytes are
 pub record ReceivedState : Type 0 where
   pub kept : KeptTransaction
   pub reported : ReceivedOutcome
 
--- a copy of a key with which responses are validated: by a long-term credential it works with both
--- algorithms (RFC 8489, section 9.2.5)
-abbrev pub IsCopyFor : Mechanism → (held copy : IntegrityKey) → Type 0
-IsCopyFor ShortTerm held copy = IsKey (key_algorithm held) (key_bytes held) copy
-IsCopyFor FirstLongTerm held copy = IsKey (key_algorithm held) (key_bytes held) copy
-IsCopyFor LongTerm held copy = IsKey None (key_bytes held) copy
+-- a call answers no: the transaction stays, and nothing is decided of what was received
+abbrev pub Ignores : CallResult → CallResult → ReceivedState → ReceivedState → Type 0
+Ignores answer result old new =
+    (result ≡ answer) × (new ≡ record old { reported = nothing_received })
 
 -- the key of a transaction: none where no credential protects its request, and else a copy of the one
--- that a handle holds; or the handle holds none, or an allocation failed
+-- that a handle holds; or an allocation failed
+abbrev pub CopiesHeld : (protected : Bool) → Option IntegrityKey
+    → Result (Option IntegrityKey) CallResult → Type 0
+CopiesHeld true (Some held) made =
+    MatchResult made (λ key. IsSomeAnd key (IsKey (key_algorithm held) (key_bytes held)))
+    (λ answer. answer ≡ plain OUT_OF_MEMORY)
+CopiesHeld true None made = made ≡ Ok None
+CopiesHeld false held made = made ≡ Ok None
+
+-- the same, or why the key that a handle holds isn't that of a transaction
 abbrev pub Copies : Option Mechanism → Option IntegrityKey → Result (Option IntegrityKey) CallResult
     → Type 0
-Copies None held made = made ≡ Ok None
-Copies (Some FirstLongTerm) held made = made ≡ Ok None
-Copies (Some mechanism) None made = made ≡ Err (plain NO_KEY)
-Copies (Some mechanism) (Some held) made =
-    MatchResult made (λ key. IsSomeAnd key (IsCopyFor mechanism held))
-    (λ answer. answer ≡ plain OUT_OF_MEMORY)
+Copies mechanism held made =
+    MatchOption (key_answer mechanism held) (CopiesHeld (signs mechanism) held made)
+    (λ answer. made ≡ Err answer)
 
 -- what the bytes d are for the transaction of these parts and this key
 pub record IsOutcome (parts : TransactionParts) (key : Option IntegrityKey)
@@ -366,14 +393,14 @@ ReceivesWith held understood d parts result old new =
     (made : Result (Option IntegrityKey) CallResult) × Copies parts.mechanism held made
     × MatchResult made
     (λ key. (result ≡ plain OK) × ReceivesParts parts key (types_numbered understood) d old new)
-    (λ answer. (result ≡ answer) × (new ≡ old))
+    (λ answer. Ignores answer result old new)
 
 -- the same for the transaction that C keeps, by a client that understands at most 64 types
 abbrev pub ReceivesKept : Option IntegrityKey → (understood d : List ℕ) → CallResult → ReceivedState
     → ReceivedState
     → Type 0
 ReceivesKept held understood d result old new =
-    ((64 < length understood) × (result ≡ plain BAD_ARGUMENT) × (new ≡ old))
+    ((64 < length understood) × Ignores (plain BAD_ARGUMENT) result old new)
     ⊎ ((length understood ≤ 64)
-    × MatchKept old.kept ((result ≡ plain BAD_ARGUMENT) × (new ≡ old))
+    × MatchKept old.kept (Ignores (plain BAD_ARGUMENT) result old new)
     (λ parts. ReceivesWith held understood d parts result old new))

@@ -33,7 +33,7 @@ known_nonce false sent = invalid
 abbrev pub known_of : OneNonce → Known
 known_of one = known_nonce one.is_valid (take one.sent.count one.sent.all)
 
--- what is known of a nonce in a state: 0 says that it is valid, 1 that it was valid once, and 2
--- that it is unknown
+-- what is known of a nonce in a state: 0 says that it is unknown, 1 that it is valid, and 2 that it
+-- was valid once
 abbrev pub nonce_in : ℕ → List PasswordAlgorithmValue → Option Known
-nonce_in state sent = if nat_lt 2 state then None else Some (known_nonce (state == 0) sent)
+nonce_in state sent = if nat_lt 2 state then None else Some (known_nonce (state == 1) sent)

@@ -6,6 +6,7 @@ use Rattle.std.specs.Option.{option_map, option_or}
 use Rattle.std.specs.Str.{is_utf8}
 use Rattle.std.specs.declared.net.socket_addr.SocketAddr.{SocketAddr}
 use Rattle.stun_grammar.specs.declared.error.StunWriteError.{StunWriteError}
+use Rattle.stun_grammar.specs.declared.integrity_algorithm.IntegrityAlgorithm.{IntegrityAlgorithm}
 use Rattle.stun_grammar.specs.Numbers.{be16, number}
 use Rattle.stun_grammar.specs.AttributeTypes.{ERROR_CODE, UNKNOWN_ATTRIBUTES}
 use Rattle.stun_grammar.specs.Headers.{header_fault, id_field}
@@ -14,7 +15,7 @@ use Rattle.stun_grammar.specs.Verdicts.{type_of_algorithm}
 use Rattle.stun_grammar.specs.Writing.{message_encoding}
 use Rattle.stun_grammar.specs.Adding.{appended, grown_length}
 use Rattle.stun_keys.specs.declared.keys.integrity_key.IntegrityKey.{IntegrityKey}
-use Rattle.stun_keys.specs.Keys.{key_bytes}
+use Rattle.stun_keys.specs.Keys.{key_bytes, key_algorithm, serves}
 use Rattle.stun_values.specs.Addresses.{address_value, IsXored}
 use Rattle.stun_values.specs.ErrorValues.{error_value, making_fault}
 use Rattle.stun_write.specs.Resuming.{resume_fault}
@@ -22,7 +23,7 @@ use Rattle.stun_write.specs.ResumePoints.{any_in, step_in}
 use Rattle.stun_types_c.specs.declared.call_result.CallResult.{CallResult}
 use Rattle.stun_types_c.specs.declared.address.Address.{Address}
 use Rattle.stun_types_c.specs.declared.reading.Id.{Id}
-use Rattle.stun_types_c.specs.Addresses.{ip_named, IsAt}
+use Rattle.stun_types_c.specs.Addresses.{ip_named, IsAt, is_xored_type, is_plain_type}
 use Rattle.stun_types_c.specs.Codes.{OK, TOO_LARGE, TOO_SMALL, INVALID_DATA, BAD_ARGUMENT, NO_KEY}
 use Rattle.stun_types_c.specs.CallResults.{plain, counted, write_result, Refuses}
 use Rattle.stun_types_c.specs.Keys.{algorithm_named}
@@ -86,18 +87,19 @@ AddsValue type value result old new =
     AppendsUnless (long_answer 65535 (length value)) (any_in (length old.slice) type value) type
     (λ _. value) result old new
 
--- an address of C's form is added as it is
+-- an address of C's form is added as it is, under no type whose addresses are XORed
 abbrev pub AddsAddress : Address → ℕ → CallResult → Written → Written → Type 0
 AddsAddress address type result old new =
-    MatchOption (ip_named address) (Refuses (plain BAD_ARGUMENT) result old new)
+    MatchOption (if is_xored_type type then None else ip_named address) (Refuses (plain BAD_ARGUMENT) result old new)
     (λ ip. (a : SocketAddr) × IsAt ip address.port a
     × AppendsTo (any_in (length old.slice) type (address_value a)) type (λ _. address_value a)
     result old new)
 
--- an address of C's form is added XORed with the transaction ID in the slice
+-- an address of C's form is added XORed with the transaction ID in the slice, under no type whose
+-- addresses aren't
 abbrev pub AddsXorAddress : Address → ℕ → CallResult → Written → Written → Type 0
 AddsXorAddress address type result old new =
-    MatchOption (ip_named address) (Refuses (plain BAD_ARGUMENT) result old new)
+    MatchOption (if is_plain_type type then None else ip_named address) (Refuses (plain BAD_ARGUMENT) result old new)
     (λ ip. MatchOption (header_fault old.slice)
     ((a xored : SocketAddr) × IsAt ip address.port a × IsXored (id_field old.slice) a xored
     × AppendsTo (any_in (length old.slice) type (address_value xored)) type
@@ -125,13 +127,19 @@ AddsTypes types result old new =
     (any_in (length old.slice) UNKNOWN_ATTRIBUTES value) UNKNOWN_ATTRIBUTES (λ _. value)
     result old new
 
+-- why a key doesn't sign by an algorithm: it was made for the other one
+abbrev pub serving_answer : IntegrityKey → IntegrityAlgorithm → Option CallResult
+serving_answer key algorithm =
+    if serves (key_algorithm key) algorithm then None else Some (plain BAD_ARGUMENT)
+
 -- the integrity attribute of an algorithm is added (RFC 8489, sections 14.5 and 14.6)
 abbrev pub Signs : Option IntegrityKey → ℕ → CallResult → Written → Written → Type 0
 Signs held number result old new =
     MatchOption (resume_fault old.slice old.count)
     (MatchOption (algorithm_named number) (Refuses (plain BAD_ARGUMENT) result old new)
     (λ algorithm. MatchOption held (Refuses (plain NO_KEY) result old new)
-    (λ key. AppendsTo (step_in (length old.slice) (sign algorithm (key_bytes key)))
+    (λ key. AppendsUnless (serving_answer key algorithm)
+    (step_in (length old.slice) (sign algorithm (key_bytes key)))
     (type_of_algorithm algorithm)
     (λ message. integrity_value message (key_bytes key) algorithm) result old new)))
     (λ _. Refuses (plain BAD_ARGUMENT) result old new)

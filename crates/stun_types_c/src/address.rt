@@ -1,15 +1,18 @@
 //! Addresses in attributes.
 
 ghost use Rattle.std.specs.Prelude.{◌≡◌};
-ghost use Rattle.stun_types_c.specs.Addresses.{ipv4_named, ipv6_named, Holds, HoldsXored, Names, ReadsFrom, ReadsAddress, ReadsXorAddress};
+ghost use Rattle.stun_types_c.specs.Addresses.{ipv4_named, ipv6_named, Holds, HoldsXored, Names, is_xored_type, is_plain_type, ReadsFrom, ReadsAddress, ReadsXorAddress};
 
 use crate::attribute::ShownAttribute;
 use crate::call_result::{CallResult, parse_result, plain};
 use crate::codes;
 use crate::values::value_in;
+use discovery_attrs::attribute_types::{OTHER_ADDRESS, RESPONSE_ORIGIN};
 use std::net::{IpAddr, Ipv4Addr, Ipv6Addr, SocketAddr};
 use stun_base::{MessageHeader, TransactionId};
+use stun_grammar::attribute_types::{ALTERNATE_SERVER, MAPPED_ADDRESS, XOR_MAPPED_ADDRESS};
 use stun_values::{read_address, xor_addr};
+use turn_attrs::attribute_types::{XOR_PEER_ADDRESS, XOR_RELAYED_ADDRESS};
 
 /// A transport address.
 #[repr(C)]
@@ -72,6 +75,23 @@ pub(crate) fn socket_of(address: &Address) -> Option<SocketAddr>
     }
 }
 
+/// Whether the addresses in attributes of this type are XORed with the transaction ID.
+pub(crate) fn is_xored_type(atype: u16) -> bool
+    ensures { result ≡ is_xored_type atype }
+{
+    atype == XOR_MAPPED_ADDRESS || atype == XOR_PEER_ADDRESS || atype == XOR_RELAYED_ADDRESS
+}
+
+/// Whether they aren't. Of a type that the library doesn't know, neither is known.
+pub(crate) fn is_plain_type(atype: u16) -> bool
+    ensures { result ≡ is_plain_type atype }
+{
+    atype == MAPPED_ADDRESS
+        || atype == ALTERNATE_SERVER
+        || atype == RESPONSE_ORIGIN
+        || atype == OTHER_ADDRESS
+}
+
 /// Reads the address in an attribute that isn't XORed.
 #[unsafe(no_mangle)]
 pub extern "C" fn stun_types_read_address(
@@ -81,6 +101,9 @@ pub extern "C" fn stun_types_read_address(
 ) -> CallResult
     ensures { ReadsAddress attribute.now bytes.now result address.old address.new }
 {
+    if is_xored_type(attribute.atype) {
+        return plain(codes::BAD_ARGUMENT);
+    }
     let Some(value) = value_in(bytes, attribute) else {
         return plain(codes::BAD_ARGUMENT);
     };
@@ -115,6 +138,9 @@ pub extern "C" fn stun_types_read_xor_address(
 ) -> CallResult
     ensures { ReadsXorAddress attribute.now bytes.now result address.old address.new }
 {
+    if is_plain_type(attribute.atype) {
+        return plain(codes::BAD_ARGUMENT);
+    }
     let Some(value) = value_in(bytes, attribute) else {
         return plain(codes::BAD_ARGUMENT);
     };

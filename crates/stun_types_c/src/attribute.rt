@@ -1,7 +1,8 @@
 //! Attributes, a walk over them, and a look-up.
 
-ghost use Rattle.std.specs.Prelude.{◌≡◌, ◌≤◌, [], false, length, Some, None, MatchOption};
+ghost use Rattle.std.specs.Prelude.{◌≡◌, ◌≤◌, ◌<◌, [], false, length, Some, None, IfSome, MatchOption, slice_get};
 ghost use Rattle.std.specs.Option.{option_map};
+ghost use Rattle.stun_grammar.specs.Showing.{shown};
 ghost use Rattle.stun_read.specs.Iterating.{shown_behind};
 ghost use Rattle.stun_read.specs.LookingUp.{nth};
 ghost use Rattle.stun_types_c.specs.Attributes.{in_c, first_of_type, left, Steps, Tells};
@@ -21,35 +22,75 @@ pub struct ShownAttribute {
     pub length: u16,
 }
 
-/// Where a walk over the attributes stands.
+/// How far a walk over the attributes has come.
 #[repr(C)]
 #[derive(Clone, Copy, Drop)]
 pub struct Cursor {
-    /// The offset of the next attribute's header; 0 at first.
-    pub offset: usize,
-    /// The type of the attribute before it.
-    pub last: u16,
+    /// How many attributes it has yielded.
+    pub index: usize,
+    /// 0.
+    pub reserved: u64,
 }
 
-/// Where a walk goes on: an offset within the bytes, and the type of the attribute before it.
-fn place(bytes: &[u8], cursor: Cursor) -> Option<Cursor>
-    ensures { MatchOption result (left cursor bytes.now ≡ [])
+/// Where what is left of a message's attributes begins.
+#[derive(Clone, Copy)]
+struct Place {
+    /// The offset of the next attribute's header.
+    offset: usize,
+    /// The type of the attribute before it, or 0.
+    last: u16,
+}
+
+/// Where the attributes of a message begin.
+fn start(bytes: &[u8]) -> Option<Place>
+    ensures { MatchOption result (shown bytes.now ≡ [])
         (λ at. (at.offset ≤ length bytes.now)
-        × (left cursor bytes.now ≡ shown_behind at.last at.offset bytes.now)) }
+        × (shown_behind at.last at.offset bytes.now ≡ shown bytes.now)) }
 {
-    if cursor.offset == 0 {
-        return match check_frame(bytes) {
-            Ok(()) => Some(Cursor {
-                offset: MessageHeader::LENGTH,
-                last: 0,
-            }),
-            Err(_) => None,
+    match check_frame(bytes) {
+        Ok(()) => Some(Place {
+            offset: MessageHeader::LENGTH,
+            last: 0,
+        }),
+        Err(_) => None,
+    }
+}
+
+/// The attribute at an index among those that are left.
+fn nth_from(bytes: &[u8], from: Place, index: usize) -> Option<ShownAttribute>
+    requires { from.offset ≤ length bytes.now }
+    ensures found { option_map in_c
+        (slice_get (shown_behind from.last from.offset bytes.now) index) ≡ result }
+    ensures few { IfSome result (λ _. index < length bytes.now) }
+{
+    let mut at = from;
+    let mut before = index;
+    while let Some((raw, behind)) = shown_at(bytes, at.offset, at.last) {
+        let header = raw.header();
+        let last = header.get_type().value();
+        if before == 0 {
+            return Some(ShownAttribute {
+                value_at: at.offset + 4,
+                atype: last,
+                length: header.length(),
+            });
+        }
+        before -= 1;
+        at = Place {
+            offset: behind,
+            last,
         };
     }
-    if cursor.offset > bytes.len() {
-        return None;
-    }
-    Some(cursor)
+    None
+}
+
+/// The attribute at an index among those that a message shows.
+fn nth_shown(bytes: &[u8], index: usize) -> Option<ShownAttribute>
+    ensures found { option_map in_c (slice_get (shown bytes.now) index) ≡ result }
+    ensures few { IfSome result (λ _. index < length bytes.now) }
+{
+    let at = start(bytes)?;
+    nth_from(bytes, at, index)
 }
 
 /// The next attribute that a message shows; false where there are no more, and from then on.
@@ -64,33 +105,26 @@ pub extern "C" fn stun_types_next(
     ensures stays { result ≡ false → cursor.new ≡ cursor.old }
     ensures keeps { result ≡ false → attribute.new ≡ attribute.old }
 {
-    let Some(at) = place(bytes, *cursor) else {
+    if cursor.reserved != 0 {
         return false;
-    };
-    let Some((raw, behind)) = shown_at(bytes, at.offset, at.last) else {
-        return false;
-    };
-    let header = raw.header();
-    let atype = header.get_type().value();
-    *attribute = ShownAttribute {
-        value_at: at.offset + 4,
-        atype,
-        length: header.length(),
-    };
-    *cursor = Cursor {
-        offset: behind,
-        last: atype,
-    };
-    true
+    }
+    match nth_shown(bytes, cursor.index) {
+        Some(found) => {
+            *attribute = found;
+            cursor.index += 1;
+            true
+        }
+        None => false,
+    }
 }
 
 /// The first attribute of a type that a walk has yet to yield.
-fn find_from(bytes: &[u8], cursor: Cursor, atype: u16) -> Option<ShownAttribute>
-    requires { cursor.offset ≤ length bytes.now }
-    ensures { MatchOption (first_of_type atype (shown_behind cursor.last cursor.offset bytes.now))
+fn find_from(bytes: &[u8], from: Place, atype: u16) -> Option<ShownAttribute>
+    requires { from.offset ≤ length bytes.now }
+    ensures { MatchOption (first_of_type atype (shown_behind from.last from.offset bytes.now))
         (result ≡ None) (λ a. result ≡ Some (in_c a)) }
 {
-    let mut at = cursor;
+    let mut at = from;
     while let Some((raw, behind)) = shown_at(bytes, at.offset, at.last) {
         let header = raw.header();
         let last = header.get_type().value();
@@ -101,7 +135,7 @@ fn find_from(bytes: &[u8], cursor: Cursor, atype: u16) -> Option<ShownAttribute>
                 length: header.length(),
             });
         }
-        at = Cursor {
+        at = Place {
             offset: behind,
             last,
         };
@@ -113,8 +147,7 @@ fn find_from(bytes: &[u8], cursor: Cursor, atype: u16) -> Option<ShownAttribute>
 pub(crate) fn first_shown(bytes: &[u8], atype: u16) -> Option<ShownAttribute>
     ensures { option_map in_c (nth bytes.now atype 0) ≡ result }
 {
-    let start = Cursor { offset: 0, last: 0 };
-    let at = place(bytes, start)?;
+    let at = start(bytes)?;
     find_from(bytes, at, atype)
 }
 

@@ -15,6 +15,7 @@ use crate::codes;
 use crate::keys::{algorithm_of, number_of};
 use crate::password_algorithms::{FewAlgorithms, algorithms_of};
 use crate::shared_key::SharedKey;
+use crate::usages::shortest_of;
 use std::alloc::{AllocError, Global};
 use stun_authentication::{
     Authentication, Identity, KnownNonce, LongTermKeys, Nonces, Policy, ShortTermKeys,
@@ -30,10 +31,12 @@ use stun_types::message::keys::IntegrityKey;
 pub struct CountedIntegrity {
     /// The number of an algorithm, or 0 for both.
     pub algorithm: u32,
-    /// How many bytes a MESSAGE-INTEGRITY-SHA256 has at least.
+    /// How many bytes a MESSAGE-INTEGRITY-SHA256 has at least: 16, 20, 24, 28 or 32, and 0 for 32.
     pub shortest: u32,
     /// 0, unless the usage uses FINGERPRINT: a message without one is then discarded.
     pub fingerprint: u32,
+    /// 0.
+    pub reserved: u32,
 }
 
 /// What becomes of a message that a server authenticates.
@@ -48,6 +51,8 @@ pub struct Authenticated {
     pub algorithm: u32,
     /// The algorithm that the reply is signed by.
     pub reply_algorithm: u32,
+    /// 0.
+    pub reserved: u64,
 }
 
 /// What a call leaves that decides nothing.
@@ -56,6 +61,7 @@ const UNDECIDED: Authenticated = Authenticated {
     error_code: 0,
     algorithm: 0,
     reply_algorithm: 0,
+    reserved: 0,
 };
 
 /// The key of the one user that a caller has looked up, by either password algorithm.
@@ -139,22 +145,26 @@ fn nonce_of(state: u32, algorithms: &[u16]) -> Option<OneNonce>
         return None;
     }
     Some(OneNonce {
-        is_valid: state == 0,
+        is_valid: state == 1,
         sent,
     })
 }
 
 /// The policy of C's numbers.
-fn policy_of(counted: &CountedIntegrity) -> Option<Policy>
+pub(crate) fn policy_of(counted: &CountedIntegrity) -> Option<Policy>
     ensures { result ≡ policy_named counted.now }
 {
+    if counted.reserved != 0 {
+        return None;
+    }
     let algorithm = match counted.algorithm {
         0 => None,
         number => Some(algorithm_of(number)?),
     };
+    let shortest = shortest_of(counted.shortest)?;
     Some(Policy {
         algorithm,
-        shortest: counted.shortest as usize,
+        shortest,
         fingerprint: counted.fingerprint != 0,
     })
 }
@@ -169,12 +179,14 @@ fn in_c(answer: &Authentication) -> Authenticated
             error_code: 0,
             algorithm: number_of(accepted.algorithm),
             reply_algorithm: number_of(accepted.reply_algorithm),
+            reserved: 0,
         },
         Authentication::Refused(refusal) => Authenticated {
             kind: 2,
             error_code: u32::from(refusal.code()),
             algorithm: 0,
             reply_algorithm: 0,
+            reserved: 0,
         },
         Authentication::Discarded => Authenticated {
             kind: 3,

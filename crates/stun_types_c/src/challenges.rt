@@ -32,11 +32,13 @@ pub struct Asked {
     /// How many bytes it has.
     pub algorithms_length: usize,
     /// The number of the password algorithm of the key.
-    pub password_algorithm: u16,
+    pub password_algorithm: u32,
     /// 1 where the request names its user by USERHASH.
-    pub anonymous: u16,
+    pub anonymous: u32,
     /// The number of the algorithm by which the request is signed.
     pub integrity_algorithm: u32,
+    /// 0.
+    pub reserved: u32,
 }
 
 /// Why a request isn't sent again.
@@ -77,8 +79,9 @@ fn in_c(response: &[u8], challenge: &Challenge<'_>) -> Asked
             PasswordAlgorithmValue::MD5 => 1,
             PasswordAlgorithmValue::SHA256 => 2,
         },
-        anonymous: u16::from(challenge.is_anonymous()),
+        anonymous: u32::from(challenge.is_anonymous()),
         integrity_algorithm: number_of(challenge.integrity_algorithm()),
+        reserved: 0,
     }
 }
 

@@ -48,3 +48,5 @@ pub const INCOMPLETE: u32 = 21;
 pub const NO_ALGORITHM: u32 = 22;
 /// The credentials were refused already.
 pub const SAME_CREDENTIALS: u32 = 23;
+/// The HMAC is right, and has fewer bytes than the policy asks for.
+pub const HMAC_TOO_SHORT: u32 = 24;

@@ -1,32 +1,32 @@
-//! Making keys, and validating messages with them.
+//! Making, copying and reading keys.
 
-ghost use Rattle.std.specs.Prelude.{◌≡◌, true, false, None, MatchOption, MatchResult};
+ghost use Rattle.std.specs.Prelude.{◌≡◌, true, None, Err, All, IsOkAnd, MatchResult};
+ghost use Rattle.stun_keys.specs.Keys.{key_bytes, IsKey};
 ghost use Rattle.std.specs.Str.{is_utf8};
 ghost use Rattle.std.specs.String.{string_bytes};
 ghost use Rattle.stun_types_c.specs.KeyHandles.{held_key, shared_key};
-ghost use Rattle.stun_types_c.specs.Keys.{algorithm_named, number_of, Holds, HoldsNamed, HoldsMade, TellsVerdict, ValidatesWith};
-ghost use Rattle.stun_types_c.specs.Credentials.{RefusesText, IsLongTerm, RefusesLongTerm, HoldsLongTerm, ValidatesShortTerm, ValidatesLongTerm, TellsUserhash};
+ghost use Rattle.stun_types_c.specs.Keys.{algorithm_named, number_of, made_for_number, Holds, HoldsNamed, HoldsMade, HoldsCopy, TellsKey};
+ghost use Rattle.stun_types_c.specs.Credentials.{RefusesText, IsLongTerm, RefusesLongTerm, HoldsLongTerm, TellsUserhash};
 
-use crate::call_result::{CallResult, parse_result, plain, validate_result, write_result};
+use crate::call_result::{CallResult, counted, plain, write_result};
 use crate::codes;
 use crate::key_handle::KeyHandle;
 use crate::key_store::{hold, release};
+use crate::password_algorithms::password_of;
 use crate::shared_key::SharedKey;
 use crate::values::text_in;
 use std::alloc::Global;
 use stun_types::attribute::Userhash;
-use stun_types::message::keys::{
-    IntegrityAlgorithm, IntegrityKey, LongTermKeyCredentials, MessageIntegrityCredentials,
-};
-use stun_types::message::{Message, StunWriteError, ValidateError};
+use stun_types::message::StunWriteError;
+use stun_types::message::keys::{IntegrityAlgorithm, IntegrityKey, LongTermKeyCredentials};
 
-/// The algorithm of a number: 1 is SHA-1, 2 is SHA-256.
+/// The algorithm of a number, the type of its integrity attribute.
 pub(crate) fn algorithm_of(number: u32) -> Option<IntegrityAlgorithm>
     ensures { result ≡ algorithm_named number }
 {
     match number {
-        1 => Some(IntegrityAlgorithm::Sha1),
-        2 => Some(IntegrityAlgorithm::Sha256),
+        0x0008 => Some(IntegrityAlgorithm::Sha1),
+        0x001C => Some(IntegrityAlgorithm::Sha256),
         _ => None,
     }
 }
@@ -36,8 +36,8 @@ pub(crate) fn number_of(algorithm: IntegrityAlgorithm) -> u32
     ensures { result ≡ number_of algorithm }
 {
     match algorithm {
-        IntegrityAlgorithm::Sha1 => 1,
-        IntegrityAlgorithm::Sha256 => 2,
+        IntegrityAlgorithm::Sha1 => 0x0008,
+        IntegrityAlgorithm::Sha256 => 0x001C,
     }
 }
 
@@ -59,6 +59,18 @@ fn hold_made(
             }
         }
         Err(error) => write_result(error),
+    }
+}
+
+/// A key that was made, for both algorithms.
+fn for_both(made: Result<IntegrityKey, StunWriteError>) -> Result<IntegrityKey, StunWriteError>
+    ensures { MatchResult made
+        (λ key. IsOkAnd result (IsKey None (key_bytes key)))
+        (λ e. result ≡ Err e) }
+{
+    match made {
+        Ok(key) => Ok(key.for_both()),
+        Err(error) => Err(error),
     }
 }
 
@@ -94,31 +106,65 @@ pub extern "C" fn stun_types_key_from_bytes(
     hold_made(alloc, key, IntegrityKey::new(alloc, bytes, algorithm))
 }
 
-/// Overwrites the bytes of the key, frees it, and leaves a handle with no key. Of such a one it
-/// does nothing.
+/// The key that another handle holds, in a handle of its own.
 #[unsafe(no_mangle)]
-pub extern "C" fn stun_types_key_free(alloc: Global, key: &mut KeyHandle)
-    ensures { held_key key.new ≡ None }
+pub extern "C" fn stun_types_key_copy(
+    alloc: Global,
+    key: &mut KeyHandle,
+    from: &SharedKey,
+) -> CallResult
+    ensures { HoldsCopy (shared_key from.now) result (held_key key.old) (held_key key.new) }
 {
-    release(key, alloc)
+    match from.key() {
+        Some(from) => hold_made(alloc, key, from.clone(alloc)),
+        None => plain(codes::NO_KEY),
+    }
 }
 
-/// Whether a message is authentic under a key.
+/// The number of the algorithm that a key was made for; 0 for a key that serves both.
+fn made_for_number(made_for: Option<IntegrityAlgorithm>) -> u32
+    ensures { result ≡ made_for_number made_for }
+{
+    match made_for {
+        Some(algorithm) => number_of(algorithm),
+        None => 0,
+    }
+}
+
+/// The bytes of a key, and the algorithm that it was made for.
 #[unsafe(no_mangle)]
-pub extern "C" fn stun_types_validate(
-    bytes: &[u8],
+pub extern "C" fn stun_types_key_bytes(
     key: &SharedKey,
+    room: &mut [u8],
+    written: &mut usize,
     algorithm: &mut u32,
 ) -> CallResult
-    ensures { ValidatesWith (shared_key key.now) bytes.now result algorithm.old algorithm.new }
+    ensures { TellsKey (shared_key key.now) result
+        (record { slice = room.old; count = written.old; algorithm = algorithm.old })
+        (record { slice = room.new; count = written.new; algorithm = algorithm.new }) }
 {
-    let message = match Message::from_bytes(bytes) {
-        Ok(message) => message,
-        Err(error) => return parse_result(error),
+    let Some(key) = key.key() else {
+        return plain(codes::NO_KEY);
     };
-    match key.key() {
-        Some(key) => store_algorithm(message.validate_integrity_with_key(key), algorithm),
-        None => plain(codes::NO_KEY),
+    let bytes = key.as_bytes();
+    let count = bytes.len();
+    if room.len() < count {
+        return counted(codes::TOO_SMALL, count, room.len());
+    }
+    room[..count].copy_from_slice(bytes);
+    *written = count;
+    *algorithm = made_for_number(key.algorithm());
+    plain(codes::OK)
+}
+
+/// Overwrites the bytes of the keys, frees them, and leaves handles with no key. Of such a one it
+/// does nothing.
+#[unsafe(no_mangle)]
+pub extern "C" fn stun_types_keys_free(alloc: Global, keys: &mut [KeyHandle])
+    ensures { All (λ key. held_key key ≡ None) keys.new }
+{
+    for key in keys.iter_mut() {
+        release(key, alloc);
     }
 }
 
@@ -138,7 +184,7 @@ fn text_of(alloc: Global, bytes: &[u8]) -> Result<String, CallResult>
 }
 
 /// The long-term credentials of C's bytes.
-fn long_term_of(
+pub(crate) fn long_term_of(
     alloc: Global,
     user: &[u8],
     realm: &[u8],
@@ -153,7 +199,7 @@ fn long_term_of(
     Ok(LongTermKeyCredentials::new(user, password, realm))
 }
 
-/// The key of a long-term credential.
+/// The key of a long-term credential by a password algorithm. It serves both integrity attributes.
 #[unsafe(no_mangle)]
 pub extern "C" fn stun_types_key_long_term(
     alloc: Global,
@@ -166,72 +212,13 @@ pub extern "C" fn stun_types_key_long_term(
     ensures { HoldsLongTerm algorithm user.now realm.now password.now result
         (held_key key.old) (held_key key.new) }
 {
-    let Some(algorithm) = algorithm_of(algorithm) else {
+    let Some(algorithm) = password_of(algorithm) else {
         return plain(codes::BAD_ARGUMENT);
     };
     match long_term_of(alloc, user, realm, password) {
-        Ok(credentials) => hold_made(alloc, key, credentials.make_key(alloc, algorithm)),
-        Err(answer) => answer,
-    }
-}
-
-/// Stores the algorithm by which a message is valid; what the call returns.
-fn store_algorithm(
-    verdict: Result<IntegrityAlgorithm, ValidateError>,
-    algorithm: &mut u32,
-) -> CallResult
-    ensures { TellsVerdict verdict result algorithm.old algorithm.new }
-{
-    match verdict {
-        Ok(checked) => {
-            *algorithm = number_of(checked);
-            plain(codes::OK)
-        }
-        Err(error) => validate_result(error),
-    }
-}
-
-/// Whether a message is authentic under a password.
-#[unsafe(no_mangle)]
-pub extern "C" fn stun_types_validate_short_term(
-    alloc: Global,
-    bytes: &[u8],
-    password: &[u8],
-    algorithm: &mut u32,
-) -> CallResult
-    ensures { ValidatesShortTerm password.now bytes.now result algorithm.old algorithm.new }
-{
-    let message = match Message::from_bytes(bytes) {
-        Ok(message) => message,
-        Err(error) => return parse_result(error),
-    };
-    match IntegrityKey::new(alloc, password, None) {
-        Ok(key) => store_algorithm(message.validate_integrity_with_key(&key), algorithm),
-        Err(error) => write_result(error),
-    }
-}
-
-/// Whether a message is authentic under a long-term credential.
-#[unsafe(no_mangle)]
-pub extern "C" fn stun_types_validate_long_term(
-    alloc: Global,
-    bytes: &[u8],
-    user: &[u8],
-    realm: &[u8],
-    password: &[u8],
-    algorithm: &mut u32,
-) -> CallResult
-    ensures { ValidatesLongTerm user.now realm.now password.now bytes.now result
-        algorithm.old algorithm.new }
-{
-    let message = match Message::from_bytes(bytes) {
-        Ok(message) => message,
-        Err(error) => return parse_result(error),
-    };
-    match long_term_of(alloc, user, realm, password) {
-        Ok(long) => {
-            let credentials = MessageIntegrityCredentials::from(long);
-            store_algorithm(message.validate_integrity(alloc, &credentials), algorithm)
+        Ok(credentials) => {
+            let made = credentials.make_key(alloc, algorithm.as_integrity());
+            hold_made(alloc, key, for_both(made))
         }
         Err(answer) => answer,
     }

@@ -10,6 +10,7 @@ mod box_parts;
 mod call_result;
 mod challenges;
 mod channels;
+mod code_texts;
 pub mod codes;
 mod key_handle;
 mod key_place;
@@ -26,7 +27,10 @@ mod shared_place;
 mod streams;
 mod transactions;
 mod type_list;
+mod usages;
+mod validating;
 mod values;
+mod versions;
 mod writing;
 
 pub use address::{Address, stun_types_read_address, stun_types_read_xor_address};
@@ -41,12 +45,12 @@ pub use channels::{
     ChannelMessage, stun_types_channel_data_length, stun_types_protocol_of,
     stun_types_read_channel_data, stun_types_write_channel_data,
 };
+pub use code_texts::stun_types_text;
 pub use key_handle::KeyHandle;
 pub use key_store::{handle_may_be_shared, handle_may_go_to_another_thread};
 pub use keys::{
-    Hash, stun_types_key_free, stun_types_key_from_bytes, stun_types_key_long_term,
-    stun_types_key_short_term, stun_types_userhash, stun_types_validate,
-    stun_types_validate_long_term, stun_types_validate_short_term,
+    Hash, stun_types_key_bytes, stun_types_key_copy, stun_types_key_from_bytes,
+    stun_types_key_long_term, stun_types_key_short_term, stun_types_keys_free, stun_types_userhash,
 };
 pub use laws::{asked_texts_stand_where_they_are_told, found_value_stands_where_it_is_told};
 pub use printing::stun_types_print;
@@ -64,7 +68,15 @@ pub use transactions::{
     stun_types_transaction_stop_sending, what_begins_is_kept,
 };
 pub use type_list::{stun_types_read_types, stun_types_unknown_types};
+pub use validating::{
+    Validated, stun_types_validate, stun_types_validate_by_policy, stun_types_validate_long_term,
+    stun_types_validate_short_term,
+};
 pub use values::stun_types_read_error;
+pub use versions::{
+    NoKey, stun_types_cursor_first, stun_types_key_none, stun_types_schedule_default,
+    stun_types_version,
+};
 pub use writing::{
     stun_types_add, stun_types_add_address, stun_types_add_error, stun_types_add_fingerprint,
     stun_types_add_integrity, stun_types_add_unknown_types, stun_types_add_xor_address,

@@ -1,8 +1,8 @@
 //! Lists of password algorithms, by their numbers (RFC 8489, section 18.5).
 
-ghost use Rattle.std.specs.Prelude.{◌≡◌, ◌≤◌, take, if◌then◌else◌};
+ghost use Rattle.std.specs.Prelude.{◌≡◌, ◌≤◌, take};
 ghost use Rattle.std.specs.Option.{option_map};
-ghost use Rattle.stun_types_c.specs.PasswordAlgorithms.{names_password_algorithm, password_algorithm_named, password_algorithms_named};
+ghost use Rattle.stun_types_c.specs.PasswordAlgorithms.{password_numbered, password_algorithms_named};
 
 use stun_types::attribute::PasswordAlgorithmValue;
 
@@ -27,9 +27,8 @@ impl FewAlgorithms {
 }
 
 /// The algorithm of a number.
-fn algorithm_of(number: u16) -> Option<PasswordAlgorithmValue>
-    ensures { result ≡ (if names_password_algorithm number
-        then Some (password_algorithm_named number) else None) }
+pub(crate) fn password_of(number: u32) -> Option<PasswordAlgorithmValue>
+    ensures { result ≡ password_numbered number }
 {
     match number {
         1 => Some(PasswordAlgorithmValue::MD5),
@@ -49,7 +48,7 @@ pub(crate) fn algorithms_of(numbers: &[u16]) -> Option<FewAlgorithms>
     }
     let mut all = [PasswordAlgorithmValue::MD5; MOST];
     for i in 0..numbers.len() {
-        all[i] = algorithm_of(numbers[i])?;
+        all[i] = password_of(u32::from(numbers[i]))?;
     }
     Some(FewAlgorithms {
         all,

@@ -5,6 +5,7 @@ ghost use Rattle.stun_types_c.specs.Printing.{Prints};
 
 use crate::call_result::{CallResult, counted, parse_result, plain};
 use crate::codes;
+use stun_plain_text::write_plain_text;
 use stun_types::message::Message;
 
 /// Writes the text of a message at the start of a slice.
@@ -17,7 +18,7 @@ pub extern "C" fn stun_types_print(bytes: &[u8], text: &mut [u8], written: &mut 
         Err(error) => return parse_result(error),
     };
     let room = text.len();
-    match message.write_text(text) {
+    match write_plain_text(&message, text) {
         Ok(length) => {
             *written = length;
             plain(codes::OK)

@@ -17,6 +17,8 @@ pub struct KeptStream {
     pub pending: usize,
     /// How many bytes the message there has that the last call made whole, or 0.
     pub message: usize,
+    /// 0.
+    pub reserved: u64,
 }
 
 /// Why no message begins where one had to.
@@ -41,6 +43,9 @@ pub extern "C" fn stun_types_stream_push(
     ensures { PushesPiece piece.now buffer.old buffer.new result kept.old kept.new
         taken.old taken.new }
 {
+    if kept.reserved != 0 {
+        return plain(codes::BAD_ARGUMENT);
+    }
     let size = buffer.len();
     let Some(answer) = push_kept(Carries::Messages, buffer, kept.pending, kept.offset, piece) else {
         return plain(codes::BAD_ARGUMENT);
@@ -52,6 +57,7 @@ pub extern "C" fn stun_types_stream_push(
                 offset: pushed.offset,
                 pending: pushed.pending,
                 message: pushed.message.unwrap_or(0),
+                reserved: 0,
             };
             plain(codes::OK)
         }

@@ -10,13 +10,15 @@ ghost use Rattle.stun_transactions.specs.Parts.{state_in, at_state, mechanism_of
 ghost use Rattle.stun_transactions.specs.Terms.{begin_fault};
 ghost use Rattle.stun_transactions.specs.Transactions.{Begins};
 ghost use Rattle.stun_types_c.specs.KeyHandles.{shared_key};
-ghost use Rattle.stun_types_c.specs.Transactions.{transport_numbered, mechanism_numbered, end_number, number_of_end, IsAt, millis_of, waits_fault, Schedules, usage_in, TellsParts, Keeps, KeepsNone, AreSame, with_state, Ends, StopsKept, PollsKept, request_fault, request_answer, signed_in, begun_in_c, BeginsKept, discard_kind, claim_number, proof_number, outcome_in_c, IsCopyFor, Copies, IsOutcome, ReceivesKept};
+ghost use Rattle.stun_types_c.specs.Transactions.{transport_numbered, mechanism_numbered, end_number, number_of_end, IsAt, millis_of, waits_fault, Schedules, usage_named, TellsParts, Keeps, KeepsNone, AreSame, with_state, Ends, StopsKept, PollsKept, request_fault, request_answer, signed_in, begun_in_c, BeginsKept, discard_kind, claim_number, proof_number, outcome_in_c, key_answer, Copies, IsOutcome, ReceivesKept};
 
 use crate::call_result::{CallResult, parse_result, plain};
 use crate::codes;
+use crate::keys::number_of;
 use crate::reading::Id;
 use crate::shared_key::SharedKey;
 use crate::type_list::types_of;
+use crate::usages::shortest_of;
 use std::alloc::Global;
 use std::time::Duration;
 use stun_transactions::{
@@ -43,11 +45,13 @@ pub struct Waits {
     /// How many times the first interval to wait after the last request (Rm of RFC 8489, section
     /// 6.2.1).
     pub last_wait: u32,
-    /// How many bytes a MESSAGE-INTEGRITY-SHA256 of a response has at least; 0 for 32 (RFC 8489,
-    /// section 14.6).
+    /// How many bytes a MESSAGE-INTEGRITY-SHA256 of a response has at least: 16, 20, 24, 28 or 32, and
+    /// 0 for 32 (RFC 8489, section 14.6).
     pub shortest: u32,
     /// Whether the usage sends FINGERPRINT (RFC 8489, section 7): 0 where it doesn't.
     pub fingerprint: u32,
+    /// 0.
+    pub reserved: u64,
 }
 
 /// A transaction, as C keeps it.
@@ -66,10 +70,10 @@ pub struct KeptTransaction {
     pub sent: u32,
     /// The method of the request.
     pub method: u16,
-    /// 0 over UDP, 1 over TCP.
+    /// 1 over UDP, 2 over TCP.
     pub transport: u8,
-    /// 0 for no protection, 1 by a short-term credential, 2 by a long-term one, and 3 for the first
-    /// request by the long-term mechanism.
+    /// 1 by a short-term credential, 2 by a long-term one, 3 for the first request by the long-term
+    /// mechanism, and 4 for no protection.
     pub protection: u8,
     /// 1 for a MESSAGE-INTEGRITY that the request shows, and 2 more for a MESSAGE-INTEGRITY-SHA256.
     pub signed_by: u8,
@@ -79,19 +83,31 @@ pub struct KeptTransaction {
     pub end: u8,
     /// 1 where the caller has stopped sending.
     pub stopped: u8,
+    /// 0.
+    pub reserved: u64,
 }
 
 /// What a transaction wants done.
 #[repr(C)]
 #[derive(Clone, Copy, Drop)]
 pub struct Wanted {
-    /// 0: send; 1: wait; 2: it has ended.
+    /// 0: nothing is decided; 1: send; 2: wait; 3: it has ended.
     pub kind: u32,
     /// How it ended.
     pub end: u32,
     /// Until when to wait, in milliseconds.
     pub until: u64,
+    /// 0.
+    pub reserved: u64,
 }
+
+/// What a call leaves that decides nothing.
+const NOTHING_WANTED: Wanted = Wanted {
+    kind: 0,
+    end: 0,
+    until: 0,
+    reserved: 0,
+};
 
 /// What received bytes are for a transaction.
 #[repr(C)]
@@ -104,15 +120,25 @@ pub struct ReceivedOutcome {
     pub number: u32,
     /// The algorithm by which a response is authenticated, or 0.
     pub algorithm: u32,
+    /// 0.
+    pub reserved: u32,
 }
+
+/// What a call leaves that decides nothing.
+const NOTHING_RECEIVED: ReceivedOutcome = ReceivedOutcome {
+    kind: 0,
+    number: 0,
+    algorithm: 0,
+    reserved: 0,
+};
 
 /// The transport of a number.
 fn transport_of(number: u32) -> Option<TransportType>
     ensures { result ≡ transport_numbered number }
 {
     match number {
-        0 => Some(TransportType::Udp),
-        1 => Some(TransportType::Tcp),
+        1 => Some(TransportType::Udp),
+        2 => Some(TransportType::Tcp),
         _ => None,
     }
 }
@@ -122,10 +148,10 @@ fn mechanism_of(number: u32) -> Option<Option<Mechanism>>
     ensures { result ≡ mechanism_numbered number }
 {
     match number {
-        0 => Some(None),
         1 => Some(Some(Mechanism::ShortTerm)),
         2 => Some(Some(Mechanism::LongTerm)),
         3 => Some(Some(Mechanism::FirstLongTerm)),
+        4 => Some(None),
         _ => None,
     }
 }
@@ -176,19 +202,18 @@ fn schedule_of(waits: &Waits) -> Option<Schedule>
     Some(schedule.with_reliable_timeout(waits.reliable_wait))
 }
 
-/// What C says of responses.
-fn usage_of(waits: &Waits) -> Usage
-    ensures { result ≡ usage_in waits.now }
+/// What C says of responses, if its numbers say something.
+fn usage_of(waits: &Waits) -> Option<Usage>
+    ensures { result ≡ usage_named waits.now }
 {
-    let shortest = if waits.shortest == 0 {
-        32
-    } else {
-        waits.shortest as usize
-    };
-    Usage {
+    if waits.reserved != 0 {
+        return None;
+    }
+    let shortest = shortest_of(waits.shortest)?;
+    Some(Usage {
         shortest,
         fingerprint: waits.fingerprint != 0,
-    }
+    })
 }
 
 /// The moment that is so many milliseconds.
@@ -213,6 +238,9 @@ fn meant_parts(kept: &KeptTransaction) -> Option<TransactionParts>
     if kept.signed_by > 3 || kept.violated > 1 || kept.stopped > 1 {
         return None;
     }
+    if kept.reserved != 0 {
+        return None;
+    }
     if !Method::is_valid(kept.method) {
         return None;
     }
@@ -224,7 +252,7 @@ fn meant_parts(kept: &KeptTransaction) -> Option<TransactionParts>
         sha1: kept.signed_by % 2 == 1,
         sha256: kept.signed_by > 1,
         mechanism: mechanism_of(u32::from(kept.protection))?,
-        usage: usage_of(&kept.schedule),
+        usage: usage_of(&kept.schedule)?,
         sent: kept.sent,
         last: moment_of(kept.last),
         clock: moment_of(kept.clock),
@@ -275,6 +303,22 @@ fn signed_request(message: &Message<'_>, protected: bool) -> Result<u8, CallResu
     }
 }
 
+/// Why the key that a handle holds isn't that of a request that this mechanism protects.
+fn key_answer(mechanism: Option<Mechanism>, key: &SharedKey) -> Option<CallResult>
+    ensures { result ≡ key_answer mechanism (shared_key key.now) }
+{
+    if !has_key(mechanism) {
+        return None;
+    }
+    let Some(key) = key.key() else {
+        return Some(plain(codes::NO_KEY));
+    };
+    if matches!(mechanism, Some(Mechanism::LongTerm)) && key.algorithm().is_some() {
+        return Some(plain(codes::BAD_ARGUMENT));
+    }
+    None
+}
+
 /// Begins the transaction of a request.
 #[tactic(auto, using(stun_grammar::proofs::HeadersLemmas::header_there, stun_grammar::proofs::ParsingLemmas::parsed_header))]
 #[unsafe(no_mangle)]
@@ -294,7 +338,7 @@ pub extern "C" fn stun_types_transaction_begin(
         Ok(message) => message,
         Err(error) => return parse_result(error),
     };
-    if transport_of(transport).is_none() {
+    if transport_of(transport).is_none() || usage_of(schedule).is_none() {
         return plain(codes::BAD_ARGUMENT);
     }
     let Some(mechanism) = mechanism_of(protection) else {
@@ -308,8 +352,8 @@ pub extern "C" fn stun_types_transaction_begin(
         Ok(signed_by) => signed_by,
         Err(answer) => return answer,
     };
-    if protected && key.key().is_none() {
-        return plain(codes::NO_KEY);
+    if let Some(answer) = key_answer(mechanism, key) {
+        return answer;
     }
     let mut id = [0; 12];
     id.copy_from_slice(&request[8..20]);
@@ -326,6 +370,7 @@ pub extern "C" fn stun_types_transaction_begin(
         violated: 0,
         end: 0,
         stopped: 0,
+        reserved: 0,
     };
     plain(codes::OK)
 }
@@ -341,6 +386,7 @@ pub extern "C" fn stun_types_transaction_poll(
         (record { kept = kept.old; wanted = wanted.old })
         (record { kept = kept.new; wanted = wanted.new }) }
 {
+    *wanted = NOTHING_WANTED;
     let Some(mut parts) = parts_of(kept) else {
         return plain(codes::BAD_ARGUMENT);
     };
@@ -348,19 +394,18 @@ pub extern "C" fn stun_types_transaction_poll(
     store(kept, &parts);
     *wanted = match action {
         Action::Send => Wanted {
-            kind: 0,
-            end: 0,
-            until: 0,
+            kind: 1,
+            ..NOTHING_WANTED
         },
         Action::WaitUntil(until) => Wanted {
-            kind: 1,
-            end: 0,
+            kind: 2,
             until: millis(until),
+            ..NOTHING_WANTED
         },
         Action::Ended(end) => Wanted {
-            kind: 2,
+            kind: 3,
             end: u32::from(end_number(end)),
-            until: 0,
+            ..NOTHING_WANTED
         },
     };
     plain(codes::OK)
@@ -395,8 +440,7 @@ fn proof_number(proof: Option<IntegrityAlgorithm>) -> u32
 {
     match proof {
         None => 0,
-        Some(IntegrityAlgorithm::Sha1) => 1,
-        Some(IntegrityAlgorithm::Sha256) => 2,
+        Some(algorithm) => number_of(algorithm),
     }
 }
 
@@ -417,18 +461,7 @@ fn outcome_of(received: &Received<'_>) -> ReceivedOutcome
         kind,
         number,
         algorithm,
-    }
-}
-
-/// A copy of the key that a transaction of this mechanism validates with: a long-term key works with
-/// both algorithms (RFC 8489, section 9.2.5).
-fn copy_for(alloc: Global, mechanism: Mechanism, key: &IntegrityKey) -> Option<IntegrityKey>
-    ensures { IfSome result (IsCopyFor mechanism key.now) }
-{
-    let copy = key.clone(alloc).ok()?;
-    match mechanism {
-        Mechanism::LongTerm => Some(copy.for_both()),
-        Mechanism::ShortTerm | Mechanism::FirstLongTerm => Some(copy),
+        reserved: 0,
     }
 }
 
@@ -440,18 +473,15 @@ fn key_for(
 ) -> Result<Option<IntegrityKey>, CallResult>
     ensures { Copies mechanism (shared_key key.now) result }
 {
-    let Some(mechanism) = mechanism else {
-        return Ok(None);
-    };
-    if mechanism == Mechanism::FirstLongTerm {
-        return Ok(None);
+    if let Some(answer) = key_answer(mechanism, key) {
+        return Err(answer);
     }
-    let Some(key) = key.key() else {
-        return Err(plain(codes::NO_KEY));
-    };
-    match copy_for(alloc, mechanism, key) {
-        Some(copy) => Ok(Some(copy)),
-        None => Err(plain(codes::OUT_OF_MEMORY)),
+    match (has_key(mechanism), key.key()) {
+        (true, Some(key)) => match key.clone(alloc) {
+            Ok(copy) => Ok(Some(copy)),
+            Err(_) => Err(plain(codes::OUT_OF_MEMORY)),
+        },
+        _ => Ok(None),
     }
 }
 
@@ -488,6 +518,7 @@ pub extern "C" fn stun_types_transaction_receive(
         (record { kept = kept.old; reported = received.old })
         (record { kept = kept.new; reported = received.new }) }
 {
+    *received = NOTHING_RECEIVED;
     let Some(understood) = types_of(understood) else {
         return plain(codes::BAD_ARGUMENT);
     };
@@ -558,10 +589,12 @@ pub fn numbers_keep_one_transaction()
 #[tactic(auto, using(crate::proofs::KeptLemmas::begun_keeps))]
 pub fn what_begins_is_kept()
     ensures { (d : List ℕ) (waits : Waits) (transport protection now : ℕ) (schedule : Schedule)
-        (over : TransportType) (by : Protection) (moment : Duration) (transaction : Transaction)
-        → Schedules waits schedule → transport_numbered transport ≡ Some over
+        (usage : Usage) (over : TransportType) (by : Protection) (moment : Duration)
+        (transaction : Transaction)
+        → Schedules waits schedule → usage_named waits ≡ Some usage
+        → transport_numbered transport ≡ Some over
         → mechanism_numbered protection ≡ Some (mechanism_of by) → IsAt now moment
         → begin_fault by d ≡ None
-        → Begins d schedule over by (usage_in waits) moment transaction
+        → Begins d schedule over by usage moment transaction
         → Keeps (begun_in_c d waits transport protection now) (parts_of transaction) }
 {}

@@ -11,7 +11,7 @@ ghost use Rattle.stun_types_c.specs.KeyHandles.{shared_key};
 ghost use Rattle.stun_types_c.specs.CallResults.{plain, write_result};
 ghost use Rattle.stun_types_c.specs.Writing.{Begins, AppendsTo, AddsValue, AddsAddress, AddsXorAddress, AddsError, AddsTypes, Signs};
 
-use crate::address::{Address, socket_of};
+use crate::address::{Address, is_plain_type, is_xored_type, socket_of};
 use crate::call_result::{CallResult, counted, plain, write_result};
 use crate::codes;
 use crate::keys::algorithm_of;
@@ -125,6 +125,9 @@ pub extern "C" fn stun_types_add_address(
         (record { slice = room.old; count = written.old })
         (record { slice = room.new; count = written.new }) }
 {
+    if is_xored_type(atype) {
+        return plain(codes::BAD_ARGUMENT);
+    }
     let Some(addr) = socket_of(address) else {
         return plain(codes::BAD_ARGUMENT);
     };
@@ -143,6 +146,9 @@ pub extern "C" fn stun_types_add_xor_address(
         (record { slice = room.old; count = written.old })
         (record { slice = room.new; count = written.new }) }
 {
+    if is_plain_type(atype) {
+        return plain(codes::BAD_ARGUMENT);
+    }
     let (Some(addr), Ok(header)) = (socket_of(address), MessageHeader::from_bytes(room)) else {
         return plain(codes::BAD_ARGUMENT);
     };
@@ -155,7 +161,7 @@ pub extern "C" fn stun_types_add_xor_address(
 pub extern "C" fn stun_types_add_error(
     room: &mut [u8],
     written: &mut usize,
-    code: u16,
+    code: u32,
     reason: &[u8],
 ) -> CallResult
     ensures { AddsError code reason.now result
@@ -164,6 +170,9 @@ pub extern "C" fn stun_types_add_error(
 {
     let Ok(point) = ResumePoint::check(room, *written) else {
         return plain(codes::BAD_ARGUMENT);
+    };
+    let Ok(code) = u16::try_from(code) else {
+        return counted(codes::OUT_OF_RANGE, 699, code as usize);
     };
     if let Err(error) = check_error(code, reason) {
         return write_result(error);
@@ -219,6 +228,7 @@ pub extern "C" fn stun_types_add_integrity(
         return plain(codes::BAD_ARGUMENT);
     };
     match key.key() {
+        Some(key) if !key.serves(algorithm) => plain(codes::BAD_ARGUMENT),
         Some(key) => store_length(
             point.add_message_integrity_with_key(room, key, algorithm),
             written,

@@ -7,7 +7,7 @@ abbrev pub invariant-loop-raw : goal.invariant-loop-raw
 invariant-loop-raw l =
     (l.at.offset ≤ length l.bytes)
     × (first_of_type l.atype (shown_behind l.at.last l.at.offset l.bytes)
-    ≡ first_of_type l.atype (shown_behind l.fn.cursor.last l.fn.cursor.offset l.bytes))
+    ≡ first_of_type l.atype (shown_behind l.fn.from.last l.fn.from.offset l.bytes))
 
 abbrev pub decreases-loop-raw : goal.decreases-loop-raw
 decreases-loop-raw l = length l.bytes - l.at.offset

@@ -12,6 +12,7 @@ returns c = record {
   signed = signed_told c.args.kept.now.signed_by c.if-kept-gt3.false;
   mechanism = search rules;
   usage = search rules;
+  reserved = search rules;
   state = record {
     sent = refl;
     last = c.moment_of.ensures;

@@ -1,0 +1,70 @@
+// Reads the address in a response, and writes and validates a signed request, as messages.c does.
+#include <cstdio>
+#include <stdexcept>
+#include <string>
+#include <vector>
+#include <stun_types.h>
+
+static const std::vector<uint8_t> response{
+    0x01, 0x01, 0x00, 0x0c, 0x21, 0x12, 0xa4, 0x42, 0xb7, 0xe7, 0xa7, 0x01, 0xbc, 0x34, 0xd6, 0x86,
+    0xfa, 0x87, 0xdf, 0xae, 0x00, 0x20, 0x00, 0x08, 0x00, 0x01, 0xa1, 0x47, 0xe1, 0x12, 0xa6, 0x43};
+
+static void check(stun_types_answer answer) {
+    if (answer.code != STUN_TYPES_OK) throw std::runtime_error(stun_types_message_of(answer.code));
+}
+
+// The key of a short-term credential. It is freed with the object, and not copied.
+struct Key {
+    stun_types_key key = STUN_TYPES_NO_KEY_YET;
+    explicit Key(const std::string &password) {
+        check(stun_types_key_short_term(&key, password.data(), password.size()));
+    }
+    ~Key() { stun_types_key_free(&key); }
+    Key(const Key &) = delete;
+    Key &operator=(const Key &) = delete;
+};
+
+static stun_types_address address_in(const std::vector<uint8_t> &message) {
+    stun_types_attribute found;
+    stun_types_address address;
+    const auto bytes = message.data();
+    const auto length = message.size();
+    check(stun_types_parse(bytes, length));
+    if (!stun_types_find(bytes, length, STUN_TYPES_ATTRIBUTE_XOR_MAPPED_ADDRESS, &found))
+        throw std::runtime_error("the response reports no address");
+    check(stun_types_read_xor_address(bytes, length, &found, &address));
+    return address;
+}
+
+static std::vector<uint8_t> signed_request(const std::string &user, const Key &key) {
+    std::vector<uint8_t> room(200);
+    size_t length = 0;
+    stun_types_id id{{1, 2, 3, 4, 5, 6, 7, 8, 9, 10, 11, 12}}; // yours is drawn at random
+    auto type = stun_types_message_type(STUN_TYPES_CLASS_REQUEST, STUN_TYPES_METHOD_BINDING);
+    const auto data = room.data();
+    const auto size = room.size();
+    check(stun_types_begin(data, size, type, &id, &length));
+    check(stun_types_add(data, size, &length, STUN_TYPES_ATTRIBUTE_USERNAME, user.data(),
+                         user.size()));
+    check(stun_types_add_integrity(data, size, &length, &key.key, STUN_TYPES_INTEGRITY_SHA256));
+    check(stun_types_add_fingerprint(data, size, &length));
+    room.resize(length);
+    return room;
+}
+
+int main() try {
+    auto address = address_in(response);
+    auto ip = address.octets;
+    std::printf("%d.%d.%d.%d:%d\n", ip[0], ip[1], ip[2], ip[3], address.port);
+    Key key("wonderland");
+    auto request = signed_request("alice", key);
+    const stun_types_policy strictest{};
+    stun_types_validated validated;
+    check(stun_types_validate_by_policy(request.data(), request.size(), &strictest, &key.key,
+                                        &validated));
+    for (auto byte : request) std::printf("%02x", byte);
+    std::printf("\n");
+} catch (const std::exception &error) {
+    std::fprintf(stderr, "%s\n", error.what());
+    return 1;
+}

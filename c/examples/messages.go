@@ -1,0 +1,73 @@
+// Reads the address in a response, and writes and validates a signed request, as messages.c does.
+package main
+
+// #cgo pkg-config: stun_types
+// #include <stun_types.h>
+import "C"
+
+import (
+	"encoding/hex"
+	"fmt"
+	"log"
+	"net/netip"
+	"unsafe"
+)
+
+const response = "0101000c2112a442b7e7a701bc34d686fa87dfae002000080001a147e112a643"
+
+func check(answer C.stun_types_answer) {
+	if answer.code != C.STUN_TYPES_OK {
+		log.Fatal(C.GoString(C.stun_types_message_of(C.uint32_t(answer.code))))
+	}
+}
+
+// data is the address of the first of some bytes, of which there is at least one.
+func data(bytes []byte) *C.uint8_t {
+	return (*C.uint8_t)(unsafe.Pointer(&bytes[0]))
+}
+
+func addressIn(message []byte) netip.AddrPort {
+	var found C.stun_types_attribute
+	var address C.stun_types_address
+	length := C.size_t(len(message))
+	check(C.stun_types_parse(data(message), length))
+	if !C.stun_types_find(data(message), length, C.STUN_TYPES_ATTRIBUTE_XOR_MAPPED_ADDRESS, &found) {
+		log.Fatal("the response reports no address")
+	}
+	check(C.stun_types_read_xor_address(data(message), length, &found, &address))
+	octets := C.GoBytes(unsafe.Pointer(&address.octets), 16)
+	if address.family == 4 {
+		octets = octets[:4]
+	}
+	ip, _ := netip.AddrFromSlice(octets)
+	return netip.AddrPortFrom(ip, uint16(address.port))
+}
+
+func signedRequest(user []byte, key *C.stun_types_key) []byte {
+	bytes := make([]byte, 200)
+	room, size, length := data(bytes), C.size_t(len(bytes)), C.size_t(0)
+	// Yours is drawn at random.
+	id := C.stun_types_id{bytes: [12]C.uint8_t{1, 2, 3, 4, 5, 6, 7, 8, 9, 10, 11, 12}}
+	kind := C.stun_types_message_type(C.STUN_TYPES_CLASS_REQUEST, C.STUN_TYPES_METHOD_BINDING)
+	check(C.stun_types_begin(room, size, kind, &id, &length))
+	check(C.stun_types_add(room, size, &length, C.STUN_TYPES_ATTRIBUTE_USERNAME,
+		unsafe.Pointer(&user[0]), C.size_t(len(user))))
+	check(C.stun_types_add_integrity(room, size, &length, key, C.STUN_TYPES_INTEGRITY_SHA256))
+	check(C.stun_types_add_fingerprint(room, size, &length))
+	return bytes[:length]
+}
+
+func main() {
+	message, _ := hex.DecodeString(response)
+	fmt.Println(addressIn(message))
+	var key C.stun_types_key
+	password := []byte("wonderland")
+	check(C.stun_types_key_short_term(&key, unsafe.Pointer(&password[0]), C.size_t(len(password))))
+	defer C.stun_types_key_free(&key)
+	request := signedRequest([]byte("alice"), &key)
+	var strictest C.stun_types_policy
+	var validated C.stun_types_validated
+	length := C.size_t(len(request))
+	check(C.stun_types_validate_by_policy(data(request), length, &strictest, &key, &validated))
+	fmt.Println(hex.EncodeToString(request))
+}

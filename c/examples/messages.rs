@@ -1,0 +1,130 @@
+// Reads the address in a response, and writes and validates a signed request, as messages.c does.
+use std::net::Ipv4Addr;
+
+/// The structs, numbers and calls of stun_types.h, named as there.
+#[rustfmt::skip]
+mod stun {
+    #[repr(C)] #[derive(Default)]
+    pub struct Answer { pub code: u32, pub r#type: u32, pub expected: u64, pub actual: u64 }
+    #[repr(C)]
+    pub struct Id { pub bytes: [u8; 12] }
+    #[repr(C)] #[derive(Default)]
+    pub struct Attribute { pub value_at: usize, pub r#type: u16, pub length: u16 }
+    #[repr(C)] #[derive(Default)]
+    pub struct Address { pub octets: [u8; 16], pub port: u16, pub family: u16 }
+    #[repr(C)]
+    pub struct Key { pub at: *mut u8, pub held: u64 }
+    #[repr(C)] #[derive(Default)]
+    pub struct Policy { pub algorithm: u32, pub shortest: u32, pub fingerprint: u32, pub reserved: u32 }
+    #[repr(C)] #[derive(Default)]
+    pub struct Validated { pub algorithm: u32, pub hmac_length: u32, pub reserved: u64 }
+
+    pub const STUN_TYPES_CLASS_REQUEST: u32 = 0;
+    pub const STUN_TYPES_METHOD_BINDING: u32 = 0x001;
+    pub const STUN_TYPES_ATTRIBUTE_USERNAME: u16 = 0x0006;
+    pub const STUN_TYPES_ATTRIBUTE_XOR_MAPPED_ADDRESS: u16 = 0x0020;
+    pub const STUN_TYPES_INTEGRITY_SHA256: u32 = 0x001C;
+
+    #[link(name = "stun_types")]
+    extern "C" {
+        pub fn stun_types_parse(bytes: *const u8, length: usize) -> Answer;
+        pub fn stun_types_find(bytes: *const u8, length: usize, r#type: u16, found: *mut Attribute) -> bool;
+        pub fn stun_types_read_xor_address(bytes: *const u8, length: usize, found: *const Attribute, address: *mut Address) -> Answer;
+        pub fn stun_types_key_short_term(key: *mut Key, password: *const u8, length: usize) -> Answer;
+        pub fn stun_types_keys_free(keys: *mut Key, count: usize);
+        pub fn stun_types_message_type(class: u32, method: u32) -> u16;
+        pub fn stun_types_begin(room: *mut u8, size: usize, r#type: u16, id: *const Id, written: *mut usize) -> Answer;
+        pub fn stun_types_add(room: *mut u8, size: usize, written: *mut usize, r#type: u16, value: *const u8, length: usize) -> Answer;
+        pub fn stun_types_add_integrity(room: *mut u8, size: usize, written: *mut usize, key: *const Key, algorithm: u32) -> Answer;
+        pub fn stun_types_add_fingerprint(room: *mut u8, size: usize, written: *mut usize) -> Answer;
+        pub fn stun_types_validate_by_policy(bytes: *const u8, length: usize, policy: *const Policy, key: *const Key, validated: *mut Validated) -> Answer;
+    }
+}
+use stun::*;
+
+const RESPONSE: &[u8] = b"\x01\x01\x00\x0c\x21\x12\xa4\x42\xb7\xe7\xa7\x01\xbc\x34\xd6\x86\
+    \xfa\x87\xdf\xae\x00\x20\x00\x08\x00\x01\xa1\x47\xe1\x12\xa6\x43";
+
+fn check(answer: Answer) -> Result<(), String> {
+    match answer.code {
+        0 => Ok(()),
+        code => Err(format!("the library returned the code {code}")),
+    }
+}
+
+impl Key {
+    fn short_term(password: &str) -> Result<Key, String> {
+        let (at, held) = (std::ptr::null_mut(), 0);
+        let mut key = Key { at, held };
+        check(unsafe { stun_types_key_short_term(&mut key, password.as_ptr(), password.len()) })?;
+        Ok(key)
+    }
+}
+
+impl Drop for Key {
+    fn drop(&mut self) {
+        unsafe { stun_types_keys_free(self, 1) }
+    }
+}
+
+fn address_in(message: &[u8]) -> Result<(Ipv4Addr, u16), String> {
+    let (bytes, length) = (message.as_ptr(), message.len());
+    let (mut found, mut address) = (Attribute::default(), Address::default());
+    let wanted = STUN_TYPES_ATTRIBUTE_XOR_MAPPED_ADDRESS;
+    check(unsafe { stun_types_parse(bytes, length) })?;
+    if !unsafe { stun_types_find(bytes, length, wanted, &mut found) } {
+        return Err("the response reports no address".to_string());
+    }
+    check(unsafe { stun_types_read_xor_address(bytes, length, &found, &mut address) })?;
+    let [a, b, c, d, ..] = address.octets;
+    Ok((Ipv4Addr::new(a, b, c, d), address.port))
+}
+
+fn signed_request(user: &str, key: &Key) -> Result<Vec<u8>, String> {
+    let (mut room, mut length) = (vec![0; 200], 0);
+    let (data, size, name) = (room.as_mut_ptr(), room.len(), STUN_TYPES_ATTRIBUTE_USERNAME);
+    let bytes = [1, 2, 3, 4, 5, 6, 7, 8, 9, 10, 11, 12]; // yours are drawn at random
+    unsafe {
+        let kind = stun_types_message_type(STUN_TYPES_CLASS_REQUEST, STUN_TYPES_METHOD_BINDING);
+        check(stun_types_begin(
+            data,
+            size,
+            kind,
+            &Id { bytes },
+            &mut length,
+        ))?;
+        check(stun_types_add(
+            data,
+            size,
+            &mut length,
+            name,
+            user.as_ptr(),
+            user.len(),
+        ))?;
+        check(stun_types_add_integrity(
+            data,
+            size,
+            &mut length,
+            key,
+            STUN_TYPES_INTEGRITY_SHA256,
+        ))?;
+        check(stun_types_add_fingerprint(data, size, &mut length))?;
+    }
+    room.truncate(length);
+    Ok(room)
+}
+
+fn main() -> Result<(), String> {
+    let (ip, port) = address_in(RESPONSE)?;
+    println!("{ip}:{port}");
+    let key = Key::short_term("wonderland")?;
+    let request = signed_request("alice", &key)?;
+    let (strictest, mut validated) = (Policy::default(), Validated::default());
+    let (bytes, length) = (request.as_ptr(), request.len());
+    check(unsafe {
+        stun_types_validate_by_policy(bytes, length, &strictest, &key, &mut validated)
+    })?;
+    let hex: String = request.iter().map(|byte| format!("{byte:02x}")).collect();
+    println!("{hex}");
+    Ok(())
+}

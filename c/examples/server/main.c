@@ -1,0 +1,172 @@
+/* A STUN server: it returns to each client the address that its request came from, over UDP and
+ * TCP. docs/SERVER.md says how to run it.
+ *
+ *     cc -std=c11 -O2 -I c FILES libstun_types_c.a liblibc_c.a -o server
+ *     ./server [-t] [-j PROCESSES] [-U USER] [-o NAME=NUMBER].. ADDRESS PORT [ADDRESS PORT]..
+ *
+ * ADDRESS is an IPv4 or IPv6 address of this machine. 0.0.0.0 stands for all its IPv4 addresses,
+ * and :: for all of both families. -h explains the options. A server that is started with open
+ * sockets (LISTEN_FDS) serves these, and takes no addresses.
+ *
+ * Each address has as many processes over UDP as -j says, and all TCP connections have one. A
+ * process over them replaces one that dies or hangs. Whatever a client sends or doesn't read, the
+ * others are served. Nothing is allocated after the start.
+ *
+ * Standard output says where it listens. Standard error has a line for each event, and one with the
+ * counts at SIGHUP, at SIGUSR1 and at the end, which SIGTERM and SIGINT bring.
+ *
+ * The status is 0 if it ran, 1 if it couldn't begin, and 2 if the arguments are wrong. */
+#include "server.h"
+
+server_options options = {
+    .processes = 1,
+    .max_connections = 1024,
+    .idle_timeout = 30,
+    .request_timeout = 5,
+    .max_age = 600,
+    .hang_timeout = 10,
+    .rate = 0,
+    .software = 1,
+    .sandbox = 1,
+};
+
+/* The options that -o sets. */
+static const struct {
+    const char *name;
+    uint32_t *value, least, most;
+    const char *meaning;
+} settings[] = {
+    {"max-connections", &options.max_connections, 1, MOST_CONNECTIONS, "TCP connections at once"},
+    {"idle-timeout", &options.idle_timeout, 1, 86400, "seconds from one whole message to the next"},
+    {"request-timeout", &options.request_timeout, 1, 86400, "seconds from a message's first byte"
+                                                            " to its last"},
+    {"max-age", &options.max_age, 1, 864000, "seconds that a connection may last"},
+    {"hang-timeout", &options.hang_timeout, 2, 86400, "seconds until a hung process is replaced"},
+    {"rate", &options.rate, 0, 1000000, "answers a second over UDP to one /24 of IPv4 or /56 of"
+                                        " IPv6; 0: any"},
+    {"software", &options.software, 0, 1, "1: replies have a SOFTWARE"},
+    {"sandbox", &options.sandbox, 0, 1, "1: processes are confined by seccomp and Landlock"},
+};
+
+bool cannot(const char *what) {
+    fprintf(stderr, "server: %s: %s\n", what, strerror(errno));
+    return false;
+}
+
+static int print_usage(FILE *to) {
+    fprintf(to, "usage: server [-t] [-j PROCESSES] [-U USER] [-o NAME=NUMBER].. ADDRESS PORT "
+                "[ADDRESS PORT]..\n"
+                "       server -h | -V\n");
+    return to == stdout ? 0 : 2;
+}
+
+static int print_help(void) {
+    print_usage(stdout);
+    printf("\n"
+           "ADDRESS            an IP address of this machine; 0.0.0.0 or :: stands for all\n"
+           "PORT               1 to 65535\n"
+           "-t                 serve TCP too\n"
+           "-j PROCESSES       1 to %d for each address over UDP; 1 unless it is given\n"
+           "-U USER            run with this user's rights once the sockets are open\n"
+           "-o NAME=NUMBER     set one of these (least to most, default):\n",
+           MOST_WORKERS);
+    for (size_t i = 0; i < sizeof settings / sizeof *settings; i++) {
+        printf("   %-16s%s (%u to %u, %u)\n", settings[i].name, settings[i].meaning,
+               (unsigned)settings[i].least, (unsigned)settings[i].most,
+               (unsigned)*settings[i].value);
+    }
+    return fflush(stdout) == 0 ? 0 : 1;
+}
+
+static int print_version(void) {
+#ifdef STUN_TYPES_VERSION_TEXT
+    printf("server of stun_types %s\n", STUN_TYPES_VERSION_TEXT);
+#else
+    printf("server of stun_types\n");
+#endif
+    return fflush(stdout) == 0 ? 0 : 1;
+}
+
+/* ---- Arguments ------------------------------------------------------------------------------- */
+
+/* Reads NAME=NUMBER. */
+static bool read_setting(const char *text) {
+    const char *equals = strchr(text, '=');
+    if (equals == NULL) return false;
+    size_t length = (size_t)(equals - text);
+    for (size_t i = 0; i < sizeof settings / sizeof *settings; i++) {
+        if (strlen(settings[i].name) != length || memcmp(text, settings[i].name, length) != 0) {
+            continue;
+        }
+        return read_number(equals + 1, settings[i].least, settings[i].most, settings[i].value);
+    }
+    return false;
+}
+
+static bool read_option(int option, const char *value) {
+    switch (option) {
+    case 't': return options.tcp = true;
+    case 'j': return read_number(value, 1, MOST_WORKERS, &options.processes);
+    case 'U': return *(options.user = value) != 0;
+    case 'o': return read_setting(value);
+    default: return false;
+    }
+}
+
+/* Reads the addresses. Returns how many there are; 0: they are none, or wrong. */
+static size_t read_addresses(char **arguments, int count, socket_address *addresses) {
+    size_t read = 0;
+    if (count % 2 != 0 || count / 2 > MOST_WORKERS) return 0;
+    for (; read < (size_t)count / 2; read++) {
+        const char *address = arguments[2 * read], *port = arguments[2 * read + 1];
+        if (!read_address(address, port, 0, &addresses[read])) return 0;
+        if (!has_port(&addresses[read])) return 0;
+    }
+    return read * options.processes <= MOST_WORKERS ? read : 0;
+}
+
+/* ---- Start ----------------------------------------------------------------------------------- */
+
+/* Opens all sockets, and prepares what is to be there before rights are given up. */
+static bool open_all(endpoints *opened, const socket_address *addresses, size_t count,
+                     uint32_t passed) {
+    size_t listeners = 0;
+    for (size_t i = 0; i < count; i++) {
+        if (!open_address(opened, &addresses[i])) return false;
+    }
+    for (uint32_t i = 0; i < passed; i++) {
+        if (!take_socket(opened, FIRST_PASSED + (int)i)) return false;
+    }
+    for (size_t i = 0; i < opened->count; i++) listeners += opened->all[i].stream;
+    connect_notify();
+    return listeners == 0 || make_connections(listeners);
+}
+
+static int run(const socket_address *addresses, size_t count, uint32_t passed) {
+    static endpoints opened;
+    sigset_t signals = awaited_signals();
+    rate_table *rates = NULL;
+    sigprocmask(SIG_BLOCK, &signals, NULL);
+    signal(SIGPIPE, SIG_IGN);
+    if (!open_all(&opened, addresses, count, passed)) return 1;
+    if (options.rate > 0 && (rates = make_rate_table()) == NULL) return 1;
+    if (options.user != NULL && !become_user(options.user)) return 1;
+    return supervise(&opened, rates) ? 0 : 1;
+}
+
+int main(int count, char **arguments) {
+    static socket_address addresses[MOST_WORKERS];
+    static char line[1024];
+    int option;
+    setvbuf(stderr, line, _IOLBF, sizeof line); /* each line is written at once */
+    while ((option = getopt(count, arguments, "+:tj:U:o:hV")) != -1) {
+        if (option == 'h') return print_help();
+        if (option == 'V') return print_version();
+        if (!read_option(option, optarg)) return print_usage(stderr);
+    }
+    uint32_t passed = passed_sockets();
+    int words = count - optind;
+    size_t read = read_addresses(arguments + optind, words, addresses);
+    if (passed > 0 ? words > 0 : read == 0) return print_usage(stderr);
+    return run(addresses, read, passed);
+}

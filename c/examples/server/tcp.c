@@ -1,0 +1,345 @@
+/* Serving TCP: one process has all connections. */
+#include "server.h"
+
+#include <netinet/tcp.h>
+#include <sys/epoll.h>
+#include <sys/mman.h>
+#include <sys/resource.h>
+
+enum {
+    PIECE = 4096,    /* bytes read at once */
+    REPLIES = 65536, /* bytes of replies that wait to be sent */
+    SECOND = 1000,
+    CLOSING_TIME = 2000, /* both in milliseconds */
+    LISTENERS = MOST_CONNECTIONS /* the number of the first endpoint among the connections */
+};
+
+typedef struct {
+    bool open;
+    bool closing; /* no more is answered: what waits is sent, and then the connection is closed */
+    bool half_closed;
+    int socket;
+    uint32_t awaited; /* EPOLLIN or EPOLLOUT */
+    uint32_t crowd;   /* how many connections its address has, with this one */
+    uint64_t accepted, heard; /* when it was accepted, and when its last message was whole */
+    uint64_t begun;           /* when the first byte of a message came that isn't whole yet */
+    uint64_t closed_at;       /* if it is closing */
+    stun_types_address source;
+    stun_types_stream stream;
+    size_t piece_at, piece_end;
+    size_t replies_at, replies_end;
+} connection;
+
+/* The bytes of a connection, kept apart so that looking through the table is fast. */
+typedef struct {
+    uint8_t message[STUN_TYPES_GREATEST_MESSAGE];
+    uint8_t piece[PIECE];
+    uint8_t replies[REPLIES];
+} connection_bytes;
+
+static struct {
+    connection *connections, *end;
+    connection_bytes *bytes;
+    int poller;
+    bool accepting;
+    uint64_t now; /* when the events that are served were got */
+    const endpoints *endpoints;
+    tally *mine;
+} tcp;
+
+/* ---- The table ------------------------------------------------------------------------------- */
+
+/* As many connections as the process may have: it asks the system for as many files as it may. */
+static size_t most_connections(size_t other_files) {
+    struct rlimit limit;
+    size_t wanted = options.max_connections;
+    if (getrlimit(RLIMIT_NOFILE, &limit) != 0) return 1;
+    if (limit.rlim_cur < wanted + other_files) {
+        limit.rlim_cur = wanted + other_files;
+        if (limit.rlim_cur > limit.rlim_max) limit.rlim_cur = limit.rlim_max;
+        if (setrlimit(RLIMIT_NOFILE, &limit) != 0) return 1;
+    }
+    if (limit.rlim_cur >= wanted + other_files) return wanted;
+    return limit.rlim_cur > other_files ? (size_t)limit.rlim_cur - other_files : 1;
+}
+
+/* Memory of the process, all zeros, that takes room where it is written. */
+static void *zeros(size_t size) {
+    void *at = mmap(NULL, size, PROT_READ | PROT_WRITE, MAP_PRIVATE | MAP_ANONYMOUS | MAP_NORESERVE,
+                    -1, 0);
+    return at == MAP_FAILED ? NULL : at;
+}
+
+bool make_connections(size_t listeners) {
+    enum { OTHER_FILES = 16 + MOST_WORKERS };
+    size_t most = most_connections(OTHER_FILES + listeners);
+    tcp.connections = zeros(most * sizeof *tcp.connections);
+    tcp.bytes = zeros(most * sizeof *tcp.bytes);
+    if (tcp.connections == NULL || tcp.bytes == NULL) return cannot("no memory");
+    tcp.end = tcp.connections + most;
+    if (most < options.max_connections) fprintf(stderr, "event=few-files connections=%zu\n", most);
+    return true;
+}
+
+/* Whether two addresses may be one client's: IPv4 as a whole, IPv6 by its first half. */
+static bool are_neighbours(const stun_types_address *a, const stun_types_address *b) {
+    return a->family == b->family && memcmp(a->octets, b->octets, a->family == 4 ? 4 : 8) == 0;
+}
+
+/* Counts a connection in for its address, or out. */
+static void count_crowd(connection *changed, bool in) {
+    changed->crowd = 0;
+    for (connection *at = tcp.connections; at < tcp.end; at++) {
+        if (at == changed || !at->open || !are_neighbours(&at->source, &changed->source)) continue;
+        if (in) at->crowd++;
+        else at->crowd--;
+        changed->crowd = at->crowd;
+    }
+    if (changed->crowd == 0) changed->crowd = 1;
+}
+
+static void close_connection(connection *closed) {
+    close(closed->socket);
+    closed->open = false;
+    count_crowd(closed, false);
+}
+
+/* The connection that is closed for a new one: of the addresses with most connections, that which
+ * has been idle longest. */
+static connection *find_least_needed(void) {
+    connection *least = tcp.connections;
+    for (connection *at = tcp.connections; at < tcp.end; at++) {
+        if (at->crowd > least->crowd || (at->crowd == least->crowd && at->heard < least->heard)) {
+            least = at;
+        }
+    }
+    return least;
+}
+
+/* A place for a new connection: a free one if there is. */
+static connection *free_place(void) {
+    for (connection *at = tcp.connections; at < tcp.end; at++) {
+        if (!at->open) return at;
+    }
+    connection *least = find_least_needed();
+    close_connection(least);
+    count(tcp.mine, TCP_DISPLACED, 1);
+    return least;
+}
+
+/* ---- Events ---------------------------------------------------------------------------------- */
+
+static bool control(int how, int socket, uint32_t events, size_t number) {
+    struct epoll_event event;
+    memset(&event, 0, sizeof event);
+    event.events = events;
+    event.data.u64 = number;
+    return epoll_ctl(tcp.poller, how, socket, &event) == 0;
+}
+
+static bool await(connection *of, uint32_t events) {
+    if (of->awaited == events) return true;
+    of->awaited = events;
+    return control(EPOLL_CTL_MOD, of->socket, events, (size_t)(of - tcp.connections));
+}
+
+/* ---- A connection ---------------------------------------------------------------------------- */
+
+/* Takes bytes of the piece that was read, and makes the reply to the message that they end. */
+static void answer_piece(connection *of, connection_bytes *bytes) {
+    size_t taken = 0, pending = of->stream.pending;
+    stun_types_answer answer =
+        stun_types_stream_push(&of->stream, bytes->message, sizeof bytes->message,
+                               bytes->piece + of->piece_at, of->piece_end - of->piece_at, &taken);
+    of->piece_at += taken;
+    if (answer.code != STUN_TYPES_OK) of->closing = true;
+    if (pending == 0) of->begun = tcp.now;
+    if (answer.code != STUN_TYPES_OK || of->stream.message == 0) return;
+    size_t length = reply_to(bytes->message, of->stream.message, &of->source,
+                             bytes->replies + of->replies_end);
+    of->replies_end += length;
+    of->heard = tcp.now;
+    count(tcp.mine, TCP_RECEIVED, 1);
+    count(tcp.mine, length > 0 ? TCP_SENT : TCP_UNANSWERED, 1);
+}
+
+/* Answers what was read, as long as there is room for any reply. */
+static void answer_pieces(connection *of, connection_bytes *bytes) {
+    while (!of->closing && of->piece_at < of->piece_end &&
+           of->replies_end + STUN_TYPES_GREATEST_REPLY <= REPLIES) {
+        answer_piece(of, bytes);
+    }
+}
+
+/* What a call on a socket did that waits for nothing. */
+enum { DONE, WOULD_WAIT, BROKEN };
+
+static int failure(void) {
+    return errno == EINTR || errno == EAGAIN ? WOULD_WAIT : BROKEN;
+}
+
+/* Sends the replies that wait. */
+static int send_waiting(connection *of, connection_bytes *bytes) {
+    while (of->replies_at < of->replies_end) {
+        ssize_t sent = send(of->socket, bytes->replies + of->replies_at,
+                            of->replies_end - of->replies_at, MSG_NOSIGNAL);
+        if (sent < 0) return failure();
+        of->replies_at += (size_t)sent;
+    }
+    of->replies_at = of->replies_end = 0;
+    return DONE;
+}
+
+/* Reads a piece. The end of the stream counts as broken: nothing waits to be sent then. */
+static int read_piece(connection *of, connection_bytes *bytes) {
+    ssize_t got = recv(of->socket, bytes->piece, sizeof bytes->piece, 0);
+    if (got < 0) return failure();
+    of->piece_at = 0;
+    of->piece_end = (size_t)got;
+    return got > 0 ? DONE : BROKEN;
+}
+
+/* Lets the client know that no more is sent. What it still sends is read, and dropped: a socket
+ * that is closed with bytes unread would drop the replies on their way. */
+static void half_close(connection *of) {
+    if (of->half_closed) return;
+    of->closing = of->half_closed = true;
+    of->closed_at = tcp.now + CLOSING_TIME;
+    shutdown(of->socket, SHUT_WR);
+}
+
+/* Serves a connection as far as it goes without waiting, but reads one piece at most: then it is
+ * the others' turn. Returns what it waits for, EPOLLIN or EPOLLOUT; 0: it is to be closed. */
+static uint32_t serve_in_turn(connection *of, connection_bytes *bytes) {
+    for (bool has_read = false;; has_read = true) {
+        int ended = of->half_closed ? DONE : send_waiting(of, bytes);
+        while (ended == DONE && !of->closing && of->piece_at < of->piece_end) {
+            answer_pieces(of, bytes);
+            ended = send_waiting(of, bytes);
+        }
+        if (ended == WOULD_WAIT) return EPOLLOUT;
+        if (ended == DONE && of->closing) half_close(of);
+        if (ended == DONE && has_read) return EPOLLIN;
+        if (ended == DONE) ended = read_piece(of, bytes);
+        if (ended == WOULD_WAIT) return EPOLLIN;
+        if (ended == BROKEN) return 0;
+    }
+}
+
+static void serve_connection(connection *of) {
+    uint32_t events = serve_in_turn(of, &tcp.bytes[of - tcp.connections]);
+    if (events == 0 || !await(of, events)) close_connection(of);
+}
+
+/* ---- Accepting ------------------------------------------------------------------------------- */
+
+/* Enters an accepted connection into the table. False: it can't be served. */
+static bool enter(int socket, const struct sockaddr_storage *from) {
+    stun_types_address source;
+    if (!address_of(from, &source)) return false;
+    connection *place = free_place();
+    memset(place, 0, sizeof *place);
+    place->socket = socket;
+    place->source = source;
+    place->awaited = EPOLLIN;
+    place->accepted = place->heard = tcp.now;
+    set_option(socket, IPPROTO_TCP, TCP_NODELAY, 1);
+    if (!control(EPOLL_CTL_ADD, socket, EPOLLIN, (size_t)(place - tcp.connections))) return false;
+    place->open = true;
+    count_crowd(place, true);
+    return true;
+}
+
+/* Waits for connections, or for none. */
+static void accept_more(bool more) {
+    tcp.accepting = more;
+    for (size_t i = 0; i < tcp.endpoints->count; i++) {
+        const endpoint *at = &tcp.endpoints->all[i];
+        if (at->stream) control(EPOLL_CTL_MOD, at->socket, more ? EPOLLIN : 0, LISTENERS + i);
+    }
+}
+
+/* Accepts a connection, and closes it at once if it can't be served. If the system has none to
+ * give, the worker tries again a second later. */
+static void accept_one(const endpoint *by) {
+    struct sockaddr_storage from;
+    socklen_t length = sizeof from;
+    int socket = accept4(by->socket, (struct sockaddr *)&from, &length,
+                         SOCK_NONBLOCK | SOCK_CLOEXEC);
+    if (socket < 0) {
+        bool scarce = errno == EMFILE || errno == ENFILE || errno == ENOBUFS || errno == ENOMEM;
+        if (scarce) accept_more(false);
+    } else if (enter(socket, &from)) {
+        count(tcp.mine, TCP_ACCEPTED, 1);
+    } else {
+        close(socket);
+        count(tcp.mine, TCP_REFUSED, 1);
+    }
+}
+
+/* ---- Time-outs ------------------------------------------------------------------------------- */
+
+static bool is_over(uint64_t since, uint32_t seconds) {
+    return tcp.now - since >= (uint64_t)seconds * SECOND;
+}
+
+/* Why a connection is to be closed, as the count that goes up for it; COUNTS: it isn't. */
+static int overdue(const connection *of) {
+    if (of->stream.pending > 0 && is_over(of->begun, options.request_timeout)) return TCP_SLOW;
+    if (is_over(of->heard, options.idle_timeout)) return TCP_IDLE;
+    if (is_over(of->accepted, options.max_age)) return TCP_AGED;
+    return COUNTS;
+}
+
+/* Closes the connections whose time is over: first in one direction. */
+static void close_overdue(void) {
+    for (connection *at = tcp.connections; at < tcp.end; at++) {
+        if (!at->open) continue;
+        if (at->half_closed) {
+            if (tcp.now >= at->closed_at) close_connection(at);
+            continue;
+        }
+        int why = overdue(at);
+        if (why == COUNTS) continue;
+        count(tcp.mine, why, 1);
+        half_close(at);
+        if (!await(at, EPOLLIN)) close_connection(at);
+    }
+    if (!tcp.accepting) accept_more(true);
+}
+
+/* ---- The run --------------------------------------------------------------------------------- */
+
+static void serve_event(const struct epoll_event *event) {
+    size_t number = (size_t)event->data.u64;
+    if (number >= LISTENERS) accept_one(&tcp.endpoints->all[number - LISTENERS]);
+    else if (tcp.connections[number].open) serve_connection(&tcp.connections[number]);
+}
+
+bool begin_tcp(const endpoints *of, tally *mine) {
+    tcp.endpoints = of;
+    tcp.mine = mine;
+    tcp.poller = epoll_create1(EPOLL_CLOEXEC);
+    if (tcp.poller < 0) return cannot("no epoll");
+    for (size_t i = 0; i < of->count; i++) {
+        if (!of->all[i].stream) continue;
+        if (!control(EPOLL_CTL_ADD, of->all[i].socket, EPOLLIN, LISTENERS + i)) {
+            return cannot("no epoll");
+        }
+    }
+    return tcp.accepting = true;
+}
+
+void serve_tcp(void) {
+    struct epoll_event events[64];
+    uint64_t looked = milliseconds();
+    while (!ending) {
+        raise_by(&tcp.mine->beats, 1);
+        int ready = epoll_wait(tcp.poller, events, 64, SECOND);
+        tcp.now = milliseconds();
+        for (int i = 0; i < ready; i++) serve_event(&events[i]);
+        if (tcp.now - looked < SECOND) continue;
+        looked = tcp.now;
+        close_overdue();
+    }
+}

@@ -1,0 +1,151 @@
+/* Slices of length 0 that are NULL, in each call that takes a slice. */
+#include <string.h>
+
+#include "check.h"
+#include "heap.h"
+#include "keychain.h"
+#include "samples.h"
+#include "tests.h"
+
+static const stun_types_policy strict = {STUN_TYPES_INTEGRITY_ANY, 0, 0, 0};
+static const stun_types_schedule schedule = STUN_TYPES_SCHEDULE;
+static const stun_types_id id = {{0}};
+static const stun_types_address address = {{192, 0, 2, 1}, 32853, 4};
+
+#define NOTHING LENGTHS(STUN_TYPES_TRUNCATED, 20, 0)
+
+static void test_read(void) {
+    stun_types_attribute *attribute = NEW(stun_types_attribute);
+    stun_types_cursor *cursor = NEW(stun_types_cursor);
+    size_t *count = NEW(size_t), *other = NEW(size_t);
+    uint16_t *code = NEW(uint16_t);
+    const slice bytes = hex("0001 0004 2112A442 00*12 000A0000");
+    memset(attribute, 0, sizeof *attribute);
+    memset(cursor, 0, sizeof *cursor);
+    ANSWERS(stun_types_framed_length(NULL, 0, count), OK_ANSWER);
+    CHECK(*count == 0);
+    ANSWERS(stun_types_parse(NULL, 0), NOTHING);
+    ANSWERS(stun_types_read_header(NULL, 0, NEW(stun_types_header)), NOTHING);
+    CHECK(!stun_types_next(NULL, 0, cursor, attribute));
+    CHECK(!stun_types_find(NULL, 0, 1, attribute));
+    ANSWERS(stun_types_read_address(NULL, 0, attribute, NEW(stun_types_address)),
+            LENGTHS(STUN_TYPES_TRUNCATED, 4, 0));
+    ANSWERS(stun_types_read_xor_address(NULL, 0, attribute, NEW(stun_types_address)), NOTHING);
+    ANSWERS(stun_types_read_error(NULL, 0, attribute, code, count, other),
+            LENGTHS(STUN_TYPES_TRUNCATED, 4, 0));
+    ANSWERS(stun_types_read_types(NULL, 0, attribute, NULL, 0, count), OK_ANSWER);
+    CHECK(*count == 0);
+    CHECK(stun_types_unknown_types(NULL, 0, NULL, 0, NULL, 0) == 0);
+    CHECK(stun_types_unknown_types(bytes.bytes, bytes.length, NULL, 0, NULL, 0) == 1);
+    ANSWERS(stun_types_print(NULL, 0, NULL, 0, count), NOTHING);
+    CHECK(stun_types_print(bytes.bytes, bytes.length, NULL, 0, count).code == STUN_TYPES_TOO_SMALL);
+    CHECK(*count == 0);
+}
+
+static void test_made(void) {
+    stun_types_key *key = no_key();
+    stun_types_validated *validated = NEW(stun_types_validated);
+    stun_types_integrity *algorithm = NEW(stun_types_integrity);
+    size_t *count = NEW(size_t);
+    const slice bytes = hex(CHECK_EMPTY);
+    heap_allow(true);
+    ANSWERS(stun_types_key_long_term(key, NULL, 0, NULL, 0, NULL, 0, STUN_TYPES_PASSWORD_MD5),
+            OK_ANSWER);
+    ANSWERS(stun_types_userhash(NULL, 0, NULL, 0, NEW(stun_types_hash)), OK_ANSWER);
+    ANSWERS(stun_types_key_short_term(key, NULL, 0), OK_ANSWER);
+    ANSWERS(stun_types_key_from_bytes(key, NULL, 0, STUN_TYPES_INTEGRITY_ANY), OK_ANSWER);
+    ANSWERS(stun_types_key_bytes(key, NULL, 0, count, algorithm), OK_ANSWER);
+    CHECK(*count == 0 && *algorithm == STUN_TYPES_INTEGRITY_ANY);
+    ANSWERS(stun_types_validate(NULL, 0, key, validated), NOTHING);
+    ANSWERS(stun_types_validate_by_policy(NULL, 0, &strict, key, validated), NOTHING);
+    ANSWERS(stun_types_validate_short_term(NULL, 0, NULL, 0, validated), NOTHING);
+    ANSWERS(stun_types_validate_short_term(bytes.bytes, bytes.length, NULL, 0, validated),
+            OK_ANSWER);
+    ANSWERS(stun_types_validate_long_term(NULL, 0, NULL, 0, NULL, 0, NULL, 0, validated), NOTHING);
+    ANSWERS(stun_types_validate_long_term(bytes.bytes, bytes.length, NULL, 0, NULL, 0, NULL, 0,
+                                          validated),
+            PLAIN(STUN_TYPES_INTEGRITY_FAILED));
+    ANSWERS(stun_types_authenticate_short_term(NULL, 0, &strict, key,
+                                               NEW(stun_types_authentication)),
+            NOTHING);
+    ANSWERS(stun_types_authenticate_long_term(NULL, 0, &strict, STUN_TYPES_NONCE_UNKNOWN, NULL, 0,
+                                              key, key, NEW(stun_types_authentication)),
+            NOTHING);
+    ANSWERS(stun_types_authenticate_long_term(bytes.bytes, bytes.length, &strict,
+                                              STUN_TYPES_NONCE_UNKNOWN, NULL, 0, key, key,
+                                              NEW(stun_types_authentication)),
+            OK_ANSWER);
+    heap_allow(false);
+    stun_types_key_free(key);
+}
+
+static void test_written(void) {
+    size_t *written = NEW(size_t), *other = NEW(size_t);
+    uint8_t *bytes = room(40);
+    stun_types_key *key = password_key(text("pass"));
+    ANSWERS(stun_types_begin(NULL, 0, 1, &id, written), LENGTHS(STUN_TYPES_TOO_SMALL, 20, 0));
+    *written = 0;
+    ANSWERS(stun_types_add(NULL, 0, written, 0x8022, NULL, 0), PLAIN(STUN_TYPES_BAD_ARGUMENT));
+    ANSWERS(stun_types_add_address(NULL, 0, written, 1, &address), PLAIN(STUN_TYPES_BAD_ARGUMENT));
+    ANSWERS(stun_types_add_xor_address(NULL, 0, written, 0x20, &address),
+            PLAIN(STUN_TYPES_BAD_ARGUMENT));
+    ANSWERS(stun_types_add_error(NULL, 0, written, STUN_TYPES_CODE_BAD_REQUEST, NULL, 0),
+            PLAIN(STUN_TYPES_BAD_ARGUMENT));
+    ANSWERS(stun_types_add_unknown_types(NULL, 0, written, NULL, 0), PLAIN(STUN_TYPES_BAD_ARGUMENT));
+    ANSWERS(stun_types_add_integrity(NULL, 0, written, key, STUN_TYPES_INTEGRITY_SHA1),
+            PLAIN(STUN_TYPES_BAD_ARGUMENT));
+    ANSWERS(stun_types_add_fingerprint(NULL, 0, written), PLAIN(STUN_TYPES_BAD_ARGUMENT));
+    ANSWERS(stun_types_begin(bytes, 40, 1, &id, written), OK_ANSWER);
+    ANSWERS(stun_types_add(bytes, 40, written, 0x8022, NULL, 0), OK_ANSWER);
+    ANSWERS(stun_types_add_error(bytes, 40, written, STUN_TYPES_CODE_BAD_REQUEST, NULL, 0),
+            OK_ANSWER);
+    ANSWERS(stun_types_add_unknown_types(bytes, 40, written, NULL, 0), OK_ANSWER);
+    CHECK(*written == 36);
+    ANSWERS(stun_types_binding_reply(NULL, 0, &address, NULL, 0, written), OK_ANSWER);
+    CHECK(*written == 0);
+    ANSWERS(stun_types_write_channel_data(0x4000, NULL, 0, false, NULL, 0, other),
+            LENGTHS(STUN_TYPES_TOO_SMALL, 4, 0));
+    ANSWERS(stun_types_write_channel_data(0x4000, NULL, 0, false, bytes, 40, other), OK_ANSWER);
+    CHECK(*other == 4);
+    ANSWERS(stun_types_channel_data_length(NULL, 0, other), OK_ANSWER);
+    ANSWERS(stun_types_read_channel_data(NULL, 0, NEW(stun_types_channel_data)),
+            LENGTHS(STUN_TYPES_TRUNCATED, 4, 0));
+    stun_types_key_free(key);
+}
+
+static void test_clients_and_streams(void) {
+    stun_types_transaction *transaction = NEW(stun_types_transaction);
+    stun_types_received *received = NEW(stun_types_received);
+    stun_types_challenge *challenge = NEW(stun_types_challenge);
+    stun_types_stream *stream = NEW(stun_types_stream);
+    size_t *taken = NEW(size_t);
+    const slice request = hex(REQUEST), asks = hex(CHALLENGE);
+    ANSWERS(stun_types_transaction_begin(transaction, NULL, 0, &schedule, STUN_TYPES_UDP,
+                                         STUN_TYPES_UNPROTECTED, no_key(), 0),
+            NOTHING);
+    ANSWERS(stun_types_transaction_begin(transaction, request.bytes, request.length, &schedule,
+                                         STUN_TYPES_UDP, STUN_TYPES_UNPROTECTED, no_key(), 0),
+            OK_ANSWER);
+    ANSWERS(stun_types_transaction_receive(transaction, no_key(), NULL, 0, NULL, 0, received),
+            OK_ANSWER);
+    CHECK(received->kind == STUN_TYPES_NOT_FOR_THIS);
+    ANSWERS(stun_types_challenge_of(NULL, 0, NULL, 0, NULL, 0, challenge), NOTHING);
+    ANSWERS(stun_types_challenge_of(asks.bytes, asks.length, NULL, 0, NULL, 0, challenge),
+            PLAIN(STUN_TYPES_NO_ALGORITHM));
+    memset(stream, 0, sizeof *stream);
+    ANSWERS(stun_types_stream_push(stream, NULL, 0, NULL, 0, taken),
+            PLAIN(STUN_TYPES_BAD_ARGUMENT));
+    ANSWERS(stun_types_stream_push(stream, room(20), 20, NULL, 0, taken), OK_ANSWER);
+    CHECK(*taken == 0);
+}
+
+void test_nulls(void) {
+    row("slices that are NULL", "that are read");
+    test_read();
+    row("slices that are NULL", "of which keys are made, and those that are validated");
+    test_made();
+    row("slices that are NULL", "that are written");
+    test_written();
+    row("slices that are NULL", "of clients and streams");
+    test_clients_and_streams();
+}

@@ -1,0 +1,2 @@
+mod ItemsLemmas
+mod EscapingLemmas

@@ -1,0 +1,5 @@
+pub mod NamesOfAll
+pub mod PlainValues
+pub mod Escaping
+pub mod EscapingLaws
+pub mod PlainMessages

@@ -1,0 +1,155 @@
+//! How attributes are printed.
+
+ghost use Rattle.std.specs.Prelude.{◌≡◌, OnOk};
+ghost use Rattle.stun_attrs.specs.Raw.{raw_type, raw_value};
+ghost use Rattle.stun_plain_text.specs.PlainValues.{octets_text, number_text, address_text, xor_address_text, is_number_type, is_address_type, is_xor_address_type, other_value_text, type_text, other_text, malformed_type_text, malformed_text, attribute_text};
+
+use crate::names::type_name;
+use byteorder::{BigEndian, ByteOrder};
+use discovery_attrs::attribute_types::{OTHER_ADDRESS, RESPONSE_ORIGIN};
+use ice_attrs::attribute_types::PRIORITY;
+use stun_attrs::{Attribute, RawAttribute};
+use stun_base::{AttributeType, Hex};
+use stun_grammar::attribute_types::MAPPED_ADDRESS;
+use stun_grammar::put_numbered;
+use stun_text::{PrintText, TextSink, put_decimal, put_socket};
+use stun_values::{read_address, read_value, write_xored};
+use turn_attrs::attribute_types::{LIFETIME, XOR_PEER_ADDRESS, XOR_RELAYED_ADDRESS};
+
+/// Writes bytes in hexadecimal.
+fn put_octets<S: TextSink>(sink: &mut S, value: &[u8]) -> Result<(), S::Error>
+    ensures { OnOk result (S.wrote sink.old (octets_text value.now) sink.new) }
+{
+    sink.put("0x")?;
+    Hex(value).print(sink)?;
+    Ok(())
+}
+
+/// Writes a number of four bytes in decimal.
+fn put_number<S: TextSink>(sink: &mut S, value: &[u8]) -> Result<(), S::Error>
+    ensures { OnOk result (S.wrote sink.old (number_text value.now) sink.new) }
+{
+    if value.len() == 4 {
+        put_decimal(sink, u64::from(BigEndian::read_u32(value)))
+    } else {
+        put_octets(sink, value)
+    }
+}
+
+/// Writes an address.
+fn put_address<S: TextSink>(sink: &mut S, value: &[u8]) -> Result<(), S::Error>
+    ensures { OnOk result (S.wrote sink.old (address_text value.now) sink.new) }
+{
+    match read_address(value) {
+        Ok(addr) => put_socket(sink, addr),
+        Err(_) => put_octets(sink, value),
+    }
+}
+
+/// Writes an address that is XORed.
+fn put_xor_address<S: TextSink>(sink: &mut S, value: &[u8]) -> Result<(), S::Error>
+    ensures { OnOk result (S.wrote sink.old (xor_address_text value.now) sink.new) }
+{
+    match read_address(value) {
+        Ok(addr) => write_xored(sink, addr),
+        Err(_) => put_octets(sink, value),
+    }
+}
+
+/// Whether values of this type are numbers of four bytes.
+fn is_number_type(atype: u16) -> bool
+    ensures { result ≡ is_number_type atype }
+{
+    atype == PRIORITY || atype == LIFETIME
+}
+
+/// Whether they are addresses.
+fn is_address_type(atype: u16) -> bool
+    ensures { result ≡ is_address_type atype }
+{
+    atype == MAPPED_ADDRESS || atype == RESPONSE_ORIGIN || atype == OTHER_ADDRESS
+}
+
+/// Whether they are addresses that are XORed.
+fn is_xor_address_type(atype: u16) -> bool
+    ensures { result ≡ is_xor_address_type atype }
+{
+    atype == XOR_PEER_ADDRESS || atype == XOR_RELAYED_ADDRESS
+}
+
+/// Writes a value of a type that has no typed attribute of RFC 8489.
+fn put_other_value<S: TextSink>(sink: &mut S, atype: u16, value: &[u8]) -> Result<(), S::Error>
+    ensures { OnOk result (S.wrote sink.old (other_value_text atype value.now) sink.new) }
+{
+    if is_number_type(atype) {
+        put_number(sink, value)
+    } else if is_address_type(atype) {
+        put_address(sink, value)
+    } else if is_xor_address_type(atype) {
+        put_xor_address(sink, value)
+    } else {
+        put_octets(sink, value)
+    }
+}
+
+/// Writes a type, by its number and its name.
+fn put_type<S: TextSink>(sink: &mut S, atype: AttributeType) -> Result<(), S::Error>
+    ensures { OnOk result (S.wrote sink.old (type_text atype.0) sink.new) }
+{
+    put_numbered(sink, atype.value(), type_name(atype))
+}
+
+/// Prints an attribute of such a type.
+fn print_other<S: TextSink>(
+    sink: &mut S,
+    atype: AttributeType,
+    value: &[u8],
+) -> Result<(), S::Error>
+    ensures { OnOk result (S.wrote sink.old (other_text atype.0 value.now) sink.new) }
+{
+    put_type(sink, atype)?;
+    sink.put(": ")?;
+    put_other_value(sink, atype.value(), value)?;
+    Ok(())
+}
+
+/// Writes the type of an attribute whose value isn't what it asks for.
+#[tactic(auto, using(stun_text::proofs::Joining::both, stun_text::proofs::Joining::spelled_so))]
+fn put_malformed_type<S: TextSink>(sink: &mut S, atype: AttributeType) -> Result<(), S::Error>
+    ensures { OnOk result (S.wrote sink.old (malformed_type_text atype.0) sink.new) }
+{
+    put_type(sink, atype)?;
+    sink.put("(Malformed): ")?;
+    Ok(())
+}
+
+/// Prints an attribute whose value isn't what its type asks for.
+#[tactic(auto, using(stun_text::proofs::Joining::both, stun_text::proofs::Joining::spelled_so))]
+fn print_malformed<S: TextSink>(
+    sink: &mut S,
+    atype: AttributeType,
+    value: &[u8],
+) -> Result<(), S::Error>
+    ensures { OnOk result (S.wrote sink.old (malformed_text atype.0 value.now) sink.new) }
+{
+    put_malformed_type(sink, atype)?;
+    put_octets(sink, value)?;
+    Ok(())
+}
+
+/// Prints an attribute.
+pub(crate) fn print_attribute<S: TextSink>(
+    raw: &RawAttribute<'_>,
+    sink: &mut S,
+) -> Result<(), S::Error>
+    ensures { OnOk result
+        (S.wrote sink.old (attribute_text (raw_type raw.now) (raw_value raw.now)) sink.new) }
+{
+    let atype = raw.get_type();
+    let value = raw.value().as_bytes();
+    match read_value(atype, value) {
+        Some(Ok(typed)) => typed.print(sink, atype),
+        Some(Err(_)) => print_malformed(sink, atype, value),
+        None => print_other(sink, atype, value),
+    }
+}

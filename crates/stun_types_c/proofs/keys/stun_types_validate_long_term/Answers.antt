@@ -1,9 +1,0 @@
-use Rattle.stun_types_c.proofs.CredentialsLemmas.{long_term_validates}
-use Rattle.stun_types_c.proofs.keys.stun_types_validate_long_term.Goals as goal
-
-pub returns-in-Ok-long_term_of : goal.returns-in-Ok-long_term_of
-returns-in-Ok-long_term_of c =
-    let verdict = rw c.in-Ok.ensures.1 at c.validate_integrity.ensures.verdict in
-    rw c.in-Ok.ensures.0
-    (long_term_validates c.args.user.now c.args.realm.now c.args.password.now c.args.bytes.now c.in-Ok-long_term_of.long c.from-credentials.result c.validate_integrity.result c.store_algorithm.result c.args.algorithm.now c.store_algorithm.new.algorithm
-    c.in-Ok-long_term_of.ensures c.from-credentials.ensures verdict c.store_algorithm.ensures)

@@ -1,0 +1,128 @@
+-- What validating a message tells C (RFC 8489, sections 9.1.3, 9.2.4, 14.5 and 14.6).
+use Rattle.std.specs.Prelude.{◌≡◌, ◌⊎◌, ℕ, List, length, Option, None, Some, Result, Ok, Err, MatchOption, MatchResult, if◌then◌else◌}
+use Rattle.std.specs.Option.{option_map_or}
+use Rattle.stun_grammar.specs.declared.integrity_algorithm.IntegrityAlgorithm.{IntegrityAlgorithm}
+use Rattle.stun_grammar.specs.declared.integrity_algorithm.IntegrityAlgorithm.TheVariants.{Sha1, Sha256}
+use Rattle.stun_grammar.specs.declared.error.ValidateError.{ValidateError}
+use Rattle.stun_grammar.specs.AttributeTypes.{FINGERPRINT}
+use Rattle.stun_grammar.specs.Parsing.{parse_fault}
+use Rattle.stun_grammar.specs.Verdicts.{type_of_algorithm, is_checked_type, verdict}
+use Rattle.stun_keys.specs.declared.keys.integrity_key.IntegrityKey.{IntegrityKey}
+use Rattle.stun_keys.specs.Keys.{key_bytes, key_algorithm}
+use Rattle.stun_read.specs.LookingUp.{nth}
+use Rattle.stun_authentication.specs.declared.policy.Policy.{Policy}
+use Rattle.stun_authentication.specs.Policies.{is_taken, has_least_length}
+use Rattle.stun_types_c.specs.declared.call_result.CallResult.{CallResult}
+use Rattle.stun_types_c.specs.declared.authentication.CountedIntegrity.{CountedIntegrity}
+use Rattle.stun_types_c.specs.declared.validating.Validated.{Validated}
+use Rattle.stun_types_c.specs.Authentication.{policy_named}
+use Rattle.stun_types_c.specs.Codes.{OK, OUT_OF_MEMORY, BAD_ARGUMENT, NO_KEY, MISSING_ATTRIBUTE, HMAC_TOO_SHORT}
+use Rattle.stun_types_c.specs.CallResults.{plain, about, counted, parse_result, validate_result}
+use Rattle.stun_types_c.specs.Keys.{number_of}
+
+-- ---- What C is told
+
+-- how many bytes the HMAC of an algorithm has in d
+abbrev pub hmac_length : IntegrityAlgorithm → List ℕ → ℕ
+hmac_length algorithm d =
+    option_map_or (λ a. length a.value) (nth d (type_of_algorithm algorithm) 0) 0
+
+-- what C reads where nothing is valid: a call that fails writes this
+abbrev pub not_validated : Validated
+not_validated = record { algorithm = 0; hmac_length = 0; reserved = 0 }
+
+-- what was checked of d
+abbrev pub checked_in : List ℕ → IntegrityAlgorithm → Validated
+checked_in d algorithm = record {
+  algorithm = number_of algorithm;
+  hmac_length = hmac_length algorithm d;
+  reserved = 0;
+}
+
+-- a call answers no, and nothing is valid
+abbrev pub Invalidates : CallResult → CallResult → Validated → Type 0
+Invalidates answer result new = (result ≡ answer) × (new ≡ not_validated)
+
+-- ---- With a key, or a credential
+
+-- a verdict on d as C sees it: what was checked, or why the message isn't valid
+abbrev pub TellsVerdict : List ℕ → Result IntegrityAlgorithm ValidateError → CallResult
+    → Validated → Type 0
+TellsVerdict d told result new =
+    MatchResult told
+    (λ algorithm. (result ≡ plain OK) × (new ≡ checked_in d algorithm))
+    (λ e. Invalidates (validate_result e) result new)
+
+-- validating d with the key of a handle: why it is no message, or that there is no key, or the
+-- verdict
+abbrev pub ValidatesWith : Option IntegrityKey → List ℕ → CallResult → Validated → Type 0
+ValidatesWith held d result new =
+    MatchOption (parse_fault d)
+    (MatchOption held (Invalidates (plain NO_KEY) result new)
+    (λ key. TellsVerdict d
+    (verdict (is_checked_type (key_algorithm key)) (λ _. key_bytes key) d) result new))
+    (λ e. Invalidates (parse_result e) result new)
+
+-- ---- By a policy
+
+-- whose attribute is checked by a policy that counts that of one algorithm, or both, with a key that
+-- was made for one, or serves both; none where the key can't serve what counts
+abbrev pub checked_for : (counted made_for : Option IntegrityAlgorithm)
+    → Option (Option IntegrityAlgorithm)
+checked_for None made_for = Some made_for
+checked_for (Some algorithm) None = Some (Some algorithm)
+checked_for (Some Sha1) (Some Sha1) = Some (Some Sha1)
+checked_for (Some Sha256) (Some Sha256) = Some (Some Sha256)
+checked_for (Some Sha1) (Some Sha256) = None
+checked_for (Some Sha256) (Some Sha1) = None
+
+-- the verdict on d with a key, of the attribute that is checked
+abbrev pub verdict_of : (checked : Option IntegrityAlgorithm) → IntegrityKey → List ℕ
+    → Result IntegrityAlgorithm ValidateError
+verdict_of checked key d = verdict (is_checked_type checked) (λ _. key_bytes key) d
+
+-- what a verdict on d is answered by: the HMAC may be right, and have fewer bytes than are asked for
+abbrev pub policy_answer : (shortest : ℕ) → List ℕ → Result IntegrityAlgorithm ValidateError
+    → CallResult
+policy_answer shortest d (Ok algorithm) =
+    if has_least_length shortest algorithm d then plain OK
+    else counted HMAC_TOO_SHORT shortest (hmac_length algorithm d)
+policy_answer shortest d (Err e) = validate_result e
+
+abbrev pub policy_told : (shortest : ℕ) → List ℕ → Result IntegrityAlgorithm ValidateError
+    → Validated
+policy_told shortest d (Ok algorithm) =
+    if has_least_length shortest algorithm d then checked_in d algorithm else not_validated
+policy_told shortest d (Err e) = not_validated
+
+-- the verdict of a key on d, which has the FINGERPRINT that the usage uses
+abbrev pub TellsByPolicy : Policy → IntegrityKey → List ℕ → CallResult → Validated → Type 0
+TellsByPolicy policy key d result new =
+    MatchOption (checked_for policy.algorithm (key_algorithm key))
+    (Invalidates (plain BAD_ARGUMENT) result new)
+    (λ checked.
+    ((result ≡ policy_answer policy.shortest d (verdict_of checked key d))
+    × (new ≡ policy_told policy.shortest d (verdict_of checked key d)))
+    ⊎ Invalidates (plain OUT_OF_MEMORY) result new)
+
+-- why d isn't looked at further: the usage uses FINGERPRINT, and d shows none
+abbrev pub fingerprint_answer : Policy → List ℕ → Option CallResult
+fingerprint_answer policy d =
+    if is_taken policy d then None else Some (about MISSING_ATTRIBUTE FINGERPRINT)
+
+-- the same with whatever message
+abbrev pub ValidatesKey : Policy → IntegrityKey → List ℕ → CallResult → Validated → Type 0
+ValidatesKey policy key d result new =
+    MatchOption (fingerprint_answer policy d)
+    (TellsByPolicy policy key d result new)
+    (λ answer. Invalidates answer result new)
+
+-- validating d by the policy of C's numbers with the key of a handle
+abbrev pub ValidatesBy : CountedIntegrity → Option IntegrityKey → List ℕ → CallResult → Validated
+    → Type 0
+ValidatesBy counted held d result new =
+    MatchOption (parse_fault d)
+    (MatchOption (policy_named counted) (Invalidates (plain BAD_ARGUMENT) result new)
+    (λ policy. MatchOption held (Invalidates (plain NO_KEY) result new)
+    (λ key. ValidatesKey policy key d result new)))
+    (λ e. Invalidates (parse_result e) result new)

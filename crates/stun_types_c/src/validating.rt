@@ -1,0 +1,270 @@
+//! Validating messages.
+
+ghost use Rattle.std.specs.Prelude.{◌≡◌, ◌⊎◌, Ok, Err, MatchOption};
+ghost use Rattle.stun_keys.specs.Keys.{key_algorithm};
+ghost use Rattle.stun_types.specs.Message.{message_bytes};
+ghost use Rattle.stun_types_c.specs.Codes.{BAD_ARGUMENT, OUT_OF_MEMORY};
+ghost use Rattle.stun_types_c.specs.CallResults.{plain};
+ghost use Rattle.stun_types_c.specs.Credentials.{ValidatesShortTerm, ValidatesLongTerm};
+ghost use Rattle.stun_types_c.specs.KeyHandles.{shared_key};
+ghost use Rattle.stun_types_c.specs.Validating.{hmac_length, checked_in, checked_for, verdict_of, policy_answer, policy_told, TellsVerdict, ValidatesWith, ValidatesKey, ValidatesBy};
+
+use crate::authentication::{CountedIntegrity, policy_of};
+use crate::call_result::{
+    CallResult, about, counted, parse_result, plain, validate_result, write_result,
+};
+use crate::codes;
+use crate::keys::{long_term_of, number_of};
+use crate::shared_key::SharedKey;
+use std::alloc::Global;
+use stun_authentication::{Policy, has_least_length};
+use stun_grammar::attribute_types::FINGERPRINT;
+use stun_types::attribute::{
+    AttributeStaticType, Fingerprint, MessageIntegrity, MessageIntegritySha256,
+};
+use stun_types::message::keys::{IntegrityAlgorithm, IntegrityKey, MessageIntegrityCredentials};
+use stun_types::message::{Message, ValidateError};
+
+/// What was checked of a message that is valid.
+#[repr(C)]
+#[derive(Clone, Copy, Drop)]
+pub struct Validated {
+    /// The number of the algorithm; 0 where the message isn't valid.
+    pub algorithm: u32,
+    /// How many bytes its HMAC has.
+    pub hmac_length: u32,
+    /// 0.
+    pub reserved: u64,
+}
+
+/// What a call leaves where the message isn't valid.
+const NOT_VALIDATED: Validated = Validated {
+    algorithm: 0,
+    hmac_length: 0,
+    reserved: 0,
+};
+
+/// How many bytes the HMAC of an algorithm has in a message; 0 where there is none.
+fn hmac_length(message: &Message<'_>, algorithm: IntegrityAlgorithm) -> u16
+    ensures { result ≡ hmac_length algorithm (message_bytes message.now) }
+{
+    let atype = match algorithm {
+        IntegrityAlgorithm::Sha1 => MessageIntegrity::TYPE,
+        IntegrityAlgorithm::Sha256 => MessageIntegritySha256::TYPE,
+    };
+    match message.raw_attribute(atype) {
+        Some(raw) => raw.header().length(),
+        None => 0,
+    }
+}
+
+/// What was checked of a message.
+fn checked_in(message: &Message<'_>, algorithm: IntegrityAlgorithm) -> Validated
+    ensures { result ≡ checked_in (message_bytes message.now) algorithm }
+{
+    Validated {
+        algorithm: number_of(algorithm),
+        hmac_length: u32::from(hmac_length(message, algorithm)),
+        reserved: 0,
+    }
+}
+
+/// Tells C a verdict on a message.
+fn tell_verdict(
+    message: &Message<'_>,
+    verdict: Result<IntegrityAlgorithm, ValidateError>,
+    validated: &mut Validated,
+) -> CallResult
+    ensures { TellsVerdict (message_bytes message.now) verdict result validated.new }
+{
+    match verdict {
+        Ok(algorithm) => {
+            *validated = checked_in(message, algorithm);
+            plain(codes::OK)
+        }
+        Err(error) => {
+            *validated = NOT_VALIDATED;
+            validate_result(error)
+        }
+    }
+}
+
+/// Whether a message is authentic under a key.
+#[unsafe(no_mangle)]
+pub extern "C" fn stun_types_validate(
+    bytes: &[u8],
+    key: &SharedKey,
+    validated: &mut Validated,
+) -> CallResult
+    ensures { ValidatesWith (shared_key key.now) bytes.now result validated.new }
+{
+    *validated = NOT_VALIDATED;
+    let message = match Message::from_bytes(bytes) {
+        Ok(message) => message,
+        Err(error) => return parse_result(error),
+    };
+    match key.key() {
+        Some(key) => tell_verdict(
+            &message,
+            message.validate_integrity_with_key(key),
+            validated,
+        ),
+        None => plain(codes::NO_KEY),
+    }
+}
+
+/// The verdict of a key on a message, of the attribute that counts: by the algorithm of a policy, or
+/// by both.
+fn verdict_by(
+    alloc: Global,
+    message: &Message<'_>,
+    counted: Option<IntegrityAlgorithm>,
+    key: &IntegrityKey,
+) -> Result<Result<IntegrityAlgorithm, ValidateError>, CallResult>
+    ensures { MatchOption (checked_for counted (key_algorithm key.now))
+        (result ≡ Err (plain BAD_ARGUMENT))
+        (λ checked. (result ≡ Ok (verdict_of checked key.now (message_bytes message.now)))
+        ⊎ (result ≡ Err (plain OUT_OF_MEMORY))) }
+{
+    match (counted, key.algorithm()) {
+        (None, _)
+        | (Some(IntegrityAlgorithm::Sha1), Some(IntegrityAlgorithm::Sha1))
+        | (Some(IntegrityAlgorithm::Sha256), Some(IntegrityAlgorithm::Sha256)) => {
+            Ok(message.validate_integrity_with_key(key))
+        }
+        (Some(algorithm), None) => match key.clone(alloc) {
+            Ok(copy) => {
+                let copy = copy.made_for(Some(algorithm));
+                Ok(message.validate_integrity_with_key(&copy))
+            }
+            Err(_) => Err(plain(codes::OUT_OF_MEMORY)),
+        },
+        (Some(_), Some(_)) => Err(plain(codes::BAD_ARGUMENT)),
+    }
+}
+
+/// Tells C a verdict on a message, if its HMAC has at least so many bytes.
+fn tell_long_enough(
+    message: &Message<'_>,
+    shortest: usize,
+    verdict: Result<IntegrityAlgorithm, ValidateError>,
+    validated: &mut Validated,
+) -> CallResult
+    ensures { let d = message_bytes message.now in
+        (result ≡ policy_answer shortest d verdict)
+        × (validated.new ≡ policy_told shortest d verdict) }
+{
+    *validated = NOT_VALIDATED;
+    match verdict {
+        Ok(algorithm) => {
+            if has_least_length(shortest, algorithm, message) {
+                *validated = checked_in(message, algorithm);
+                plain(codes::OK)
+            } else {
+                let length = hmac_length(message, algorithm);
+                counted(codes::HMAC_TOO_SHORT, shortest, length as usize)
+            }
+        }
+        Err(error) => validate_result(error),
+    }
+}
+
+/// Whether a message is authentic under a key, by a policy.
+fn validate_key(
+    alloc: Global,
+    message: &Message<'_>,
+    policy: Policy,
+    key: &IntegrityKey,
+    validated: &mut Validated,
+) -> CallResult
+    ensures { ValidatesKey policy key.now (message_bytes message.now) result validated.new }
+{
+    *validated = NOT_VALIDATED;
+    if policy.fingerprint && !message.has_attribute(Fingerprint::TYPE) {
+        return about(codes::MISSING_ATTRIBUTE, FINGERPRINT);
+    }
+    match verdict_by(alloc, message, policy.algorithm, key) {
+        Ok(verdict) => tell_long_enough(message, policy.shortest, verdict, validated),
+        Err(answer) => answer,
+    }
+}
+
+/// Whether a message is authentic under a key, by a policy.
+#[unsafe(no_mangle)]
+pub extern "C" fn stun_types_validate_by_policy(
+    alloc: Global,
+    bytes: &[u8],
+    policy: &CountedIntegrity,
+    key: &SharedKey,
+    validated: &mut Validated,
+) -> CallResult
+    ensures { ValidatesBy policy.now (shared_key key.now) bytes.now result validated.new }
+{
+    *validated = NOT_VALIDATED;
+    let message = match Message::from_bytes(bytes) {
+        Ok(message) => message,
+        Err(error) => return parse_result(error),
+    };
+    let Some(policy) = policy_of(policy) else {
+        return plain(codes::BAD_ARGUMENT);
+    };
+    match key.key() {
+        Some(key) => validate_key(alloc, &message, policy, key, validated),
+        None => plain(codes::NO_KEY),
+    }
+}
+
+/// Whether a message is authentic under a password.
+#[unsafe(no_mangle)]
+pub extern "C" fn stun_types_validate_short_term(
+    alloc: Global,
+    bytes: &[u8],
+    password: &[u8],
+    validated: &mut Validated,
+) -> CallResult
+    ensures { ValidatesShortTerm password.now bytes.now result validated.new }
+{
+    *validated = NOT_VALIDATED;
+    let message = match Message::from_bytes(bytes) {
+        Ok(message) => message,
+        Err(error) => return parse_result(error),
+    };
+    match IntegrityKey::new(alloc, password, None) {
+        Ok(key) => tell_verdict(
+            &message,
+            message.validate_integrity_with_key(&key),
+            validated,
+        ),
+        Err(error) => write_result(error),
+    }
+}
+
+/// Whether a message is authentic under a long-term credential.
+#[unsafe(no_mangle)]
+pub extern "C" fn stun_types_validate_long_term(
+    alloc: Global,
+    bytes: &[u8],
+    user: &[u8],
+    realm: &[u8],
+    password: &[u8],
+    validated: &mut Validated,
+) -> CallResult
+    ensures { ValidatesLongTerm user.now realm.now password.now bytes.now result validated.new }
+{
+    *validated = NOT_VALIDATED;
+    let message = match Message::from_bytes(bytes) {
+        Ok(message) => message,
+        Err(error) => return parse_result(error),
+    };
+    match long_term_of(alloc, user, realm, password) {
+        Ok(long) => {
+            let credentials = MessageIntegrityCredentials::from(long);
+            tell_verdict(
+                &message,
+                message.validate_integrity(alloc, &credentials),
+                validated,
+            )
+        }
+        Err(answer) => answer,
+    }
+}
