@@ -13,7 +13,7 @@ static const struct {
 } parts[] = {
     {"numbers", test_numbers}, {"reading", test_reading}, {"keys", test_keys},
     {"writing", test_writing}, {"servers", test_servers}, {"clients", test_clients},
-    {"streams", test_streams},
+    {"streams", test_streams}, {"calls", test_calls},
 };
 
 static int is_asked(int count, char **arguments, const char *name) {

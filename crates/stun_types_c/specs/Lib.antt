@@ -9,6 +9,9 @@ pub mod KeyHandles
 pub mod KeyMemory
 pub mod Keys
 pub mod Writing
+pub mod Steps
+pub mod Replying
+pub mod Numbers
 pub mod Server
 pub mod Channels
 pub mod Streams
@@ -19,3 +22,8 @@ pub mod Credentials
 pub mod PasswordAlgorithms
 pub mod Authentication
 pub mod Challenges
+pub mod Answering
+pub mod Finishing
+pub mod Refusals
+pub mod StatelessNonces
+pub mod ManyTransactions

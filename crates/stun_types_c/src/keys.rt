@@ -43,7 +43,7 @@ pub(crate) fn number_of(algorithm: IntegrityAlgorithm) -> u32
 
 /// Prepares a key that was made for the many calls that may use it, and puts it into a handle. With
 /// no memory left to prepare it in, it works as it is.
-fn hold_made(
+pub(crate) fn hold_made(
     alloc: Global,
     key: &mut KeyHandle,
     made: Result<IntegrityKey, StunWriteError>,
@@ -138,7 +138,7 @@ fn text_of(alloc: Global, bytes: &[u8]) -> Result<String, CallResult>
 }
 
 /// The long-term credentials of C's bytes.
-fn long_term_of(
+pub(crate) fn long_term_of(
     alloc: Global,
     user: &[u8],
     realm: &[u8],

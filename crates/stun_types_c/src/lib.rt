@@ -4,6 +4,7 @@
 #![tactic(auto)]
 
 mod address;
+mod answering;
 mod attribute;
 mod authentication;
 mod box_parts;
@@ -11,18 +12,26 @@ mod call_result;
 mod challenges;
 mod channels;
 pub mod codes;
+mod finishing;
 mod key_handle;
 mod key_place;
 mod key_store;
 mod keys;
+mod known_types;
 mod laws;
+mod many_transactions;
 mod new_values;
+mod numbers;
 mod password_algorithms;
 mod printing;
 mod reading;
+mod refusals;
+mod replies;
 mod server;
 mod shared_key;
 mod shared_place;
+mod stateless_nonces;
+mod steps;
 mod streams;
 mod transactions;
 mod type_list;
@@ -30,6 +39,7 @@ mod values;
 mod writing;
 
 pub use address::{Address, stun_types_read_address, stun_types_read_xor_address};
+pub use answering::{stun_types_answer_challenge, stun_types_key_for};
 pub use attribute::{Cursor, ShownAttribute, stun_types_find, stun_types_next};
 pub use authentication::{
     Authenticated, CountedIntegrity, stun_types_authenticate_long_term,
@@ -41,6 +51,7 @@ pub use channels::{
     ChannelMessage, stun_types_channel_data_length, stun_types_protocol_of,
     stun_types_read_channel_data, stun_types_write_channel_data,
 };
+pub use finishing::stun_types_finish_reply;
 pub use key_handle::KeyHandle;
 pub use key_store::{handle_may_be_shared, handle_may_go_to_another_thread};
 pub use keys::{
@@ -48,14 +59,28 @@ pub use keys::{
     stun_types_key_short_term, stun_types_userhash, stun_types_validate,
     stun_types_validate_long_term, stun_types_validate_short_term,
 };
+pub use known_types::stun_types_known_types;
 pub use laws::{asked_texts_stand_where_they_are_told, found_value_stands_where_it_is_told};
+pub use many_transactions::{
+    stun_types_transaction_round_trip, stun_types_transactions_find, stun_types_transactions_next,
+};
+pub use numbers::{
+    stun_types_add_u8, stun_types_add_u16, stun_types_add_u32, stun_types_add_u64,
+    stun_types_read_u8, stun_types_read_u16, stun_types_read_u32, stun_types_read_u64,
+};
 pub use printing::stun_types_print;
 pub use reading::{
     Header, Id, stun_types_framed_length, stun_types_message_type, stun_types_parse,
     stun_types_read_header,
 };
+pub use refusals::{
+    Cookie, stun_types_nonce_cookie, stun_types_refuse_long_term, stun_types_refuse_short_term,
+    stun_types_security_features,
+};
+pub use replies::stun_types_begin_reply;
 pub use server::stun_types_binding_reply;
 pub use shared_key::SharedKey;
+pub use stateless_nonces::{stun_types_judge_nonce, stun_types_make_nonce};
 pub use streams::{KeptStream, stun_types_stream_push};
 pub use transactions::{
     KeptTransaction, ReceivedOutcome, Waits, Wanted, numbers_keep_one_transaction,
