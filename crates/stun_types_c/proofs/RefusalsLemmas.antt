@@ -1,5 +1,5 @@
 -- A refusal that asks for credentials.
-use Rattle.std.proofs.Common.{◌≡◌, ◌⊎◌, ℕ, List, Option, None, Some, sym, subst, inl}
+use Rattle.std.proofs.Common.{◌≡◌, ℕ, List, Option, None, Some, sym, subst, inl}
 use Rattle.std.specs.Prelude.{MatchOption}
 use Rattle.stun_values.specs.declared.algorithm.PasswordAlgorithmValue.{PasswordAlgorithmValue}
 use Rattle.stun_authentication.specs.declared.answer.Refusal.{Refusal}

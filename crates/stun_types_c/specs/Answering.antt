@@ -1,7 +1,7 @@
 -- What a client's next request carries of a challenge, and the key that signs it (RFC 8489, sections
 -- 9.2.2, 9.2.3.2 and 9.2.5).
 use Rattle.std.specs.Prelude.{◌≡◌, ℕ, Bool, List, [], ◌∷◌, length, Option, None, Some, Result, Ok, Err, MatchOption, MatchResult, IsSomeAnd, nat_lt, if◌then◌else◌}
-use Rattle.std.specs.Option.{option_map, option_map_or, option_or}
+use Rattle.std.specs.Option.{option_map_or, option_or}
 use Rattle.stun_grammar.specs.Parsing.{parse_fault}
 use Rattle.stun_keys.specs.declared.keys.integrity_key.IntegrityKey.{IntegrityKey}
 use Rattle.stun_keys.specs.Keys.{IsKey, key_bytes}

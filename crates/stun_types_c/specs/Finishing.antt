@@ -1,5 +1,5 @@
 -- The end of a reply to a message that was accepted (RFC 8489, sections 7, 9.1.3 and 9.2.4).
-use Rattle.std.specs.Prelude.{◌≡◌, Bool, Option, None, MatchOption, ◌==◌, if◌then◌else◌}
+use Rattle.std.specs.Prelude.{Bool, Option, None, MatchOption, ◌==◌, if◌then◌else◌}
 use Rattle.stun_grammar.specs.declared.integrity_algorithm.IntegrityAlgorithm.{IntegrityAlgorithm}
 use Rattle.stun_keys.specs.declared.keys.integrity_key.IntegrityKey.{IntegrityKey}
 use Rattle.stun_keys.specs.Keys.{key_bytes}

@@ -2,7 +2,7 @@
 -- value of an attribute type holds is known of the types of RFC 8489, of ICE (RFC 8445, section
 -- 16.1), of TURN (RFC 8656, section 18; RFC 6062, section 6.2), and of discovery (RFC 5780, section
 -- 7; RFC 7982, section 3.1).
-use Rattle.std.specs.Prelude.{◌≡◌, ℕ, ◌+◌, ◌-◌, ◌^◌, Bool, true, ◌&&◌, ◌||◌, List, [], ◌∷◌, ◌++◌, length, replicate, Option, None, Some, Result, Ok, Err, MatchOption, MatchResult, nat_le, ◌==◌, if◌then◌else◌}
+use Rattle.std.specs.Prelude.{◌≡◌, ℕ, ◌+◌, ◌-◌, ◌^◌, Bool, true, ◌&&◌, List, [], ◌∷◌, ◌++◌, length, replicate, Option, None, Some, Result, Ok, Err, MatchResult, nat_le, ◌==◌, if◌then◌else◌}
 use Rattle.std.specs.Option.{option_map, option_map_or, option_or}
 use Rattle.byteorder.specs.Endian.{big_number}
 use Rattle.stun_grammar.specs.declared.error.StunParseError.{StunParseError}

@@ -1,4 +1,4 @@
-use Rattle.std.proofs.Common.{◌≡◌, ◌<◌, ◌∙◌, get_or, length, set, ap, sym, arith}
+use Rattle.std.proofs.Common.{◌<◌, ◌∙◌, length, set, ap, sym, arith}
 use Rattle.std.proofs.lemmas.List.{get_or-map}
 use Rattle.stun_grammar.specs.declared.attribute_type.AttributeType.{AttributeType}
 use Rattle.stun_transactions.specs.Responses.{own_types}
