@@ -382,11 +382,39 @@ static void check_response(const uint8_t *bytes, size_t length, const model_list
                                                     : (uint32_t)STUN_TYPES_RESPONSE_REFUSED));
 }
 
-static void check_challenge(const uint8_t *bytes, size_t length, stun_types_answer parsed) {
+/* An answer to a challenge is a request that is signed, and reads as the challenge asks. */
+static void check_answer(const uint8_t *bytes, size_t length, const stun_types_challenge *told,
+                         const uint16_t *supported, size_t size) {
+    uint8_t *room = guarded_place(room_region, side, size);
+    static const stun_types_id id = {{1, 2, 3, 4, 5, 6, 7, 8, 9, 10, 11, 12}};
+    size_t written = 0;
+    stun_types_validated validated;
+    stun_types_attribute found;
+    stun_types_answer answer;
+    if (stun_types_begin(room, size, 0x0001, &id, &written).code != STUN_TYPES_OK) return;
+    answer = stun_types_answer_challenge(room, size, &written, bytes, length, supported, 2, "user", 4,
+                                         &key, true);
+    HOLDS(written <= size && stun_types_parse(room, written).code == STUN_TYPES_OK);
+    HOLDS(answer.code == STUN_TYPES_OK || answer.code == STUN_TYPES_TOO_SMALL);
+    if (answer.code != STUN_TYPES_OK) return;
+    HOLDS(stun_types_validate(room, written, &key, &validated).code == STUN_TYPES_OK);
+    HOLDS(validated.algorithm == told->integrity_algorithm);
+    HOLDS(stun_types_find(room, written, told->anonymous ? 0x001E : 0x0006, &found));
+    HOLDS(stun_types_find(room, written, 0x0014, &found) && found.length == told->realm_length);
+    HOLDS(memcmp(room + found.value_at, bytes + told->realm_at, found.length) == 0);
+    HOLDS(stun_types_find(room, written, 0x0015, &found) && found.length == told->nonce_length);
+    HOLDS(memcmp(room + found.value_at, bytes + told->nonce_at, found.length) == 0);
+    HOLDS(stun_types_find(room, written, 0x8002, &found) == (told->algorithms_at != 0));
+    HOLDS(stun_types_find(room, written, 0x8028, &found));
+}
+
+static void check_challenge(const uint8_t *bytes, size_t length, stun_types_answer parsed,
+                            size_t size) {
     static const uint16_t both[] = {STUN_TYPES_PASSWORD_MD5, STUN_TYPES_PASSWORD_SHA256};
     stun_types_challenge told;
     stun_types_attribute found;
-    stun_types_answer answer = stun_types_challenge_of(bytes, length, both, 2, bytes, 0, &told);
+    stun_types_answer answer =
+        stun_types_challenge_of(bytes, length, both, 2, false, NULL, 0, false, &told);
     if (parsed.code != STUN_TYPES_OK) {
         HOLDS(is_same(answer, parsed));
     } else if (answer.code == STUN_TYPES_OK) {
@@ -397,16 +425,64 @@ static void check_challenge(const uint8_t *bytes, size_t length, stun_types_answ
         HOLDS(told.nonce_at == found.value_at && told.nonce_length == found.length);
         HOLDS(model_is_utf8(bytes + told.nonce_at, told.nonce_length));
         HOLDS(stun_types_find(bytes, length, 0x8002, &found) == (told.algorithms_at != 0));
+        check_answer(bytes, length, &told, both, size);
     } else {
         HOLDS(answer.code == STUN_TYPES_NOT_A_CHALLENGE || answer.code == STUN_TYPES_BID_DOWN
               || answer.code == STUN_TYPES_INCOMPLETE || answer.code == STUN_TYPES_NO_ALGORITHM);
     }
 }
 
+/* A reply begins from these bytes if their header is that of a request, and a refusal is written if
+   they are one. */
+static void check_replies(const uint8_t *bytes, size_t length, stun_types_answer parsed,
+                          unsigned code) {
+    uint8_t *room = guarded_place(room_region, side, 2000);
+    size_t written = 99;
+    stun_types_answer answer = stun_types_begin_reply(room, 2000, bytes, length,
+                                                      code % 2 == 0 ? STUN_TYPES_CLASS_SUCCESS
+                                                                    : STUN_TYPES_CLASS_ERROR,
+                                                      &written);
+    stun_types_answer header = model_header(bytes, length);
+    bool is_request = header.code == STUN_TYPES_OK && (model_number(bytes) & 0x0110) == 0;
+    uint32_t wanted = is_request ? STUN_TYPES_OK : STUN_TYPES_NOT_A_REQUEST;
+    if (header.code != STUN_TYPES_OK) HOLDS(is_same(answer, header));
+    else HOLDS(answer.code == wanted);
+    if (is_request) {
+        HOLDS(written == 20 && memcmp(room + 4, bytes + 4, 16) == 0);
+        HOLDS(model_number(room) == (model_number(bytes) | (code % 2 == 0 ? 0x0100u : 0x0110u)));
+    }
+    answer = code % 3 == 0 ? stun_types_refuse_short_term(bytes, length, 401, room, 2000, &written)
+                           : stun_types_refuse_long_term(bytes, length, 438, "realm", 5, "nonce", 5,
+                                                         NULL, 0, room, 2000, &written);
+    if (parsed.code != STUN_TYPES_OK) HOLDS(is_same(answer, parsed));
+    else HOLDS(answer.code == wanted);
+    if (answer.code == STUN_TYPES_OK) HOLDS(model_parse(room, written).code == STUN_TYPES_OK);
+}
+
+/* A number is read where the width is that of the value, or its type has none. */
+static void check_number(const uint8_t *bytes, size_t length, const stun_types_attribute *shown) {
+    uint8_t of_8 = 0;
+    uint16_t of_16 = 0;
+    uint32_t of_32 = 0;
+    uint64_t of_64 = 0, number = 0;
+    size_t i;
+    stun_types_answer answer;
+    for (i = 0; i < shown->length && i < 8; i++) number = number << 8 | bytes[shown->value_at + i];
+    answer = stun_types_read_u32(bytes, length, shown, &of_32);
+    if (answer.code == STUN_TYPES_OK) HOLDS(shown->length == 4 && of_32 == number);
+    answer = stun_types_read_u64(bytes, length, shown, &of_64);
+    if (answer.code == STUN_TYPES_OK) HOLDS(shown->length == 8 && of_64 == number);
+    answer = stun_types_read_u8(bytes, length, shown, &of_8);
+    if (answer.code == STUN_TYPES_OK) HOLDS(shown->length >= 1 && of_8 == bytes[shown->value_at]);
+    answer = stun_types_read_u16(bytes, length, shown, &of_16);
+    if (answer.code == STUN_TYPES_OK)
+        HOLDS(shown->length >= 2 && of_16 == model_number(bytes + shown->value_at));
+}
+
 static void check_read(const uint8_t *original, size_t length, source *from) {
     static model_list shown;
     const uint8_t *bytes = give(original, length);
-    size_t told = 99, expected = 99;
+    size_t told = 99, expected = 99, i;
     stun_types_header header;
     stun_types_answer parsed = model_parse(bytes, length), answer;
     model_shown(bytes, length, &shown);
@@ -428,7 +504,9 @@ static void check_read(const uint8_t *original, size_t length, source *from) {
     check_login(bytes, length, &shown, parsed);
     check_reply(bytes, length, &shown, from);
     check_response(bytes, length, &shown);
-    check_challenge(bytes, length, parsed);
+    check_challenge(bytes, length, parsed, take(from) * 8u);
+    check_replies(bytes, length, parsed, take(from));
+    for (i = 0; i < shown.count && i < 20; i++) check_number(bytes, length, &shown.all[i]);
     HOLDS(length == 0 || memcmp(bytes, original, length) == 0);
 }
 
@@ -627,6 +705,37 @@ static void add_error(writing *one, source *from) {
     check_added(one, answer, 0x0009, value, 4 + length, fault);
 }
 
+static void add_number(writing *one, source *from) {
+    static const uint16_t known[] = {0x7FFF, 0x000C, 0x000D, 0x0017, 0x0019, 0x8029, 0x0006, 0x8028};
+    static const unsigned widths[] = {0, 2, 4, 1, 1, 8, 99, 0}, zeros[] = {0, 2, 0, 3, 3, 0, 0, 0};
+    unsigned which = take(from) % COUNT(known), width = 1u << take(from) % 4, type = known[which], i;
+    uint64_t number = 0;
+    uint8_t value[16] = {0};
+    stun_types_answer answer, fault = FINE;
+    for (i = 0; i < width; i++) {
+        value[i] = (uint8_t)(which == 1 && i == 0 && take(from) % 4 != 0 ? 0x40 : take(from));
+        number = number << 8 | value[i];
+    }
+    if (width == 1)
+        answer = stun_types_add_u8(one->room, one->size, &one->written, known[which],
+                                   (uint8_t)number);
+    else if (width == 2)
+        answer = stun_types_add_u16(one->room, one->size, &one->written, known[which],
+                                    (uint16_t)number);
+    else if (width == 4)
+        answer = stun_types_add_u32(one->room, one->size, &one->written, known[which],
+                                    (uint32_t)number);
+    else answer = stun_types_add_u64(one->room, one->size, &one->written, known[which], number);
+    if (widths[which] != 0 && widths[which] != width)
+        fault = model_answer(STUN_TYPES_BAD_ARGUMENT, 0, 0, 0);
+    else if (type == 0x000C && (number < 0x4000 || number > 0x4FFF))
+        fault = model_answer(STUN_TYPES_OUT_OF_RANGE, 0, 0x4FFF, number);
+    else if (type == 0x0017 && number != 1 && number != 2)
+        fault = model_answer(STUN_TYPES_OUT_OF_RANGE, 0, 2, number);
+    else if (type == 0x8028) fault = model_answer(STUN_TYPES_ENDING_TYPE, 0x8028, 0, 0);
+    check_added(one, answer, type, value, width + zeros[which], fault);
+}
+
 static void add_types(writing *one, source *from) {
     static uint8_t value[70000];
     size_t count = take(from) % 16 == 0 ? take_two(from) % 33000 : take(from) % 6, i;
@@ -744,6 +853,8 @@ static void check_writing(source *from) {
         case 7:
         case 8: add_address(&one, from, true); break;
         case 9: add_address(&one, from, false); break;
+        case 10:
+        case 11: add_number(&one, from); break;
         default: add_value(&one, from);
         }
     }

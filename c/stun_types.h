@@ -383,6 +383,31 @@ STUN_TYPES_NODISCARD
 size_t stun_types_unknown_types(const uint8_t *bytes, size_t length, const uint16_t *supported,
                                 size_t supported_count, uint16_t *types, size_t room);
 
+/* The types of RFC 8489 that must be understood (section 18.3): every client and server understands
+   them. Pass them to stun_types_unknown_types with your own; stun_types_transaction_receive has them by
+   itself. Returns how many there are, 11, even if that is more than room; the first room are written. */
+STUN_TYPES_NODISCARD
+size_t stun_types_known_types(uint16_t *types, size_t room);
+
+/* Reads a number of 8, 16, 32 or 64 bits, big-endian. The table at stun_types_add_u8 lists the call
+   for each type that the library knows; any other type is read by the call that has the width of the
+   value. The zeros that follow a number may be any octets, and those of a RESPONSE-PORT may be missing.
+   BAD_ARGUMENT: the value of this type is no number, or a number of another width. TRUNCATED,
+   TOO_LARGE: the value has another length than expected. INVALID_DATA: a CHANNEL-NUMBER outside 0x4000
+   to 0x4FFF, or an address family that isn't in the table. */
+STUN_TYPES_NODISCARD STUN_TYPES_NONNULL((3, 4))
+stun_types_answer stun_types_read_u8(const uint8_t *bytes, size_t length,
+                                     const stun_types_attribute *attribute, uint8_t *number);
+STUN_TYPES_NODISCARD STUN_TYPES_NONNULL((3, 4))
+stun_types_answer stun_types_read_u16(const uint8_t *bytes, size_t length,
+                                      const stun_types_attribute *attribute, uint16_t *number);
+STUN_TYPES_NODISCARD STUN_TYPES_NONNULL((3, 4))
+stun_types_answer stun_types_read_u32(const uint8_t *bytes, size_t length,
+                                      const stun_types_attribute *attribute, uint32_t *number);
+STUN_TYPES_NODISCARD STUN_TYPES_NONNULL((3, 4))
+stun_types_answer stun_types_read_u64(const uint8_t *bytes, size_t length,
+                                      const stun_types_attribute *attribute, uint64_t *number);
+
 /* The message as a text, by its names and values, without a final 0: one line of printable ASCII, for
    logs and terminals. In the texts of the message, each byte that is no printable character of ASCII,
    and each backslash, is escaped: \xHH. Attributes and methods of ICE, TURN and NAT discovery have
@@ -552,11 +577,50 @@ STUN_TYPES_NODISCARD STUN_TYPES_NONNULL((4, 5))
 stun_types_answer stun_types_begin(uint8_t *room, size_t size, uint16_t type,
                                    const stun_types_id *id, size_t *written);
 
+/* Begins the reply to a request: a response of the class STUN_TYPES_CLASS_SUCCESS or
+   STUN_TYPES_CLASS_ERROR with the method and the transaction ID of the request (RFC 8489, section
+   6.3.1.1). Only the header of the request is read. An error response still lacks its ERROR-CODE.
+   NOT_STUN, TRUNCATED: the request doesn't begin with a header. NOT_A_REQUEST. BAD_ARGUMENT: another
+   class. TOO_SMALL: fewer than 20 bytes. */
+STUN_TYPES_NODISCARD STUN_TYPES_NONNULL((6))
+stun_types_answer stun_types_begin_reply(uint8_t *room, size_t size, const uint8_t *request,
+                                         size_t request_length, stun_types_class message_class,
+                                         size_t *written);
+
 /* Adds an attribute by its type and value: header, value, zeros up to a multiple of 4.
    TOO_LARGE: the value has more than 65,535 bytes. */
 STUN_TYPES_NODISCARD STUN_TYPES_NONNULL((3))
 stun_types_answer stun_types_add(uint8_t *room, size_t size, size_t *written, uint16_t type,
                                  const void *value, size_t value_length);
+
+/* Adds a number of 8, 16, 32 or 64 bits, big-endian. The table lists the types that have such values:
+   a call of another width refuses them. Each call refuses the types whose value is no number:
+   addresses, texts, errors, lists and hashes, and USE-CANDIDATE and DONT-FRAGMENT, which stun_types_add
+   adds with a length of 0. A type that the library doesn't know is taken by each call.
+
+     u8   REQUESTED_TRANSPORT (17 for UDP, 6 for TCP), REQUESTED_ADDRESS_FAMILY (1 for IPv4, 2 for
+          IPv6), ADDITIONAL_ADDRESS_FAMILY (2): three zeros follow
+          EVEN_PORT (0x80 reserves the next port too, 0 doesn't)
+     u16  CHANNEL_NUMBER (0x4000 to 0x4FFF), RESPONSE_PORT: two zeros follow
+     u32  PRIORITY, LIFETIME (seconds), CONNECTION_ID, CHANGE_REQUEST (4 for the address, 2 for the
+          port), TRANSACTION_TRANSMIT_COUNTER (256 times the requests, and the responses)
+     u64  ICE_CONTROLLED, ICE_CONTROLLING (the tiebreaker), RESERVATION_TOKEN, ICMP (the type times
+          2 to the power of 40, the code times 2 to the power of 32, and the data)
+
+   BAD_ARGUMENT: the value of this type is no number, or a number of another width. OUT_OF_RANGE: a
+   CHANNEL_NUMBER or a family that isn't in the table. */
+STUN_TYPES_NODISCARD STUN_TYPES_NONNULL((3))
+stun_types_answer stun_types_add_u8(uint8_t *room, size_t size, size_t *written, uint16_t type,
+                                    uint8_t number);
+STUN_TYPES_NODISCARD STUN_TYPES_NONNULL((3))
+stun_types_answer stun_types_add_u16(uint8_t *room, size_t size, size_t *written, uint16_t type,
+                                     uint16_t number);
+STUN_TYPES_NODISCARD STUN_TYPES_NONNULL((3))
+stun_types_answer stun_types_add_u32(uint8_t *room, size_t size, size_t *written, uint16_t type,
+                                     uint32_t number);
+STUN_TYPES_NODISCARD STUN_TYPES_NONNULL((3))
+stun_types_answer stun_types_add_u64(uint8_t *room, size_t size, size_t *written, uint16_t type,
+                                     uint64_t number);
 
 /* Adds an address, XORed with the message's transaction ID or as it is. BAD_ARGUMENT: the family is
    neither 4 nor 6; or the type is known to have the other form: XOR-MAPPED-ADDRESS, XOR-PEER-ADDRESS
@@ -624,7 +688,9 @@ typedef struct {
     stun_types_code error_code;
     stun_types_integrity algorithm;       /* whose HMAC in the message was right */
     stun_types_integrity reply_algorithm; /* by which the reply is signed */
-    uint64_t reserved;
+    stun_types_password password_algorithm; /* of the key that accepted: STUN_TYPES_PASSWORD_MD5 if it
+                                               is md5_key; 0 under short-term credentials */
+    uint32_t reserved;
 } stun_types_authentication;
 
 /* Authenticates a message by short-term credentials (RFC 8489, section 9.1.3). key is that of the
@@ -658,6 +724,90 @@ stun_types_answer stun_types_authenticate_long_term(const uint8_t *bytes, size_t
                                                     const stun_types_key *md5_key,
                                                     const stun_types_key *sha256_key,
                                                     stun_types_authentication *authentication);
+
+/* Finishes the reply to a request that was accepted (RFC 8489, sections 9.1.3 and 9.2.4): signs it by
+   the reply_algorithm, with the key that accepted, and adds a FINGERPRINT if fingerprint is true. A
+   reply has one if its request has one (section 7). key is that of the short-term credential, or the
+   one by MD5; sha256_key is used if password_algorithm is STUN_TYPES_PASSWORD_SHA256. BAD_ARGUMENT: the
+   authentication is no acceptance. NO_KEY. Then both attributes are added as by their own calls: if the
+   FINGERPRINT is refused, the message stays signed, and *written counts that. */
+STUN_TYPES_NODISCARD STUN_TYPES_NONNULL((3, 4, 5, 6))
+stun_types_answer stun_types_finish_reply(uint8_t *room, size_t size, size_t *written,
+                                          const stun_types_authentication *authentication,
+                                          const stun_types_key *key, const stun_types_key *sha256_key,
+                                          bool fingerprint);
+
+/* Writes the error response to a request that was refused at the start of room: an ERROR-CODE with the
+   reason of RFC 8489, and a FINGERPRINT if the request has one (RFC 8489, section 9.1.3). It isn't
+   signed. code is the error_code of the authentication: 400 or 401.
+   The errors of stun_types_parse; NOT_A_REQUEST. BAD_ARGUMENT: another code. TOO_SMALL: expected is the
+   length of the response, and nothing is written. Allocates: OUT_OF_MEMORY. */
+STUN_TYPES_NODISCARD STUN_TYPES_NONNULL((6))
+stun_types_answer stun_types_refuse_short_term(const uint8_t *request, size_t request_length,
+                                               uint32_t code, uint8_t *room, size_t size,
+                                               size_t *written);
+
+/* The same under long-term credentials, with the code 400, 401 or 438 (section 9.2.4). A 401 and a 438
+   carry REALM and NONCE, and PASSWORD-ALGORITHMS if there are algorithms, the preferred one first. The
+   nonce is valid, and was sent to nobody else. It begins with a cookie that promises algorithms exactly
+   if there are some: otherwise a client would take the response for an attacker's, or its next request
+   would be processed as though with MD5.
+   The errors of stun_types_parse; NOT_A_REQUEST. BAD_ARGUMENT: another code, a password algorithm, or
+   more than 16 of them. For the realm and then for the nonce, INVALID_DATA: it isn't UTF-8, and
+   TOO_LARGE: it has more than 763 bytes. BAD_ARGUMENT: the nonce promises algorithms and there are none,
+   or there are some that it doesn't promise. A 400 has these errors too. TOO_SMALL, as above. Allocates:
+   OUT_OF_MEMORY. */
+STUN_TYPES_NODISCARD STUN_TYPES_NONNULL((12))
+stun_types_answer stun_types_refuse_long_term(const uint8_t *request, size_t request_length,
+                                              uint32_t code, const void *realm, size_t realm_length,
+                                              const void *nonce, size_t nonce_length,
+                                              const uint16_t *algorithms, size_t algorithms_count,
+                                              uint8_t *room, size_t size, size_t *written);
+
+/* The security features of a server, which its nonces begin with (RFC 8489, sections 9.2 and 18.1): a
+   sum of these. */
+enum {
+    STUN_TYPES_FEATURE_PASSWORD_ALGORITHMS = 1, /* it sends PASSWORD-ALGORITHMS with the nonce */
+    STUN_TYPES_FEATURE_USERNAME_ANONYMITY = 2   /* it knows its users by USERHASH too */
+};
+
+typedef struct {
+    uint8_t bytes[13];
+} stun_types_cookie;
+
+/* The bytes with which the nonces of a server with these features begin. BAD_ARGUMENT: another sum. */
+STUN_TYPES_NODISCARD STUN_TYPES_NONNULL((2))
+stun_types_answer stun_types_nonce_cookie(uint32_t features, stun_types_cookie *cookie);
+
+/* The features that a nonce begins with. False, and *features stays, if it begins with no cookie. */
+STUN_TYPES_NODISCARD STUN_TYPES_NONNULL((3))
+bool stun_types_security_features(const void *nonce, size_t nonce_length, uint32_t *features);
+
+/* How many bytes a nonce has that stun_types_make_nonce makes. */
+#define STUN_TYPES_NONCE_LENGTH 93
+
+/* Makes a nonce that the server need not store: the cookie of these features, the time now, in seconds
+   since a moment that stays the same, and an HMAC-SHA256 of both and of the client's address and port.
+   It is valid for window seconds, for this client alone. The secret, which only the server knows, is a
+   key of at least 32 random bytes (stun_types_key_from_bytes, for STUN_TYPES_INTEGRITY_ANY).
+   BAD_ARGUMENT: another sum of features, or the family of the address. NO_KEY: there is no secret.
+   TOO_SMALL. Allocates: OUT_OF_MEMORY. */
+STUN_TYPES_NODISCARD STUN_TYPES_NONNULL((1, 5, 8))
+stun_types_answer stun_types_make_nonce(const stun_types_key *secret, uint32_t features,
+                                        uint64_t window, uint64_t now,
+                                        const stun_types_address *client, uint8_t *room, size_t size,
+                                        size_t *written);
+
+/* What the server knows of the nonce in a request of this client, for stun_types_authenticate_long_term:
+   it is valid; stale, if its window is over or its time is still to come; or unknown, if it was made by
+   another secret, for another client or with other features. One HMAC is computed. A server that
+   changes its secret keeps the old one for a window, and calls this with both.
+   BAD_ARGUMENT, NO_KEY: as above. Allocates: OUT_OF_MEMORY. */
+STUN_TYPES_NODISCARD STUN_TYPES_NONNULL((1, 5, 8))
+stun_types_answer stun_types_judge_nonce(const stun_types_key *secret, uint32_t features,
+                                         uint64_t window, uint64_t now,
+                                         const stun_types_address *client, const void *nonce,
+                                         size_t nonce_length, stun_types_nonce_state *state);
 
 /* ---- A client -------------------------------------------------------------------------------- */
 
@@ -817,16 +967,74 @@ typedef struct {
     uint32_t reserved;
 } stun_types_challenge;
 
-/* Reads it (RFC 8489, section 9.2.5). supported are the password algorithms that the client knows;
-   before is the response whose challenge the refused request answered, or a slice of length 0.
-   BAD_ARGUMENT: a password algorithm, or more than 16 of them; before is no message, or no challenge
-   that such a client could have answered. The errors of stun_types_parse;
-   NOT_A_CHALLENGE, BID_DOWN, INCOMPLETE, NO_ALGORITHM, SAME_CREDENTIALS. */
-STUN_TYPES_NODISCARD STUN_TYPES_NONNULL((7))
+/* Reads it (RFC 8489, section 9.2.5). supported are the password algorithms that the client knows.
+   The other arguments are what it knows from earlier challenges. If was_tried, the refused request had
+   these credentials in the realm tried, that of the challenge which it answered. If was_seen, the server
+   has sent PASSWORD-ALGORITHMS before, so that a response without it may be an attacker's.
+   BAD_ARGUMENT: a password algorithm, or more than 16 of them. INVALID_DATA: was_tried, and tried
+   isn't UTF-8. The errors of stun_types_parse; NOT_A_CHALLENGE, BID_DOWN, INCOMPLETE, NO_ALGORITHM,
+   SAME_CREDENTIALS. */
+STUN_TYPES_NODISCARD STUN_TYPES_NONNULL((9))
 stun_types_answer stun_types_challenge_of(const uint8_t *bytes, size_t length,
                                           const uint16_t *supported, size_t supported_count,
-                                          const uint8_t *before, size_t before_length,
-                                          stun_types_challenge *challenge);
+                                          bool was_tried, const void *tried, size_t tried_length,
+                                          bool was_seen, stun_types_challenge *challenge);
+
+/* Makes the key of a user in the realm of the challenge in response, by the password algorithm that it
+   asks for. The key signs every request that answers this challenge, and validates the responses to it.
+   It serves both integrity algorithms. The texts are taken as they are.
+   BAD_ARGUMENT: a password algorithm, or more than 16 of them. The errors of stun_types_parse;
+   NOT_A_CHALLENGE, BID_DOWN, INCOMPLETE, NO_ALGORITHM; INVALID_DATA: a text isn't UTF-8. Allocates:
+   OUT_OF_MEMORY, and the key stays. */
+STUN_TYPES_NODISCARD STUN_TYPES_NONNULL((1))
+stun_types_answer stun_types_key_for(stun_types_key *key, const uint8_t *response,
+                                     size_t response_length, const uint16_t *supported,
+                                     size_t supported_count, const void *user, size_t user_length,
+                                     const void *password, size_t password_length);
+
+/* Answers the challenge in response (RFC 8489, section 9.2.5): adds to a request USERNAME, or USERHASH
+   if the challenge asks for that, REALM and NONCE, and PASSWORD-ALGORITHMS and PASSWORD-ALGORITHM if it
+   has a list; signs the request with a key that stun_types_key_for made; and adds a FINGERPRINT if
+   fingerprint is true. The request has a new transaction ID. Later requests to the server carry the
+   same attributes, so keep the response until another challenge comes. Nothing allocates.
+   The errors, before anything is written: BAD_ARGUMENT: a password algorithm, or more than 16 of them.
+   Those of stun_types_parse; NOT_A_CHALLENGE, BID_DOWN, INCOMPLETE, NO_ALGORITHM. INVALID_DATA: the
+   user isn't UTF-8. TOO_LARGE: it has more than 513 bytes. NO_KEY. Then each attribute is added as by
+   its own call, and *written counts it. The first one that is refused ends the call with that error:
+   begin the request anew, in a larger room if that was too small. */
+STUN_TYPES_NODISCARD STUN_TYPES_NONNULL((3, 10))
+stun_types_answer stun_types_answer_challenge(uint8_t *room, size_t size, size_t *written,
+                                              const uint8_t *response, size_t response_length,
+                                              const uint16_t *supported, size_t supported_count,
+                                              const void *user, size_t user_length,
+                                              const stun_types_key *key, bool fingerprint);
+
+/* ---- Many transactions of a client -------------------------------------------------------------- */
+
+/* The transactions are an array of the caller's, of count. A place with all zeros is free. Poll each
+   transaction when its moment has come, and clear its place when it has ended. Each call makes one pass
+   over the array. */
+
+/* Finds the transaction that a received message is for: *place is that of the first whose request was
+   sent, that has not ended, and that has the transaction ID of the message. Pass the message to
+   stun_types_transaction_receive of that transaction. False, and *place stays, if there is none, or if
+   the bytes don't begin with the header of a response. */
+STUN_TYPES_NODISCARD STUN_TYPES_NONNULL((5))
+bool stun_types_transactions_find(const stun_types_transaction *transactions, size_t count,
+                                  const uint8_t *bytes, size_t length, size_t *place);
+
+/* The soonest moment at which a poll of one of them does something, unless a message is received
+   before. False, and *until stays, if each has ended or its place is free. */
+STUN_TYPES_NODISCARD STUN_TYPES_NONNULL((3))
+bool stun_types_transactions_next(const stun_types_transaction *transactions, size_t count,
+                                  uint64_t *until);
+
+/* How many milliseconds the response took, if it was received at the moment now: a client makes its
+   next rto from it (RFC 8489, section 6.2.1). False, and *time stays, if no response was taken, or if
+   the request was sent more than once, since then it isn't known which one was answered. */
+STUN_TYPES_NODISCARD STUN_TYPES_NONNULL((1, 3))
+bool stun_types_transaction_round_trip(const stun_types_transaction *transaction, uint64_t now,
+                                       uint64_t *time);
 
 /* ---- Streams --------------------------------------------------------------------------------- */
 

@@ -33,6 +33,11 @@ enum {
     MOST_REQUESTS = 4        /* how many are sent, each as the answer to the last asked for */
 };
 
+/* The password algorithms that this client knows. */
+enum { COUNT_SUPPORTED = 2 };
+static const uint16_t SUPPORTED[COUNT_SUPPORTED] = {STUN_TYPES_PASSWORD_SHA256,
+                                                    STUN_TYPES_PASSWORD_MD5};
+
 /* The connection to the server. */
 typedef struct {
     int socket;
@@ -159,13 +164,6 @@ static int receive_until(carrier *by, message *got, uint64_t until) {
 
 /* ---- Requests -------------------------------------------------------------------------------- */
 
-/* Adds to the request as long as all went well. */
-static void add(bool *well, uint16_t type, const void *value, size_t length) {
-    if (!*well) return;
-    *well = stun_types_add(request.bytes, sizeof request.bytes, &request.length, type, value,
-                           length).code == STUN_TYPES_OK;
-}
-
 /* Begins a binding request with a transaction ID that nobody can guess. */
 static bool begin_request(void) {
     stun_types_id id;
@@ -180,52 +178,16 @@ static bool end_request(bool well) {
                                               &request.length).code == STUN_TYPES_OK;
 }
 
-/* Adds who asks: the name, or its hash where the server asks for that. */
-static void add_user(bool *well, const stun_types_challenge *challenge, const char *user) {
-    stun_types_hash hash;
-    if (!challenge->anonymous) {
-        add(well, STUN_TYPES_ATTRIBUTE_USERNAME, user, strlen(user));
-        return;
-    }
-    *well = *well && stun_types_userhash(user, strlen(user), before.bytes + challenge->realm_at,
-                                         challenge->realm_length, &hash).code == STUN_TYPES_OK;
-    add(well, STUN_TYPES_ATTRIBUTE_USERHASH, hash.bytes, sizeof hash.bytes);
-}
-
-/* Adds who asks, and what the challenge that stands in `before` asks for. */
-static bool add_login(const stun_types_challenge *challenge, const char *user) {
-    const uint8_t algorithm[4] = {0, (uint8_t)challenge->password_algorithm, 0, 0};
-    bool well = true;
-    add_user(&well, challenge, user);
-    add(&well, STUN_TYPES_ATTRIBUTE_REALM, before.bytes + challenge->realm_at, challenge->realm_length);
-    add(&well, STUN_TYPES_ATTRIBUTE_NONCE, before.bytes + challenge->nonce_at, challenge->nonce_length);
-    if (challenge->algorithms_at > 0) {
-        add(&well, STUN_TYPES_ATTRIBUTE_PASSWORD_ALGORITHMS, before.bytes + challenge->algorithms_at,
-            challenge->algorithms_length);
-        add(&well, STUN_TYPES_ATTRIBUTE_PASSWORD_ALGORITHM, algorithm, sizeof algorithm);
-    }
-    return well;
-}
-
-/* Makes the key of the user in the realm of the challenge that stands in `before`. */
-static bool make_key(const stun_types_challenge *challenge, const task *asked,
-                     stun_types_key *key) {
-    return stun_types_key_long_term(key, asked->user, strlen(asked->user),
-                                    before.bytes + challenge->realm_at, challenge->realm_length,
-                                    asked->password, strlen(asked->password),
-                                    challenge->password_algorithm)
-               .code == STUN_TYPES_OK;
-}
-
 /* The request that answers the challenge in `before`, signed by a key that is made for it. */
-static bool login_request(const stun_types_challenge *challenge, const task *asked,
-                          stun_types_key *key) {
-    bool well = begin_request() && add_login(challenge, asked->user) &&
-                make_key(challenge, asked, key);
-    well = well && stun_types_add_integrity(request.bytes, sizeof request.bytes, &request.length,
-                                            key, challenge->integrity_algorithm).code ==
-                       STUN_TYPES_OK;
-    return end_request(well);
+static bool login_request(const task *asked, stun_types_key *key) {
+    return begin_request() &&
+           stun_types_key_for(key, before.bytes, before.length, SUPPORTED, COUNT_SUPPORTED,
+                              asked->user, strlen(asked->user), asked->password,
+                              strlen(asked->password)).code == STUN_TYPES_OK &&
+           stun_types_answer_challenge(request.bytes, sizeof request.bytes, &request.length,
+                                       before.bytes, before.length, SUPPORTED, COUNT_SUPPORTED,
+                                       asked->user, strlen(asked->user), key, true).code ==
+               STUN_TYPES_OK;
 }
 
 /* ---- A transaction --------------------------------------------------------------------------- */
@@ -328,12 +290,12 @@ static bool asks_for_login(const stun_types_received *taken) {
            (taken->number == STUN_TYPES_CODE_UNAUTHORIZED || taken->number == STUN_TYPES_CODE_STALE_NONCE);
 }
 
-/* Reads what the response asks for, and keeps the response in `before`. */
-static stun_types_answer take_challenge(stun_types_challenge *challenge) {
-    static const uint16_t supported[] = {STUN_TYPES_PASSWORD_SHA256, STUN_TYPES_PASSWORD_MD5};
-    stun_types_answer answer =
-        stun_types_challenge_of(response.bytes, response.length, supported, 2, before.bytes,
-                                before.length, challenge);
+/* Reads what the response asks for, and keeps the response in `before`: *kept is its challenge. */
+static stun_types_answer take_challenge(stun_types_challenge *kept) {
+    bool again = before.length > 0;
+    stun_types_answer answer = stun_types_challenge_of(
+        response.bytes, response.length, SUPPORTED, COUNT_SUPPORTED, again,
+        before.bytes + kept->realm_at, kept->realm_length, again && kept->algorithms_at > 0, kept);
     if (answer.code == STUN_TYPES_OK) {
         before.length = response.length;
         memcpy(before.bytes, response.bytes, response.length);
@@ -343,12 +305,13 @@ static stun_types_answer take_challenge(stun_types_challenge *challenge) {
 
 /* Asks again as long as the server asks for credentials. */
 static int login(carrier *by, const task *asked, stun_types_key *key, stun_types_received *taken) {
+    stun_types_challenge challenge;
+    memset(&challenge, 0, sizeof challenge);
     for (int sent = 1; asks_for_login(taken); sent++) {
-        stun_types_challenge challenge;
         stun_types_answer answer = take_challenge(&challenge);
         if (answer.code == STUN_TYPES_SAME_CREDENTIALS || sent == MOST_REQUESTS) return TOLD;
         if (answer.code != STUN_TYPES_OK) return say(UNUSABLE, stun_types_message_of(answer.code));
-        if (!login_request(&challenge, asked, key)) return say(FAILED, "the request can't be made");
+        if (!login_request(asked, key)) return say(FAILED, "the request can't be made");
         int status = ask(by, STUN_TYPES_LONG_TERM, key, taken);
         if (status != TOLD) return status;
     }

@@ -328,38 +328,41 @@ static void test_no_transactions(void) {
     }
 }
 
-/* ---- what stun_types_challenge_of doesn't take */
+/* ---- stun_types_challenge_of */
 
 static const struct {
-    const char *name, *response, *before;
+    const char *name, *tried;
+    bool was_tried;
     uint16_t supported[17];
     size_t supported_count;
+    uint32_t code;
 } challenges[] = {
-    {"a success before", CHALLENGE, SIGNED_SUCCESS, {1, 2}, 2},
-    {"a request before", CHALLENGE, BINDING_REQUEST, {1, 2}, 2},
-    {"another error before", STALE_CHALLENGE, ERROR_400, {1, 2}, 2},
-    {"a challenge by other algorithms before", CHALLENGE, CHALLENGE_OF_OTHERS, {1, 2}, 2},
-    {"no challenge, and none before", SIGNED_SUCCESS, SIGNED_SUCCESS, {1, 2}, 2},
-    {"password algorithm 0", CHALLENGE, "", {0}, 1},
-    {"password algorithm 3", CHALLENGE, "", {1, 3}, 2},
-    {"17 algorithms", CHALLENGE, "", {1, 1, 1, 1, 1, 1, 1, 1, 1, 1, 1, 1, 1, 1, 1, 1, 1}, 17},
+    {"password algorithm 0", "FF", true, {0}, 1, STUN_TYPES_BAD_ARGUMENT},
+    {"password algorithm 3", "", false, {1, 3}, 2, STUN_TYPES_BAD_ARGUMENT},
+    {"17 algorithms", "", false, {1, 1, 1, 1, 1, 1, 1, 1, 1, 1, 1, 1, 1, 1, 1, 1, 1}, 17,
+     STUN_TYPES_BAD_ARGUMENT},
+    {"a realm that isn't UTF-8", "6578FF", true, {1, 2}, 2, STUN_TYPES_INVALID_DATA},
+    {"a realm that isn't looked at", "6578FF", false, {1, 2}, 2, STUN_TYPES_OK},
+    {"the realm, which isn't looked at", "6578616D706C652E6F7267", false, {1, 2}, 2, STUN_TYPES_OK},
+    {"the realm", "6578616D706C652E6F7267", true, {1, 2}, 2, STUN_TYPES_SAME_CREDENTIALS},
+    {"the empty realm", "", true, {1, 2}, 2, STUN_TYPES_OK},
 };
 
 static void test_challenges(void) {
     size_t i;
     for (i = 0; i < COUNT(challenges); i++) {
-        slice bytes, before, supported;
+        slice bytes, tried, supported;
         stun_types_challenge *told;
-        row("stun_types_challenge_of, BAD_ARGUMENT", challenges[i].name);
-        bytes = hex(challenges[i].response);
-        before = hex(challenges[i].before);
+        row("stun_types_challenge_of", challenges[i].name);
+        bytes = hex(CHALLENGE);
+        tried = hex(challenges[i].tried);
         supported = given(challenges[i].supported, 2 * challenges[i].supported_count);
         told = NEW(stun_types_challenge);
         ANSWERS(stun_types_challenge_of(bytes.bytes, bytes.length, (const void *)supported.bytes,
-                                        challenges[i].supported_count, before.bytes, before.length,
-                                        told),
-                PLAIN(STUN_TYPES_BAD_ARGUMENT));
-        CHECK(is_untouched(told, sizeof *told));
+                                        challenges[i].supported_count, challenges[i].was_tried,
+                                        tried.bytes, tried.length, i % 2 == 0, told),
+                PLAIN(challenges[i].code));
+        if (challenges[i].code != STUN_TYPES_OK) CHECK(is_untouched(told, sizeof *told));
     }
 }
 

@@ -129,8 +129,8 @@ static void test_clients_and_streams(void) {
     ANSWERS(stun_types_transaction_receive(transaction, no_key(), NULL, 0, NULL, 0, received),
             OK_ANSWER);
     CHECK(received->kind == STUN_TYPES_NOT_FOR_THIS);
-    ANSWERS(stun_types_challenge_of(NULL, 0, NULL, 0, NULL, 0, challenge), NOTHING);
-    ANSWERS(stun_types_challenge_of(asks.bytes, asks.length, NULL, 0, NULL, 0, challenge),
+    ANSWERS(stun_types_challenge_of(NULL, 0, NULL, 0, true, NULL, 0, false, challenge), NOTHING);
+    ANSWERS(stun_types_challenge_of(asks.bytes, asks.length, NULL, 0, false, NULL, 0, false, challenge),
             PLAIN(STUN_TYPES_NO_ALGORITHM));
     memset(stream, 0, sizeof *stream);
     ANSWERS(stun_types_stream_push(stream, NULL, 0, NULL, 0, taken),

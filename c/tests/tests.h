@@ -11,5 +11,6 @@ void test_clients(void);
 void test_streams(void);
 void test_layout(void);
 void test_nulls(void);
+void test_calls(void);
 
 #endif

@@ -1,6 +1,8 @@
 /* Authentication by short-term and long-term credentials, and a client's answer to a challenge. */
+#define _DEFAULT_SOURCE
 #include "call.h"
 
+#include <arpa/inet.h>
 #include <stdlib.h>
 #include <string.h>
 
@@ -13,9 +15,8 @@ static const struct {
     const char *name, *password;
 } users[] = {{"alice", "wonderland"}, {"bob", "builder"}};
 
-/* The password algorithms that the server sends, SHA-256 and MD5, as a list and as a value. */
+/* The password algorithms that the server sends. */
 static const uint16_t offered[] = {STUN_TYPES_PASSWORD_SHA256, STUN_TYPES_PASSWORD_MD5};
-static const uint8_t offered_value[] = {0, 2, 0, 0, 0, 1, 0, 0};
 
 /* Whether octets are those of a text. */
 static bool is_text(slice octets, const char *letters) {
@@ -28,12 +29,11 @@ static bool is_same(slice one, slice other) {
         && (one.length == 0 || memcmp(one.bytes, other.bytes, one.length) == 0);
 }
 
-/* Whether a nonce of the server promises its password algorithms: the first of the bits that four
-   digits of Base64 have after `obMatJos2`. */
+/* Whether a nonce of the server promises its password algorithms. */
 static bool promises(slice nonce) {
-    static const char upper[] = "ghijklmnopqrstuvwxyz0123456789+/";
-    return nonce.length >= 13 && memcmp(nonce.bytes, "obMatJos2", 9) == 0
-        && memchr(upper, nonce.bytes[9], sizeof upper - 1) != NULL;
+    uint32_t features = 0;
+    return stun_types_security_features(nonce.bytes, nonce.length, &features)
+        && (features & STUN_TYPES_FEATURE_PASSWORD_ALGORITHMS) != 0;
 }
 
 /* The number of the user whom a message names, by USERNAME or USERHASH; COUNT(users) if it is none
@@ -71,13 +71,14 @@ static stun_types_policy call_policy(void) {
     return policy;
 }
 
-static stun_types_answer add(draft *to, uint16_t type, slice value) {
-    return stun_types_add(to->room, to->size, &to->written, type, value.bytes, value.length);
-}
+/* The keys of a user: the short-term one, or the two long-term ones. */
+typedef struct {
+    stun_types_key first, sha256;
+} user_keys;
 
 /* The reply to a request that is accepted: an address, or the error 420. */
-static void answer_accepted(slice request, const stun_types_key *key,
-                            stun_types_integrity algorithm) {
+static void answer_accepted(slice request, const stun_types_authentication *decision,
+                            const user_keys *keys) {
     static const uint16_t known[] = {
         STUN_TYPES_ATTRIBUTE_USERNAME, STUN_TYPES_ATTRIBUTE_USERHASH, STUN_TYPES_ATTRIBUTE_REALM, STUN_TYPES_ATTRIBUTE_NONCE,
         STUN_TYPES_ATTRIBUTE_PASSWORD_ALGORITHM, STUN_TYPES_ATTRIBUTE_MESSAGE_INTEGRITY,
@@ -95,36 +96,47 @@ static void answer_accepted(slice request, const stun_types_key *key,
                                            STUN_TYPES_ATTRIBUTE_XOR_MAPPED_ADDRESS, &source),
                 OK_ANSWER);
     else ANSWERS(draft_unknown(&to, unknown, count), OK_ANSWER);
-    ANSWERS(stun_types_add_integrity(to.room, to.size, &to.written, key, algorithm), OK_ANSWER);
-    ANSWERS(stun_types_add_fingerprint(to.room, to.size, &to.written), OK_ANSWER);
-    answer_draft(&to);
-}
-
-/* The reply to a request that is refused. A 401 and a 438 of long-term credentials carry the realm
-   and a nonce. */
-static void answer_refused(slice request, stun_types_code code, const slice *fresh) {
-    const char *reason = code == STUN_TYPES_CODE_BAD_REQUEST    ? "Bad Request"
-                         : code == STUN_TYPES_CODE_UNAUTHORIZED ? "Unauthenticated"
-                                                                : "Stale Nonce";
-    draft to;
-    ANSWERS(draft_reply(&to, ROOM, request, STUN_TYPES_CLASS_ERROR), OK_ANSWER);
-    ANSWERS(stun_types_add_error(to.room, to.size, &to.written, code, reason, strlen(reason)),
+    ANSWERS(stun_types_finish_reply(to.room, to.size, &to.written, decision, &keys->first,
+                                    &keys->sha256, true),
             OK_ANSWER);
-    if (fresh != NULL && code != STUN_TYPES_CODE_BAD_REQUEST) {
-        ANSWERS(add(&to, STUN_TYPES_ATTRIBUTE_REALM, text(realm)), OK_ANSWER);
-        ANSWERS(add(&to, STUN_TYPES_ATTRIBUTE_NONCE, *fresh), OK_ANSWER);
-        if (promises(*fresh))
-            ANSWERS(add(&to, STUN_TYPES_ATTRIBUTE_PASSWORD_ALGORITHMS,
-                        given(offered_value, sizeof offered_value)),
-                    OK_ANSWER);
-    }
-    ANSWERS(stun_types_add_fingerprint(to.room, to.size, &to.written), OK_ANSWER);
     answer_draft(&to);
 }
 
-/* Answers with what becomes of a message. The key signs the reply to an accepted request. */
+/* Writes the reply to a request that is refused, in a room of this size. That of long-term
+   credentials has a nonce. */
+static stun_types_answer refuse(draft *to, size_t size, slice request, uint32_t code,
+                                const slice *fresh) {
+    to->room = room(size);
+    to->size = size;
+    to->written = 0;
+    if (fresh == NULL)
+        return stun_types_refuse_short_term(request.bytes, request.length, code, to->room, size,
+                                            &to->written);
+    return stun_types_refuse_long_term(request.bytes, request.length, code, realm, strlen(realm),
+                                       fresh->bytes, fresh->length, offered,
+                                       promises(*fresh) ? COUNT(offered) : 0, to->room, size,
+                                       &to->written);
+}
+
+/* Answers with that reply, and a FINGERPRINT. A room that is an octet smaller stays as it is. */
+static void answer_refused(slice request, uint32_t code, const slice *fresh) {
+    slice found;
+    draft to, small;
+    stun_types_answer answer = refuse(&to, ROOM, request, code, fresh);
+    if (!is_taken(answer)) return;
+    answer = refuse(&small, to.written - 1, request, code, fresh);
+    if (answer.code != STUN_TYPES_OUT_OF_MEMORY)
+        ANSWERS(answer, LENGTHS(STUN_TYPES_TOO_SMALL, to.written, to.written - 1));
+    else is_taken(answer);
+    CHECK(small.written == 0 && is_untouched(small.room, small.size));
+    if (!find_value(given(to.room, to.written), STUN_TYPES_ATTRIBUTE_FINGERPRINT, &found))
+        ANSWERS(stun_types_add_fingerprint(to.room, to.size, &to.written), OK_ANSWER);
+    answer_draft(&to);
+}
+
+/* Answers with what becomes of a message. The keys sign the reply to an accepted request. */
 static void answer_decision(slice message, const stun_types_authentication *decision,
-                            const stun_types_key *key, const slice *fresh) {
+                            const user_keys *keys, const slice *fresh) {
     if (decision->kind == STUN_TYPES_DISCARDED) answer_text("discarded");
     else if (decision->kind == STUN_TYPES_NOT_CHECKED) answer_text("not-a-request");
     else if (decision->kind == STUN_TYPES_REFUSED) {
@@ -136,7 +148,7 @@ static void answer_decision(slice message, const stun_types_authentication *deci
         answer_algorithm(decision->algorithm);
         answer_text(" ");
         if (header_of(message).message_class != STUN_TYPES_CLASS_REQUEST) answer_text("-");
-        else answer_accepted(message, key, decision->reply_algorithm);
+        else answer_accepted(message, decision, keys);
     }
 }
 
@@ -150,20 +162,22 @@ static void short_term(void) {
     stun_types_policy policy = call_policy();
     slice message = call_octets();
     size_t user = user_of(message);
-    stun_types_key key = STUN_TYPES_NO_KEY_YET;
+    user_keys keys = {STUN_TYPES_NO_KEY_YET, STUN_TYPES_NO_KEY_YET};
     stun_types_authentication *decision = NEW(stun_types_authentication);
     stun_types_answer answer = OK_ANSWER;
     if (user < COUNT(users)) {
         keep_secret(text(users[user].password));
-        answer = stun_types_key_short_term(&key, users[user].password,
+        answer = stun_types_key_short_term(&keys.first, users[user].password,
                                            strlen(users[user].password));
     }
     if (is_taken(answer)
         && has_decided(stun_types_authenticate_short_term(message.bytes, message.length, &policy,
-                                                          &key, decision),
-                       decision))
-        answer_decision(message, decision, &key, NULL);
-    stun_types_key_free(&key);
+                                                          &keys.first, decision),
+                       decision)) {
+        CHECK(decision->password_algorithm == 0);
+        answer_decision(message, decision, &keys, NULL);
+    }
+    stun_types_key_free(&keys.first);
 }
 
 /* Makes the key of a user by a password algorithm. */
@@ -183,37 +197,28 @@ static stun_types_nonce_state nonce_state(slice message, slice fresh, slice stal
     return is_same(nonce, stale) ? STUN_TYPES_NONCE_STALE : STUN_TYPES_NONCE_UNKNOWN;
 }
 
-/* Whether the PASSWORD-ALGORITHM of a request is SHA-256. It counts if the server sent a list; else
-   the key is that for MD5. */
-static bool is_by_sha256(slice message) {
-    slice chosen;
-    return find_value(message, STUN_TYPES_ATTRIBUTE_PASSWORD_ALGORITHM, &chosen) && chosen.length >= 2
-        && chosen.bytes[1] == STUN_TYPES_PASSWORD_SHA256;
-}
-
 static void long_term(void) {
     stun_types_policy policy = call_policy();
     slice fresh = call_octets(), stale = call_octets(), message = call_octets();
     size_t user = user_of(message);
-    stun_types_key md5 = STUN_TYPES_NO_KEY_YET, sha256 = STUN_TYPES_NO_KEY_YET;
+    user_keys keys = {STUN_TYPES_NO_KEY_YET, STUN_TYPES_NO_KEY_YET};
     stun_types_authentication *decision = NEW(stun_types_authentication);
     stun_types_nonce_state state = nonce_state(message, fresh, stale);
     bool is_promised = state == STUN_TYPES_NONCE_VALID && promises(fresh);
     stun_types_answer answer = OK_ANSWER;
     if (user < COUNT(users)) {
-        answer = make_long_term(&md5, user, STUN_TYPES_PASSWORD_MD5);
+        answer = make_long_term(&keys.first, user, STUN_TYPES_PASSWORD_MD5);
         if (answer.code == STUN_TYPES_OK)
-            answer = make_long_term(&sha256, user, STUN_TYPES_PASSWORD_SHA256);
+            answer = make_long_term(&keys.sha256, user, STUN_TYPES_PASSWORD_SHA256);
     }
     if (is_taken(answer)
         && has_decided(stun_types_authenticate_long_term(
                            message.bytes, message.length, &policy, state, offered,
-                           is_promised ? COUNT(offered) : 0, &md5, &sha256, decision),
+                           is_promised ? COUNT(offered) : 0, &keys.first, &keys.sha256, decision),
                        decision))
-        answer_decision(message, decision,
-                        is_promised && is_by_sha256(message) ? &sha256 : &md5, &fresh);
-    stun_types_key_free(&md5);
-    stun_types_key_free(&sha256);
+        answer_decision(message, decision, &keys, &fresh);
+    stun_types_key_free(&keys.first);
+    stun_types_key_free(&keys.sha256);
 }
 
 /* The password algorithms of a list of names. */
@@ -229,13 +234,15 @@ static size_t algorithms_of(char *list, uint16_t *algorithms) {
     return count;
 }
 
-static void challenge(void) {
-    uint16_t supported[ALGORITHMS];
-    size_t count = algorithms_of(call_word(), supported);
-    slice before = call_octets(), response = call_octets();
+/* Answers with what a response asks for of a client that knows this. */
+static void answer_asked(const uint16_t *supported, size_t count, const slice *tried, bool was_seen,
+                         slice response) {
+    static const slice none = {NULL, 0};
     stun_types_challenge *asked = NEW(stun_types_challenge);
+    slice realm_tried = tried == NULL ? none : *tried;
     if (!is_taken(stun_types_challenge_of(response.bytes, response.length, supported, count,
-                                          before.bytes, before.length, asked))) {
+                                          tried != NULL, realm_tried.bytes, realm_tried.length,
+                                          was_seen, asked))) {
         CHECK(is_untouched(asked, sizeof *asked));
         return;
     }
@@ -250,49 +257,56 @@ static void challenge(void) {
     answer_algorithm(asked->integrity_algorithm);
 }
 
-/* Adds what the next request carries of a challenge, before it is signed. */
-static void add_login(draft *to, slice response, const stun_types_challenge *asked) {
-    stun_types_hash hash;
-    uint8_t algorithm[4] = {0, 0, 0, 0};
-    const uint8_t *bytes = response.bytes;
-    slice asked_realm = given(bytes + asked->realm_at, asked->realm_length);
-    ANSWERS(stun_types_userhash("user", 4, asked_realm.bytes, asked_realm.length, &hash),
+static void challenge(void) {
+    uint16_t supported[ALGORITHMS];
+    size_t count = algorithms_of(call_word(), supported);
+    slice before = call_octets(), response = call_octets(), tried;
+    stun_types_challenge asked;
+    if (before.length == 0) {
+        answer_asked(supported, count, NULL, false, response);
+        return;
+    }
+    if (!is_taken(stun_types_challenge_of(before.bytes, before.length, supported, count, false, NULL,
+                                          0, false, &asked)))
+        return;
+    tried = given(before.bytes + asked.realm_at, asked.realm_length);
+    answer_asked(supported, count, &tried, asked.algorithms_at != 0, response);
+}
+
+static void retry(void) {
+    uint16_t supported[ALGORITHMS];
+    size_t count = algorithms_of(call_word(), supported);
+    slice tried = call_octets(), seen = call_octets(), response = call_octets();
+    answer_asked(supported, count, tried.length == 0 ? NULL : &tried, seen.length != 0, response);
+}
+
+/* Writes the answer to a challenge in a room of this size. */
+static stun_types_answer answer_with(draft *to, size_t size, slice response,
+                                     const uint16_t *supported, size_t count,
+                                     const stun_types_key *key) {
+    stun_types_header header = header_of(response);
+    ANSWERS(draft_begin(to, size, STUN_TYPES_CLASS_REQUEST, STUN_TYPES_METHOD_BINDING, &header.id),
             OK_ANSWER);
-    if (asked->anonymous) ANSWERS(add(to, STUN_TYPES_ATTRIBUTE_USERHASH, given(hash.bytes, 32)), OK_ANSWER);
-    else ANSWERS(add(to, STUN_TYPES_ATTRIBUTE_USERNAME, text("user")), OK_ANSWER);
-    ANSWERS(add(to, STUN_TYPES_ATTRIBUTE_REALM, asked_realm), OK_ANSWER);
-    ANSWERS(add(to, STUN_TYPES_ATTRIBUTE_NONCE, given(bytes + asked->nonce_at, asked->nonce_length)),
-            OK_ANSWER);
-    if (asked->algorithms_at == 0) return;
-    algorithm[1] = (uint8_t)asked->password_algorithm;
-    ANSWERS(add(to, STUN_TYPES_ATTRIBUTE_PASSWORD_ALGORITHMS,
-                given(bytes + asked->algorithms_at, asked->algorithms_length)),
-            OK_ANSWER);
-    ANSWERS(add(to, STUN_TYPES_ATTRIBUTE_PASSWORD_ALGORITHM, given(algorithm, 4)), OK_ANSWER);
+    return stun_types_answer_challenge(to->room, size, &to->written, response.bytes, response.length,
+                                       supported, count, "user", 4, key, true);
 }
 
 static void answer_challenge(void) {
     uint16_t supported[ALGORITHMS];
     size_t count = algorithms_of(call_word(), supported);
     slice response = call_octets();
-    stun_types_header header = header_of(response);
-    stun_types_challenge asked;
     stun_types_key key = STUN_TYPES_NO_KEY_YET;
-    draft to;
-    if (!is_taken(stun_types_challenge_of(response.bytes, response.length, supported, count, NULL,
-                                          0, &asked)))
-        return;
+    draft to, small;
     keep_secret(text("pass"));
-    if (is_taken(stun_types_key_long_term(
-            &key, "user", 4, response.bytes + asked.realm_at, asked.realm_length, "pass", 4,
-            asked.password_algorithm))) {
-        ANSWERS(draft_begin(&to, ROOM, STUN_TYPES_CLASS_REQUEST, STUN_TYPES_METHOD_BINDING, &header.id),
-                OK_ANSWER);
-        add_login(&to, response, &asked);
-        ANSWERS(stun_types_add_integrity(to.room, to.size, &to.written, &key,
-                                         asked.integrity_algorithm),
-                OK_ANSWER);
-        ANSWERS(stun_types_add_fingerprint(to.room, to.size, &to.written), OK_ANSWER);
+    if (is_taken(stun_types_key_for(&key, response.bytes, response.length, supported, count, "user", 4,
+                                    "pass", 4))) {
+        ANSWERS(answer_with(&to, ROOM, response, supported, count, &key), OK_ANSWER);
+        /* what has no room is left out, and the message is whole without it */
+        ANSWERS(answer_with(&small, to.written - 1, response, supported, count, &key),
+                LENGTHS(STUN_TYPES_TOO_SMALL, to.written, to.written - 1));
+        CHECK(small.written == to.written - 8);
+        CHECK(memcmp(small.room + 4, to.room + 4, small.written - 4) == 0);
+        CHECK(stun_types_parse(small.room, small.written).code == STUN_TYPES_OK);
         answer_draft(&to);
     }
     stun_types_key_free(&key);
@@ -314,18 +328,137 @@ static void error_response(void) {
         answer_text("-");
         return;
     }
-    result = stun_types_challenge_of(response.bytes, response.length, both, COUNT(both), NULL, 0,
-                                   &asked);
+    result = stun_types_challenge_of(response.bytes, response.length, both, COUNT(both), false, NULL,
+                                     0, false, &asked);
     answer_text("%u", (unsigned)code);
     if (result.code != STUN_TYPES_NOT_A_CHALLENGE) answer_text(" challenge");
     if (result.code == STUN_TYPES_BID_DOWN) answer_text(" bid-down");
+}
+
+/* ---- nonces */
+
+/* The sum of the features of a word. */
+static uint32_t call_features(void) {
+    char *list = call_word(), *name;
+    uint32_t features = 0;
+    if (list == NULL) answer_unknown();
+    if (list == NULL || strcmp(list, "none") == 0) return 0;
+    while ((name = next_part(&list, ',')) != NULL)
+        features += strcmp(name, "algorithms") == 0 ? STUN_TYPES_FEATURE_PASSWORD_ALGORITHMS
+                                                    : STUN_TYPES_FEATURE_USERNAME_ANONYMITY;
+    return features;
+}
+
+static void security_features(void) {
+    slice nonce = call_octets();
+    uint32_t *features = NEW(uint32_t);
+    static const char *const words[] = {"none", "algorithms", "anonymity", "algorithms,anonymity"};
+    if (stun_types_security_features(nonce.bytes, nonce.length, features)) {
+        CHECK(*features < COUNT(words));
+        answer_text("%s", words[*features % COUNT(words)]);
+    } else {
+        CHECK(is_untouched(features, sizeof *features));
+        answer_text("-");
+    }
+}
+
+static void nonce_cookie(void) {
+    stun_types_cookie *cookie = NEW(stun_types_cookie);
+    if (is_taken(stun_types_nonce_cookie(call_features(), cookie)))
+        answer_octets(cookie->bytes, sizeof cookie->bytes);
+}
+
+/* Whether the algorithms are sent with the nonce, by a 401 that does so. */
+static void demand(void) {
+    slice nonce = call_octets(), request = octets_of("000100002112a442000000000000000000000001");
+    uint16_t algorithms[ALGORITHMS];
+    char *list = call_word();
+    size_t count, written = 0;
+    stun_types_answer answer;
+    if (list == NULL) {
+        answer_unknown();
+        return;
+    }
+    count = strcmp(list, "none") == 0 ? 0 : algorithms_of(list, algorithms);
+    answer = stun_types_refuse_long_term(request.bytes, request.length, 401, realm, strlen(realm),
+                                         nonce.bytes, nonce.length, algorithms, count, room(ROOM),
+                                         ROOM, &written);
+    if (answer.code == STUN_TYPES_BAD_ARGUMENT) answer_text(count == 0 ? "!NoList" : "!NotPromised");
+    else if (is_taken(answer)) answer_text("ok");
+}
+
+/* What a server makes nonces by, and a client. */
+typedef struct {
+    stun_types_key secret;
+    uint32_t features;
+    uint64_t window, now;
+    stun_types_address client;
+} nonce_maker;
+
+/* The maker of the next words; false if there is no memory for it. */
+static bool call_maker(nonce_maker *maker) {
+    slice secret = call_octets();
+    char *address, *port;
+    memset(maker, 0, sizeof *maker);
+    maker->features = call_features();
+    maker->window = call_count();
+    maker->now = call_count();
+    address = call_word();
+    port = address == NULL ? NULL : strrchr(address, ':');
+    if (port == NULL) {
+        answer_unknown();
+        return false;
+    }
+    *port = 0;
+    maker->client.port = (uint16_t)strtoul(port + 1, NULL, 10);
+    maker->client.family = address[0] == '[' ? 6 : 4;
+    if (address[0] == '[') {
+        address++;
+        address[strlen(address) - 1] = 0;
+    }
+    if (inet_pton(maker->client.family == 4 ? AF_INET : AF_INET6, address, maker->client.octets) != 1)
+        answer_unknown();
+    return make_key(&maker->secret, secret, STUN_TYPES_INTEGRITY_ANY);
+}
+
+static void make_nonce(void) {
+    nonce_maker by;
+    uint8_t *nonce = room(STUN_TYPES_NONCE_LENGTH);
+    size_t *written = NEW(size_t);
+    if (call_maker(&by)
+        && is_taken(stun_types_make_nonce(&by.secret, by.features, by.window, by.now, &by.client,
+                                          nonce, STUN_TYPES_NONCE_LENGTH, written))) {
+        CHECK(*written == STUN_TYPES_NONCE_LENGTH);
+        answer_octets(nonce, *written);
+    }
+    stun_types_key_free(&by.secret);
+}
+
+static void freshness(void) {
+    nonce_maker by;
+    bool is_made = call_maker(&by);
+    slice nonce = call_octets();
+    stun_types_nonce_state *state = NEW(stun_types_nonce_state);
+    if (is_made
+        && is_taken(stun_types_judge_nonce(&by.secret, by.features, by.window, by.now, &by.client,
+                                           nonce.bytes, nonce.length, state)))
+        answer_text(*state == STUN_TYPES_NONCE_VALID   ? "fresh"
+                    : *state == STUN_TYPES_NONCE_STALE ? "stale"
+                                                       : "unknown");
+    stun_types_key_free(&by.secret);
 }
 
 const verb verbs_of_authentication[] = {
     {"short-term", short_term, true},
     {"long-term", long_term, true},
     {"challenge", challenge, false},
+    {"retry", retry, false},
     {"answer-challenge", answer_challenge, true},
     {"error-response", error_response, false},
+    {"security-features", security_features, false},
+    {"nonce-cookie", nonce_cookie, false},
+    {"demand", demand, true},
+    {"make-nonce", make_nonce, true},
+    {"freshness", freshness, true},
     {NULL, NULL, false},
 };

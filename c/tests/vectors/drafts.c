@@ -29,8 +29,11 @@ bool is_response_to(const stun_types_header *request, const stun_types_header *r
 
 stun_types_answer draft_reply(draft *message, size_t size, slice request,
                               stun_types_class message_class) {
-    stun_types_header header = header_of(request);
-    return draft_begin(message, size, message_class, (stun_types_method)header.method, &header.id);
+    message->room = room(size);
+    message->size = size;
+    message->written = 0;
+    return stun_types_begin_reply(message->room, size, request.bytes, request.length, message_class,
+                                  &message->written);
 }
 
 stun_types_answer draft_unknown(draft *message, const uint16_t *types, size_t count) {

@@ -1,4 +1,4 @@
-/* A client's transaction, event by event, and the address that a response reports. */
+/* A client's transaction, event by event, many of them, and the address that a response reports. */
 #define _DEFAULT_SOURCE
 #include "call.h"
 
@@ -6,7 +6,7 @@
 #include <stdlib.h>
 #include <string.h>
 
-enum { EVENTS = 64, TYPES_MOST = 80 };
+enum { EVENTS = 64, TYPES_MOST = 80, MANY = 64 };
 
 /* What happens in a transaction. */
 typedef struct {
@@ -27,8 +27,9 @@ static struct {
     size_t count;
 } script;
 
-/* What was received last. */
+/* What was received last, and the time of the last poll. */
 static stun_types_received last_received;
+static uint64_t last_time;
 
 /* The schedule of four numbers. */
 static stun_types_schedule schedule_of(char *word) {
@@ -55,20 +56,24 @@ static bool has_begun(stun_types_answer result, const stun_types_schedule *sched
     return false;
 }
 
-static void answer_action(const stun_types_action *action) {
+/* The word of an end. */
+static const char *end_word(uint32_t end) {
     static const char *const ends[] = {
         "!", "answered", "timed-out", "not-authentic", "refused", "cancelled", "transport-failed",
     };
+    return ends[end < COUNT(ends) ? end : 0];
+}
+
+static void answer_action(const stun_types_action *action) {
     answer_space();
     if (action->kind == STUN_TYPES_SEND_NOW) answer_text("send");
     else if (action->kind == STUN_TYPES_WAIT)
         answer_text("wait:%llu", (unsigned long long)action->until);
-    else answer_text("ended:%s", ends[action->end < COUNT(ends) ? action->end : 0]);
+    else answer_text("ended:%s", end_word(action->end));
 }
 
 static void answer_received(const stun_types_received *received) {
     unsigned number = (unsigned)received->number;
-    answer_space();
     switch (received->kind) {
     case STUN_TYPES_NOT_FOR_THIS: answer_text("ignored"); break;
     case STUN_TYPES_DISCARDED_NOT_AUTHENTIC: answer_text("discarded:not-authentic"); break;
@@ -110,7 +115,7 @@ static void answer_claimed(void) {
 /* Whether an event has no argument. */
 static bool is_plain(const char *word) {
     static const char *const plain[] = {
-        "authenticated", "claimed", "stop-sending", "cancel", "transport-fails",
+        "authenticated", "claimed", "stop-sending", "cancel", "transport-fails", "round-trip",
     };
     size_t at;
     for (at = 0; at < COUNT(plain); at++)
@@ -118,7 +123,7 @@ static bool is_plain(const char *word) {
     return false;
 }
 
-/* Reads the events that are left. (C measures no round trip.) */
+/* Reads the events that are left. */
 static void read_events(void) {
     char *word;
     script.count = 0;
@@ -135,6 +140,18 @@ static void read_events(void) {
     }
 }
 
+/* How long the response took, if it came at the time of the last poll. */
+static void answer_round_trip(const stun_types_transaction *transaction) {
+    uint64_t *time = NEW(uint64_t);
+    answer_space();
+    if (stun_types_transaction_round_trip(transaction, last_time, time))
+        answer_text("%llu", (unsigned long long)*time);
+    else {
+        CHECK(is_untouched(time, sizeof *time));
+        answer_text("unknown");
+    }
+}
+
 /* Takes an event, and answers if it asks; false if there is no memory. */
 static bool take(const event *it, stun_types_transaction *transaction, const stun_types_key *key,
                  const event *understood) {
@@ -142,6 +159,7 @@ static bool take(const event *it, stun_types_transaction *transaction, const stu
     stun_types_received received;
     if (strcmp(it->name, "at") == 0) {
         ANSWERS(stun_types_transaction_poll(transaction, it->time, &action), OK_ANSWER);
+        last_time = it->time;
         answer_action(&action);
     } else if (strcmp(it->name, "got") == 0) {
         stun_types_transaction before = *transaction;
@@ -152,10 +170,12 @@ static bool take(const event *it, stun_types_transaction *transaction, const stu
             CHECK(memcmp(&before, transaction, sizeof before) == 0);
             return false;
         }
+        answer_space();
         answer_received(&received);
         last_received = received;
     } else if (strcmp(it->name, "authenticated") == 0) answer_authenticated();
     else if (strcmp(it->name, "claimed") == 0) answer_claimed();
+    else if (strcmp(it->name, "round-trip") == 0) answer_round_trip(transaction);
     else if (strcmp(it->name, "stop-sending") == 0)
         ANSWERS(stun_types_transaction_stop_sending(transaction), OK_ANSWER);
     else if (strcmp(it->name, "cancel") == 0)
@@ -214,6 +234,159 @@ static void transaction(void) {
     run();
 }
 
+/* ---- many transactions, in an array with as many places as there is room for */
+
+static struct {
+    stun_types_transaction all[MANY];
+    bool is_held[MANY];
+    size_t count;
+    stun_types_schedule schedule;
+} table;
+
+/* The number of a transaction ID that is a decimal number. */
+static unsigned long long number_of(const stun_types_id *id) {
+    unsigned long long number = 0;
+    size_t at;
+    for (at = 4; at < 12; at++) number = number << 8 | id->bytes[at];
+    return number;
+}
+
+/* The place of the transaction with an ID; table.count if there is none. */
+static size_t place_of(unsigned long long id) {
+    size_t place;
+    for (place = 0; place < table.count; place++)
+        if (table.is_held[place] && number_of(&table.all[place].id) == id) break;
+    return place;
+}
+
+static void free_place(size_t place) {
+    memset(&table.all[place], 0, sizeof table.all[place]);
+    table.is_held[place] = false;
+}
+
+static void begin_one(void) {
+    const stun_types_key none = STUN_TYPES_NO_KEY_YET;
+    uint64_t now = call_count();
+    slice request = call_octets();
+    stun_types_transaction begun;
+    size_t place;
+    stun_types_answer answer = stun_types_transaction_begin(
+        &begun, request.bytes, request.length, &table.schedule, STUN_TYPES_UDP,
+        STUN_TYPES_UNPROTECTED, &none, now);
+    answer_space();
+    if (answer.code == STUN_TYPES_NOT_A_REQUEST) {
+        answer_text("not-a-request");
+        return;
+    }
+    if (!is_taken(answer)) return;
+    if (place_of(number_of(&begun.id)) < table.count) {
+        answer_text("in-use");
+        return;
+    }
+    for (place = 0; place < table.count && table.is_held[place];) place++;
+    if (place == table.count) {
+        answer_text("full");
+        return;
+    }
+    table.all[place] = begun;
+    table.is_held[place] = true;
+    answer_text("begun");
+}
+
+/* What is to be done first; false if nothing is. */
+static bool answer_first_task(uint64_t now) {
+    stun_types_action action;
+    size_t place;
+    for (place = 0; place < table.count; place++) {
+        unsigned long long id = number_of(&table.all[place].id);
+        if (!table.is_held[place]) continue;
+        ANSWERS(stun_types_transaction_poll(&table.all[place], now, &action), OK_ANSWER);
+        if (action.kind == STUN_TYPES_WAIT) continue;
+        if (action.kind == STUN_TYPES_SEND_NOW) answer_text("send:%llu", id);
+        else {
+            answer_text("%llu:ended:%s", id, end_word(action.end));
+            free_place(place);
+        }
+        return true;
+    }
+    return false;
+}
+
+/* From when on there is something to do. (C passes over what has ended: its owner knows.) */
+static void answer_wake(const char *before, const char *otherwise) {
+    uint64_t *until = NEW(uint64_t);
+    size_t place;
+    for (place = 0; place < table.count; place++)
+        if (table.is_held[place] && table.all[place].end != 0) {
+            answer_text("%s0", before);
+            return;
+        }
+    if (stun_types_transactions_next(table.all, table.count, until))
+        answer_text("%s%llu", before, (unsigned long long)*until);
+    else {
+        CHECK(is_untouched(until, sizeof *until));
+        answer_text("%s", otherwise);
+    }
+}
+
+static void receive_one(void) {
+    const stun_types_key none = STUN_TYPES_NO_KEY_YET;
+    slice bytes = call_octets();
+    size_t *place = NEW(size_t), at;
+    stun_types_received received;
+    answer_space();
+    if (!stun_types_transactions_find(table.all, table.count, bytes.bytes, bytes.length, place)) {
+        stun_types_header header;
+        CHECK(is_untouched(place, sizeof *place));
+        /* one that waits for nothing is known by its ID alone */
+        memset(&header, 0, sizeof header);
+        if (stun_types_read_header(bytes.bytes, bytes.length, &header).code == STUN_TYPES_OK
+            && stun_types_parse(bytes.bytes, bytes.length).code == STUN_TYPES_OK
+            && place_of(number_of(&header.id)) < table.count)
+            answer_text("%llu:", number_of(&header.id));
+        answer_text("ignored");
+        return;
+    }
+    at = *place;
+    ANSWERS(stun_types_transaction_receive(&table.all[at], &none, bytes.bytes, bytes.length, NULL, 0,
+                                           &received),
+            OK_ANSWER);
+    answer_text("%llu:", number_of(&table.all[at].id));
+    answer_received(&received);
+}
+
+/* Whether there is a transaction with the ID of the next word, after a call for it. */
+static void call_for(stun_types_answer (*call)(stun_types_transaction *)) {
+    size_t place = place_of(call_count());
+    answer_space();
+    answer_text(place < table.count ? "yes" : "no");
+    if (place < table.count && call != NULL) ANSWERS(call(&table.all[place]), OK_ANSWER);
+}
+
+static void transactions(void) {
+    const char *word;
+    memset(&table, 0, sizeof table);
+    table.count = (size_t)call_count();
+    table.schedule = schedule_of(call_word());
+    if (table.count > MANY) abort();
+    while ((word = call_word()) != NULL) {
+        if (strcmp(word, "begin") == 0) begin_one();
+        else if (strcmp(word, "got") == 0) receive_one();
+        else if (strcmp(word, "has") == 0) call_for(NULL);
+        else if (strcmp(word, "stop-sending") == 0) call_for(stun_types_transaction_stop_sending);
+        else if (strcmp(word, "cancel") == 0) call_for(stun_types_transaction_cancel);
+        else if (strcmp(word, "transport-fails") == 0) call_for(stun_types_transaction_fail);
+        else if (strcmp(word, "wake") == 0) {
+            answer_space();
+            answer_wake("", "unknown");
+        } else if (strcmp(word, "at") == 0) {
+            uint64_t now = call_count();
+            answer_space();
+            if (!answer_first_task(now)) answer_wake("wait:", "idle");
+        } else answer_unknown();
+    }
+}
+
 /* A client that asks at each moment that it is asked to wait for. */
 static void schedule(void) {
     const stun_types_key none = STUN_TYPES_NO_KEY_YET;
@@ -270,5 +443,6 @@ static void mapped(void) {
 
 const verb verbs_of_transactions[] = {
     {"transaction", transaction, true}, {"schedule", schedule, false},
-    {"mapped", mapped, false}, {NULL, NULL, false},
+    {"transactions", transactions, false}, {"mapped", mapped, false},
+    {NULL, NULL, false},
 };

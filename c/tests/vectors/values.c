@@ -1,10 +1,11 @@
-/* Values of attributes: addresses, errors and lists of types. C reads and makes no others. */
+/* Values of attributes: addresses, errors, lists of types, and numbers. C reads and makes no others. */
 #include "call.h"
 
 #include <stdio.h>
+#include <stdlib.h>
 #include <string.h>
 
-typedef enum { NOTHING, ADDRESS, XOR_ADDRESS, ERROR, TYPES } value_kind;
+typedef enum { NOTHING, ADDRESS, XOR_ADDRESS, ERROR, TYPES, OF_8, OF_16, OF_32, OF_64 } value_kind;
 
 /* What C reads a value of this type as. */
 static value_kind kind_of(uint16_t type) {
@@ -18,6 +19,21 @@ static value_kind kind_of(uint16_t type) {
     case STUN_TYPES_ATTRIBUTE_XOR_RELAYED_ADDRESS: return XOR_ADDRESS;
     case STUN_TYPES_ATTRIBUTE_ERROR_CODE: return ERROR;
     case STUN_TYPES_ATTRIBUTE_UNKNOWN_ATTRIBUTES: return TYPES;
+    case STUN_TYPES_ATTRIBUTE_REQUESTED_TRANSPORT:
+    case STUN_TYPES_ATTRIBUTE_REQUESTED_ADDRESS_FAMILY:
+    case STUN_TYPES_ATTRIBUTE_ADDITIONAL_ADDRESS_FAMILY:
+    case STUN_TYPES_ATTRIBUTE_EVEN_PORT: return OF_8;
+    case STUN_TYPES_ATTRIBUTE_CHANNEL_NUMBER:
+    case STUN_TYPES_ATTRIBUTE_RESPONSE_PORT: return OF_16;
+    case STUN_TYPES_ATTRIBUTE_PRIORITY:
+    case STUN_TYPES_ATTRIBUTE_LIFETIME:
+    case STUN_TYPES_ATTRIBUTE_CONNECTION_ID:
+    case STUN_TYPES_ATTRIBUTE_CHANGE_REQUEST:
+    case STUN_TYPES_ATTRIBUTE_TRANSACTION_TRANSMIT_COUNTER: return OF_32;
+    case STUN_TYPES_ATTRIBUTE_ICE_CONTROLLED:
+    case STUN_TYPES_ATTRIBUTE_ICE_CONTROLLING:
+    case STUN_TYPES_ATTRIBUTE_RESERVATION_TOKEN:
+    case STUN_TYPES_ATTRIBUTE_ICMP: return OF_64;
     default: return NOTHING;
     }
 }
@@ -72,6 +88,50 @@ static stun_types_answer read_types(slice octets, const stun_types_attribute *at
     return result;
 }
 
+/* Answers with what a number means as the value of a type. */
+static void answer_meaning(uint16_t type, uint64_t number) {
+    unsigned long long n = number;
+    uint8_t token[8];
+    size_t at;
+    switch (type) {
+    case STUN_TYPES_ATTRIBUTE_CHANNEL_NUMBER: answer_text("%04llx", n); break;
+    case STUN_TYPES_ATTRIBUTE_REQUESTED_ADDRESS_FAMILY:
+    case STUN_TYPES_ATTRIBUTE_ADDITIONAL_ADDRESS_FAMILY:
+        answer_text(n == 1 ? "ipv4" : "ipv6");
+        break;
+    case STUN_TYPES_ATTRIBUTE_EVEN_PORT: answer_text(n & 0x80 ? "yes" : "no"); break;
+    case STUN_TYPES_ATTRIBUTE_CHANGE_REQUEST:
+        answer_text("%s %s", n & 4 ? "yes" : "no", n & 2 ? "yes" : "no");
+        break;
+    case STUN_TYPES_ATTRIBUTE_TRANSACTION_TRANSMIT_COUNTER:
+        answer_text("%llu %llu", n >> 8 & 0xFF, n & 0xFF);
+        break;
+    case STUN_TYPES_ATTRIBUTE_ICMP:
+        answer_text("%llu %llu %llu", n >> 40 & 0xFF, n >> 32 & 0xFF, n & 0xFFFFFFFF);
+        break;
+    case STUN_TYPES_ATTRIBUTE_RESERVATION_TOKEN:
+        for (at = 0; at < sizeof token; at++) token[at] = (uint8_t)(number >> (56 - 8 * at));
+        answer_octets(token, sizeof token);
+        break;
+    default: answer_text("%llu", n);
+    }
+}
+
+/* Answers with a number of so many bits, or why there is none. */
+#define READS(bits, call) \
+    static stun_types_answer read_##bits(slice octets, const stun_types_attribute *attribute, \
+                                         bool is_shown) { \
+        uint##bits##_t *number = NEW(uint##bits##_t); \
+        stun_types_answer result = call(octets.bytes, octets.length, attribute, number); \
+        if (result.code != STUN_TYPES_OK) CHECK(is_untouched(number, sizeof *number)); \
+        else if (is_shown) answer_meaning(attribute->type, *number); \
+        return result; \
+    }
+READS(8, stun_types_read_u8)
+READS(16, stun_types_read_u16)
+READS(32, stun_types_read_u32)
+READS(64, stun_types_read_u64)
+
 /* Reads a value, and answers with what it means if that is to be result. */
 static stun_types_answer read_value(uint16_t type, slice value, const stun_types_id *id,
                                     bool is_shown) {
@@ -84,6 +144,10 @@ static stun_types_answer read_value(uint16_t type, slice value, const stun_types
     case XOR_ADDRESS: return read_address(octets, &attribute, true, is_shown);
     case ERROR: return read_error(octets, &attribute, is_shown);
     case TYPES: return read_types(octets, &attribute, is_shown);
+    case OF_8: return read_8(octets, &attribute, is_shown);
+    case OF_16: return read_16(octets, &attribute, is_shown);
+    case OF_32: return read_32(octets, &attribute, is_shown);
+    case OF_64: return read_64(octets, &attribute, is_shown);
     default: answer_unknown(); return OK_ANSWER;
     }
 }
@@ -198,6 +262,65 @@ static void make_list(void) {
     answer_value(&message, result);
 }
 
+/* The next word, which must be there. */
+static const char *call_meaning(void) {
+    const char *word = call_word();
+    if (word == NULL) answer_unknown();
+    return word == NULL ? "" : word;
+}
+
+/* The number that is the meaning in the next words. */
+static uint64_t call_number_of(uint16_t type) {
+    const char *word = call_meaning();
+    uint64_t number = strtoull(word, NULL, 10);
+    bool is_yes = strcmp(word, "yes") == 0;
+    size_t at;
+    switch (type) {
+    case STUN_TYPES_ATTRIBUTE_CHANNEL_NUMBER: return strtoull(word, NULL, 16);
+    case STUN_TYPES_ATTRIBUTE_REQUESTED_ADDRESS_FAMILY:
+    case STUN_TYPES_ATTRIBUTE_ADDITIONAL_ADDRESS_FAMILY:
+        return strcmp(word, "ipv4") == 0 ? 1 : 2;
+    case STUN_TYPES_ATTRIBUTE_EVEN_PORT: return is_yes ? 0x80 : 0;
+    case STUN_TYPES_ATTRIBUTE_CHANGE_REQUEST:
+        return (is_yes ? 4u : 0u) + (strcmp(call_meaning(), "yes") == 0 ? 2u : 0u);
+    case STUN_TYPES_ATTRIBUTE_TRANSACTION_TRANSMIT_COUNTER: return number << 8 | call_count();
+    case STUN_TYPES_ATTRIBUTE_ICMP:
+        number = number << 8 | call_count();
+        return number << 32 | call_count();
+    case STUN_TYPES_ATTRIBUTE_RESERVATION_TOKEN: {
+        slice token = octets_of(word);
+        number = 0;
+        for (at = 0; at < token.length; at++) number = number << 8 | token.bytes[at];
+        return number;
+    }
+    default: return number;
+    }
+}
+
+static void make_number(uint16_t type) {
+    uint64_t number = call_number_of(type);
+    stun_types_id id = id_of("0");
+    draft to = begun(&id);
+    stun_types_answer result;
+    switch (kind_of(type)) {
+    case OF_8:
+        result = stun_types_add_u8(to.room, to.size, &to.written, type, (uint8_t)number);
+        break;
+    case OF_16:
+        result = stun_types_add_u16(to.room, to.size, &to.written, type, (uint16_t)number);
+        break;
+    case OF_32:
+        result = stun_types_add_u32(to.room, to.size, &to.written, type, (uint32_t)number);
+        break;
+    default: result = stun_types_add_u64(to.room, to.size, &to.written, type, number);
+    }
+    /* (of a channel; the header says what C answers) */
+    if (result.code == STUN_TYPES_OUT_OF_RANGE && type == STUN_TYPES_ATTRIBUTE_CHANNEL_NUMBER) {
+        ANSWERS(result, LENGTHS(STUN_TYPES_OUT_OF_RANGE, 0x4FFF, number));
+        answer_text("!NoChannel");
+    } else answer_value(&to, result);
+}
+
 static void make(void) {
     uint16_t type = call_number();
     switch (kind_of(type)) {
@@ -205,6 +328,10 @@ static void make(void) {
     case XOR_ADDRESS: make_address(type, true); break;
     case ERROR: make_error(); break;
     case TYPES: make_list(); break;
+    case OF_8:
+    case OF_16:
+    case OF_32:
+    case OF_64: make_number(type); break;
     default: answer_unknown();
     }
 }

@@ -9,3 +9,8 @@ mod CredentialsLemmas
 mod KeptLemmas
 mod StandsLemmas
 mod AskedLemmas
+mod StepsLemmas
+mod NumbersLemmas
+mod RefusalsLemmas
+mod ManyTransactionsLemmas
+mod KnownTypesLemmas

@@ -1,7 +1,8 @@
 -- What a server in C is told of a message that it authenticates (RFC 8489, sections 9.1.3 and
 -- 9.2.4).
-use Rattle.std.specs.Prelude.{◌≡◌, ◌⊎◌, ℕ, List, [], Option, None, Some, MatchOption, not, option_and_then, ◌==◌, if◌then◌else◌}
-use Rattle.std.specs.Option.{option_map}
+use Rattle.std.specs.Prelude.{◌≡◌, ◌⊎◌, ℕ, false, List, [], Option, None, Some, MatchOption, nat_eq, not, option_and_then, ◌==◌, if◌then◌else◌}
+use Rattle.std.specs.Cmp.Lexicographic.{pointwise}
+use Rattle.std.specs.Option.{option_map, option_map_or}
 use Rattle.stun_grammar.specs.declared.integrity_algorithm.IntegrityAlgorithm.{IntegrityAlgorithm}
 use Rattle.stun_grammar.specs.Parsing.{parse_fault}
 use Rattle.stun_keys.specs.declared.keys.integrity_key.IntegrityKey.{IntegrityKey}
@@ -12,13 +13,15 @@ use Rattle.stun_authentication.specs.LongTerm.{long_term}
 use Rattle.stun_authentication.specs.ShortTerm.{short_term}
 use Rattle.stun_types_c.specs.declared.call_result.CallResult.{CallResult}
 use Rattle.stun_types_c.specs.declared.authentication.Authenticated.{Authenticated}
+use Rattle.stun_types_c.specs.declared.authentication.KeyUsed.{KeyUsed}
+use Rattle.stun_types_c.specs.declared.authentication.KeyUsed.TheVariants.{ShortTerm, LongTerm}
 use Rattle.stun_types_c.specs.declared.authentication.CountedIntegrity.{CountedIntegrity}
 use Rattle.stun_types_c.specs.Codes.{OK, OUT_OF_MEMORY, BAD_ARGUMENT}
 use Rattle.stun_types_c.specs.CallResults.{plain, parse_result}
 use Rattle.stun_types_c.specs.Keys.{algorithm_named, number_of}
 use Rattle.stun_types_c.specs.PasswordAlgorithms.{password_algorithms_named}
 use Rattle.stun_types_c.specs.Usages.{shortest_named}
-use Rattle.stun_types_c.specs.Users.{bytes_of, long_term_key_of, nonce_in}
+use Rattle.stun_types_c.specs.Users.{bytes_of, borrowed_bytes, long_term_key_of, nonce_in}
 
 -- ---- What C hands in
 
@@ -67,39 +70,54 @@ undecided = record {
   error_code = 0;
   algorithm = 0;
   reply_algorithm = 0;
+  password_algorithm = 0;
   reserved = 0;
 }
 
--- a decision in C's numbers: accepted, refused, dropped or not authenticated
-abbrev pub in_c : Decision → Authenticated
-in_c (accept key algorithm reply) = record {
+-- the number of the password algorithm of a key that accepted: it is the one by MD5, which C has, or
+-- else the other
+abbrev pub password_used : (md5 : Option (List ℕ)) → (key : List ℕ) → ℕ
+password_used md5 key =
+    if option_map_or (λ made. pointwise nat_eq made key) md5 false then 1 else 2
+
+-- the same of what a user has: under long-term credentials the key by MD5, if there is one. It is 0
+-- under short-term credentials
+abbrev pub number_used : Option (Option (List ℕ)) → (key : List ℕ) → ℕ
+number_used None key = 0
+number_used (Some md5) key = password_used md5 key
+
+abbrev pub used_in : KeyUsed → Option (Option (List ℕ))
+used_in ShortTerm = None
+used_in (LongTerm md5) = Some (borrowed_bytes md5)
+
+-- a decision in C's numbers: accepted, refused, dropped or not authenticated. The number of the
+-- password algorithm depends on the key
+abbrev pub in_c : (used : Option (Option (List ℕ))) → Decision → Authenticated
+in_c used (accept key algorithm reply) = record {
   kind = 1;
   error_code = 0;
   algorithm = number_of algorithm;
   reply_algorithm = number_of reply;
+  password_algorithm = number_used used key;
   reserved = 0;
 }
-in_c (refuse refusal) = record {
-  kind = 2;
-  error_code = refusal_code refusal;
-  algorithm = 0;
-  reply_algorithm = 0;
-  reserved = 0;
-}
-in_c discard = record undecided { kind = 3 }
-in_c not_a_request = record undecided { kind = 4 }
+in_c used (refuse refusal) = record undecided { kind = 2; error_code = refusal_code refusal }
+in_c used discard = record undecided { kind = 3 }
+in_c used not_a_request = record undecided { kind = 4 }
 
 -- a decision is told; or an allocation failed, and nothing is decided
-abbrev pub TellsDecision : Decision → CallResult → (new : Authenticated) → Type 0
-TellsDecision decision result new =
-    ((result ≡ plain OK) × (new ≡ in_c decision))
+abbrev pub TellsDecision : (used : Option (Option (List ℕ))) → Decision → CallResult → (new : Authenticated)
+    → Type 0
+TellsDecision used decision result new =
+    ((result ≡ plain OK) × (new ≡ in_c used decision))
     ⊎ ((result ≡ plain OUT_OF_MEMORY) × (new ≡ undecided))
 
 -- authenticating d: why it is no message, or that C passed what is none, or the decision
-abbrev pub Authenticates : Option Decision → List ℕ → CallResult → (new : Authenticated) → Type 0
-Authenticates decided d result new =
+abbrev pub Authenticates : (used : Option (Option (List ℕ))) → Option Decision → List ℕ → CallResult
+    → (new : Authenticated) → Type 0
+Authenticates used decided d result new =
     MatchOption (parse_fault d)
     (MatchOption decided
     ((result ≡ plain BAD_ARGUMENT) × (new ≡ undecided))
-    (λ decision. TellsDecision decision result new))
+    (λ decision. TellsDecision used decision result new))
     (λ e. (result ≡ parse_result e) × (new ≡ undecided))

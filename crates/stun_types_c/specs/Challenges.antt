@@ -1,7 +1,7 @@
 -- What a client in C is told of a challenge (RFC 8489, section 9.2.5).
-use Rattle.std.specs.Prelude.{◌≡◌, ℕ, ◌+◌, List, length, slice_range, Option, None, Some, is_some, option_and_then, Result, MatchOption, MatchResult, ◌==◌, if◌then◌else◌}
-use Rattle.std.specs.Option.{option_map, option_map_or}
-use Rattle.std.specs.Result.{result_ok}
+use Rattle.std.specs.Prelude.{◌≡◌, ℕ, ◌+◌, Bool, List, [], length, slice_range, Option, None, Some, Result, MatchOption, MatchResult, if◌then◌else◌}
+use Rattle.std.specs.Option.{option_map_or}
+use Rattle.std.specs.Str.{is_utf8}
 use Rattle.stun_grammar.specs.AttributeTypes.{REALM, NONCE, PASSWORD_ALGORITHMS}
 use Rattle.stun_grammar.specs.Parsing.{parse_fault}
 use Rattle.stun_read.specs.LookingUp.{nth}
@@ -12,8 +12,8 @@ use Rattle.stun_authentication.specs.declared.challenge.NoRetry.TheVariants.{Not
 use Rattle.stun_authentication.specs.Challenges.{Asked, challenge_of, signing_algorithm}
 use Rattle.stun_types_c.specs.declared.call_result.CallResult.{CallResult}
 use Rattle.stun_types_c.specs.declared.challenges.Asked.{Asked as AskedInC}
-use Rattle.stun_types_c.specs.Codes.{OK, BAD_ARGUMENT, NOT_A_CHALLENGE, BID_DOWN, INCOMPLETE, NO_ALGORITHM, SAME_CREDENTIALS}
-use Rattle.stun_types_c.specs.CallResults.{plain, parse_result}
+use Rattle.stun_types_c.specs.Codes.{OK, INVALID_DATA, BAD_ARGUMENT, NOT_A_CHALLENGE, BID_DOWN, INCOMPLETE, NO_ALGORITHM, SAME_CREDENTIALS}
+use Rattle.stun_types_c.specs.CallResults.{plain, parse_result, Refuses}
 use Rattle.stun_types_c.specs.Attributes.{in_c as attribute_in_c}
 use Rattle.stun_types_c.specs.Keys.{number_of}
 use Rattle.stun_types_c.specs.PasswordAlgorithms.{password_algorithms_named}
@@ -52,21 +52,18 @@ pub record StandsWhereTold (d : List ℕ) (asked : Asked) (told : AskedInC) : Ty
   pub list : MatchOption asked.list (told.algorithms_at ≡ 0)
       (λ list. slice_range d told.algorithms_at (told.algorithms_at + told.algorithms_length) ≡ list)
 
--- the challenge in the response before, if C hands in bytes; none of the two where they are no
--- message, or no challenge that a client with these algorithms can have answered
-abbrev pub challenge_before : List PasswordAlgorithmValue → List ℕ → Option (Option Asked)
-challenge_before supported before =
-    if length before == 0 then Some None else (
-    if is_some (parse_fault before) then None
-    else option_map (λ asked. Some asked) (result_ok (challenge_of supported None None before)))
+-- the realm in which the refused request had its credentials, if C says that it had some
+abbrev pub tried_in : (was_tried : Bool) → List ℕ → Option (List ℕ)
+tried_in was_tried realm = if was_tried then Some realm else None
 
--- what a client knows from the challenge before: the realm that its credentials were tried in, and
--- the list that it has seen
-abbrev pub tried_before : Option Asked → Option (List ℕ)
-tried_before before = option_map (λ asked. asked.realm) before
+-- why it is no text
+abbrev pub tried_answer : Option (List ℕ) → Option CallResult
+tried_answer tried =
+    option_map_or (λ realm. if is_utf8 realm then None else Some (plain INVALID_DATA)) tried None
 
-abbrev pub seen_before : Option Asked → Option (List ℕ)
-seen_before before = option_and_then (λ asked. asked.list) before
+-- a list that the server sent before, if C says that it sent one. Nothing but that it did counts
+abbrev pub seen_in : (was_seen : Bool) → Option (List ℕ)
+seen_in was_seen = if was_seen then Some [] else None
 
 -- what d asks for is told, or why the request isn't sent again
 abbrev pub TellsChallenge : List ℕ → Result Asked NoRetry → CallResult → (old new : AskedInC)
@@ -77,27 +74,22 @@ TellsChallenge d told result old new =
     (λ reason. (result ≡ retry_answer reason) × (new ≡ old))
 
 -- reading the challenge in d: why it is no message, or what a client is told that supports these
--- algorithms, after the challenge before, if there was one
-abbrev pub ReadsFor : List PasswordAlgorithmValue → (before : Option Asked) → (d : List ℕ)
+-- algorithms
+abbrev pub ReadsFor : List PasswordAlgorithmValue → (tried seen : Option (List ℕ)) → (d : List ℕ)
     → CallResult
     → (old new : AskedInC) → Type 0
-ReadsFor supported before d result old new =
+ReadsFor supported tried seen d result old new =
     MatchOption (parse_fault d)
-    (TellsChallenge d (challenge_of supported (tried_before before) (seen_before before) d)
-    result old new)
-    (λ e. (result ≡ parse_result e) × (new ≡ old))
+    (TellsChallenge d (challenge_of supported tried seen d) result old new)
+    (λ e. Refuses (parse_result e) result old new)
 
--- the algorithms that a client supports and the challenge before, by what C hands in
-abbrev pub handed_in : (numbers before : List ℕ)
-    → Option (List PasswordAlgorithmValue × Option Asked)
-handed_in numbers before =
-    option_and_then (λ supported.
-    option_map (λ earlier. (supported, earlier)) (challenge_before supported before))
-    (password_algorithms_named numbers)
-
--- the same by these
-abbrev pub ReadsChallenge : (numbers before d : List ℕ) → CallResult → (old new : AskedInC) → Type 0
-ReadsChallenge numbers before d result old new =
-    MatchOption (handed_in numbers before)
-    ((result ≡ plain BAD_ARGUMENT) × (new ≡ old))
-    (λ told. ReadsFor told.0 told.1 d result old new)
+-- the same by the numbers of the algorithms
+abbrev pub ReadsChallenge : (numbers : List ℕ) → (tried seen : Option (List ℕ)) → (d : List ℕ)
+    → CallResult
+    → (old new : AskedInC) → Type 0
+ReadsChallenge numbers tried seen d result old new =
+    MatchOption (password_algorithms_named numbers)
+    (Refuses (plain BAD_ARGUMENT) result old new)
+    (λ supported. MatchOption (tried_answer tried)
+    (ReadsFor supported tried seen d result old new)
+    (λ answer. Refuses answer result old new))

@@ -11,6 +11,9 @@ pub mod KeyMemory
 pub mod Keys
 pub mod Usages
 pub mod Writing
+pub mod Steps
+pub mod Replying
+pub mod Numbers
 pub mod Server
 pub mod Channels
 pub mod Streams
@@ -22,4 +25,9 @@ pub mod Authentication
 pub mod Validating
 pub mod Credentials
 pub mod Challenges
+pub mod Answering
+pub mod Finishing
+pub mod Refusals
+pub mod StatelessNonces
+pub mod ManyTransactions
 pub mod Versions

@@ -1,14 +1,15 @@
 //! A server's checks by credentials (RFC 8489, sections 9.1.3 and 9.2.4).
 
-ghost use Rattle.std.specs.Prelude.{◌≡◌, [], None, IfOk};
+ghost use Rattle.std.specs.Prelude.{◌≡◌, [], Some, None, IfOk};
 ghost use Rattle.std.specs.Option.{option_map};
 ghost use Rattle.stun_authentication.specs.Answers.{Decision, Tells};
+ghost use Rattle.stun_keys.specs.Keys.{key_bytes};
 ghost use Rattle.stun_authentication.specs.Lookups.{IsKeyOf};
 ghost use Rattle.stun_authentication.specs.LongTerm.{long_term};
 ghost use Rattle.stun_types.specs.Message.{message_bytes};
 ghost use Rattle.stun_types_c.specs.KeyHandles.{shared_key};
 ghost use Rattle.stun_types_c.specs.Users.{bytes_of, borrowed_bytes, long_term_key_of, known_of};
-ghost use Rattle.stun_types_c.specs.Authentication.{policy_named, nonce_named, in_c, by_short_term, by_long_term, undecided, TellsDecision, Authenticates};
+ghost use Rattle.stun_types_c.specs.Authentication.{policy_named, nonce_named, password_used, number_used, used_in, in_c, by_short_term, by_long_term, undecided, TellsDecision, Authenticates};
 
 use crate::call_result::{CallResult, parse_result, plain};
 use crate::codes;
@@ -21,6 +22,7 @@ use stun_authentication::{
     Authentication, Identity, KnownNonce, LongTermKeys, Nonces, Policy, ShortTermKeys,
     authenticate_long_term, authenticate_short_term,
 };
+use stun_integrity::same_bytes;
 use stun_types::attribute::PasswordAlgorithmValue;
 use stun_types::message::Message;
 use stun_types::message::keys::IntegrityKey;
@@ -51,8 +53,10 @@ pub struct Authenticated {
     pub algorithm: u32,
     /// The algorithm that the reply is signed by.
     pub reply_algorithm: u32,
+    /// The password algorithm of the long-term key that accepted: 1 or 2; else 0.
+    pub password_algorithm: u32,
     /// 0.
-    pub reserved: u64,
+    pub reserved: u32,
 }
 
 /// What a call leaves that decides nothing.
@@ -61,6 +65,7 @@ const UNDECIDED: Authenticated = Authenticated {
     error_code: 0,
     algorithm: 0,
     reply_algorithm: 0,
+    password_algorithm: 0,
     reserved: 0,
 };
 
@@ -169,9 +174,39 @@ pub(crate) fn policy_of(counted: &CountedIntegrity) -> Option<Policy>
     })
 }
 
+/// The password algorithm of a key that accepted, where the user has keys of both.
+fn password_used(md5: Option<&IntegrityKey>, key: &IntegrityKey) -> u32
+    ensures { result ≡ password_used (borrowed_bytes md5.entry) (key_bytes key.now) }
+{
+    match md5 {
+        Some(made) if same_bytes(made.as_bytes(), key.as_bytes()) => 1,
+        _ => 2,
+    }
+}
+
+/// By which of a user's keys a message is accepted.
+#[derive(Clone, Copy)]
+enum KeyUsed<'a> {
+    /// By the only one, the password.
+    ShortTerm,
+    /// By the one by MD5, which this is, or by that by SHA-256.
+    LongTerm(Option<&'a IntegrityKey>),
+}
+
+/// The number of the password algorithm of a key that accepted.
+fn number_used(used: KeyUsed<'_>, key: &IntegrityKey) -> u32
+    ensures { result ≡ number_used (used_in used.entry) (key_bytes key.now) }
+{
+    match used {
+        KeyUsed::ShortTerm => 0,
+        KeyUsed::LongTerm(md5) => password_used(md5, key),
+    }
+}
+
 /// An answer, as C's numbers.
-fn in_c(answer: &Authentication) -> Authenticated
-    ensures { (decision : Decision) → Tells decision answer.now → result ≡ in_c decision }
+fn in_c(answer: &Authentication, used: KeyUsed<'_>) -> Authenticated
+    ensures { (decision : Decision) → Tells decision answer.now
+        → result ≡ in_c (used_in used.entry) decision }
 {
     match answer {
         Authentication::Accepted(accepted) => Authenticated {
@@ -179,14 +214,13 @@ fn in_c(answer: &Authentication) -> Authenticated
             error_code: 0,
             algorithm: number_of(accepted.algorithm),
             reply_algorithm: number_of(accepted.reply_algorithm),
+            password_algorithm: number_used(used, &accepted.key),
             reserved: 0,
         },
         Authentication::Refused(refusal) => Authenticated {
             kind: 2,
             error_code: u32::from(refusal.code()),
-            algorithm: 0,
-            reply_algorithm: 0,
-            reserved: 0,
+            ..UNDECIDED
         },
         Authentication::Discarded => Authenticated {
             kind: 3,
@@ -200,13 +234,17 @@ fn in_c(answer: &Authentication) -> Authenticated
 }
 
 /// Tells C an answer, or that an allocation failed.
-fn tell(answer: Result<Authentication, AllocError>, out: &mut Authenticated) -> CallResult
+fn tell(
+    answer: Result<Authentication, AllocError>,
+    used: KeyUsed<'_>,
+    out: &mut Authenticated,
+) -> CallResult
     ensures { (decision : Decision) → IfOk answer (Tells decision)
-        → TellsDecision decision result out.new }
+        → TellsDecision (used_in used.entry) decision result out.new }
 {
     match answer {
         Ok(answer) => {
-            *out = in_c(&answer);
+            *out = in_c(&answer, used);
             plain(codes::OK)
         }
         Err(_) => {
@@ -233,7 +271,7 @@ pub extern "C" fn stun_types_authenticate_short_term(
     out: &mut Authenticated,
 ) -> CallResult
     ensures { let decided = by_short_term policy.now (shared_key key.now) bytes.now in
-        Authenticates decided bytes.now result out.new }
+        Authenticates None decided bytes.now result out.new }
 {
     *out = UNDECIDED;
     let message = match Message::from_bytes(bytes) {
@@ -247,7 +285,8 @@ pub extern "C" fn stun_types_authenticate_short_term(
         md5: key_in(key),
         sha256: None,
     };
-    tell(authenticate_short_term(alloc, &message, policy, &user), out)
+    let answer = authenticate_short_term(alloc, &message, policy, &user);
+    tell(answer, KeyUsed::ShortTerm, out)
 }
 
 /// What becomes of a message by long-term credentials, whose keys are made with the realm already.
@@ -280,7 +319,8 @@ pub extern "C" fn stun_types_authenticate_long_term(
     ensures { let nonce = nonce_named nonce_state algorithms.now in
         let decided = by_long_term policy.now nonce (shared_key md5_key.now)
         (shared_key sha256_key.now) bytes.now in
-        Authenticates decided bytes.now result out.new }
+        Authenticates (Some (bytes_of (shared_key md5_key.now))) decided bytes.now result
+        out.new }
 {
     *out = UNDECIDED;
     let message = match Message::from_bytes(bytes) {
@@ -295,5 +335,5 @@ pub extern "C" fn stun_types_authenticate_long_term(
         sha256: key_in(sha256_key),
     };
     let answer = long_term_decision(alloc, &message, policy, &nonce, &user);
-    tell(answer, out)
+    tell(answer, KeyUsed::LongTerm(user.md5), out)
 }

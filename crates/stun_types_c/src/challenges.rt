@@ -1,15 +1,16 @@
 //! A client's half of the long-term credential mechanism (RFC 8489, section 9.2.5).
 
-ghost use Rattle.std.specs.Prelude.{◌≡◌, take};
+ghost use Rattle.std.specs.Prelude.{◌≡◌, Some, None, MatchResult, take};
 ghost use Rattle.std.specs.Option.{option_map};
 ghost use Rattle.stun_authentication.specs.Challenges.{asked_by};
-ghost use Rattle.stun_types_c.specs.Challenges.{retry_answer, value_at, in_c, challenge_before, ReadsFor, ReadsChallenge};
+ghost use Rattle.stun_types_c.specs.Challenges.{retry_answer, value_at, in_c, tried_in, tried_answer, seen_in, ReadsFor, ReadsChallenge};
 
 use crate::attribute::first_shown;
 use crate::call_result::{CallResult, parse_result, plain};
 use crate::codes;
 use crate::keys::number_of;
 use crate::password_algorithms::{FewAlgorithms, algorithms_of};
+use crate::values::text_in;
 use stun_authentication::{Challenge, NoRetry, challenge_of};
 use stun_grammar::attribute_types::{NONCE, PASSWORD_ALGORITHMS, REALM};
 use stun_types::attribute::PasswordAlgorithmValue;
@@ -42,7 +43,7 @@ pub struct Asked {
 }
 
 /// Why a request isn't sent again.
-fn no_retry(reason: NoRetry) -> CallResult
+pub(crate) fn no_retry(reason: NoRetry) -> CallResult
     ensures { result ≡ retry_answer reason }
 {
     match reason {
@@ -85,41 +86,44 @@ fn in_c(response: &[u8], challenge: &Challenge<'_>) -> Asked
     }
 }
 
-/// The challenge in the response before, if C hands one in; `None` where the bytes are no message,
-/// or no challenge that a client with these algorithms can have answered.
-fn challenge_before<'a>(
-    supported: &FewAlgorithms,
-    before: &'a [u8],
-) -> Option<Option<Challenge<'a>>>
-    ensures { option_map (λ earlier. option_map asked_by earlier) result
-        ≡ challenge_before (take supported.now.count supported.now.all) before.now }
+/// The realm that credentials were tried in, if C hands one in, or that it is no text.
+fn tried_in(was_tried: bool, realm: &[u8]) -> Result<Option<&str>, CallResult>
+    ensures { let tried = tried_in was_tried realm.now in MatchResult result
+        (λ told. (tried_answer tried ≡ None) × (option_map (λ text. text.now) told ≡ tried))
+        (λ answer. tried_answer tried ≡ Some answer) }
 {
-    if before.is_empty() {
-        return Some(None);
+    if !was_tried {
+        return Ok(None);
     }
-    let earlier = Message::from_bytes(before).ok()?;
-    match challenge_of(&earlier, supported.as_slice(), None, None) {
-        Ok(challenge) => Some(Some(challenge)),
-        Err(_) => None,
+    match text_in(realm) {
+        Some(text) => Ok(Some(text)),
+        None => Err(plain(codes::INVALID_DATA)),
     }
 }
 
-/// What a response asks for, after the challenge before it, if there was one.
+/// A list that the server sent before, if it sent one.
+fn seen_in(was_seen: bool) -> Option<&'static [u8]>
+    ensures { option_map (λ list. list.now) result ≡ seen_in was_seen }
+{
+    if was_seen { Some(&[]) } else { None }
+}
+
+/// What a response asks for.
 fn asked_by(
     response: &[u8],
     supported: &FewAlgorithms,
-    before: Option<Challenge<'_>>,
+    tried: Option<&str>,
+    seen: Option<&[u8]>,
     asked: &mut Asked,
 ) -> CallResult
-    ensures { ReadsFor (take supported.now.count supported.now.all) (option_map asked_by before.entry)
+    ensures { ReadsFor (take supported.now.count supported.now.all)
+        (option_map (λ text. text.now) tried.entry) (option_map (λ list. list.now) seen.entry)
         response.now result asked.old asked.new }
 {
     let message = match Message::from_bytes(response) {
         Ok(message) => message,
         Err(error) => return parse_result(error),
     };
-    let tried = before.map(|earlier| earlier.realm());
-    let seen = before.and_then(|earlier| earlier.password_algorithms());
     match challenge_of(&message, supported.as_slice(), tried, seen) {
         Ok(challenge) => {
             *asked = in_c(response, &challenge);
@@ -134,16 +138,19 @@ fn asked_by(
 pub extern "C" fn stun_types_challenge_of(
     response: &[u8],
     supported: &[u16],
-    before: &[u8],
+    was_tried: bool,
+    tried: &[u8],
+    was_seen: bool,
     asked: &mut Asked,
 ) -> CallResult
-    ensures { ReadsChallenge supported.now before.now response.now result asked.old asked.new }
+    ensures { ReadsChallenge supported.now (tried_in was_tried tried.now) (seen_in was_seen)
+        response.now result asked.old asked.new }
 {
     let Some(supported) = algorithms_of(supported) else {
         return plain(codes::BAD_ARGUMENT);
     };
-    match challenge_before(&supported, before) {
-        Some(earlier) => asked_by(response, &supported, earlier, asked),
-        None => plain(codes::BAD_ARGUMENT),
+    match tried_in(was_tried, tried) {
+        Ok(tried) => asked_by(response, &supported, tried, seen_in(was_seen), asked),
+        Err(answer) => answer,
     }
 }

@@ -43,7 +43,7 @@ pub(crate) fn number_of(algorithm: IntegrityAlgorithm) -> u32
 
 /// Prepares a key that was made for the many calls that may use it, and puts it into a handle. With
 /// no memory left to prepare it in, it works as it is.
-fn hold_made(
+pub(crate) fn hold_made(
     alloc: Global,
     key: &mut KeyHandle,
     made: Result<IntegrityKey, StunWriteError>,

@@ -217,14 +217,14 @@ fn usage_of(waits: &Waits) -> Option<Usage>
 }
 
 /// The moment that is so many milliseconds.
-fn moment_of(millis: u64) -> Duration
+pub(crate) fn moment_of(millis: u64) -> Duration
     ensures { IsAt millis result }
 {
     Duration::from_millis(millis)
 }
 
 /// Milliseconds of a moment; `u64::MAX` where they are more.
-fn millis(moment: Duration) -> u64
+pub(crate) fn millis(moment: Duration) -> u64
     ensures { result ≡ millis_of moment }
 {
     u64::try_from(moment.as_millis()).unwrap_or(u64::MAX)
@@ -264,7 +264,7 @@ fn meant_parts(kept: &KeptTransaction) -> Option<TransactionParts>
 
 /// The transaction that C keeps; `None` where its numbers are those of none.
 #[tactic(auto, using(crate::proofs::KeptLemmas::unsound))]
-fn parts_of(kept: &KeptTransaction) -> Option<TransactionParts>
+pub(crate) fn parts_of(kept: &KeptTransaction) -> Option<TransactionParts>
     ensures { MatchOption result (KeepsNone kept.now) (Keeps kept.now) }
 {
     let parts = meant_parts(kept)?;

@@ -51,7 +51,7 @@ pub extern "C" fn stun_types_begin(
 }
 
 /// Stores how long the message is after an add; what the call returns.
-fn store_length(answer: Result<usize, StunWriteError>, written: &mut usize) -> CallResult
+pub(crate) fn store_length(answer: Result<usize, StunWriteError>, written: &mut usize) -> CallResult
     ensures { MatchResult answer
         (λ length. (result ≡ plain OK) × (written.new ≡ length))
         (λ e. (result ≡ write_result e) × (written.new ≡ written.old)) }
@@ -67,7 +67,12 @@ fn store_length(answer: Result<usize, StunWriteError>, written: &mut usize) -> C
 
 /// Adds an attribute with a value that isn't too long.
 #[inline(always)]
-fn add_short(room: &mut [u8], written: &mut usize, atype: u16, value: &[u8]) -> CallResult
+pub(crate) fn add_short(
+    room: &mut [u8],
+    written: &mut usize,
+    atype: u16,
+    value: &[u8],
+) -> CallResult
     requires { length value.now ≤ 65535 }
     ensures { AppendsTo (any_in (length room.old) atype value.now) atype (λ _. value.now) result
         (record { slice = room.old; count = written.old })

@@ -1,0 +1,31 @@
+-- The end of a reply to a message that was accepted (RFC 8489, sections 7, 9.1.3 and 9.2.4).
+use Rattle.std.specs.Prelude.{Bool, Option, None, MatchOption, ◌==◌, if◌then◌else◌}
+use Rattle.stun_grammar.specs.declared.integrity_algorithm.IntegrityAlgorithm.{IntegrityAlgorithm}
+use Rattle.stun_keys.specs.declared.keys.integrity_key.IntegrityKey.{IntegrityKey}
+use Rattle.stun_keys.specs.Keys.{key_bytes}
+use Rattle.stun_types_c.specs.declared.authentication.Authenticated.{Authenticated}
+use Rattle.stun_types_c.specs.declared.call_result.CallResult.{CallResult}
+use Rattle.stun_types_c.specs.CallResults.{plain, Refuses}
+use Rattle.stun_types_c.specs.Codes.{BAD_ARGUMENT, NO_KEY}
+use Rattle.stun_types_c.specs.Keys.{algorithm_named}
+use Rattle.stun_types_c.specs.Steps.{Ends}
+use Rattle.stun_types_c.specs.Writing.{Written}
+
+-- the algorithm that signs the reply, if C's numbers are those of an acceptance
+abbrev pub signing_named : Authenticated → Option IntegrityAlgorithm
+signing_named told = if told.kind == 1 then algorithm_named told.reply_algorithm else None
+
+-- the key that accepted: that by SHA-256 where the acceptance names it, and else the first
+abbrev pub key_named : Authenticated → (first sha256 : Option IntegrityKey) → Option IntegrityKey
+key_named told first sha256 = if told.password_algorithm == 2 then sha256 else first
+
+-- the reply is signed, and gets a FINGERPRINT, if one is wanted
+abbrev pub FinishesReply : Authenticated → (first sha256 : Option IntegrityKey) → (fingerprint : Bool)
+    → CallResult → Written
+    → Written → Type 0
+FinishesReply told first sha256 fingerprint result old new =
+    MatchOption (signing_named told)
+    (Refuses (plain BAD_ARGUMENT) result old new)
+    (λ algorithm. MatchOption (key_named told first sha256)
+    (Refuses (plain NO_KEY) result old new)
+    (λ key. Ends fingerprint algorithm (key_bytes key) result old new))

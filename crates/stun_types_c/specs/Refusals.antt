@@ -1,0 +1,160 @@
+-- The error response to a request that a server refuses, and what it tells at the beginning of its
+-- nonces (RFC 8489, sections 9.1.3, 9.2, 9.2.4 and 18.1).
+use Rattle.std.specs.Prelude.{◌≡◌, ◌⊎◌, ℕ, ◌+◌, ◌*◌, ◌%◌, Bool, not, List, [], ◌∷◌, ◌++◌, length, drop, Option, None, Some, is_some, MatchOption, nat_lt, ◌==◌, if◌then◌else◌}
+use Rattle.std.specs.Int.{from_bool}
+use Rattle.std.specs.Option.{option_map, option_map_or, option_or}
+use Rattle.std.specs.Str.{is_utf8}
+use Rattle.stun_grammar.specs.Attributes.{Attribute, canonical}
+use Rattle.stun_grammar.specs.AttributeTypes.{REALM, NONCE, PASSWORD_ALGORITHMS}
+use Rattle.stun_grammar.specs.Headers.{type_field}
+use Rattle.stun_grammar.specs.Parsing.{parse_fault}
+use Rattle.stun_base.specs.MessageTypes.{class_of}
+use Rattle.stun_values.specs.declared.algorithm.PasswordAlgorithmValue.{PasswordAlgorithmValue}
+use Rattle.stun_values.specs.Algorithms.{algorithms_encoding}
+use Rattle.stun_values.specs.TextValues.{text_max}
+use Rattle.stun_authentication.specs.declared.answer.Refusal.{Refusal}
+use Rattle.stun_authentication.specs.declared.answer.Refusal.TheVariants.{BadRequest, Unauthenticated, StaleNonce}
+use Rattle.stun_authentication.specs.declared.cookie.SecurityFeatures.{SecurityFeatures}
+use Rattle.stun_authentication.specs.declared.demand.Demand.{Demand}
+use Rattle.stun_authentication.specs.Cookies.{cookie, promises_algorithms}
+use Rattle.stun_authentication.specs.LongTerm.{is_request}
+use Rattle.stun_authentication.specs.Refusing.{demanded, refusal_of, refusal_sizes}
+use Rattle.stun_authentication.specs.Writing.{no_room}
+use Rattle.stun_types_c.specs.declared.call_result.CallResult.{CallResult}
+use Rattle.stun_types_c.specs.declared.refusals.Cookie.{Cookie}
+use Rattle.stun_types_c.specs.CallResults.{plain, counted, parse_result, write_result, Refuses}
+use Rattle.stun_types_c.specs.Codes.{OK, TOO_LARGE, INVALID_DATA, OUT_OF_MEMORY, TOO_SMALL, BAD_ARGUMENT, NOT_A_REQUEST}
+use Rattle.stun_types_c.specs.PasswordAlgorithms.{password_algorithms_named}
+use Rattle.stun_types_c.specs.Writing.{Written}
+
+-- ---- What C hands in
+
+-- why d is no request
+abbrev pub message_answer : List ℕ → Option CallResult
+message_answer d =
+    option_or (option_map parse_result (parse_fault d))
+    (if is_request (class_of (type_field d)) then None else Some (plain NOT_A_REQUEST))
+
+-- the refusal of a code: under short-term credentials there are no nonces, and no 438
+abbrev pub short_term_refusal : ℕ → Option Refusal
+short_term_refusal code =
+    if code == 400 then Some BadRequest else (if code == 401 then Some Unauthenticated else None)
+
+abbrev pub long_term_refusal : ℕ → Option Refusal
+long_term_refusal code =
+    if code == 438 then Some StaleNonce else short_term_refusal code
+
+-- why bytes aren't the text of a REALM or a NONCE
+abbrev pub text_answer : List ℕ → Option CallResult
+text_answer bytes =
+    if is_utf8 bytes then
+    (if nat_lt text_max (length bytes) then Some (counted TOO_LARGE text_max (length bytes)) else None)
+    else Some (plain INVALID_DATA)
+
+-- whether a list is sent exactly where the nonce promises one
+abbrev pub agrees : (nonce : List ℕ) → List PasswordAlgorithmValue → Bool
+agrees nonce [] = not (promises_algorithms nonce)
+agrees nonce (algorithm ∷ algorithms) = promises_algorithms nonce
+
+-- why a realm, a nonce and algorithms ask for nothing
+abbrev pub demand_answer : (realm nonce : List ℕ) → List PasswordAlgorithmValue → Option CallResult
+demand_answer realm nonce algorithms =
+    option_or (text_answer realm) (option_or (text_answer nonce)
+    (if agrees nonce algorithms then None else Some (plain BAD_ARGUMENT)))
+
+-- PASSWORD-ALGORITHMS, if there are algorithms
+abbrev pub list_attributes : List PasswordAlgorithmValue → List Attribute
+list_attributes [] = []
+list_attributes (algorithm ∷ algorithms) =
+    canonical PASSWORD_ALGORITHMS (algorithms_encoding (algorithm ∷ algorithms)) ∷ []
+
+-- what a realm, a nonce and algorithms ask for
+abbrev pub IsDemand : (realm nonce : List ℕ) → List PasswordAlgorithmValue → Demand → Type 0
+IsDemand realm nonce algorithms demand =
+    demanded demand ≡ canonical REALM realm ∷ canonical NONCE nonce ∷ list_attributes algorithms
+
+-- ---- The response
+
+-- why a slice has no room for a message
+abbrev pub room_answer : (message slice : List ℕ) → Option CallResult
+room_answer message slice =
+    if nat_lt (length slice) (length message)
+    then Some (counted TOO_SMALL (length message) (length slice)) else None
+
+-- a message is written at the start of a slice, if that has room for it
+abbrev pub Delivers : List ℕ → CallResult → Written → Written → Type 0
+Delivers message result old new =
+    MatchOption (room_answer message old.slice)
+    ((result ≡ plain OK) × (new ≡ record {
+      slice = message ++ drop (length message) old.slice;
+      count = length message;
+    }))
+    (λ answer. Refuses answer result old new)
+
+-- the response that refuses r is written, unless an allocation fails
+abbrev pub WritesRefusal : List ℕ → Refusal → Option Demand → CallResult → Written → Written → Type 0
+WritesRefusal r refusal demand result old new =
+    MatchOption (no_room None 20 (refusal_sizes r refusal demand))
+    (Delivers (refusal_of r refusal demand) result old new)
+    (λ e. Refuses (write_result e) result old new)
+    ⊎ Refuses (plain OUT_OF_MEMORY) result old new
+
+-- the same under short-term credentials, by the number of the code
+abbrev pub RefusesShortTerm : List ℕ → (code : ℕ) → CallResult → Written → Written → Type 0
+RefusesShortTerm r code result old new =
+    MatchOption (message_answer r)
+    (MatchOption (short_term_refusal code)
+    (Refuses (plain BAD_ARGUMENT) result old new)
+    (λ refusal. WritesRefusal r refusal None result old new))
+    (λ answer. Refuses answer result old new)
+
+-- what asks for something is written, or it is told why nothing is asked for
+abbrev pub RefusesDemanding : List ℕ → Refusal → (realm nonce : List ℕ)
+    → List PasswordAlgorithmValue → CallResult → Written
+    → Written → Type 0
+RefusesDemanding r refusal realm nonce algorithms result old new =
+    MatchOption (demand_answer realm nonce algorithms)
+    ((demand : Demand) × IsDemand realm nonce algorithms demand
+    × WritesRefusal r refusal (Some demand) result old new)
+    (λ answer. Refuses answer result old new)
+    ⊎ Refuses (plain OUT_OF_MEMORY) result old new
+
+-- the same under long-term credentials, by the numbers of the code and of the algorithms
+abbrev pub RefusesLongTerm : List ℕ → (code : ℕ) → (realm nonce numbers : List ℕ) → CallResult
+    → Written
+    → Written → Type 0
+RefusesLongTerm r code realm nonce numbers result old new =
+    MatchOption (message_answer r)
+    (MatchOption (long_term_refusal code)
+    (Refuses (plain BAD_ARGUMENT) result old new)
+    (λ refusal. MatchOption (password_algorithms_named numbers)
+    (Refuses (plain BAD_ARGUMENT) result old new)
+    (λ algorithms. RefusesDemanding r refusal realm nonce algorithms result old new)))
+    (λ answer. Refuses answer result old new)
+
+-- ---- Security features
+
+-- the features of a number: 1 for password algorithms, and 2 more for username anonymity
+abbrev pub features_named : ℕ → Option SecurityFeatures
+features_named number =
+    if nat_lt 3 number then None else Some (record {
+      password_algorithms = number % 2 == 1;
+      username_anonymity = nat_lt 1 number;
+    })
+
+-- the number of features
+abbrev pub features_number : SecurityFeatures → ℕ
+features_number features =
+    from_bool features.password_algorithms + 2 * from_bool features.username_anonymity
+
+-- the nonce cookie of the features of a number is told, or no features have this number
+abbrev pub TellsCookie : ℕ → CallResult → (old new : Cookie) → Type 0
+TellsCookie number result old new =
+    MatchOption (features_named number)
+    (Refuses (plain BAD_ARGUMENT) result old new)
+    (λ features. (result ≡ plain OK) × (new ≡ record { bytes = cookie features }))
+
+-- the features that a nonce tells of, or that it begins with no nonce cookie, and C's number stays
+abbrev pub TellsFeatures : Option SecurityFeatures → Bool → (old new : ℕ) → Type 0
+TellsFeatures told result old new =
+    (result ≡ is_some told) × (new ≡ option_map_or features_number told old)

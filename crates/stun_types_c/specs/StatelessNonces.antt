@@ -1,0 +1,54 @@
+-- Nonces that a server in C makes and doesn't keep (RFC 8489, sections 9.2, 9.2.4 and 14.10).
+use Rattle.std.specs.Prelude.{◌≡◌, ◌⊎◌, ℕ, List, Option, MatchOption}
+use Rattle.std.specs.declared.net.socket_addr.SocketAddr.{SocketAddr}
+use Rattle.stun_keys.specs.declared.keys.integrity_key.IntegrityKey.{IntegrityKey}
+use Rattle.stun_keys.specs.Keys.{key_bytes}
+use Rattle.stun_values.specs.Addresses.{address_value}
+use Rattle.stun_authentication.specs.declared.cookie.SecurityFeatures.{SecurityFeatures}
+use Rattle.stun_authentication.specs.declared.nonces.Freshness.{Freshness}
+use Rattle.stun_authentication.specs.declared.nonces.Freshness.TheVariants.{Fresh, Stale, Unknown}
+use Rattle.stun_authentication.specs.Nonces.{Minting, minting, minted, freshness}
+use Rattle.stun_types_c.specs.declared.address.Address.{Address}
+use Rattle.stun_types_c.specs.declared.call_result.CallResult.{CallResult}
+use Rattle.stun_types_c.specs.Addresses.{ip_named, IsAt}
+use Rattle.stun_types_c.specs.CallResults.{plain, Refuses}
+use Rattle.stun_types_c.specs.Codes.{OK, OUT_OF_MEMORY, BAD_ARGUMENT, NO_KEY}
+use Rattle.stun_types_c.specs.Refusals.{features_named, Delivers}
+use Rattle.stun_types_c.specs.Writing.{Written}
+
+-- something is done by what a server makes nonces by, unless an allocation fails
+abbrev pub ByKey : {T : Type 0}
+    → (Minting → (place : List ℕ) → CallResult → (old new : T) → Type 0) → IntegrityKey
+    → SecurityFeatures → (window : ℕ) → SocketAddr → CallResult → (old new : T) → Type 0
+ByKey Done key features window client result old new =
+    Done (minting (key_bytes key) features window) (address_value client) result old new
+    ⊎ Refuses (plain OUT_OF_MEMORY) result old new
+
+-- the same by what C hands in: the number of the features, an address, and a secret
+abbrev pub ByMaker : {T : Type 0}
+    → (Minting → (place : List ℕ) → CallResult → (old new : T) → Type 0) → Option IntegrityKey
+    → (features window : ℕ) → Address → CallResult → (old new : T) → Type 0
+ByMaker Done secret features window client result old new =
+    MatchOption (features_named features)
+    (Refuses (plain BAD_ARGUMENT) result old new)
+    (λ told. MatchOption (ip_named client)
+    (Refuses (plain BAD_ARGUMENT) result old new)
+    (λ ip. MatchOption secret
+    (Refuses (plain NO_KEY) result old new)
+    (λ key. (a : SocketAddr) × IsAt ip client.port a × ByKey Done key told window a result old new)))
+
+-- the nonce for an address at a time is written at the start of a slice
+abbrev pub Makes : (now : ℕ) → Minting → (place : List ℕ) → CallResult → (old new : Written) → Type 0
+Makes now minting place = Delivers (minted minting now place)
+
+-- the number of what is known of a nonce, as the authentication takes it
+abbrev pub state_number : Freshness → ℕ
+state_number Fresh = 1
+state_number Stale = 2
+state_number Unknown = 0
+
+-- what is known of a nonce that came from an address
+abbrev pub Judges : (now : ℕ) → (nonce : List ℕ) → Minting → (place : List ℕ) → CallResult
+    → (old new : ℕ) → Type 0
+Judges now nonce minting place result old new =
+    (result ≡ plain OK) × (new ≡ state_number (freshness minting now place nonce))

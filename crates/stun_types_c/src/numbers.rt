@@ -1,0 +1,408 @@
+//! Numbers of 8, 16, 32 and 64 bits as the values of attributes.
+
+ghost use Rattle.std.specs.Prelude.{◌≡◌, ◌≤◌, ◌∷◌, [], length, None, Ok, Err, MatchResult};
+ghost use Rattle.std.specs.Option.{option_map};
+ghost use Rattle.stun_grammar.specs.Numbers.{be16, be32, be64};
+ghost use Rattle.stun_types_c.specs.CallResults.{parse_result};
+ghost use Rattle.stun_types_c.specs.Numbers.{width_of, has_width, zeros_of, range_of, is_in_range, number_answer, AddsPadded, AddsNumber, length_fault, value_with_number, ReadsNumber};
+
+use crate::attribute::ShownAttribute;
+use crate::call_result::{CallResult, counted, parse_result, plain};
+use crate::codes;
+use crate::values::value_in;
+use crate::writing::add_short;
+use byteorder::{BigEndian, ByteOrder};
+use discovery_attrs::attribute_types::{
+    CHANGE_REQUEST, OTHER_ADDRESS, RESPONSE_ORIGIN, RESPONSE_PORT, TRANSACTION_TRANSMIT_COUNTER,
+};
+use ice_attrs::attribute_types::{ICE_CONTROLLED, ICE_CONTROLLING, PRIORITY, USE_CANDIDATE};
+use stun_attrs::copy_to_start;
+use stun_grammar::attribute_types::{
+    ALTERNATE_DOMAIN, ALTERNATE_SERVER, ERROR_CODE, MAPPED_ADDRESS, NONCE, PASSWORD_ALGORITHM,
+    PASSWORD_ALGORITHMS, REALM, SOFTWARE, UNKNOWN_ATTRIBUTES, USERHASH, USERNAME,
+    XOR_MAPPED_ADDRESS,
+};
+use stun_values::check_length;
+use stun_write::ResumePoint;
+use turn_attrs::attribute_types::{
+    ADDITIONAL_ADDRESS_FAMILY, ADDRESS_ERROR_CODE, CHANNEL_NUMBER, CONNECTION_ID, DONT_FRAGMENT,
+    EVEN_PORT, ICMP, LIFETIME, REQUESTED_ADDRESS_FAMILY, REQUESTED_TRANSPORT, RESERVATION_TOKEN,
+    THIRD_PARTY_AUTHORIZATION, XOR_PEER_ADDRESS, XOR_RELAYED_ADDRESS,
+};
+
+/// Types whose value is a byte and three bytes that are 0.
+const BEFORE_THREE_ZEROS: [u16; 3] = [
+    REQUESTED_TRANSPORT,
+    REQUESTED_ADDRESS_FAMILY,
+    ADDITIONAL_ADDRESS_FAMILY,
+];
+
+/// Types whose value is two bytes and two bytes that are 0.
+const BEFORE_TWO_ZEROS: [u16; 2] = [CHANNEL_NUMBER, RESPONSE_PORT];
+
+/// Types whose value is a number of 32 bits.
+const OF_32_BITS: [u16; 5] = [
+    PRIORITY,
+    LIFETIME,
+    CONNECTION_ID,
+    CHANGE_REQUEST,
+    TRANSACTION_TRANSMIT_COUNTER,
+];
+
+/// Types whose value is a number of 64 bits.
+const OF_64_BITS: [u16; 4] = [ICE_CONTROLLED, ICE_CONTROLLING, RESERVATION_TOKEN, ICMP];
+
+/// Types whose value is no number.
+const NO_NUMBERS: [u16; 21] = [
+    MAPPED_ADDRESS,
+    USERNAME,
+    ERROR_CODE,
+    UNKNOWN_ATTRIBUTES,
+    REALM,
+    NONCE,
+    PASSWORD_ALGORITHM,
+    USERHASH,
+    XOR_MAPPED_ADDRESS,
+    PASSWORD_ALGORITHMS,
+    ALTERNATE_DOMAIN,
+    SOFTWARE,
+    ALTERNATE_SERVER,
+    USE_CANDIDATE,
+    XOR_PEER_ADDRESS,
+    XOR_RELAYED_ADDRESS,
+    DONT_FRAGMENT,
+    ADDRESS_ERROR_CODE,
+    THIRD_PARTY_AUTHORIZATION,
+    RESPONSE_ORIGIN,
+    OTHER_ADDRESS,
+];
+
+/// The numbers that the value of a type may hold.
+#[derive(Clone, Copy)]
+struct Range {
+    least: u64,
+    greatest: u64,
+}
+
+/// How many bytes the number in the value of a type has: 0 if the value is no number, and `None` if
+/// the type isn't known.
+fn width_of(atype: u16) -> Option<usize>
+    ensures { result ≡ width_of atype }
+{
+    if BEFORE_THREE_ZEROS.contains(&atype) {
+        return Some(1);
+    }
+    if atype == EVEN_PORT {
+        return Some(1);
+    }
+    if BEFORE_TWO_ZEROS.contains(&atype) {
+        return Some(2);
+    }
+    if OF_32_BITS.contains(&atype) {
+        return Some(4);
+    }
+    if OF_64_BITS.contains(&atype) {
+        return Some(8);
+    }
+    if NO_NUMBERS.contains(&atype) {
+        return Some(0);
+    }
+    None
+}
+
+/// Whether a number of so many bytes may be the value of a type.
+fn has_width(width: usize, atype: u16) -> bool
+    ensures { result ≡ has_width width atype }
+{
+    match width_of(atype) {
+        Some(known) => known == width,
+        None => true,
+    }
+}
+
+/// How many bytes that are 0 follow it.
+fn zeros_of(atype: u16) -> usize
+    ensures zeros { result ≡ zeros_of atype }
+    ensures few { result ≤ 3 }
+{
+    if BEFORE_THREE_ZEROS.contains(&atype) {
+        return 3;
+    }
+    if BEFORE_TWO_ZEROS.contains(&atype) {
+        return 2;
+    }
+    0
+}
+
+/// From which number to which.
+fn range_of(atype: u16) -> Range
+    ensures { result ≡ range_of atype }
+{
+    if atype == CHANNEL_NUMBER {
+        return Range {
+            least: 0x4000,
+            greatest: 0x4FFF,
+        };
+    }
+    if atype == REQUESTED_ADDRESS_FAMILY {
+        return Range {
+            least: 1,
+            greatest: 2,
+        };
+    }
+    if atype == ADDITIONAL_ADDRESS_FAMILY {
+        return Range {
+            least: 2,
+            greatest: 2,
+        };
+    }
+    Range {
+        least: 0,
+        greatest: u64::MAX,
+    }
+}
+
+/// Whether a number is one of these.
+fn is_in_range(atype: u16, number: u64) -> bool
+    ensures { result ≡ is_in_range atype number }
+{
+    let range = range_of(atype);
+    range.least <= number && number <= range.greatest
+}
+
+/// Why a number of so many bytes isn't added as the value of a type.
+fn number_answer(width: usize, atype: u16, number: u64) -> Option<CallResult>
+    ensures { result ≡ number_answer width atype number }
+{
+    if !has_width(width, atype) {
+        return Some(plain(codes::BAD_ARGUMENT));
+    }
+    if !is_in_range(atype, number) {
+        let greatest = range_of(atype).greatest;
+        return Some(counted(codes::OUT_OF_RANGE, greatest as usize, number as usize));
+    }
+    None
+}
+
+/// Adds a number, by its bytes, with the zeros that follow it.
+fn add_padded(room: &mut [u8], written: &mut usize, atype: u16, octets: &[u8]) -> CallResult
+    requires { length octets.now ≤ 8 }
+    ensures { AddsPadded atype octets.now result
+        (record { slice = room.old; count = written.old })
+        (record { slice = room.new; count = written.new }) }
+{
+    let mut value = [0; 11];
+    let length = octets.len() + zeros_of(atype);
+    copy_to_start(octets, &mut value);
+    add_short(room, written, atype, &value[..length])
+}
+
+/// Adds a number, by its bytes, if it may be the value of the type.
+fn add_number(
+    room: &mut [u8],
+    written: &mut usize,
+    atype: u16,
+    number: u64,
+    octets: &[u8],
+) -> CallResult
+    requires { length octets.now ≤ 8 }
+    ensures { AddsNumber atype number octets.now result
+        (record { slice = room.old; count = written.old })
+        (record { slice = room.new; count = written.new }) }
+{
+    match number_answer(octets.len(), atype, number) {
+        Some(answer) => match ResumePoint::check(room, *written) {
+            Ok(_) => answer,
+            Err(_) => plain(codes::BAD_ARGUMENT),
+        },
+        None => add_padded(room, written, atype, octets),
+    }
+}
+
+/// Adds a number of 8 bits.
+#[unsafe(no_mangle)]
+pub extern "C" fn stun_types_add_u8(
+    room: &mut [u8],
+    written: &mut usize,
+    atype: u16,
+    number: u8,
+) -> CallResult
+    ensures { AddsNumber atype number (number ∷ []) result
+        (record { slice = room.old; count = written.old })
+        (record { slice = room.new; count = written.new }) }
+{
+    add_number(room, written, atype, u64::from(number), &[number])
+}
+
+/// Adds a number of 16 bits.
+#[unsafe(no_mangle)]
+pub extern "C" fn stun_types_add_u16(
+    room: &mut [u8],
+    written: &mut usize,
+    atype: u16,
+    number: u16,
+) -> CallResult
+    ensures { AddsNumber atype number (be16 number) result
+        (record { slice = room.old; count = written.old })
+        (record { slice = room.new; count = written.new }) }
+{
+    add_number(
+        room,
+        written,
+        atype,
+        u64::from(number),
+        &number.to_be_bytes(),
+    )
+}
+
+/// Adds a number of 32 bits.
+#[unsafe(no_mangle)]
+pub extern "C" fn stun_types_add_u32(
+    room: &mut [u8],
+    written: &mut usize,
+    atype: u16,
+    number: u32,
+) -> CallResult
+    ensures { AddsNumber atype number (be32 number) result
+        (record { slice = room.old; count = written.old })
+        (record { slice = room.new; count = written.new }) }
+{
+    add_number(
+        room,
+        written,
+        atype,
+        u64::from(number),
+        &number.to_be_bytes(),
+    )
+}
+
+/// Adds a number of 64 bits.
+#[unsafe(no_mangle)]
+pub extern "C" fn stun_types_add_u64(
+    room: &mut [u8],
+    written: &mut usize,
+    atype: u16,
+    number: u64,
+) -> CallResult
+    ensures { AddsNumber atype number (be64 number) result
+        (record { slice = room.old; count = written.old })
+        (record { slice = room.new; count = written.new }) }
+{
+    add_number(room, written, atype, number, &number.to_be_bytes())
+}
+
+/// Checks the length of a value that is a number of so many bytes, with the zeros that follow it.
+fn length_answer(width: usize, atype: u16, value: &[u8]) -> Option<CallResult>
+    requires { width ≤ 8 }
+    ensures answer { result
+        ≡ option_map parse_result (length_fault width atype (length value.now)) }
+    ensures enough { result ≡ None → width ≤ length value.now }
+{
+    if atype == RESPONSE_PORT && value.len() == width {
+        return None;
+    }
+    match check_length(value, width + zeros_of(atype)) {
+        Ok(()) => None,
+        Err(error) => Some(parse_result(error)),
+    }
+}
+
+/// The value of an attribute that begins with a number of so many bytes.
+fn value_with_number<'a>(
+    bytes: &'a [u8],
+    attribute: &ShownAttribute,
+    width: usize,
+) -> Result<&'a [u8], CallResult>
+    requires least { 1 ≤ width }
+    requires greatest { width ≤ 8 }
+    ensures { MatchResult result
+        (λ value. (value_with_number width attribute.now bytes.now ≡ Ok value.now)
+        × (width ≤ length value.now))
+        (λ answer. value_with_number width attribute.now bytes.now ≡ Err answer) }
+{
+    let Some(value) = value_in(bytes, attribute) else {
+        return Err(plain(codes::BAD_ARGUMENT));
+    };
+    if !has_width(width, attribute.atype) {
+        return Err(plain(codes::BAD_ARGUMENT));
+    }
+    if let Some(answer) = length_answer(width, attribute.atype, value) {
+        return Err(answer);
+    }
+    if !is_in_range(attribute.atype, BigEndian::read_uint(value, width)) {
+        return Err(plain(codes::INVALID_DATA));
+    }
+    Ok(value)
+}
+
+/// Reads a number of 8 bits.
+#[unsafe(no_mangle)]
+pub extern "C" fn stun_types_read_u8(
+    bytes: &[u8],
+    attribute: &ShownAttribute,
+    number: &mut u8,
+) -> CallResult
+    ensures { ReadsNumber 1 attribute.now bytes.now result number.old number.new }
+{
+    match value_with_number(bytes, attribute, 1) {
+        Ok(value) => {
+            *number = value[0];
+            plain(codes::OK)
+        }
+        Err(answer) => answer,
+    }
+}
+
+/// Reads a number of 16 bits.
+#[unsafe(no_mangle)]
+pub extern "C" fn stun_types_read_u16(
+    bytes: &[u8],
+    attribute: &ShownAttribute,
+    number: &mut u16,
+) -> CallResult
+    ensures { ReadsNumber 2 attribute.now bytes.now result number.old number.new }
+{
+    match value_with_number(bytes, attribute, 2) {
+        Ok(value) => {
+            *number = BigEndian::read_u16(value);
+            plain(codes::OK)
+        }
+        Err(answer) => answer,
+    }
+}
+
+/// Reads a number of 32 bits.
+#[unsafe(no_mangle)]
+pub extern "C" fn stun_types_read_u32(
+    bytes: &[u8],
+    attribute: &ShownAttribute,
+    number: &mut u32,
+) -> CallResult
+    ensures { ReadsNumber 4 attribute.now bytes.now result number.old number.new }
+{
+    match value_with_number(bytes, attribute, 4) {
+        Ok(value) => {
+            *number = BigEndian::read_u32(value);
+            plain(codes::OK)
+        }
+        Err(answer) => answer,
+    }
+}
+
+/// Reads a number of 64 bits.
+#[unsafe(no_mangle)]
+pub extern "C" fn stun_types_read_u64(
+    bytes: &[u8],
+    attribute: &ShownAttribute,
+    number: &mut u64,
+) -> CallResult
+    ensures { ReadsNumber 8 attribute.now bytes.now result number.old number.new }
+{
+    match value_with_number(bytes, attribute, 8) {
+        Ok(value) => {
+            *number = BigEndian::read_u64(value);
+            plain(codes::OK)
+        }
+        Err(answer) => answer,
+    }
+}

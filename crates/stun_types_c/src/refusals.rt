@@ -1,0 +1,320 @@
+//! The error response to a request that a server refuses, and the security features that its nonces
+//! tell of.
+
+ghost use Rattle.std.specs.Prelude.{◌≡◌, ◌⊎◌, Some, None, take, MatchResult};
+ghost use Rattle.stun_base.specs.MessageTypes.{class_of};
+ghost use Rattle.stun_base.specs.declared.message_type.MessageClass.TheVariants.{Request};
+ghost use Rattle.stun_grammar.specs.Headers.{type_field};
+ghost use Rattle.stun_types.specs.Message.{message_bytes};
+ghost use Rattle.stun_attributes.specs.Texts.{text_bytes};
+ghost use Rattle.stun_authentication.specs.Cookies.{security_features};
+ghost use Rattle.stun_authentication.specs.Refusing.{listed};
+ghost use Rattle.stun_types_c.specs.CallResults.{plain};
+ghost use Rattle.stun_types_c.specs.Codes.{OUT_OF_MEMORY};
+ghost use Rattle.stun_types_c.specs.Refusals.{message_answer, short_term_refusal, long_term_refusal, text_answer, demand_answer, list_attributes, IsDemand, Delivers, WritesRefusal, RefusesShortTerm, RefusesDemanding, RefusesLongTerm, features_named, TellsCookie, TellsFeatures};
+
+use crate::call_result::{CallResult, counted, parse_result, plain, write_result};
+use crate::codes;
+use crate::password_algorithms::{FewAlgorithms, algorithms_of};
+use crate::values::text_in;
+use std::alloc::Global;
+use stun_authentication::{
+    Demand, Refusal, SecurityFeatures, nonce_cookie, refuse_long_term, refuse_short_term,
+    security_features,
+};
+use stun_types::attribute::{Nonce, PasswordAlgorithms, Realm};
+use stun_types::message::{Message, MessageClass, MessageWriteVec};
+use stun_types::prelude::*;
+
+/// The beginning of a nonce that tells of security features.
+#[repr(C)]
+#[derive(Clone, Copy, Drop)]
+pub struct Cookie {
+    /// The thirteen bytes.
+    pub bytes: [u8; 13],
+}
+
+/// The request that C hands in.
+fn request_in(bytes: &[u8]) -> Result<Message<'_>, CallResult>
+    ensures { MatchResult result
+        (λ message. (message_answer bytes.now ≡ None) × (message_bytes message ≡ bytes.now)
+        × (class_of (type_field bytes.now) ≡ Request))
+        (λ answer. message_answer bytes.now ≡ Some answer) }
+{
+    let message = match Message::from_bytes(bytes) {
+        Ok(message) => message,
+        Err(error) => return Err(parse_result(error)),
+    };
+    if message.class() != MessageClass::Request {
+        return Err(plain(codes::NOT_A_REQUEST));
+    }
+    Ok(message)
+}
+
+/// The refusal of a code under short-term credentials.
+fn short_term_refusal(code: u32) -> Option<Refusal>
+    ensures { result ≡ short_term_refusal code }
+{
+    match code {
+        400 => Some(Refusal::BadRequest),
+        401 => Some(Refusal::Unauthenticated),
+        _ => None,
+    }
+}
+
+/// The refusal of a code under long-term credentials.
+fn long_term_refusal(code: u32) -> Option<Refusal>
+    ensures { result ≡ long_term_refusal code }
+{
+    match code {
+        438 => Some(Refusal::StaleNonce),
+        _ => short_term_refusal(code),
+    }
+}
+
+/// Writes a message at the start of a slice, if that has room for it.
+pub(crate) fn deliver(message: &[u8], room: &mut [u8], written: &mut usize) -> CallResult
+    ensures { Delivers message.now result
+        (record { slice = room.old; count = written.old })
+        (record { slice = room.new; count = written.new }) }
+{
+    if room.len() < message.len() {
+        return counted(codes::TOO_SMALL, message.len(), room.len());
+    }
+    room[..message.len()].copy_from_slice(message);
+    *written = message.len();
+    plain(codes::OK)
+}
+
+/// Refuses a request by short-term credentials.
+#[unsafe(no_mangle)]
+pub extern "C" fn stun_types_refuse_short_term(
+    alloc: Global,
+    request: &[u8],
+    code: u32,
+    room: &mut [u8],
+    written: &mut usize,
+) -> CallResult
+    ensures { RefusesShortTerm request.now code result
+        (record { slice = room.old; count = written.old })
+        (record { slice = room.new; count = written.new }) }
+{
+    let message = match request_in(request) {
+        Ok(message) => message,
+        Err(answer) => return answer,
+    };
+    let Some(refusal) = short_term_refusal(code) else {
+        return plain(codes::BAD_ARGUMENT);
+    };
+    match refuse_short_term(alloc, &message, refusal, MessageWriteVec::new(alloc)) {
+        Ok(write) => deliver(&write.finish(), room, written),
+        Err(error) => write_result(error),
+    }
+}
+
+/// The REALM of C's bytes.
+fn realm_of(alloc: Global, bytes: &[u8]) -> Result<Realm, CallResult>
+    ensures { MatchResult result
+        (λ realm. (text_answer bytes.now ≡ None) × (text_bytes realm ≡ bytes.now))
+        (λ answer. (text_answer bytes.now ≡ Some answer) ⊎ (answer ≡ plain OUT_OF_MEMORY)) }
+{
+    let Some(text) = text_in(bytes) else {
+        return Err(plain(codes::INVALID_DATA));
+    };
+    match Realm::new(alloc, text) {
+        Ok(realm) => Ok(realm),
+        Err(error) => Err(write_result(error)),
+    }
+}
+
+/// The NONCE of C's bytes.
+fn nonce_of(alloc: Global, bytes: &[u8]) -> Result<Nonce, CallResult>
+    ensures { MatchResult result
+        (λ nonce. (text_answer bytes.now ≡ None) × (text_bytes nonce ≡ bytes.now))
+        (λ answer. (text_answer bytes.now ≡ Some answer) ⊎ (answer ≡ plain OUT_OF_MEMORY)) }
+{
+    let Some(text) = text_in(bytes) else {
+        return Err(plain(codes::INVALID_DATA));
+    };
+    match Nonce::new(alloc, text) {
+        Ok(nonce) => Ok(nonce),
+        Err(error) => Err(write_result(error)),
+    }
+}
+
+/// The PASSWORD-ALGORITHMS of algorithms, if there are any.
+fn list_of(
+    alloc: Global,
+    algorithms: &FewAlgorithms,
+) -> Result<Option<PasswordAlgorithms>, CallResult>
+    ensures { MatchResult result
+        (λ list. listed list ≡ list_attributes (take algorithms.now.count algorithms.now.all))
+        (λ answer. answer ≡ plain OUT_OF_MEMORY) }
+{
+    if algorithms.as_slice().is_empty() {
+        return Ok(None);
+    }
+    match PasswordAlgorithms::new(alloc, algorithms.as_slice()) {
+        Ok(list) => Ok(Some(list)),
+        Err(error) => Err(write_result(error)),
+    }
+}
+
+/// What a realm, a nonce and algorithms ask for.
+fn demand_of(
+    alloc: Global,
+    realm: &[u8],
+    nonce: &[u8],
+    algorithms: &FewAlgorithms,
+) -> Result<Demand, CallResult>
+    ensures { let sent = take algorithms.now.count algorithms.now.all in
+        let refused = demand_answer realm.now nonce.now sent in
+        MatchResult result
+        (λ demand. (refused ≡ None) × IsDemand realm.now nonce.now sent demand)
+        (λ answer. (refused ≡ Some answer) ⊎ (answer ≡ plain OUT_OF_MEMORY)) }
+{
+    let realm = realm_of(alloc, realm)?;
+    let nonce = nonce_of(alloc, nonce)?;
+    let list = list_of(alloc, algorithms)?;
+    match Demand::new(realm, nonce, list) {
+        Ok(demand) => Ok(demand),
+        Err(_) => Err(plain(codes::BAD_ARGUMENT)),
+    }
+}
+
+/// Refuses a request by long-term credentials, with what it asks for.
+fn refuse_demanding(
+    alloc: Global,
+    message: &Message<'_>,
+    refusal: Refusal,
+    demand: &Demand,
+    room: &mut [u8],
+    written: &mut usize,
+) -> CallResult
+    requires { class_of (type_field (message_bytes message.now)) ≡ Request }
+    ensures { WritesRefusal (message_bytes message.now) refusal (Some demand.now) result
+        (record { slice = room.old; count = written.old })
+        (record { slice = room.new; count = written.new }) }
+{
+    match refuse_long_term(alloc, message, refusal, demand, MessageWriteVec::new(alloc)) {
+        Ok(write) => deliver(&write.finish(), room, written),
+        Err(error) => write_result(error),
+    }
+}
+
+/// Refuses a request by long-term credentials, if its realm, nonce and algorithms ask for something.
+fn refuse_asking(
+    alloc: Global,
+    message: &Message<'_>,
+    refusal: Refusal,
+    realm: &[u8],
+    nonce: &[u8],
+    algorithms: &FewAlgorithms,
+    room: &mut [u8],
+    written: &mut usize,
+) -> CallResult
+    requires { class_of (type_field (message_bytes message.now)) ≡ Request }
+    ensures { RefusesDemanding (message_bytes message.now) refusal realm.now nonce.now
+        (take algorithms.now.count algorithms.now.all) result
+        (record { slice = room.old; count = written.old })
+        (record { slice = room.new; count = written.new }) }
+{
+    match demand_of(alloc, realm, nonce, algorithms) {
+        Ok(demand) => refuse_demanding(alloc, message, refusal, &demand, room, written),
+        Err(answer) => answer,
+    }
+}
+
+/// Refuses a request by long-term credentials.
+#[unsafe(no_mangle)]
+pub extern "C" fn stun_types_refuse_long_term(
+    alloc: Global,
+    request: &[u8],
+    code: u32,
+    realm: &[u8],
+    nonce: &[u8],
+    algorithms: &[u16],
+    room: &mut [u8],
+    written: &mut usize,
+) -> CallResult
+    ensures { RefusesLongTerm request.now code realm.now nonce.now algorithms.now result
+        (record { slice = room.old; count = written.old })
+        (record { slice = room.new; count = written.new }) }
+{
+    let message = match request_in(request) {
+        Ok(message) => message,
+        Err(answer) => return answer,
+    };
+    let Some(refusal) = long_term_refusal(code) else {
+        return plain(codes::BAD_ARGUMENT);
+    };
+    match algorithms_of(algorithms) {
+        Some(algorithms) => {
+            refuse_asking(
+                alloc,
+                &message,
+                refusal,
+                realm,
+                nonce,
+                &algorithms,
+                room,
+                written,
+            )
+        }
+        None => plain(codes::BAD_ARGUMENT),
+    }
+}
+
+/// The features of a number.
+pub(crate) fn features_of(number: u32) -> Option<SecurityFeatures>
+    ensures { result ≡ features_named number }
+{
+    match number {
+        0 => Some(SecurityFeatures {
+            password_algorithms: false,
+            username_anonymity: false,
+        }),
+        1 => Some(SecurityFeatures {
+            password_algorithms: true,
+            username_anonymity: false,
+        }),
+        2 => Some(SecurityFeatures {
+            password_algorithms: false,
+            username_anonymity: true,
+        }),
+        3 => Some(SecurityFeatures {
+            password_algorithms: true,
+            username_anonymity: true,
+        }),
+        _ => None,
+    }
+}
+
+/// The beginning of the nonces of a server with these features.
+#[unsafe(no_mangle)]
+pub extern "C" fn stun_types_nonce_cookie(features: u32, cookie: &mut Cookie) -> CallResult
+    ensures { TellsCookie features result cookie.old cookie.new }
+{
+    let Some(features) = features_of(features) else {
+        return plain(codes::BAD_ARGUMENT);
+    };
+    let mut bytes = [0; 13];
+    bytes.copy_from_slice(nonce_cookie(features).as_bytes());
+    *cookie = Cookie { bytes };
+    plain(codes::OK)
+}
+
+/// The features that a nonce tells of; false where it begins with no nonce cookie.
+#[unsafe(no_mangle)]
+pub extern "C" fn stun_types_security_features(nonce: &[u8], features: &mut u32) -> bool
+    ensures { TellsFeatures (security_features nonce.now) result features.old features.new }
+{
+    match security_features(nonce) {
+        Some(told) => {
+            *features = u32::from(told.password_algorithms)
+                + 2 * u32::from(told.username_anonymity);
+            true
+        }
+        None => false,
+    }
+}

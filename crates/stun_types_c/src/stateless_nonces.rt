@@ -1,0 +1,142 @@
+//! Nonces that a server makes and recognizes without keeping any.
+
+ghost use Rattle.std.specs.Prelude.{◌≡◌, IfSome};
+ghost use Rattle.stun_keys.specs.Keys.{key_bytes};
+ghost use Rattle.stun_authentication.specs.Nonces.{minting, minting_of};
+ghost use Rattle.stun_types_c.specs.KeyHandles.{shared_key};
+ghost use Rattle.stun_types_c.specs.StatelessNonces.{ByKey, ByMaker, Makes, Judges, state_number};
+
+use crate::address::{Address, socket_of};
+use crate::call_result::{CallResult, plain, write_result};
+use crate::codes;
+use crate::refusals::{deliver, features_of};
+use crate::shared_key::SharedKey;
+use std::alloc::Global;
+use std::net::SocketAddr;
+use stun_authentication::{Freshness, NonceMaker, SecurityFeatures};
+use stun_types::message::keys::IntegrityKey;
+
+/// A maker of nonces with a copy of a secret.
+fn maker_of(
+    alloc: Global,
+    secret: &IntegrityKey,
+    features: SecurityFeatures,
+    window: u64,
+) -> Option<NonceMaker>
+    ensures { IfSome result
+        (λ maker. minting_of maker ≡ minting (key_bytes secret.now) features window) }
+{
+    let copy = secret.clone(alloc).ok()?;
+    Some(NonceMaker::new(copy, features, window))
+}
+
+/// Makes a nonce for a client by a secret.
+fn make_by(
+    alloc: Global,
+    secret: &IntegrityKey,
+    features: SecurityFeatures,
+    window: u64,
+    now: u64,
+    client: SocketAddr,
+    room: &mut [u8],
+    written: &mut usize,
+) -> CallResult
+    ensures { ByKey (Makes now) secret.now features window client result
+        (record { slice = room.old; count = written.old })
+        (record { slice = room.new; count = written.new }) }
+{
+    let Some(maker) = maker_of(alloc, secret, features, window) else {
+        return plain(codes::OUT_OF_MEMORY);
+    };
+    match maker.make(alloc, now, &client) {
+        Ok(nonce) => deliver(nonce.nonce().as_bytes(), room, written),
+        Err(error) => write_result(error),
+    }
+}
+
+/// Makes a nonce for a client.
+#[unsafe(no_mangle)]
+pub extern "C" fn stun_types_make_nonce(
+    alloc: Global,
+    secret: &SharedKey,
+    features: u32,
+    window: u64,
+    now: u64,
+    client: &Address,
+    room: &mut [u8],
+    written: &mut usize,
+) -> CallResult
+    ensures { ByMaker (Makes now) (shared_key secret.now) features window client.now result
+        (record { slice = room.old; count = written.old })
+        (record { slice = room.new; count = written.new }) }
+{
+    let Some(features) = features_of(features) else {
+        return plain(codes::BAD_ARGUMENT);
+    };
+    let Some(client) = socket_of(client) else {
+        return plain(codes::BAD_ARGUMENT);
+    };
+    match secret.key() {
+        Some(key) => make_by(alloc, key, features, window, now, client, room, written),
+        None => plain(codes::NO_KEY),
+    }
+}
+
+/// The number of what is known of a nonce.
+fn state_number(state: Freshness) -> u32
+    ensures { result ≡ state_number state }
+{
+    match state {
+        Freshness::Fresh => 1,
+        Freshness::Stale => 2,
+        Freshness::Unknown => 0,
+    }
+}
+
+/// What is known, by a secret, of a nonce that came from a client.
+fn judge_by(
+    alloc: Global,
+    secret: &IntegrityKey,
+    features: SecurityFeatures,
+    window: u64,
+    now: u64,
+    client: SocketAddr,
+    nonce: &[u8],
+    state: &mut u32,
+) -> CallResult
+    ensures { ByKey (Judges now nonce.now) secret.now features window client result
+        state.old state.new }
+{
+    let Some(maker) = maker_of(alloc, secret, features, window) else {
+        return plain(codes::OUT_OF_MEMORY);
+    };
+    *state = state_number(maker.freshness(now, &client, nonce));
+    plain(codes::OK)
+}
+
+/// What is known of a nonce that came from a client.
+#[unsafe(no_mangle)]
+pub extern "C" fn stun_types_judge_nonce(
+    alloc: Global,
+    secret: &SharedKey,
+    features: u32,
+    window: u64,
+    now: u64,
+    client: &Address,
+    nonce: &[u8],
+    state: &mut u32,
+) -> CallResult
+    ensures { ByMaker (Judges now nonce.now) (shared_key secret.now) features window client.now result
+        state.old state.new }
+{
+    let Some(features) = features_of(features) else {
+        return plain(codes::BAD_ARGUMENT);
+    };
+    let Some(client) = socket_of(client) else {
+        return plain(codes::BAD_ARGUMENT);
+    };
+    match secret.key() {
+        Some(key) => judge_by(alloc, key, features, window, now, client, nonce, state),
+        None => plain(codes::NO_KEY),
+    }
+}
