@@ -198,6 +198,61 @@ static void test_arguments(void) {
     check_refused(transaction, no_key(), hex(SUCCESS), hex(""), STUN_TYPES_BAD_ARGUMENT);
 }
 
+/* A message that is signed by an integrity algorithm. */
+static size_t signed_message(uint8_t *bytes, size_t size, stun_types_class message_class,
+                             const stun_types_key *key, stun_types_integrity algorithm) {
+    static const stun_types_id id = {{1}};
+    size_t length = 0;
+    ANSWERS(stun_types_begin(bytes, size,
+                             stun_types_message_type(message_class, STUN_TYPES_METHOD_BINDING), &id,
+                             &length),
+            OK_ANSWER);
+    ANSWERS(stun_types_add_integrity(bytes, size, &length, key, algorithm), OK_ANSWER);
+    return length;
+}
+
+/* A client and a validation agree on which key goes with which attribute: a long-term key by either
+   password algorithm serves both. */
+static void test_long_term_keys(void) {
+    static const stun_types_password passwords[] = {STUN_TYPES_PASSWORD_MD5,
+                                                    STUN_TYPES_PASSWORD_SHA256};
+    static const stun_types_integrity algorithms[] = {STUN_TYPES_INTEGRITY_SHA1,
+                                                      STUN_TYPES_INTEGRITY_SHA256};
+    static const char *const names[] = {"by MD5, a MESSAGE-INTEGRITY", "by MD5, SHA-256",
+                                        "by SHA-256, a MESSAGE-INTEGRITY", "by SHA-256, SHA-256"};
+    size_t i;
+    for (i = 0; i < 4; i++) {
+        stun_types_key *key;
+        stun_types_transaction *transaction;
+        stun_types_received *received;
+        stun_types_validated *validated;
+        uint8_t *bytes;
+        size_t length;
+        row("a long-term key", names[i]);
+        key = login_key(passwords[i / 2]);
+        transaction = NEW(stun_types_transaction);
+        received = NEW(stun_types_received);
+        validated = NEW(stun_types_validated);
+        bytes = room(60);
+        length = signed_message(bytes, 60, STUN_TYPES_CLASS_REQUEST, key, algorithms[i % 2]);
+        ANSWERS(stun_types_transaction_begin(transaction, bytes, length, &DEFAULT, STUN_TYPES_UDP,
+                                             STUN_TYPES_LONG_TERM, key, 0),
+                OK_ANSWER);
+        CHECK(polled(transaction, 0).kind == STUN_TYPES_SEND_NOW);
+        length = signed_message(bytes, 60, STUN_TYPES_CLASS_SUCCESS, key, algorithms[i % 2]);
+        heap_allow(true);
+        ANSWERS(stun_types_transaction_receive(transaction, key, bytes, length, NO_TYPES, 0,
+                                               received),
+                OK_ANSWER);
+        heap_allow(false);
+        CHECK(received->kind == STUN_TYPES_TAKEN_SUCCESS);
+        CHECK(received->algorithm == algorithms[i % 2] && received->reserved == 0);
+        ANSWERS(stun_types_validate(bytes, length, key, validated), OK_ANSWER);
+        CHECK(validated->algorithm == algorithms[i % 2]);
+        stun_types_key_free(key);
+    }
+}
+
 /* A copy of the key is made. Each allocation is refused in turn, which changes nothing. */
 static void test_memory(void) {
     static const stun_types_protection protections[] = {STUN_TYPES_SHORT_TERM, STUN_TYPES_LONG_TERM};
@@ -313,6 +368,7 @@ void test_clients(void) {
     test_begin();
     test_schedules();
     test_arguments();
+    test_long_term_keys();
     test_memory();
     test_no_transactions();
     test_challenges();

@@ -1,2 +1,3 @@
+mod ArgumentsLemmas
 mod BindingLemmas
 mod StreamLemmas

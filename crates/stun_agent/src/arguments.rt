@@ -1,6 +1,6 @@
 //! What the arguments after a command mean.
 
-ghost use Rattle.std.specs.Prelude.{◌≡◌, ℕ, map, MatchOption, MatchResult};
+ghost use Rattle.std.specs.Prelude.{◌≡◌, ◌==◌, ℕ, map, slice_index, MatchOption, MatchResult};
 ghost use Rattle.std.specs.String.{string_bytes};
 ghost use Rattle.std.specs.Vec.Iter.{into_iter_items};
 ghost use Rattle.std.specs.declared.net.socket_addr.SocketAddr.{SocketAddr};
@@ -112,13 +112,24 @@ pub struct AskTask {
     pub(crate) query: Query,
 }
 
+/// Whether a text begins with a plus, which `from_str_radix` skips.
+fn has_plus(text: &[u8]) -> bool
+    ensures { result ≡ (slice_index text.now 0 == 43) }
+{
+    matches!(text, [b'+', ..])
+}
+
 /// The transaction ID that a text spells in hexadecimal, in at most 24 digits and with no sign.
+#[tactic(auto, using(crate::proofs::ArgumentsLemmas::signed, crate::proofs::ArgumentsLemmas::refused, crate::proofs::ArgumentsLemmas::read))]
 fn id_in(text: &str) -> Option<TransactionId>
     ensures { MatchOption result
         ((id : ℕ) → ¬ (IsIdText text.now id))
         (IsIdText text.now) }
 {
-    if text.len() > 24 || text.starts_with('+') {
+    if text.len() > 24 {
+        return None;
+    }
+    if has_plus(text.as_bytes()) {
         return None;
     }
     let number = u128::from_str_radix(text, 16).ok()?;

@@ -1,5 +1,5 @@
 -- A walk over the attributes that a message shows, step by step.
-use Rattle.std.proofs.Common.{◌≡◌, ◌≢◌, ℕ, zero, suc, ◌+◌, ◌-◌, Bool, true, false, List, [], ◌∷◌, drop, Option, None, Some, refl, sym, ap, ◌∙◌, arith}
+use Rattle.std.proofs.Common.{◌≡◌, ℕ, zero, suc, ◌+◌, Bool, true, false, List, [], ◌∷◌, drop, Option, None, Some, refl, sym, ap, ◌∙◌, arith}
 use Rattle.std.specs.Prelude.{slice_get, ◌==◌, if◌then◌else◌}
 use Rattle.std.specs.Option.{option_map}
 use Rattle.stun_grammar.specs.Chains.{Shown}
@@ -24,13 +24,6 @@ away [] zero e = refl
 away [] (suc i) e = refl
 away (y ∷ xs) zero e = absurd cc
 away (y ∷ xs) (suc i) e = away xs i e
-
--- behind the first element the others have an index that is smaller by one
-pub later : {A : Type 0} (x : A) (xs : List A) (n : ℕ) → n ≢ 0 → slice_get (x ∷ xs) n ≡ slice_get xs (n - 1)
-later x xs zero some = absurd (some refl)
-later x xs (suc n) some =
-    let same : suc n - 1 ≡ n = omega arith in
-    ap (slice_get xs) (sym same)
 
 map_none : {A B : Type 0} (f : A → B) (o : Option A) → option_map f o ≡ None → o ≡ None
 map_none f None e = refl

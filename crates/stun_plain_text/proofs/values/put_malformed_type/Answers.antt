@@ -1,4 +1,4 @@
-use Rattle.std.proofs.Common.{◌≡◌, ℕ, List, ◌++◌, refl}
+use Rattle.std.proofs.Common.{◌≡◌, ℕ, ◌++◌, refl}
 use Rattle.std.specs.Prelude.{codes}
 use Rattle.stun_text.proofs.Joining.{both, spelled_so}
 use Rattle.stun_plain_text.specs.PlainValues.{type_text, malformed_type_text}

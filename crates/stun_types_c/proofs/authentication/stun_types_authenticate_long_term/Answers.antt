@@ -1,9 +1,8 @@
-use Rattle.std.proofs.Common.{◌≡◌, Option, Some, sym, ap, ◌∙◌}
+use Rattle.std.proofs.Common.{◌≡◌, Some, sym, ap, ◌∙◌}
 use Rattle.std.specs.Option.{option_map}
-use Rattle.stun_authentication.specs.LongTerm.{long_term}
 use Rattle.stun_types_c.specs.Authentication.{policy_named, nonce_named}
 use Rattle.stun_types_c.specs.KeyHandles.{shared_key}
-use Rattle.stun_types_c.specs.Users.{bytes_of, long_term_key_of, known_of}
+use Rattle.stun_types_c.specs.Users.{known_of}
 use Rattle.stun_types_c.proofs.AuthenticatedLemmas.{authenticated}
 use Rattle.stun_types_c.proofs.authentication.stun_types_authenticate_long_term.Goals as goal
 
