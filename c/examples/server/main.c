@@ -1,5 +1,5 @@
 /* A STUN server: it returns to each client the address that its request came from, over UDP and
- * TCP. docs/SERVER.md says how to run it.
+ * TCP. docs/guide/SERVER.md says how to run it.
  *
  *     cc -std=c11 -O2 -I c FILES libstun_types_c.a liblibc_c.a -o server
  *     ./server [-t] [-j PROCESSES] [-U USER] [-o NAME=NUMBER].. ADDRESS PORT [ADDRESS PORT]..

@@ -19,10 +19,10 @@ ascii byte low (suc i) = omega arith
 pub plain_is_text : (byte : ℕ) → is_plain byte ≡ true → IsUtf8 (byte ∷ [])
 plain_is_text byte plain = IsUtf8-from_ascii (byte ∷ []) (ascii byte (below byte plain))
 
--- it lies at the start
+-- it is at the start
 pub text_lies : (s t : TextSlice) (text : List ℕ) → s.length ≡ 0 → Gains s text t → t.to.now ≡ laid_over text s.to.now
 text_lies s t text start gains = grind (arith, common_steps, gains.bytes)
 
--- and what is told of it is how long it is
+-- and the answer is how long it is
 pub text_counts : (n count room : ℕ) → count ≡ counted n → room < 2 ^ 63 → text_answer count room ≡ text_answer n room
 text_counts n count room is short = grind (arith, common_steps)

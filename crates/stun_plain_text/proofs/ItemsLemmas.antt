@@ -14,7 +14,7 @@ use Rattle.stun_plain_text.specs.PlainValues.{attribute_text}
 abbrev pub item_text : ℕ × RawAttribute → List ℕ
 item_text item = attribute_text (raw_type item.1) (raw_value item.1)
 
--- behind an item stand a comma and a space
+-- after an item come a comma and a space
 pub comma_behind : {X : Type 0} (xs : List X) (x : X) → codes ", " ≡ comma_before (length (xs ++ x ∷ []))
 comma_behind [] x = refl
 comma_behind (y ∷ xs) x = refl

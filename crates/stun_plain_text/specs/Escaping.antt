@@ -17,7 +17,7 @@ escaped_byte byte = if is_plain byte then byte ∷ [] else 0x5C ∷ 0x78 ∷ hex
 abbrev pub escaped : List ℕ → List ℕ
 escaped = flat_map escaped_byte
 
--- a text was written so to the slice behind an escaper
+-- a text was written so to the slice of an escaper
 pub record EscapedWrote (s : Escaper) (text : List ℕ) (t : Escaper) : Type 0 where
   pub wrote : SliceWrote s.slice.now (escaped text) t.slice.now
   pub same : t.slice.ghost_name ≡ s.slice.ghost_name

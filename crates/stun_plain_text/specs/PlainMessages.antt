@@ -17,7 +17,7 @@ shown_text attribute = attribute_text attribute.type attribute.value
 abbrev pub attributes_text : List Shown → List ℕ
 attributes_text = with_commas shown_text
 
--- what stands before them: the class, the method and the transaction ID
+-- what precedes them: the class, the method and the transaction ID
 abbrev pub method_text : ℕ → List ℕ
 method_text method = numbered_text method (method_name method)
 

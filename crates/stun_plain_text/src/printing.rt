@@ -26,7 +26,7 @@ fn put_method<S: TextSink>(sink: &mut S, method: Method) -> Result<(), S::Error>
     put_numbered(sink, method.value(), method_name(method))
 }
 
-/// Prints what stands before the attributes: the class, the method and the transaction ID.
+/// Prints what precedes the attributes: the class, the method and the transaction ID.
 fn print_head<S: TextSink>(header: &MessageHeader, sink: &mut S) -> Result<(), S::Error>
     ensures { OnOk result (S.wrote sink.old (head_text header.now) sink.new) }
 {
@@ -41,7 +41,7 @@ fn print_head<S: TextSink>(header: &MessageHeader, sink: &mut S) -> Result<(), S
     Ok(())
 }
 
-/// Prints a text and an attribute behind it.
+/// Prints a text, and an attribute after it.
 #[tactic(auto, using(stun_text::proofs::Joining::both, stun_text::proofs::Joining::spelled_so))]
 fn print_led<S: TextSink>(
     lead: &str,
@@ -95,7 +95,7 @@ fn print_escaped(bytes: &[u8], slice: &mut TextSlice<'_>) -> Result<(), Infallib
 /// it has: the class, the method, the transaction ID, and the attributes that the message shows, with
 /// the names of STUN, ICE, TURN and NAT discovery. What is no printable character of ASCII, in the
 /// texts of a message, is escaped: `\\x`, and two hexadecimal digits for each byte, and so is the
-/// backslash. So the text has one line, and can't steer a terminal. The bytes of `to` behind the text
+/// backslash. So the text has one line, and can't steer a terminal. The bytes of `to` after the text
 /// stay as they were. It takes no memory.
 ///
 /// # Errors

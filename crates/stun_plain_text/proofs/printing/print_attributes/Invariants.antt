@@ -5,7 +5,7 @@ use Rattle.stun_text.specs.Lists.{with_commas, comma_before}
 use Rattle.stun_plain_text.proofs.ItemsLemmas.{item_text}
 use Rattle.stun_plain_text.proofs.printing.print_attributes.Given as goal
 
--- the attributes so far are written; `lead` is what stands before the next
+-- the attributes so far are written; `lead` is what precedes the next
 abbrev pub invariant-loop-offset : goal.invariant-loop-offset
 invariant-loop-offset g l =
     shadow (Utf8 l.lead) × (l.lead ≡ comma_before (length l.yielded))
