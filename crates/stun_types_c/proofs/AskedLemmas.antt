@@ -1,4 +1,4 @@
--- What a challenge asks for stands in the response where C is told that it does.
+-- What a challenge asks for is in the response at the places that are reported to C.
 use Rattle.std.proofs.Common.{◌≡◌, ℕ, ◌+◌, Bool, true, false, cond, List, length, Option, None, Some, Result, Ok, Err, refl, ap, subst, ◌∙◌}
 use Rattle.std.specs.Prelude.{slice_range, is_some, ◌||◌, MatchOption, option_and_then}
 use Rattle.std.specs.Option.{option_map, option_map_or}
@@ -73,7 +73,7 @@ is_of supported tried seen d asked h =
       list = is.2;
     }
 
--- ---- They stand where C is told
+-- ---- They are at the places that are reported to C
 
 stands : (d : List ℕ) (o : Option Shown) (value : List ℕ) → ((x : Shown) → o ≡ Some x → slice_range d (x.offset + 4) (x.offset + 4 + length x.value) ≡ x.value)
     → option_map (λ (a : Shown). a.value) o ≡ Some value → slice_range d (option_map_or (λ (a : Shown). a.offset + 4) o 0) (option_map_or (λ (a : Shown). a.offset + 4) o 0 + length value) ≡ value

@@ -1,4 +1,4 @@
--- What a server in C is told of a request by long-term credentials.
+-- What is reported to a server in C of a request by long-term credentials.
 use Rattle.std.proofs.Common.{◌≡◌, ℕ, List, [], Option, None, Some, sym, ap, subst, ◌∙◌}
 use Rattle.std.specs.Prelude.{MatchOption, option_and_then}
 use Rattle.std.specs.Borrow.{Bor}
@@ -18,7 +18,7 @@ use Rattle.stun_types_c.specs.CallResults.{plain, parse_result}
 use Rattle.stun_types_c.specs.Codes.{BAD_ARGUMENT}
 use Rattle.stun_types_c.specs.Users.{bytes_of, borrowed_bytes, long_term_key_of}
 
--- where the bytes are a message, and the policy and the state of the nonce have a meaning
+-- if the bytes are a message, and the policy and the state of the nonce have a meaning
 pub authenticated : (counted : CountedIntegrity) (nonce : Option Known) (md5 sha256 : Option IntegrityKey) (d : List ℕ) (policy : Policy) (known : Known) (used : Option (Option (List ℕ))) (result : CallResult) (new : Authenticated)
     → parse_fault d ≡ None → policy_named counted ≡ Some policy → nonce ≡ Some known → TellsDecision used (long_term policy [] (λ shown. known) (λ user realm. long_term_key_of (bytes_of md5) (bytes_of sha256)) d) result new
     → Authenticates used (by_long_term counted nonce md5 sha256 d) d result new

@@ -17,7 +17,7 @@ use Rattle.stun_types_c.specs.declared.validating.Validated.{Validated}
 use Rattle.stun_types_c.specs.Validating.{TellsVerdict, Invalidates}
 use Rattle.stun_types_c.specs.Credentials.{texts_refusal, IsLongTerm, WithTexts}
 
--- the test tells which bytes are UTF-8
+-- the test says which bytes are UTF-8
 pub is_text : (bytes : List ℕ) → IsUtf8 bytes → is_utf8 bytes ≡ true
 is_text bytes utf8 = is_utf8-from_IsUtf8 bytes utf8
 
@@ -28,7 +28,7 @@ is_no_text bytes none = go (is_utf8 bytes) refl
     go true is = absurd (none (IsUtf8-from_is_utf8 bytes is))
     go false is = is
 
--- where no text is refused, the first one isn't
+-- if no text is refused, the first one isn't
 first_is_text : (text : List ℕ) (others : List (List ℕ)) → texts_refusal (text ∷ others) ≡ None → is_utf8 text ≡ true
 first_is_text text others none = go (is_utf8 text) refl
   where

@@ -55,7 +55,7 @@ end_numbered n = if n == 0 then None else (
     if n == 4 then Some Refused else (
     if n == 5 then Some Cancelled else Some TransportFailed)))))
 
--- a number tells which integrity attributes there are
+-- a number says which integrity attributes there are
 pub signed_is : (n : ℕ) (sha1 sha256 : Bool) → n ≡ signed_number sha1 sha256 → (sha1 ≡ (n % 2 == 1)) × (sha256 ≡ nat_lt 1 n)
 signed_is n true true is = rw is (refl, refl)
 signed_is n true false is = rw is (refl, refl)
@@ -74,7 +74,7 @@ signed_told (suc (suc zero)) few = refl
 signed_told (suc (suc (suc zero))) few = refl
 signed_told (suc (suc (suc (suc n)))) few = absurd (omega (arith, few))
 
--- a moment of whole milliseconds is told by their number
+-- a moment of whole milliseconds is reported by their number
 pub whole : (n : ℕ) (moment : Duration) → IsAt n moment → millis_of moment ≡ n
 whole n moment at =
     let some : 0 < 1_000_000 = omega arith in
@@ -159,7 +159,7 @@ grows clock now = elim (cases_Bool (nat_lt (as_nanos clock) (as_nanos now))) [
   | inr not_less ↦ rw not_less (omega arith)
 ]
 
--- where a further request is to be sent, there is room for it
+-- if a further request is to be sent, there is room for it
 room : (stopped : Bool) (sent requests : ℕ) → (not stopped && nat_lt sent requests) ≡ true → sent < requests
 room false sent requests more = ltb-true sent requests more
 room true sent requests more = absurd cc
@@ -357,7 +357,7 @@ same_mechanism (LongTerm key) Unprotected is = absurd is
 same_mechanism (LongTerm key) FirstLongTerm is = absurd is
 same_mechanism (LongTerm key) (ShortTerm kept) is = absurd is
 
--- a request that is no fault is signed exactly where it is protected
+-- a request that is no fault is signed exactly if it is protected
 as_signed : (request signed : Bool) (by : Protection) → (if request then mismatch (protects by) signed else Some NotARequest) ≡ None → (if signs (mechanism_of by) then not signed else signed) ≡ false
 as_signed false signed by free = absurd cc
 as_signed true true Unprotected free = absurd cc

@@ -1,4 +1,4 @@
--- What a shared key has can be had twice. Assumes `Logic`.
+-- What a shared key has can be copied. Assumes `Logic`.
 use Rattle.std.proofs.Common.{[], ◌∷◌}
 use seplogic.Ra.Ura.{Ura}
 use base.Logic.{ent, sep, emp, id⊢}

@@ -1,4 +1,4 @@
--- The value of an attribute that is found stands in the message where C is told that it does.
+-- The value of an attribute that is found is in the message at the place that is reported to C.
 use Rattle.std.proofs.Common.{◌≡◌, ℕ, ◌+◌, ◌-◌, ◌≤◌, Bool, true, false, cond, eqb, List, [], ◌∷◌, ◌++◌, length, take, drop, Option, None, Some, refl, sym, ap, subst, ◌∙◌, arith, inl, inr, append_assoc, length-append, length-take}
 use Rattle.std.specs.Prelude.{filter, slice_get, slice_range, IfSome}
 use Rattle.std.proofs.lemmas.List.{take-append-drop}
@@ -15,7 +15,7 @@ use Rattle.stun_read.specs.LookingUp.{nth}
 use Rattle.stun_types_c.specs.Attributes.{in_c}
 use Rattle.stun_types_c.specs.Values.{value_of}
 
--- bytes from an offset on have the value of an attribute four bytes behind the attribute's offset
+-- bytes from an offset on have the value of an attribute four bytes after the attribute's offset
 record Has (b : List ℕ) (offset : ℕ) (x : Shown) : Type 0 where
   before : List ℕ
   behind : List ℕ
@@ -94,6 +94,6 @@ at_some : {A : Type 0} (P : A → Type 0) (o : Option A) → ((x : A) → o ≡ 
 at_some P None each = tt
 at_some P (Some x) each = each x refl
 
--- so an attribute that is found can be read by what C is told of it
+-- so an attribute that is found can be read by what is reported to C of it
 pub found_there : (d : List ℕ) (type : ℕ) → IsBytes d → IfSome (nth d type 0) (λ (a : Shown). value_of (in_c a) d ≡ Some a.value)
 found_there d type bytes = at_some (λ (a : Shown). value_of (in_c a) d ≡ Some a.value) (nth d type 0) (λ x e. value_there d type x bytes e)

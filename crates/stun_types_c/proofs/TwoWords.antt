@@ -1,8 +1,8 @@
 -- What the walks share. Each is over a struct of a pointer and an allocator's handle, and such a
 -- struct is two machine values. Assumes `Logic`.
 --     two                       the struct's machine value
---     two_typed, two_typed_null     it has the struct's type, where the pointer leads into a block,
---                               and where it is null
+--     two_typed, two_typed_null     it has the struct's type, if the pointer leads into a block,
+--                               and if it is null
 --     one_word                  what the handle owns is owned at one machine value, of its type
 --     taken_apart               what the struct's fields own is what the handle owns
 --     put_together              and back

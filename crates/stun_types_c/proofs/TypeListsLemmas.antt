@@ -12,7 +12,7 @@ use Rattle.stun_values.specs.TypeLists.{types_within}
 use Rattle.stun_types.proofs.ShownTypesLemmas.{item_type, passes_more, fails_more}
 use Rattle.stun_types_c.specs.TypeLists.{types_numbered}
 
--- one more number is laid over, where there is room for it
+-- one more number is laid over, if there is room for it
 pub laid_more : (found start : List ℕ) (x : ℕ) → set (laid_over found start) (length found) x ≡ laid_over (found ++ x ∷ []) start
 laid_more [] [] x = refl
 laid_more [] (s ∷ []) x = refl

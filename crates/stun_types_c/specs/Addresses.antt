@@ -36,7 +36,7 @@ ipv4_named octets = V4 (record { octets = take 4 octets })
 abbrev pub ipv6_named : List ℕ → IpAddr
 ipv6_named octets = V6 (record { segments = segments_of octets })
 
--- the IP address that C's form names; none where its family is neither 4 nor 6
+-- the IP address that C's form names; none if its family is neither 4 nor 6
 abbrev pub ip_named : Address → Option IpAddr
 ip_named address =
     if address.family == 4 then Some (ipv4_named address.octets) else (

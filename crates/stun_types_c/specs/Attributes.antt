@@ -18,7 +18,7 @@ first_of_type type attributes = slice_get (filter (λ a. a.type == type) attribu
 abbrev pub left : Cursor → List ℕ → List Shown
 left cursor d = if cursor.reserved == 0 then drop cursor.index (shown d) else []
 
--- a step of a walk yields the first attribute that is left, and leaves the others; where none is
+-- a step of a walk yields the first attribute that is left, and leaves the others; if none is
 -- left, nothing changes
 abbrev pub Steps : Bool → List Shown → List Shown → ShownAttribute → Type 0
 Steps result before after yielded =

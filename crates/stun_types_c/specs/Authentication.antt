@@ -1,4 +1,4 @@
--- What a server in C is told of a message that it authenticates (RFC 8489, sections 9.1.3 and
+-- What is reported to a server in C of a message that it authenticates (RFC 8489, 9.1.3 and
 -- 9.2.4).
 use Rattle.std.specs.Prelude.{◌≡◌, ◌⊎◌, ℕ, false, List, [], Option, None, Some, MatchOption, nat_eq, not, option_and_then, ◌==◌, if◌then◌else◌}
 use Rattle.std.specs.Cmp.Lexicographic.{pointwise}
@@ -23,7 +23,7 @@ use Rattle.stun_types_c.specs.PasswordAlgorithms.{password_algorithms_named}
 use Rattle.stun_types_c.specs.Usages.{shortest_named}
 use Rattle.stun_types_c.specs.Users.{bytes_of, borrowed_bytes, long_term_key_of, nonce_in}
 
--- ---- What C hands in
+-- ---- What C passes
 
 -- which algorithms a number counts: 0 both, and any other the one that it names
 abbrev pub algorithms_counted : ℕ → Option (Option IntegrityAlgorithm)
@@ -46,12 +46,12 @@ policy_named counted =
 abbrev pub nonce_named : ℕ → List ℕ → Option Known
 nonce_named state numbers = option_and_then (nonce_in state) (password_algorithms_named numbers)
 
--- what becomes of d, by the one key that C holds; none where it hands in no policy
+-- what becomes of d, by the one key that C holds; none if it passes no policy
 abbrev pub by_short_term : CountedIntegrity → Option IntegrityKey → List ℕ → Option Decision
 by_short_term counted key d =
     option_map (λ policy. short_term policy (λ user. bytes_of key) d) (policy_named counted)
 
--- the same by the keys of both password algorithms; none where it knows no state of the nonce. The
+-- the same by the keys of both password algorithms; none if it knows no state of the nonce. The
 -- realm makes the keys, and C has made them
 abbrev pub by_long_term : CountedIntegrity → Option Known → (md5 sha256 : Option IntegrityKey)
     → List ℕ → Option Decision
@@ -61,9 +61,9 @@ by_long_term counted nonce md5 sha256 d =
     (λ user realm. long_term_key_of (bytes_of md5) (bytes_of sha256)) d) nonce)
     (policy_named counted)
 
--- ---- What C is told
+-- ---- What is reported to C
 
--- what C reads where nothing is decided: a call that failed has written this
+-- what C reads if nothing is decided: a call that failed has written this
 abbrev pub undecided : Authenticated
 undecided = record {
   kind = 0;
@@ -105,7 +105,7 @@ in_c used (refuse refusal) = record undecided { kind = 2; error_code = refusal_c
 in_c used discard = record undecided { kind = 3 }
 in_c used not_a_request = record undecided { kind = 4 }
 
--- a decision is told; or an allocation failed, and nothing is decided
+-- a decision is reported; or an allocation failed, and nothing is decided
 abbrev pub TellsDecision : (used : Option (Option (List ℕ))) → Decision → CallResult → (new : Authenticated)
     → Type 0
 TellsDecision used decision result new =

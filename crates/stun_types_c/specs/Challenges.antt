@@ -1,4 +1,4 @@
--- What a client in C is told of a challenge (RFC 8489, section 9.2.5).
+-- What is reported to a client in C of a challenge (RFC 8489, section 9.2.5).
 use Rattle.std.specs.Prelude.{◌≡◌, ℕ, ◌+◌, Bool, List, [], length, slice_range, Option, None, Some, Result, MatchOption, MatchResult, if◌then◌else◌}
 use Rattle.std.specs.Option.{option_map_or}
 use Rattle.std.specs.Str.{is_utf8}
@@ -26,11 +26,11 @@ retry_answer Incomplete = plain INCOMPLETE
 retry_answer NoAlgorithm = plain NO_ALGORITHM
 retry_answer SameCredentials = plain SAME_CREDENTIALS
 
--- where the value of the first attribute of a type stands that d shows; 0 where it shows none
+-- the offset of the value of the first attribute of a type that d shows; 0 if it shows none
 abbrev pub value_at : ℕ → List ℕ → ℕ
 value_at type d = option_map_or (λ a. (attribute_in_c a).value_at) (nth d type 0) 0
 
--- what d asks for, in C's numbers, and where it stands in d
+-- what d asks for, in C's numbers, and where it is in d
 abbrev pub in_c : List ℕ → Asked → AskedInC
 in_c d asked = record {
   realm_at = value_at REALM d;
@@ -45,7 +45,7 @@ in_c d asked = record {
   reserved = 0;
 }
 
--- what is asked for stands in d where C is told that it does
+-- what is asked for is in d at the place that is reported to C
 pub record StandsWhereTold (d : List ℕ) (asked : Asked) (told : AskedInC) : Type 0 where
   pub realm : slice_range d told.realm_at (told.realm_at + told.realm_length) ≡ asked.realm
   pub nonce : slice_range d told.nonce_at (told.nonce_at + told.nonce_length) ≡ asked.nonce
@@ -65,7 +65,7 @@ tried_answer tried =
 abbrev pub seen_in : (was_seen : Bool) → Option (List ℕ)
 seen_in was_seen = if was_seen then Some [] else None
 
--- what d asks for is told, or why the request isn't sent again
+-- what d asks for is reported, or why the request isn't sent again
 abbrev pub TellsChallenge : List ℕ → Result Asked NoRetry → CallResult → (old new : AskedInC)
     → Type 0
 TellsChallenge d told result old new =
@@ -73,7 +73,7 @@ TellsChallenge d told result old new =
     (λ asked. (result ≡ plain OK) × (new ≡ in_c d asked))
     (λ reason. (result ≡ retry_answer reason) × (new ≡ old))
 
--- reading the challenge in d: why it is no message, or what a client is told that supports these
+-- reading the challenge in d: why it is no message, or the report to a client that supports these
 -- algorithms
 abbrev pub ReadsFor : List PasswordAlgorithmValue → (tried seen : Option (List ℕ)) → (d : List ℕ)
     → CallResult

@@ -29,12 +29,12 @@ channel_answer NotChannelData = plain NOT_STUN
 channel_answer (Truncated expected actual) = counted TRUNCATED expected actual
 channel_answer (TooLarge expected actual) = counted TOO_LARGE expected actual
 
--- where no channel and length begin the bytes: none can, or there are too few to tell
+-- why no channel and length begin the bytes: none can, or there are too few to decide
 abbrev pub Partly : ChannelDataError → CallResult → (old new : ℕ) → Type 0
 Partly NotChannelData result old new = (result ≡ plain NOT_STUN) × (new ≡ old)
 Partly _ result old new = (result ≡ plain OK) × (new ≡ 0)
 
--- how many bytes the message has on a stream that begins with these; 0 where there are too few, and
+-- how many bytes the message has on a stream that begins with these; 0 if there are too few, and
 -- it may begin so
 abbrev pub FramesChannel : List ℕ → CallResult → (old new : ℕ) → Type 0
 FramesChannel b result old new =
@@ -51,7 +51,7 @@ ReadsChannel b result old new =
     (λ e. (result ≡ channel_answer e) × (new ≡ old))
 
 -- a message: the number of its channel and the length of its data, in two bytes each, its data, and
--- where it is padded, as on a stream, zeros up to a multiple of 4
+-- if it is padded, as on a stream, zeros up to a multiple of 4
 abbrev pub channel_message : (padded : Bool) → (channel : ℕ) → (sent : List ℕ) → List ℕ
 channel_message padded channel sent =
     let message = be16 channel ++ (be16 (length sent) ++ sent) in
@@ -69,7 +69,7 @@ channel_refusal padded channel sent slice =
     if nat_lt (length slice) n then Some (counted TOO_SMALL n (length slice)) else None))
     else Some (counted OUT_OF_RANGE 0x4FFF channel)
 
--- a message is written at the start of a slice, or it is refused; what stands behind it stays
+-- a message is written at the start of a slice, or it is refused; what follows it stays
 abbrev pub WritesChannel : (padded : Bool) → (channel : ℕ) → (sent : List ℕ) → CallResult
     → Written → Written → Type 0
 WritesChannel padded channel sent result old new =

@@ -71,7 +71,7 @@ HoldsLongTerm number user realm password result old new =
     × IsSomeAnd new (IsKey None (long_term_key (integrity_of algorithm) user realm password)))
     (λ answer. Refuses answer result old new))
 
--- validating d under a password: why it is no message, or the verdict where the password is the key
+-- validating d under a password: why it is no message, or the verdict if the password is the key
 -- for both algorithms, or an allocation failed
 abbrev pub ValidatesShortTerm : (password d : List ℕ) → CallResult → Validated → Type 0
 ValidatesShortTerm password d result new =
@@ -91,7 +91,7 @@ ValidatesLongTerm user realm password d result new =
     (λ answer. Invalidates answer result new))
     (λ e. Invalidates (parse_result e) result new)
 
--- the hash of a user in a realm is told, or one of the two isn't UTF-8
+-- the hash of a user in a realm is reported, or one of the two isn't UTF-8
 abbrev pub TellsUserhash : (user realm : List ℕ) → CallResult → (old new : Hash) → Type 0
 TellsUserhash user realm result old new =
     MatchOption (texts_refusal (user ∷ realm ∷ []))

@@ -15,7 +15,7 @@ abbrev pub password_numbered : ℕ → Option PasswordAlgorithmValue
 password_numbered number =
     if names_password_algorithm number then Some (password_algorithm_named number) else None
 
--- the algorithms of these numbers; none where another number is among them, or there are more than
+-- the algorithms of these numbers; none if another number is among them, or there are more than
 -- sixteen
 abbrev pub password_algorithms_named : List ℕ → Option (List PasswordAlgorithmValue)
 password_algorithms_named numbers =

@@ -9,12 +9,12 @@ use Rattle.stun_types_c.specs.declared.reading.Header.{Header}
 use Rattle.stun_types_c.specs.Codes.{OK, NOT_STUN}
 use Rattle.stun_types_c.specs.CallResults.{plain}
 
--- how many bytes the message has that begins with these, or 0 where its header isn't whole
+-- how many bytes the message has that begins with these, or 0 if its header isn't whole
 abbrev pub whole_length : List ℕ → ℕ
 whole_length d = if nat_lt (length d) 20 then 0 else 20 + length_field d
 
--- what a prefix of a stream tells: how long the message is that begins so, or that none does, and
--- then nothing is told
+-- what a prefix of a stream says: how long the message is that begins so, or that none does, and
+-- then nothing is reported
 abbrev pub Frames : List ℕ → CallResult → (old new : ℕ) → Type 0
 Frames d result old new =
     (Begins d × (result ≡ plain OK) × (new ≡ whole_length d))

@@ -9,7 +9,7 @@ use Rattle.stun_types_c.specs.Codes.{OK, BAD_ARGUMENT}
 use Rattle.stun_types_c.specs.Addresses.{ip_named, IsAt}
 use Rattle.stun_types_c.specs.CallResults.{plain, write_result}
 
--- how many bytes are written, and 0 where no reply is owed
+-- how many bytes are written, and 0 if no reply is owed
 abbrev pub length_told : Option ℕ → ℕ
 length_told None = 0
 length_told (Some length) = length

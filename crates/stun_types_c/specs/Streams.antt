@@ -12,19 +12,19 @@ use Rattle.stun_types_c.specs.declared.streams.KeptStream.{KeptStream}
 use Rattle.stun_types_c.specs.Codes.{OK, NOT_STUN, TOO_LARGE, BAD_ARGUMENT, NOT_PADDED}
 use Rattle.stun_types_c.specs.CallResults.{plain, counted}
 
--- why no message begins where one had to, in a buffer of so many bytes
+-- why no message begins after the last one, in a buffer of so many bytes
 abbrev pub fault_result : (room : ℕ) → StreamFault → CallResult
 fault_result room NotStun = plain NOT_STUN
 fault_result room (NotPadded field) = counted NOT_PADDED 0 field
 fault_result room (TooLong stated) = counted TOO_LARGE room stated
 
--- the stream that goes on with what C keeps: an offset, and as many bytes at the start of its buffer
+-- the stream that resumes what C keeps: an offset, and as many bytes at the start of its buffer
 -- as are pending
 abbrev pub stream_kept : KeptStream → (buffer : List ℕ) → Stream
 stream_kept kept buffer =
     resumed (room_of Messages (length buffer)) kept.offset (take kept.pending buffer)
 
--- what C keeps of a stream, and how long the message is that the last piece made whole, or 0
+-- what C keeps of a stream, and how long the message is that the last piece completed, or 0
 abbrev pub kept_of : Stream → KeptStream
 kept_of stream = record {
   offset = stream.offset;
@@ -33,7 +33,7 @@ kept_of stream = record {
   reserved = 0;
 }
 
--- what a piece is answered by: OK, or why no message begins where one has to
+-- the answer to a piece: OK, or why no message begins after the last one
 abbrev pub piece_answer : (room : ℕ) → Option StreamError → CallResult
 piece_answer room None = plain OK
 piece_answer room (Some error) = fault_result room error.fault
@@ -44,7 +44,7 @@ taken_after before (Ok taken) = taken
 taken_after before (Err error) = before
 
 -- the bytes at the start of a piece that belong to the message that is coming are taken, or no
--- message begins so: C keeps the stream that the piece leaves, whose bytes stand in the buffer; or
+-- message begins so: C keeps the stream that the piece leaves, whose bytes are in the buffer; or
 -- what C keeps is no stream's, and all stays
 abbrev pub PushesPiece : (piece buffer filled : List ℕ) → CallResult → (old new : KeptStream)
     → (before after : ℕ) → Type 0

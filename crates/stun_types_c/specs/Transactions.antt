@@ -91,7 +91,7 @@ pub record IsAt (millis : ℕ) (moment : Duration) : Type 0 where
   pub fits : millis < 2 ^ 64
   pub nanos : as_nanos moment ≡ millis * 1_000_000
 
--- the whole milliseconds of a moment, or the greatest number of 64 bits where they are more
+-- the whole milliseconds of a moment, or the greatest number of 64 bits if they are more
 abbrev pub millis_of : Duration → ℕ
 millis_of moment = min (as_nanos moment / 1_000_000) (2 ^ 64 - 1)
 
@@ -147,7 +147,7 @@ pub record Keeps (kept : KeptTransaction) (parts : TransactionParts) : Type 0 wh
 abbrev pub KeepsNone : KeptTransaction → Type 0
 KeepsNone kept = (parts : TransactionParts) → ¬ Keeps kept parts
 
--- P where they keep none, and Q of the transaction that they keep
+-- P if they keep none, and Q of the transaction that they keep
 abbrev pub MatchKept : KeptTransaction → Type 0 → (TransactionParts → Type 0) → Type 0
 MatchKept kept P Q =
     (KeepsNone kept × P) ⊎ ((parts : TransactionParts) × Keeps kept parts × Q parts)
@@ -211,7 +211,7 @@ wanted_of Send = record nothing_wanted { kind = 1 }
 wanted_of (WaitUntil until) = record nothing_wanted { kind = 2; until = millis_of until }
 wanted_of (Ended end) = record nothing_wanted { kind = 3; end = end_number end }
 
--- what C keeps, and what it is told to do
+-- what C keeps, and what it has to do
 pub record Polled : Type 0 where
   pub kept : KeptTransaction
   pub wanted : Wanted
@@ -298,7 +298,7 @@ begun_in_c d waits transport protection now = record {
   reserved = 0;
 }
 
--- a transaction of the request d begins, or it is told why none does, and nothing changes
+-- a transaction of the request d begins, or it is reported why none does, and nothing changes
 abbrev pub BeginsKept : List ℕ → Waits → (transport protection now : ℕ) → Option IntegrityKey
     → CallResult → KeptTransaction → KeptTransaction → Type 0
 BeginsKept d waits transport protection now held result old new =
@@ -352,7 +352,7 @@ abbrev pub Ignores : CallResult → CallResult → ReceivedState → ReceivedSta
 Ignores answer result old new =
     (result ≡ answer) × (new ≡ record old { reported = nothing_received })
 
--- the key of a transaction: none where no credential protects its request, and else a copy of the one
+-- the key of a transaction: none if no credential protects its request, otherwise a copy of the one
 -- that a handle holds; or an allocation failed
 abbrev pub CopiesHeld : (protected : Bool) → Option IntegrityKey
     → Result (Option IntegrityKey) CallResult → Type 0

@@ -12,7 +12,7 @@ value_of attribute d =
     if nat_lt (length d) (attribute.value_at + attribute.length) then None
     else Some (slice_range d attribute.value_at (attribute.value_at + attribute.length))
 
--- what is told of an error: its code, and where its reason stands
+-- what is reported of an error: its code, and where its reason is
 pub record ErrorOut : Type 0 where
   pub code : ℕ
   pub reason_at : ℕ

@@ -40,7 +40,7 @@ begin_answer type slice =
     if nat_lt (length slice) 20 then Some (counted TOO_SMALL 20 (length slice)) else None)
     else Some (plain BAD_ARGUMENT)
 
--- a message begins: its header, with no attributes, and what the slice held behind it
+-- a message begins: its header, with no attributes, and what the slice held after it
 abbrev pub Begins : ℕ → Id → CallResult → Written → Written → Type 0
 Begins type id result old new =
     MatchOption (begin_answer type old.slice)
@@ -50,8 +50,8 @@ Begins type id result old new =
     }))
     (λ answer. Refuses answer result old new)
 
--- an attribute of a type and a value is appended to the message, or it is refused; what stands
--- behind the message stays
+-- an attribute of a type and a value is appended to the message, or it is refused; what comes
+-- after the message stays
 abbrev pub Appends : Option StunWriteError → ℕ → List ℕ → CallResult → Written → Written → Type 0
 Appends refusal type value result old new =
     MatchOption refusal
@@ -62,7 +62,7 @@ Appends refusal type value result old new =
     }))
     (λ e. Refuses (write_result e) result old new)
 
--- the same where what is written is tested first, and then the value, whatever the message
+-- the same if what is written is tested first, and then the value, whatever the message
 abbrev pub AppendsUnless : Option CallResult → (List ℕ → Option StunWriteError) → ℕ
     → (List ℕ → List ℕ) → CallResult → Written → Written → Type 0
 AppendsUnless fault refusal type value result old new =

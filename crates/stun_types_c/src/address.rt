@@ -64,7 +64,7 @@ fn ipv6_of(octets: &[u8; 16]) -> IpAddr
     IpAddr::V6(Ipv6Addr::from_octets(*octets))
 }
 
-/// The address that C's form names; `None` where the family is neither 4 nor 6.
+/// The address that C's form names; `None` if the family is neither 4 nor 6.
 pub(crate) fn socket_of(address: &Address) -> Option<SocketAddr>
     ensures { Names address.now result }
 {

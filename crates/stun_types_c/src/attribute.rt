@@ -93,7 +93,7 @@ fn nth_shown(bytes: &[u8], index: usize) -> Option<ShownAttribute>
     nth_from(bytes, at, index)
 }
 
-/// The next attribute that a message shows; false where there are no more, and from then on.
+/// The next attribute that a message shows; false if there are no more, and from then on.
 #[unsafe(no_mangle)]
 pub extern "C" fn stun_types_next(
     bytes: &[u8],
@@ -151,7 +151,7 @@ pub(crate) fn first_shown(bytes: &[u8], atype: u16) -> Option<ShownAttribute>
     find_from(bytes, at, atype)
 }
 
-/// The first attribute of a type that a message shows; false where there is none.
+/// The first attribute of a type that a message shows; false if there is none.
 #[unsafe(no_mangle)]
 pub extern "C" fn stun_types_find(bytes: &[u8], atype: u16, attribute: &mut ShownAttribute) -> bool
     ensures { Tells (nth bytes.now atype 0) result attribute.old attribute.new }

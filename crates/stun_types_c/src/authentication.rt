@@ -47,9 +47,9 @@ pub struct CountedIntegrity {
 pub struct Authenticated {
     /// 0: nothing is decided; 1: accepted; 2: refused; 3: discarded; 4: not authenticated.
     pub kind: u32,
-    /// The code of the error response, where it is refused.
+    /// The code of the error response, if it is refused.
     pub error_code: u32,
-    /// The algorithm whose HMAC was right, where it is accepted.
+    /// The algorithm whose HMAC was right, if it is accepted.
     pub algorithm: u32,
     /// The algorithm that the reply is signed by.
     pub reply_algorithm: u32,
@@ -76,7 +76,7 @@ struct OneUser<'a> {
     sha256: Option<&'a IntegrityKey>,
 }
 
-/// A copy of a key, where there is one.
+/// A copy of a key, if there is one.
 fn copy_of(alloc: Global, key: Option<&IntegrityKey>) -> Result<Option<IntegrityKey>, AllocError>
     ensures { IfOk result (IsKeyOf (borrowed_bytes key.entry)) }
 {

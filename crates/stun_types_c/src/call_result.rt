@@ -15,7 +15,7 @@ pub struct CallResult {
     pub code: u32,
     /// The type of the attribute that the code is about, or 0.
     pub atype: u32,
-    /// How many bytes are needed or allowed, where the code says so; or 0.
+    /// How many bytes are needed or allowed, if the code says so; or 0.
     pub expected: u64,
     /// How many there are; or 0.
     pub actual: u64,

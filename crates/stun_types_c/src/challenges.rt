@@ -20,21 +20,21 @@ use stun_types::message::Message;
 #[repr(C)]
 #[derive(Clone, Copy, Drop)]
 pub struct Asked {
-    /// Where the realm stands in the response.
+    /// The offset of the realm in the response.
     pub realm_at: usize,
     /// How many bytes it has.
     pub realm_length: usize,
-    /// Where the nonce stands.
+    /// The offset of the nonce.
     pub nonce_at: usize,
     /// How many bytes it has.
     pub nonce_length: usize,
-    /// Where the value of PASSWORD-ALGORITHMS stands, or 0.
+    /// The offset of the value of PASSWORD-ALGORITHMS, or 0.
     pub algorithms_at: usize,
     /// How many bytes it has.
     pub algorithms_length: usize,
     /// The number of the password algorithm of the key.
     pub password_algorithm: u32,
-    /// 1 where the request names its user by USERHASH.
+    /// 1 if the request names its user by USERHASH.
     pub anonymous: u32,
     /// The number of the algorithm by which the request is signed.
     pub integrity_algorithm: u32,
@@ -55,7 +55,7 @@ pub(crate) fn no_retry(reason: NoRetry) -> CallResult
     }
 }
 
-/// Where the value of the first attribute of a type stands; 0 where there is none.
+/// The offset of the value of the first attribute of a type; 0 if there is none.
 fn value_at(response: &[u8], atype: u16) -> usize
     ensures { result ≡ value_at atype response.now }
 {

@@ -10,7 +10,7 @@ use turn_attrs::{
     Channel, ChannelData, ChannelDataError, Protocol, channel_data_length, protocol_of,
 };
 
-/// A ChannelData message, as it stands in its bytes.
+/// A ChannelData message, as in its bytes.
 #[repr(C)]
 #[derive(Clone, Copy, Drop)]
 pub struct ChannelMessage {
@@ -53,8 +53,8 @@ fn channel_answer(error: ChannelDataError) -> CallResult
     }
 }
 
-/// How many bytes the ChannelData message has that begins here on a stream; 0 where more bytes are
-/// needed to tell.
+/// How many bytes the ChannelData message has that begins here on a stream; 0 if more bytes are
+/// needed to decide.
 #[unsafe(no_mangle)]
 pub extern "C" fn stun_types_channel_data_length(bytes: &[u8], whole: &mut usize) -> CallResult
     ensures { FramesChannel bytes.now result whole.old whole.new }
@@ -93,7 +93,7 @@ pub extern "C" fn stun_types_read_channel_data(
     }
 }
 
-/// Writes a ChannelData message at the start of a slice, padded to a multiple of 4 where that is
+/// Writes a ChannelData message at the start of a slice, padded to a multiple of 4 if that is
 /// asked for.
 #[unsafe(no_mangle)]
 pub extern "C" fn stun_types_write_channel_data(

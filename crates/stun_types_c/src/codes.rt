@@ -20,13 +20,13 @@ pub const INTEGRITY_FAILED: u32 = 7;
 pub const OUT_OF_MEMORY: u32 = 8;
 /// The caller's slice hasn't room.
 pub const TOO_SMALL: u32 = 9;
-/// An attribute that is written bars the addition.
+/// An attribute that is written blocks the addition.
 pub const EXISTS: u32 = 10;
 /// Attributes of this type have an add of their own.
 pub const ENDING_TYPE: u32 = 11;
 /// A number is none of those allowed.
 pub const OUT_OF_RANGE: u32 = 12;
-/// What was handed in is not what the call takes.
+/// What was passed is not what the call takes.
 pub const BAD_ARGUMENT: u32 = 13;
 /// The key holds none.
 pub const NO_KEY: u32 = 14;

@@ -1,4 +1,4 @@
-//! Where a key lies on the heap, in a form that C can store.
+//! The place of a key on the heap, in a form that C can store.
 ghost use Rattle.std.specs.Prelude.{◌≡◌, ◌≢◌, Option, Some, None};
 ghost use Rattle.stun_keys.specs.declared.keys.integrity_key.IntegrityKey.{IntegrityKey};
 
@@ -11,7 +11,7 @@ use stun_types::message::keys::IntegrityKey;
 /// The address of a key, or no key. It owns the key: `value` is `None`, and it owns nothing, or it
 /// is the key at `at`, which nothing else owns or frees.
 ///
-/// A C function can't be handed a type that leads to a key, since a key may be written where it is
+/// A C function can't take a type that leads to a key, since a key may be written where it is
 /// shared. So the address is that of a byte. A `Global` takes no bytes: the struct is one pointer.
 ///
 /// It isn't `Drop`: whoever has one says whether a key is there, and takes the key out or ends the
@@ -52,7 +52,7 @@ impl KeyPlace {
         }
     }
 
-    /// The key that lies here, as the parts of its box.
+    /// The key that is here, as the parts of its box.
     pub(crate) fn into_parts(self) -> BoxParts<IntegrityKey, Global>
         requires { self.value ≢ None }
         ensures { Some result.value ≡ self.value }

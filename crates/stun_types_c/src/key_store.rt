@@ -13,7 +13,7 @@ use stun_types::message::keys::IntegrityKey;
 ///
 /// # Errors
 ///
-/// `AllocError` where there is no memory. The handle is as it was, and the new key is dropped.
+/// `AllocError` if there is no memory. The handle is as it was, and the new key is dropped.
 pub fn hold(handle: &mut KeyHandle, alloc: Global, key: IntegrityKey) -> Result<(), AllocError>
     ensures holds { IfOk result (λ _. held_key handle.new ≡ Some key) }
     ensures unchanged { IfErr result (λ _. handle.new ≡ handle.old) }
@@ -34,7 +34,7 @@ pub fn release(handle: &mut KeyHandle, alloc: Global)
     *handle = KeyHandle::none(alloc);
 }
 
-/// A law: a handle may go to another thread, where a lock or a join orders what the two do with it.
+/// A law: a handle may go to another thread, if a lock or a join orders what the two do with it.
 pub fn handle_may_go_to_another_thread()
     ensures { IsSend the_row }
 {}

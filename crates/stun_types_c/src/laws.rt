@@ -1,4 +1,4 @@
-//! Laws of what C is told. Each function does nothing: its contract is the law.
+//! Laws of what is reported to C. Each function does nothing: its contract is the law.
 
 ghost use Rattle.std.specs.Prelude.{◌≡◌, ℕ, List, Option, Some, Ok, IfSome};
 ghost use Rattle.stun_values.specs.declared.algorithm.PasswordAlgorithmValue.{PasswordAlgorithmValue};
@@ -8,7 +8,7 @@ ghost use Rattle.stun_types_c.specs.Attributes.{in_c};
 ghost use Rattle.stun_types_c.specs.Challenges.{in_c as asked_in_c, StandsWhereTold};
 ghost use Rattle.stun_types_c.specs.Values.{value_of};
 
-/// The value of an attribute that is found stands where C is told that it does.
+/// The value of an attribute that is found is at the place that is reported to C.
 pub fn found_value_stands_where_it_is_told(bytes: &[u8])
     ensures { (type : ℕ) → IfSome (nth bytes.now type 0)
         (λ a. value_of (in_c a) bytes.now ≡ Some a.value) }

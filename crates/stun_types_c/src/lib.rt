@@ -1,5 +1,5 @@
 //! STUN for C: the functions of `c/stun_types.h`, over the public items of `stun_types` and of the
-//! crates beside it. Each is thin: it tests what C hands in, and calls the library. None has a
+//! crates beside it. Each is thin: it tests what C passes, and calls the library. None has a
 //! `requires`, since nothing checks that C meets one.
 #![tactic(auto)]
 

@@ -37,7 +37,7 @@ pub(crate) fn password_of(number: u32) -> Option<PasswordAlgorithmValue>
     }
 }
 
-/// The algorithms of these numbers; `None` where one has another number, or there are more than
+/// The algorithms of these numbers; `None` if one has another number, or there are more than
 /// sixteen.
 pub(crate) fn algorithms_of(numbers: &[u16]) -> Option<FewAlgorithms>
     ensures { password_algorithms_named numbers.now

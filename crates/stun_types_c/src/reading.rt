@@ -38,7 +38,7 @@ pub struct Header {
     pub id: Id,
 }
 
-/// How many bytes the message has that begins here; 0 where more bytes are needed to tell.
+/// How many bytes the message has that begins here; 0 if more bytes are needed.
 #[unsafe(no_mangle)]
 pub extern "C" fn stun_types_framed_length(bytes: &[u8], whole: &mut usize) -> CallResult
     ensures { Frames bytes.now result whole.old whole.new }

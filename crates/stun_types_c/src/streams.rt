@@ -15,13 +15,13 @@ pub struct KeptStream {
     pub offset: u64,
     /// How many bytes at the start of the buffer belong to a message that isn't whole.
     pub pending: usize,
-    /// How many bytes the message there has that the last call made whole, or 0.
+    /// How many bytes the message there has that the last call completed, or 0.
     pub message: usize,
     /// 0.
     pub reserved: u64,
 }
 
-/// Why no message begins where one had to.
+/// Why no message begins after the last one.
 fn fault_result(fault: StreamFault, size: usize) -> CallResult
     ensures { result ≡ fault_result size fault }
 {

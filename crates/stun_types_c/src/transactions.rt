@@ -48,7 +48,7 @@ pub struct Waits {
     /// How many bytes a MESSAGE-INTEGRITY-SHA256 of a response has at least: 16, 20, 24, 28 or 32, and
     /// 0 for 32 (RFC 8489, section 14.6).
     pub shortest: u32,
-    /// Whether the usage sends FINGERPRINT (RFC 8489, section 7): 0 where it doesn't.
+    /// Whether the usage sends FINGERPRINT (RFC 8489, section 7): 0 if it doesn't.
     pub fingerprint: u32,
     /// 0.
     pub reserved: u64,
@@ -77,11 +77,11 @@ pub struct KeptTransaction {
     pub protection: u8,
     /// 1 for a MESSAGE-INTEGRITY that the request shows, and 2 more for a MESSAGE-INTEGRITY-SHA256.
     pub signed_by: u8,
-    /// 1 where a response was discarded that wasn't authentic.
+    /// 1 if a response was discarded that wasn't authentic.
     pub violated: u8,
     /// How it ended, 1 to 6, or 0.
     pub end: u8,
-    /// 1 where the caller has stopped sending.
+    /// 1 if the caller has stopped sending.
     pub stopped: u8,
     /// 0.
     pub reserved: u64,
@@ -223,14 +223,14 @@ pub(crate) fn moment_of(millis: u64) -> Duration
     Duration::from_millis(millis)
 }
 
-/// Milliseconds of a moment; `u64::MAX` where they are more.
+/// Milliseconds of a moment; `u64::MAX` if they are more.
 pub(crate) fn millis(moment: Duration) -> u64
     ensures { result ≡ millis_of moment }
 {
     u64::try_from(moment.as_millis()).unwrap_or(u64::MAX)
 }
 
-/// The parts that C's numbers mean; `None` where one of them means nothing.
+/// The parts that C's numbers mean; `None` if one of them means nothing.
 fn meant_parts(kept: &KeptTransaction) -> Option<TransactionParts>
     ensures { MatchOption result ((parts : TransactionParts) → ¬ TellsParts kept.now parts)
         (TellsParts kept.now) }
@@ -262,7 +262,7 @@ fn meant_parts(kept: &KeptTransaction) -> Option<TransactionParts>
     })
 }
 
-/// The transaction that C keeps; `None` where its numbers are those of none.
+/// The transaction that C keeps; `None` if its numbers are those of none.
 #[tactic(auto, using(crate::proofs::KeptLemmas::unsound))]
 pub(crate) fn parts_of(kept: &KeptTransaction) -> Option<TransactionParts>
     ensures { MatchOption result (KeepsNone kept.now) (Keeps kept.now) }

@@ -34,7 +34,7 @@ impl FewTypes {
     }
 }
 
-/// The types of C's numbers; `None` where there are more than 64.
+/// The types of C's numbers; `None` if there are more than 64.
 pub(crate) fn types_of(numbers: &[u16]) -> Option<FewTypes>
     ensures { MatchOption result (64 < length numbers.now)
         (λ few. (length numbers.now ≤ 64) × (take few.count few.all ≡ types_numbered numbers.now)) }
@@ -90,7 +90,7 @@ fn is_unknown(supported: &[u16], atype: AttributeType) -> bool
     atype.0 < 0x8000 && !supported.contains(&atype.0)
 }
 
-/// Puts the number of a type behind as many others, where there is room for it.
+/// Puts the number of a type after as many others, if there is room for it.
 fn put_behind(count: usize, atype: AttributeType, types: &mut [u16])
     ensures { types.new ≡ slice_set types.old count atype.0 }
 {

@@ -1,4 +1,4 @@
-//! Values of attributes: where they are, texts, and errors.
+//! Values of attributes: their places, texts, and errors.
 
 ghost use Rattle.std.specs.Prelude.{◌≡◌, true, false, MatchOption};
 ghost use Rattle.std.specs.Str.{is_utf8};
@@ -10,7 +10,7 @@ use crate::call_result::{CallResult, parse_result, plain};
 use crate::codes;
 use stun_values::read_error;
 
-/// The value of an attribute; `None` where it isn't within the bytes.
+/// The value of an attribute; `None` if it isn't within the bytes.
 pub(crate) fn value_in<'a>(bytes: &'a [u8], attribute: &ShownAttribute) -> Option<&'a [u8]>
     ensures { value_of attribute.now bytes.now ≡ option_map (λ value. value.now) result }
 {
@@ -21,7 +21,7 @@ pub(crate) fn value_in<'a>(bytes: &'a [u8], attribute: &ShownAttribute) -> Optio
     Some(&bytes[attribute.value_at..attribute.value_at + length])
 }
 
-/// The text that C's bytes are; `None` where they aren't UTF-8.
+/// The text that C's bytes are; `None` if they aren't UTF-8.
 #[tactic(auto, using(crate::proofs::CredentialsLemmas::is_text, crate::proofs::CredentialsLemmas::is_no_text))]
 pub(crate) fn text_in(bytes: &[u8]) -> Option<&str>
     ensures { MatchOption result (is_utf8 bytes.now ≡ false)
@@ -30,7 +30,7 @@ pub(crate) fn text_in(bytes: &[u8]) -> Option<&str>
     str::from_utf8(bytes).ok()
 }
 
-/// Reads the code in an ERROR-CODE, and where its reason stands in the message.
+/// Reads the code in an ERROR-CODE, and where its reason is in the message.
 #[unsafe(no_mangle)]
 pub extern "C" fn stun_types_read_error(
     bytes: &[u8],

@@ -1,4 +1,4 @@
--- `of` takes a box apart: the address and the allocator that the standard library hands out become
+-- `of` takes a box apart: the address and the allocator that the standard library returns become
 -- the struct's fields.
 use Rattle.std.proofs.Common.{◌≡◌, List, [], ◌∷◌, refl, ap, ◌∙◌}
 use mir.Syntax.{Args, Fn, a_type, dcons, dnil}

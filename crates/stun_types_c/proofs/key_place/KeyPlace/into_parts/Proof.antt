@@ -1,4 +1,4 @@
--- `into_parts` hands out what the place owns, which is a key, as the parts of a box.
+-- `into_parts` returns what the place owns, which is a key, as the parts of a box.
 use Rattle.std.proofs.Common.{◌≡◌, ◌≢◌, List, [], ◌∷◌, refl, sym, ap, ◌∙◌}
 use mir.Raw.{raw as bare}
 use mir.Val.{Val, vptr}

@@ -55,7 +55,7 @@ Words = Struct (shape place.the_type)
 abbrev cell_type : Ty
 cell_type = ty_struct place.the_type.name (tcons ty_ptr tnil)
 
--- the code behind its block
+-- the code after its block
 abbrev rest : Body
 rest = seq (assign (place_at 0 []) (rv_opd (copy (place_at 2 [])))) return
 
