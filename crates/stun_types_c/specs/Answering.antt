@@ -40,7 +40,7 @@ HoldsAsked asked user password result old new =
     WithTexts user asked.realm password
     ((result ≡ plain OK)
     × IsSomeAnd new (IsKey None (user_key asked (record { name = user; password = password }))))
-    result old new
+    (λ answer. Refuses answer result old new)
 
 -- the same by what C hands in
 abbrev pub HoldsFor : (numbers d user password : List ℕ) → CallResult
