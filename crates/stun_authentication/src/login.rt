@@ -37,10 +37,11 @@ pub fn key_for(
     ensures err { IfErr result (λ e. e ≡ StunWriteError.OutOfMemory) }
 {
     let name = String::from_str(alloc, name).map_err(|_| StunWriteError::OutOfMemory)?;
-    let password = String::from_str(alloc, password).map_err(|_| StunWriteError::OutOfMemory)?;
     let realm = String::from_str(alloc, challenge.realm()).map_err(
         |_| StunWriteError::OutOfMemory,
     )?;
+    // (last: from here on its copies overwrite themselves)
+    let password = String::from_str(alloc, password).map_err(|_| StunWriteError::OutOfMemory)?;
     let credentials = LongTermKeyCredentials::new(name, password, realm);
     let algorithm = challenge.password_algorithm().as_integrity();
     let key = credentials.make_key(alloc, algorithm)?;
