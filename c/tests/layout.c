@@ -44,7 +44,7 @@ static const place places[] = {
 
     SIZE(authentication, 24), AT(authentication, kind, 0), AT(authentication, error_code, 4),
     AT(authentication, algorithm, 8), AT(authentication, reply_algorithm, 12),
-    AT(authentication, reserved, 16),
+    AT(authentication, password_algorithm, 16), AT(authentication, reserved, 20),
 
     SIZE(schedule, 40), AT(schedule, rto, 0), AT(schedule, reliable_wait, 8),
     AT(schedule, requests, 16), AT(schedule, last_wait, 20), AT(schedule, shortest, 24),
