@@ -204,13 +204,17 @@ static void check_outside(const uint8_t *bytes, size_t length, source *from) {
 static void check_walk(const uint8_t *bytes, size_t length, const model_list *shown) {
     static uint16_t types[MODEL_ATTRIBUTES];
     static const uint16_t supported[] = {0x0006, 0x0008, 0x001C, 0x0020};
+    static stun_types_attribute listed[MODEL_ATTRIBUTES];
     stun_types_cursor cursor = STUN_TYPES_CURSOR;
     stun_types_attribute told;
     size_t i, j, unknown = 0;
+    HOLDS(stun_types_attributes(bytes, length, listed, MODEL_ATTRIBUTES) == shown->count);
     for (i = 0; i < shown->count; i++) {
         HOLDS(stun_types_next(bytes, length, &cursor, &told));
         HOLDS(told.value_at == shown->all[i].value_at && told.type == shown->all[i].type
               && told.length == shown->all[i].length);
+        HOLDS(listed[i].value_at == told.value_at && listed[i].type == told.type
+              && listed[i].length == told.length);
     }
     HOLDS(!stun_types_next(bytes, length, &cursor, &told));
     HOLDS(!stun_types_next(bytes, length, &cursor, &told));

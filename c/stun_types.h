@@ -324,10 +324,18 @@ stun_types_cursor stun_types_cursor_first(void);
    sections 14.5 to 14.7). False where there are no more, and from then on: cursor and attribute stay
    as they were. The bytes need not parse: they show nothing where they have no header or another
    length than it states. The cursor may be any: it yields the attribute of its index, and none if
-   `reserved` isn't 0. Each call goes over the attributes before the one that it yields. */
+   `reserved` isn't 0. Each call goes over the attributes before the one that it yields, so a walk over
+   16,383 empty attributes, as many as a message can have, reads 134 million headers: of messages that
+   may be long use stun_types_attributes. */
 STUN_TYPES_NODISCARD STUN_TYPES_NONNULL((3, 4))
 bool stun_types_next(const uint8_t *bytes, size_t length, stun_types_cursor *cursor,
                      stun_types_attribute *attribute);
+
+/* All attributes that the message shows, in the order of stun_types_next, in one pass. Returns how many
+   there are, even if that is more than room; the first room of them are written. */
+STUN_TYPES_NODISCARD
+size_t stun_types_attributes(const uint8_t *bytes, size_t length, stun_types_attribute *attributes,
+                             size_t room);
 
 /* The first attribute of a type that the message shows; false where there is none, and *attribute
    stays as it was. */

@@ -66,12 +66,13 @@ static void print_attribute(const uint8_t *message, const stun_types_attribute *
     putchar('\n');
 }
 
+/* No message has more attributes: 65,532 bytes follow a header, and each has four at least. */
+enum { MOST_ATTRIBUTES = 65532 / 4 };
+
 static void print_attributes(const uint8_t *message, size_t length) {
-    stun_types_cursor cursor = STUN_TYPES_CURSOR;
-    stun_types_attribute attribute;
-    while (stun_types_next(message, length, &cursor, &attribute)) {
-        print_attribute(message, &attribute);
-    }
+    static stun_types_attribute attributes[MOST_ATTRIBUTES];
+    size_t count = stun_types_attributes(message, length, attributes, MOST_ATTRIBUTES), i;
+    for (i = 0; i < count; i++) print_attribute(message, &attributes[i]);
 }
 
 static void print_refusal(stun_types_answer answer) {

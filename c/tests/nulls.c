@@ -27,6 +27,8 @@ static void test_read(void) {
     ANSWERS(stun_types_parse(NULL, 0), NOTHING);
     ANSWERS(stun_types_read_header(NULL, 0, NEW(stun_types_header)), NOTHING);
     CHECK(!stun_types_next(NULL, 0, cursor, attribute));
+    CHECK(stun_types_attributes(NULL, 0, NULL, 0) == 0);
+    CHECK(stun_types_attributes(bytes.bytes, bytes.length, NULL, 0) == 1);
     CHECK(!stun_types_find(NULL, 0, 1, attribute));
     ANSWERS(stun_types_read_address(NULL, 0, attribute, NEW(stun_types_address)),
             LENGTHS(STUN_TYPES_TRUNCATED, 4, 0));

@@ -1,10 +1,32 @@
 /* The attributes that octets show, and look-ups of them. */
 #include "call.h"
 
+/* All attributes at once are those of the walk, up to the room, and nothing follows them. */
+static void check_listed(slice octets) {
+    stun_types_attribute attribute, *listed;
+    size_t count = stun_types_attributes(octets.bytes, octets.length, NULL, 0), i, j;
+    size_t rooms[3];
+    rooms[0] = count / 2;
+    rooms[1] = count;
+    rooms[2] = count + 1;
+    for (j = 0; j < 3; j++) {
+        stun_types_cursor cursor = STUN_TYPES_CURSOR;
+        listed = (stun_types_attribute *)(void *)room(rooms[j] * sizeof *listed);
+        CHECK(stun_types_attributes(octets.bytes, octets.length, listed, rooms[j]) == count);
+        for (i = 0; i < rooms[j] && i < count; i++) {
+            CHECK(stun_types_next(octets.bytes, octets.length, &cursor, &attribute));
+            CHECK(listed[i].value_at == attribute.value_at && listed[i].type == attribute.type
+                  && listed[i].length == attribute.length);
+        }
+        if (rooms[j] > count) CHECK(is_untouched(&listed[count], sizeof *listed));
+    }
+}
+
 /* Answers with each attribute that is shown. */
 static void answer_shown(slice octets, bool with_values) {
     stun_types_cursor cursor = STUN_TYPES_CURSOR, before;
     stun_types_attribute attribute;
+    if (octets.length < 4096) check_listed(octets);
     while (stun_types_next(octets.bytes, octets.length, &cursor, &attribute)) {
         answer_space();
         answer_text("%zu:%04x", attribute.value_at - 4, (unsigned)attribute.type);
@@ -24,13 +46,11 @@ static void list(void) { answer_shown(call_octets(), false); }
 
 static void count(void) {
     slice octets = call_octets();
-    stun_types_cursor cursor = STUN_TYPES_CURSOR;
-    stun_types_attribute attribute;
-    size_t found = 0, last = 0;
-    while (stun_types_next(octets.bytes, octets.length, &cursor, &attribute)) {
-        found++;
-        last = attribute.value_at - 4;
-    }
+    size_t found = stun_types_attributes(octets.bytes, octets.length, NULL, 0);
+    stun_types_attribute *listed = (stun_types_attribute *)(void *)room(found * sizeof *listed);
+    size_t last = 0;
+    if (stun_types_attributes(octets.bytes, octets.length, listed, found) == found && found > 0)
+        last = listed[found - 1].value_at - 4;
     answer_text("%zu %zu", found, last);
 }
 

@@ -1,5 +1,5 @@
 -- Attributes that a message shows, as C sees them (RFC 8489, section 14).
-use Rattle.std.specs.Prelude.{◌≡◌, ℕ, ◌+◌, Bool, true, false, List, [], ◌∷◌, length, drop, Option, ◌==◌, if◌then◌else◌, MatchOption, filter, slice_get}
+use Rattle.std.specs.Prelude.{◌≡◌, ℕ, ◌+◌, Bool, true, false, List, [], ◌∷◌, ◌++◌, length, map, take, drop, Option, ◌==◌, if◌then◌else◌, MatchOption, filter, slice_get}
 use Rattle.stun_grammar.specs.Chains.{Shown}
 use Rattle.stun_grammar.specs.Showing.{shown}
 use Rattle.stun_types_c.specs.declared.attribute.ShownAttribute.{ShownAttribute}
@@ -26,6 +26,15 @@ Steps result before after yielded =
       | false ↦ before ≡ []
       | true ↦ (a : Shown) × (before ≡ a ∷ after) × (yielded ≡ in_c a)
     ]
+
+-- attributes in C's form, laid over the first of C's, as many as there is room for
+abbrev pub laid_over : List ShownAttribute → List ShownAttribute → List ShownAttribute
+laid_over found places = take (length places) found ++ drop (length found) places
+
+-- all attributes of a list are counted, and laid over C's
+pub record Lists (all : List Shown) (count : ℕ) (old new : List ShownAttribute) : Type 0 where
+  pub counted : count ≡ length all
+  pub listed : new ≡ laid_over (map in_c all) old
 
 -- an attribute is found, in C's form, or there is none and C's stays
 abbrev pub Tells : Option Shown → Bool → ShownAttribute → ShownAttribute → Type 0

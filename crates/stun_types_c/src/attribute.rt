@@ -1,11 +1,11 @@
 //! Attributes, a walk over them, and a look-up.
 
-ghost use Rattle.std.specs.Prelude.{◌≡◌, ◌≤◌, ◌<◌, [], false, length, Some, None, IfSome, MatchOption, slice_get};
+ghost use Rattle.std.specs.Prelude.{◌≡◌, ◌≤◌, ◌<◌, [], false, length, Some, None, IfSome, MatchOption, slice_get, slice_set};
 ghost use Rattle.std.specs.Option.{option_map};
 ghost use Rattle.stun_grammar.specs.Showing.{shown};
 ghost use Rattle.stun_read.specs.Iterating.{shown_behind};
 ghost use Rattle.stun_read.specs.LookingUp.{nth};
-ghost use Rattle.stun_types_c.specs.Attributes.{in_c, first_of_type, left, Steps, Tells};
+ghost use Rattle.stun_types_c.specs.Attributes.{in_c, first_of_type, left, Steps, Lists, Tells};
 
 use stun_base::MessageHeader;
 use stun_read::{check_frame, shown_at};
@@ -115,6 +115,53 @@ pub extern "C" fn stun_types_next(
             true
         }
         None => false,
+    }
+}
+
+/// Puts an attribute after as many others, if there is room for it.
+fn put_after(count: usize, found: ShownAttribute, attributes: &mut [ShownAttribute])
+    ensures { attributes.new ≡ slice_set attributes.old count found }
+{
+    if count < attributes.len() {
+        attributes[count] = found;
+    }
+}
+
+/// Lists the attributes that are left, as many as there is room for, and returns how many they are.
+fn list_from(bytes: &[u8], from: Place, attributes: &mut [ShownAttribute]) -> usize
+    requires { from.offset ≤ length bytes.now }
+    ensures { Lists (shown_behind from.last from.offset bytes.now) result attributes.old
+        attributes.new }
+{
+    let mut at = from;
+    let mut count = 0;
+    while let Some((raw, behind)) = shown_at(bytes, at.offset, at.last) {
+        let header = raw.header();
+        let last = header.get_type().value();
+        let found = ShownAttribute {
+            value_at: at.offset + 4,
+            atype: last,
+            length: header.length(),
+        };
+        put_after(count, found, attributes);
+        count += 1;
+        at = Place {
+            offset: behind,
+            last,
+        };
+    }
+    count
+}
+
+/// Lists the attributes that a message shows, as many as there is room for, and returns how many
+/// they are.
+#[unsafe(no_mangle)]
+pub extern "C" fn stun_types_attributes(bytes: &[u8], attributes: &mut [ShownAttribute]) -> usize
+    ensures { Lists (shown bytes.now) result attributes.old attributes.new }
+{
+    match start(bytes) {
+        Some(at) => list_from(bytes, at, attributes),
+        None => 0,
     }
 }
 

@@ -42,68 +42,104 @@ mod values;
 mod versions;
 mod writing;
 
-pub use address::{Address, stun_types_read_address, stun_types_read_xor_address};
-pub use answering::{stun_types_answer_challenge, stun_types_key_for};
-pub use attribute::{Cursor, ShownAttribute, stun_types_find, stun_types_next};
-pub use authentication::{
-    Authenticated, CountedIntegrity, stun_types_authenticate_long_term,
-    stun_types_authenticate_short_term,
-};
+pub use address::Address;
+pub use address::stun_types_read_address;
+pub use address::stun_types_read_xor_address;
+pub use answering::stun_types_answer_challenge;
+pub use answering::stun_types_key_for;
+pub use attribute::Cursor;
+pub use attribute::ShownAttribute;
+pub use attribute::stun_types_attributes;
+pub use attribute::stun_types_find;
+pub use attribute::stun_types_next;
+pub use authentication::Authenticated;
+pub use authentication::CountedIntegrity;
+pub use authentication::stun_types_authenticate_long_term;
+pub use authentication::stun_types_authenticate_short_term;
 pub use call_result::CallResult;
-pub use challenges::{Asked, stun_types_challenge_of};
-pub use channels::{
-    ChannelMessage, stun_types_channel_data_length, stun_types_protocol_of,
-    stun_types_read_channel_data, stun_types_write_channel_data,
-};
+pub use challenges::Asked;
+pub use challenges::stun_types_challenge_of;
+pub use channels::ChannelMessage;
+pub use channels::stun_types_channel_data_length;
+pub use channels::stun_types_protocol_of;
+pub use channels::stun_types_read_channel_data;
+pub use channels::stun_types_write_channel_data;
 pub use code_texts::stun_types_text;
 pub use finishing::stun_types_finish_reply;
 pub use key_handle::KeyHandle;
-pub use key_store::{handle_may_be_shared, handle_may_go_to_another_thread};
-pub use keys::{
-    Hash, stun_types_key_bytes, stun_types_key_copy, stun_types_key_from_bytes,
-    stun_types_key_long_term, stun_types_key_short_term, stun_types_keys_free, stun_types_userhash,
-};
+pub use key_store::handle_may_be_shared;
+pub use key_store::handle_may_go_to_another_thread;
+pub use keys::Hash;
+pub use keys::stun_types_key_bytes;
+pub use keys::stun_types_key_copy;
+pub use keys::stun_types_key_from_bytes;
+pub use keys::stun_types_key_long_term;
+pub use keys::stun_types_key_short_term;
+pub use keys::stun_types_keys_free;
+pub use keys::stun_types_userhash;
 pub use known_types::stun_types_known_types;
-pub use laws::{asked_texts_stand_where_they_are_told, found_value_stands_where_it_is_told};
-pub use many_transactions::{
-    stun_types_transaction_round_trip, stun_types_transactions_find, stun_types_transactions_next,
-};
-pub use numbers::{
-    stun_types_add_u8, stun_types_add_u16, stun_types_add_u32, stun_types_add_u64,
-    stun_types_read_u8, stun_types_read_u16, stun_types_read_u32, stun_types_read_u64,
-};
+pub use laws::asked_texts_stand_where_they_are_told;
+pub use laws::found_value_stands_where_it_is_told;
+pub use many_transactions::stun_types_transaction_round_trip;
+pub use many_transactions::stun_types_transactions_find;
+pub use many_transactions::stun_types_transactions_next;
+pub use numbers::stun_types_add_u8;
+pub use numbers::stun_types_add_u16;
+pub use numbers::stun_types_add_u32;
+pub use numbers::stun_types_add_u64;
+pub use numbers::stun_types_read_u8;
+pub use numbers::stun_types_read_u16;
+pub use numbers::stun_types_read_u32;
+pub use numbers::stun_types_read_u64;
 pub use printing::stun_types_print;
-pub use reading::{
-    Header, Id, stun_types_framed_length, stun_types_message_type, stun_types_parse,
-    stun_types_read_header,
-};
-pub use refusals::{
-    Cookie, stun_types_nonce_cookie, stun_types_refuse_long_term, stun_types_refuse_short_term,
-    stun_types_security_features,
-};
+pub use reading::Header;
+pub use reading::Id;
+pub use reading::stun_types_framed_length;
+pub use reading::stun_types_message_type;
+pub use reading::stun_types_parse;
+pub use reading::stun_types_read_header;
+pub use refusals::Cookie;
+pub use refusals::stun_types_nonce_cookie;
+pub use refusals::stun_types_refuse_long_term;
+pub use refusals::stun_types_refuse_short_term;
+pub use refusals::stun_types_security_features;
 pub use replies::stun_types_begin_reply;
 pub use server::stun_types_binding_reply;
 pub use shared_key::SharedKey;
-pub use stateless_nonces::{stun_types_judge_nonce, stun_types_make_nonce};
-pub use streams::{KeptStream, stun_types_stream_push};
-pub use transactions::{
-    KeptTransaction, ReceivedOutcome, Waits, Wanted, numbers_keep_one_transaction,
-    stun_types_transaction_begin, stun_types_transaction_cancel, stun_types_transaction_fail,
-    stun_types_transaction_poll, stun_types_transaction_receive,
-    stun_types_transaction_stop_sending, what_begins_is_kept,
-};
-pub use type_list::{stun_types_read_types, stun_types_unknown_types};
-pub use validating::{
-    Validated, stun_types_validate, stun_types_validate_by_policy, stun_types_validate_long_term,
-    stun_types_validate_short_term,
-};
+pub use stateless_nonces::stun_types_judge_nonce;
+pub use stateless_nonces::stun_types_make_nonce;
+pub use streams::KeptStream;
+pub use streams::stun_types_stream_push;
+pub use transactions::KeptTransaction;
+pub use transactions::ReceivedOutcome;
+pub use transactions::Waits;
+pub use transactions::Wanted;
+pub use transactions::numbers_keep_one_transaction;
+pub use transactions::stun_types_transaction_begin;
+pub use transactions::stun_types_transaction_cancel;
+pub use transactions::stun_types_transaction_fail;
+pub use transactions::stun_types_transaction_poll;
+pub use transactions::stun_types_transaction_receive;
+pub use transactions::stun_types_transaction_stop_sending;
+pub use transactions::what_begins_is_kept;
+pub use type_list::stun_types_read_types;
+pub use type_list::stun_types_unknown_types;
+pub use validating::Validated;
+pub use validating::stun_types_validate;
+pub use validating::stun_types_validate_by_policy;
+pub use validating::stun_types_validate_long_term;
+pub use validating::stun_types_validate_short_term;
 pub use values::stun_types_read_error;
-pub use versions::{
-    NoKey, stun_types_cursor_first, stun_types_key_none, stun_types_schedule_default,
-    stun_types_version,
-};
-pub use writing::{
-    stun_types_add, stun_types_add_address, stun_types_add_error, stun_types_add_fingerprint,
-    stun_types_add_integrity, stun_types_add_unknown_types, stun_types_add_xor_address,
-    stun_types_begin,
-};
+pub use versions::NoKey;
+pub use versions::stun_types_cursor_first;
+pub use versions::stun_types_key_none;
+pub use versions::stun_types_schedule_default;
+pub use versions::stun_types_version;
+pub use writing::stun_types_add;
+pub use writing::stun_types_add_address;
+pub use writing::stun_types_add_error;
+pub use writing::stun_types_add_fingerprint;
+pub use writing::stun_types_add_integrity;
+pub use writing::stun_types_add_unknown_types;
+pub use writing::stun_types_add_xor_address;
+pub use writing::stun_types_begin;
