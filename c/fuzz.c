@@ -47,7 +47,7 @@ static bool is_same(stun_types_answer one, stun_types_answer other) {
         && one.actual == other.actual;
 }
 
-/* ---- bytes of the input, taken one after the other; 0 behind its end */
+/* ---- bytes of the input, taken one after the other; 0 after its end */
 
 typedef struct {
     const uint8_t *bytes;
@@ -564,7 +564,7 @@ static void seed(text *message, unsigned which) {
     if (which / 64 % 2 == 0) finger(message);
 }
 
-/* Moves what stands behind an offset, so that more bytes or fewer stand there. */
+/* Moves what follows an offset, so that there are more bytes or fewer. */
 static void shift(text *message, size_t at, size_t removed, size_t added) {
     if (at + removed > message->length || message->length + added > MODEL_MOST) return;
     memmove(message->bytes + at + added, message->bytes + at + removed,
@@ -620,7 +620,7 @@ static bool has(const writing *one, unsigned type) {
     return false;
 }
 
-/* Whether a written attribute of this type bars the addition of one. */
+/* Whether a written attribute of this type blocks the addition of one. */
 static bool bars(unsigned written, unsigned type) {
     if (type == 0x8028) return written == 0x8028;
     if (type == 0x001C) return written == 0x001C || written == 0x8028;
@@ -632,7 +632,7 @@ static bool is_barred(const writing *one, unsigned type) {
         || (has(one, 0x8028) && bars(0x8028, type));
 }
 
-/* An add of an attribute, of which the value is known where it isn't refused, was answered. What it
+/* An add of an attribute, of which the value is known unless it is refused, was answered. What it
    was refused for, beyond what holds of each add, is `fault`. */
 static void check_added(writing *one, stun_types_answer answer, unsigned type, const uint8_t *value,
                         size_t length, stun_types_answer fault) {

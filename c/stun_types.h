@@ -15,7 +15,7 @@
  * - No zero permits anything. A verdict is a struct of type stun_types_validated,
  *   stun_types_authentication, stun_types_action or stun_types_received: a call that fails fills it
  *   with zeros, which say that nothing is decided. A stun_types_policy of zeros is the strictest of
- *   RFC 8489, and where an argument of an enumeration has no meaning for 0, 0 is BAD_ARGUMENT.
+ *   RFC 8489, and if an argument of an enumeration has no meaning for 0, 0 is BAD_ARGUMENT.
  * - Arguments are tested. Only a key has to be what the library made (see Keys).
  * - The layout of the structs is part of the ABI. `reserved` is for fields of later versions: it is 0
  *   in what is passed in, or the call returns BAD_ARGUMENT, and 0 in what a call writes.
@@ -31,7 +31,7 @@
 #define STUN_TYPES_VERSION 1000
 #define STUN_TYPES_VERSION_TEXT "0.1.0"
 
-/* A compiler warns where what such a call answers isn't looked at (C++17, C23, gcc, clang). */
+/* A compiler warns if what such a call answers isn't looked at (C++17, C23, gcc, clang). */
 #if (defined(__cplusplus) && __cplusplus >= 201703L)                                              \
     || (defined(__STDC_VERSION__) && __STDC_VERSION__ >= 202311L)
 #define STUN_TYPES_NODISCARD [[nodiscard]]
@@ -73,10 +73,10 @@ typedef STUN_TYPES_ENUM(stun_types_status) {
     STUN_TYPES_INTEGRITY_FAILED = 7,     /* the HMAC is wrong */
     STUN_TYPES_OUT_OF_MEMORY = 8,        /* an allocation failed */
     STUN_TYPES_TOO_SMALL = 9,            /* expected, actual: the room of the caller's slice */
-    STUN_TYPES_EXISTS = 10,              /* type: what is written bars the addition; see Writing */
+    STUN_TYPES_EXISTS = 10,              /* type: what is written blocks the addition; see Writing */
     STUN_TYPES_ENDING_TYPE = 11,         /* type: one that has an add of its own */
     STUN_TYPES_OUT_OF_RANGE = 12,        /* expected, actual: the greatest allowed, the number */
-    STUN_TYPES_BAD_ARGUMENT = 13,        /* what was handed in is not what the call takes */
+    STUN_TYPES_BAD_ARGUMENT = 13,        /* an argument is not what the call takes */
     STUN_TYPES_NO_KEY = 14,              /* the key holds none */
     STUN_TYPES_NOT_PADDED = 15,          /* actual: a length field that is no multiple of 4 */
     STUN_TYPES_NOT_A_REQUEST = 16,       /* the message is no request */
@@ -102,7 +102,7 @@ STUN_TYPES_NODISCARD
 uint32_t stun_types_version(void);
 
 /* A short English text for a code. For languages that read no headers, stun_types_text writes it, and
-   a 0 behind it, as far as there is room, and returns how many bytes both have. */
+   a 0 after it, as far as there is room, and returns how many bytes both have. */
 STUN_TYPES_NODISCARD
 size_t stun_types_text(stun_types_status code, char *text, size_t size);
 static inline const char *stun_types_message_of(uint32_t code) {
@@ -117,7 +117,7 @@ static inline const char *stun_types_message_of(uint32_t code) {
     case STUN_TYPES_INTEGRITY_FAILED: return "the HMAC is wrong";
     case STUN_TYPES_OUT_OF_MEMORY: return "out of memory";
     case STUN_TYPES_TOO_SMALL: return "the slice is too small";
-    case STUN_TYPES_EXISTS: return "an attribute that is written bars the addition";
+    case STUN_TYPES_EXISTS: return "an attribute that is written blocks the addition";
     case STUN_TYPES_ENDING_TYPE: return "attributes of this type have an add of their own";
     case STUN_TYPES_OUT_OF_RANGE: return "a number is out of range";
     case STUN_TYPES_BAD_ARGUMENT: return "an argument is invalid";
@@ -289,14 +289,14 @@ typedef struct {
 } stun_types_attribute;
 
 /* Tells how many bytes the message has that begins here, in a stream's buffer or in a longer one:
-   20 and its length field. *message_length is 0 where more bytes are needed to tell.
+   20 and its length field. *message_length is 0 if more bytes are needed to know it.
    NOT_STUN: no message begins so. */
 STUN_TYPES_NODISCARD STUN_TYPES_NONNULL((3))
 stun_types_answer stun_types_framed_length(const uint8_t *bytes, size_t length,
                                            size_t *message_length);
 
 /* Whether the bytes are a message, no fewer and no more: its header, its attributes, and its
-   FINGERPRINT where there is one (RFC 8489, sections 5, 6.3 and 14.7). It goes over the attributes
+   FINGERPRINT if there is one (RFC 8489, sections 5, 6.3 and 14.7). It reads the attributes
    once, and over the bytes before a FINGERPRINT once more.
    NOT_STUN, TRUNCATED, TOO_LARGE, FINGERPRINT_MISMATCH. */
 STUN_TYPES_NODISCARD
@@ -321,10 +321,10 @@ stun_types_cursor stun_types_cursor_first(void);
 
 /* The next attribute that the message shows: ordinary ones, and then at most one of
    MESSAGE-INTEGRITY, MESSAGE-INTEGRITY-SHA256 and FINGERPRINT each, in this order (RFC 8489,
-   sections 14.5 to 14.7). False where there are no more, and from then on: cursor and attribute stay
-   as they were. The bytes need not parse: they show nothing where they have no header or another
+   sections 14.5 to 14.7). False if there are no more, and from then on: cursor and attribute stay
+   as they were. The bytes need not parse: they show nothing if they have no header or another
    length than it states. The cursor may be any: it yields the attribute of its index, and none if
-   `reserved` isn't 0. Each call goes over the attributes before the one that it yields, so a walk over
+   `reserved` isn't 0. Each call reads the attributes before the one that it yields, so a walk over
    16,383 empty attributes, as many as a message can have, reads 134 million headers: of messages that
    may be long use stun_types_attributes. */
 STUN_TYPES_NODISCARD STUN_TYPES_NONNULL((3, 4))
@@ -337,7 +337,7 @@ STUN_TYPES_NODISCARD
 size_t stun_types_attributes(const uint8_t *bytes, size_t length, stun_types_attribute *attributes,
                              size_t room);
 
-/* The first attribute of a type that the message shows; false where there is none, and *attribute
+/* The first attribute of a type that the message shows; false if there is none, and *attribute
    stays as it was. */
 STUN_TYPES_NODISCARD STUN_TYPES_NONNULL((4))
 bool stun_types_find(const uint8_t *bytes, size_t length, uint16_t type,
@@ -370,7 +370,7 @@ stun_types_answer stun_types_read_address(const uint8_t *bytes, size_t length,
                                           const stun_types_attribute *attribute,
                                           stun_types_address *address);
 
-/* The code, 300 to 699, in an ERROR-CODE (RFC 8489, section 14.8), and where its reason stands in
+/* The code, 300 to 699, in an ERROR-CODE (RFC 8489, section 14.8), and the offset of its reason in
    the message: UTF-8, at most 763 bytes. TRUNCATED, TOO_LARGE, INVALID_DATA. */
 STUN_TYPES_NODISCARD STUN_TYPES_NONNULL((3, 4, 5, 6))
 stun_types_answer stun_types_read_error(const uint8_t *bytes, size_t length,
@@ -386,7 +386,7 @@ stun_types_answer stun_types_read_types(const uint8_t *bytes, size_t length,
 
 /* The types of attributes that the message shows, that must be understood (below 0x8000) and are
    none of those supported, in order and as often as they are shown (RFC 8489, section 6.3.1).
-   Returns how many there are, also where it is more than room; the first room are written. */
+   Returns how many there are, even if that is more than room; the first room are written. */
 STUN_TYPES_NODISCARD
 size_t stun_types_unknown_types(const uint8_t *bytes, size_t length, const uint16_t *supported,
                                 size_t supported_count, uint16_t *types, size_t room);
@@ -434,7 +434,7 @@ stun_types_answer stun_types_print(const uint8_t *bytes, size_t length, char *te
    writes nor copies its fields.
    The calls that take it as const stun_types_key * only read it: they may run at once, in as many
    threads as there are. A call that makes or frees it has it alone: C orders such a call before and
-   behind all others with this key, on other threads by a lock, a join or the start of a thread. */
+   after all others with this key, on other threads by a lock, a join or the start of a thread. */
 typedef struct {
     void *at;
     uint64_t held;
@@ -493,7 +493,7 @@ stun_types_answer stun_types_userhash(const void *user, size_t user_length, cons
                                       size_t realm_length, stun_types_hash *hash);
 
 /* Overwrites the bytes of these keys, one after the other in memory, frees them, and leaves
-   STUN_TYPES_NO_KEY_YET in place of each. */
+   STUN_TYPES_NO_KEY_YET for each. */
 void stun_types_keys_free(stun_types_key *keys, size_t count);
 
 /* The same with one key. With STUN_TYPES_NO_KEY_YET, and with NULL, it does nothing. */
@@ -502,7 +502,7 @@ static inline void stun_types_key_free(stun_types_key *key) {
 }
 
 /* Which messages a usage takes. All zeros are the strictest policy: both algorithms serve, an HMAC
-   isn't cut, and a message without a FINGERPRINT is taken, as RFC 8489 has it where no usage says
+   isn't cut, and a message without a FINGERPRINT is taken, as RFC 8489 has it if no usage says
    otherwise. */
 typedef struct {
     stun_types_integrity algorithm; /* whose attribute counts, or STUN_TYPES_INTEGRITY_ANY: of both */
@@ -523,7 +523,7 @@ typedef struct {
 
 /* Whether a message is authentic under a key, by a policy (RFC 8489, sections 9.1.3, 9.2.4, 14.5 and
    14.6). It parses the bytes, as stun_types_parse does. Of the integrity attributes that count, and
-   that the key serves, it checks MESSAGE-INTEGRITY-SHA256 if it is shown, and else MESSAGE-INTEGRITY.
+   that the key serves, it checks MESSAGE-INTEGRITY-SHA256 if it is shown, otherwise MESSAGE-INTEGRITY.
    With an algorithm in the policy and a key for both, it allocates. What follows the attribute that
    was checked, and the length field, are not authentic.
    The errors of stun_types_parse. BAD_ARGUMENT: the policy. NO_KEY. MISSING_ATTRIBUTE, of type
@@ -565,15 +565,15 @@ stun_types_answer stun_types_validate_long_term(const uint8_t *bytes, size_t len
 
 /* A message is written step by step into a slice of the caller's, room of size bytes. *written is
    how many bytes it has so far: stun_types_begin sets it, each add counts it up, and a refused add
-   leaves it and the slice as they were. What the slice holds behind it stays. Nothing allocates.
+   leaves it and the slice as they were. What the slice holds after it stays. Nothing allocates.
 
-   Each add tests in this order, and tells the first that applies:
+   Each add tests in this order, and returns the first that applies:
    - what is there. BAD_ARGUMENT: *written is more than size, or what was written is no header with
-     whole attributes behind it, as its length field counts them;
-   - what is handed in: the errors that its comment lists;
+     whole attributes after it, as its length field counts them;
+   - its arguments: the errors that its comment lists;
    - the order. ENDING_TYPE: stun_types_add or an add of an address is given the type
      MESSAGE-INTEGRITY, MESSAGE-INTEGRITY-SHA256 or FINGERPRINT, which have adds of their own. EXISTS:
-     an attribute that bars the addition is written: nothing follows a FINGERPRINT; a
+     an attribute that blocks the addition is written: nothing follows a FINGERPRINT; a
      MESSAGE-INTEGRITY-SHA256 only a FINGERPRINT; a MESSAGE-INTEGRITY only these two. The type is that
      of the attribute, but MESSAGE-INTEGRITY's where either bars one that is none of these three;
    - the room. TOO_SMALL: the slice hasn't room for expected bytes, the whole message with its
@@ -671,7 +671,7 @@ stun_types_answer stun_types_add_fingerprint(uint8_t *room, size_t size, size_t 
 
 /* Writes the reply to a datagram that came from source: to a binding request the address that it
    came from, or 420 where it shows types that must be understood; with a FINGERPRINT where the
-   request has one. *reply_length is 0 where none is owed. A reply is at most 48 bytes longer than
+   request has one. *reply_length is 0 if none is owed. A reply is at most 48 bytes longer than
    its request and at most three times as long.
    BAD_ARGUMENT: the family. TOO_SMALL: expected is what the reply takes, and nothing is written. */
 STUN_TYPES_NODISCARD STUN_TYPES_NONNULL((3, 6))
@@ -702,7 +702,7 @@ typedef struct {
 } stun_types_authentication;
 
 /* Authenticates a message by short-term credentials (RFC 8489, section 9.1.3). key is that of the
-   user whom its USERNAME names, and holds none where there is no such user: find the USERNAME first.
+   user whom its USERNAME names, and holds none if there is no such user: find the USERNAME first.
    The errors of stun_types_parse. BAD_ARGUMENT: the policy. Allocates: OUT_OF_MEMORY. */
 STUN_TYPES_NODISCARD STUN_TYPES_NONNULL((3, 4, 5))
 stun_types_answer stun_types_authenticate_short_term(const uint8_t *bytes, size_t length,
@@ -854,7 +854,7 @@ typedef STUN_TYPES_ENUM(stun_types_protection) {
 } stun_types_protection;
 
 /* A transaction of a request. The fields are the library's own. Times are milliseconds since a
-   beginning of the caller's choice; one that steps back is taken to stand still. */
+   beginning of the caller's choice; one that steps back counts as the one before. */
 typedef struct {
     stun_types_schedule schedule;
     uint64_t last, clock;
@@ -893,7 +893,7 @@ typedef STUN_TYPES_ENUM(stun_types_end) {
     STUN_TYPES_TIMED_OUT = 2,
     STUN_TYPES_INTEGRITY_VIOLATED = 3, /* responses came, and none was authentic */
     STUN_TYPES_RESPONSE_REFUSED = 4,   /* a response came that a client can't take */
-    STUN_TYPES_CANCELLED = 5,          /* also where sending was stopped, and none was taken in time */
+    STUN_TYPES_CANCELLED = 5,          /* also if sending was stopped, and none was taken in time */
     STUN_TYPES_TRANSPORT_FAILED = 6
 } stun_types_end;
 
@@ -962,8 +962,8 @@ stun_types_answer stun_types_transaction_cancel(stun_types_transaction *transact
 STUN_TYPES_NODISCARD STUN_TYPES_NONNULL((1))
 stun_types_answer stun_types_transaction_fail(stun_types_transaction *transaction);
 
-/* What a 401 or a 438 asks the next request to carry: where texts stand in its bytes, the value of
-   PASSWORD-ALGORITHMS (to be copied; algorithms_at is 0 where there is none), the password algorithm
+/* What a 401 or a 438 asks the next request to carry: the offsets of texts in its bytes, the value of
+   PASSWORD-ALGORITHMS (to be copied; algorithms_at is 0 if there is none), the password algorithm
    of the key, whether the request names its user by USERHASH, and by which it is signed. */
 typedef struct {
     size_t realm_at, realm_length;
@@ -1054,12 +1054,12 @@ bool stun_types_transaction_round_trip(const stun_types_transaction *transaction
 typedef struct {
     uint64_t offset; /* in the stream, of the bytes that are pending */
     size_t pending;  /* how many bytes at the start of the buffer belong to a message that isn't whole */
-    size_t message;  /* how many bytes the message there has that the last call made whole, or 0 */
+    size_t message;  /* how many bytes the message there has that the last call completed, or 0 */
     uint64_t reserved;
 } stun_types_stream;
 
 /* Takes the bytes at the start of a piece that belong to the message that is coming; *taken is how
-   many. Where they make it whole, it stands at the start of the buffer until the next call.
+   many. If they complete it, it is at the start of the buffer until the next call.
    BAD_ARGUMENT: fewer than 20 bytes of buffer, or what is pending isn't the beginning of a message.
    NOT_STUN, NOT_PADDED, TOO_LARGE (expected is the buffer's size): no message begins where one had
    to, at stream->offset; close the connection. The bytes that were pending stay, and stream->message
@@ -1077,7 +1077,7 @@ typedef struct {
 } stun_types_channel_data;
 
 /* How many bytes the ChannelData message has that begins here on a stream: 4, its data, and zeros up
-   to a multiple of 4; *message_length is 0 where more bytes are needed to tell. NOT_STUN: the first
+   to a multiple of 4; *message_length is 0 if more bytes are needed to know it. NOT_STUN: the first
    byte is none of 0x40 to 0x4F. */
 STUN_TYPES_NODISCARD STUN_TYPES_NONNULL((3))
 stun_types_answer stun_types_channel_data_length(const uint8_t *bytes, size_t length,

@@ -202,7 +202,7 @@ static int tell_end(stun_types_end end) {
     }
 }
 
-/* Waits for a message, and hands it to the transaction. *taken tells what was received. False: the
+/* Waits for a message, and passes it to the transaction. *taken is what was received. False: the
  * connection failed. */
 static bool hear(carrier *by, stun_types_transaction *transaction, const stun_types_key *key,
                  uint64_t until, stun_types_received *taken) {
@@ -214,7 +214,7 @@ static bool hear(carrier *by, stun_types_transaction *transaction, const stun_ty
                                           understood, 0, taken).code == STUN_TYPES_OK;
 }
 
-/* Sends the request as often as it takes, until a response is taken: TOLD, and *taken tells what it
+/* Sends the request as often as it takes, until a response is taken: TOLD, and *taken is what it
  * is; any other status is the end. */
 static int exchange(carrier *by, stun_types_transaction *transaction, const stun_types_key *key,
                     stun_types_received *taken) {
@@ -238,7 +238,7 @@ static int exchange(carrier *by, stun_types_transaction *transaction, const stun
     }
 }
 
-/* Begins the request's transaction and carries it through, as `exchange` tells. */
+/* Begins the request's transaction and carries it through, as `exchange` says. */
 static int ask(carrier *by, stun_types_protection protection, const stun_types_key *key,
                stun_types_received *taken) {
     const stun_types_schedule schedule = STUN_TYPES_SCHEDULE;
@@ -252,14 +252,14 @@ static int ask(carrier *by, stun_types_protection protection, const stun_types_k
 
 /* ---- Responses ------------------------------------------------------------------------------- */
 
-/* Prints the address that the response tells. */
+/* Prints the address that the response reports. */
 static int tell_address(void) {
     stun_types_attribute found;
     stun_types_address address;
     if (!stun_types_find(response.bytes, response.length, STUN_TYPES_ATTRIBUTE_XOR_MAPPED_ADDRESS, &found) ||
         stun_types_read_xor_address(response.bytes, response.length, &found, &address).code !=
             STUN_TYPES_OK) {
-        return say(UNUSABLE, "the response tells no address");
+        return say(UNUSABLE, "the response has no address");
     }
     print_address(stdout, &address);
     putchar('\n');

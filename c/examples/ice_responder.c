@@ -4,7 +4,7 @@
  *     cc -O2 -I c c/examples/ice_responder.c libstun_types_c.a liblibc_c.a -o ice_responder
  *     ./ice_responder ADDRESS PORT UFRAG PASSWORD TIEBREAKER
  *
- * UFRAG and PASSWORD are its own, as it has told its peer. It begins in the controlled role, with this
+ * UFRAG and PASSWORD are its own, as its peer knows them. It begins in the controlled role, with this
  * tiebreaker. With port 0 the system chooses one. It ends when its standard input does. */
 #define _POSIX_C_SOURCE 200809L
 #define _DEFAULT_SOURCE
@@ -91,7 +91,7 @@ static bool write_reply(const message *check, const stun_types_address *source, 
                                               STUN_TYPES_ATTRIBUTE_XOR_MAPPED_ADDRESS, source));
 }
 
-/* Prints what a check tells that is answered by success. */
+/* Prints what a check asks for that gets a success response. */
 static void tell_check(const message *check, const stun_types_address *source) {
     stun_types_attribute found;
     uint32_t priority = 0;

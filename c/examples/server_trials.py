@@ -1,6 +1,6 @@
 """What c/examples/run tries of the server in C: it is served as it should be, whatever other clients
 do, and its processes are confined and replaced. `run_all` runs the steps. Time-outs are generous: a
-machine may stand still for seconds."""
+machine may pause for seconds."""
 import contextlib
 import os
 import pathlib
@@ -568,7 +568,7 @@ def status_of(process):
 
 
 def rights(programs):
-    """-U gives up all rights but a user's, of all processes; as root, nobody's, and else one's own."""
+    """-U gives up all rights but a user's, of all processes; as root, nobody's, otherwise one's own."""
     as_root = os.geteuid() == 0
     user = pwd.getpwnam("nobody") if as_root else pwd.getpwuid(os.geteuid())
     with Server(programs["server"], "-t", "-U", user.pw_name) as server:
@@ -615,7 +615,7 @@ def sandbox(programs):
 
 # ---- The service manager
 
-# puts sockets to where they are looked for, and starts a program that they are for
+# puts sockets at the numbers that a program looks for, and starts that program
 PASS_ON = """
 import fcntl, os, sys
 count, program = int(sys.argv[1]), sys.argv[2 + int(sys.argv[1]):]

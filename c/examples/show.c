@@ -6,7 +6,7 @@
  *     ./show [password] < message
  *
  * The status is 0 where the message was shown (and is valid with the password that was given), 1
- * where it was refused or isn't valid, and 2 with every other end. */
+ * if it was refused or isn't valid, and 2 with every other end. */
 #define _POSIX_C_SOURCE 200809L
 #include <errno.h>
 #include <stdio.h>
@@ -18,7 +18,7 @@
 enum { SHOWN = 0, REFUSED = 1, FAILED = 2 };
 enum { LONGEST_INPUT = 131072 };
 
-/* The input, and room for one byte more, which tells that it is too long. */
+/* The input, and room for one byte more, which shows that it is too long. */
 static uint8_t input[LONGEST_INPUT + 1];
 
 static int fail(const char *line) {

@@ -37,7 +37,7 @@ static bool is_filled(const uint8_t *bytes, size_t length) {
 static void end_row(void) {
     size_t i;
     if (row_name == NULL) return;
-    if (heap_faults() != 0) fail("memory: taken where none may be, or given back with a secret");
+    if (heap_faults() != 0) fail("memory: taken though none may be, or given back with a secret");
     for (i = 0; i < region_count; i++) {
         guarded_region region = regions[i].region;
         size_t rest = region.size - regions[i].length;

@@ -1,7 +1,7 @@
-/* Rows of a test, and the slices that they hand in.
+/* Rows of a test, and the slices that they pass.
  *
  * Each slice ends at a page that may not be touched: the whole program runs once with that page
- * behind each slice, and once with it before. Slices to be read can't be written. */
+ * after each slice, and once with it before. Slices to be read can't be written. */
 #ifndef CHECK_H
 #define CHECK_H
 

@@ -19,7 +19,7 @@ guarded_region guarded_make(size_t size);
 typedef enum { GUARD_BEHIND, GUARD_BEFORE } guarded_side;
 
 /* The place in a region of a slice of this length whose one end is guarded. A slice of no bytes is
-   the first byte behind the region, which may not be read. */
+   the first byte after the region, which may not be read. */
 uint8_t *guarded_place(guarded_region region, guarded_side side, size_t length);
 
 #endif

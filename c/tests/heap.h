@@ -7,7 +7,7 @@
 #include <stddef.h>
 
 /* From now on, whether a block may be taken: one that may not fails the row, as heap_faults
-   tells. */
+   says. */
 void heap_allow(bool allowed);
 
 /* The allocation with this number from now on is refused: 1 the next, 0 none. */

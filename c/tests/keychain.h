@@ -1,4 +1,4 @@
-/* Keys of a test. Making one may allocate; what is handed in is guarded. */
+/* Keys of a test. Making one may allocate; what is passed is guarded. */
 #ifndef KEYCHAIN_H
 #define KEYCHAIN_H
 

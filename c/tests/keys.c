@@ -23,7 +23,7 @@ static void test_no_key(void) {
     CHECK(is_zero(validated, sizeof *validated));
 }
 
-/* Each byte of a signed message that is changed is told. (A type of another attribute in the
+/* Each byte of a signed message that is changed is noticed. (A type of another attribute in the
    place of a MESSAGE-INTEGRITY-SHA256 leaves a message that validates by SHA-1, as the answer
    says.) */
 static void test_changes(void) {
@@ -404,7 +404,7 @@ static void test_refused_validations(void) {
     }
 }
 
-/* ---- keys that are told */
+/* ---- the bytes of keys */
 
 static const struct {
     const char *name, *bytes;

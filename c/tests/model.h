@@ -18,7 +18,7 @@ typedef struct {
     stun_types_attribute all[MODEL_ATTRIBUTES];
 } model_list;
 
-/* Why no header begins with the bytes; the length of the message, or 0 where it isn't known yet;
+/* Why no header begins with the bytes; the length of the message, or 0 if it isn't known yet;
    why they are no message. */
 stun_types_answer model_header(const uint8_t *bytes, size_t length);
 stun_types_answer model_framed(const uint8_t *bytes, size_t length, size_t *message_length);
@@ -39,14 +39,14 @@ void model_hmac(const uint8_t *bytes, size_t at, size_t value_length, uint32_t a
 stun_types_answer model_validate(const uint8_t *bytes, size_t length, const char *password,
                                  uint32_t *algorithm);
 
-/* What reading a value answers. The address is as it stands there, without a XOR. */
+/* What reading a value answers. The address is as it is written, without a XOR. */
 stun_types_answer model_address(const uint8_t *value, size_t length, stun_types_address *address);
 stun_types_answer model_error(const uint8_t *value, size_t length, uint16_t *code);
 
 /* The address that is written where this one is to be XORed, and the other way round. */
 void model_xor(const uint8_t *bytes, stun_types_address *address);
 
-/* Where the first message of a stream ends, of which these are the bytes from its beginning on
+/* The end of the first message of a stream, of which these are the bytes from its beginning on
    and which is read into a buffer of so many: its length, 0 where more bytes are needed, or why
    no message begins there. */
 stun_types_answer model_cut(const uint8_t *bytes, size_t length, size_t buffer,

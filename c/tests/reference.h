@@ -5,7 +5,7 @@
 #include <stddef.h>
 #include <stdint.h>
 
-/* What a block of memory with a key may hold, and no block that is given back may, is told to
+/* What a block of memory with a key may hold, and no block that is given back may, is given to
    heap_add_secret: the key, of at most 64 bytes, the blocks with which the two digests of an HMAC
    begin, and the states of hashers that took them in. */
 void secrets_of(const void *key, size_t length, void (*add)(const void *bytes, size_t length));

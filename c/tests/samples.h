@@ -42,7 +42,7 @@
 #define KEY_SHA256 \
     "07e934117abd40836e7c6329b54731b2b2d2a5f9a71f544922d75e0730d8251b"
 
-/* MESSAGE-INTEGRITY behind the header of a request with the transaction ID 1000, by `pass` and by the
+/* MESSAGE-INTEGRITY after the header of a request with the transaction ID 1000, by `pass` and by the
    second of these keys. */
 #define SIGNED \
     "00080014699e824c1ee3a675db9e32277fada70f257e0c0d"

@@ -66,7 +66,7 @@ static void validate(signed_message *made) {
                                              &made->validated[i]);
     made->by_policy = stun_types_validate_by_policy(made->message, made->length, &one, &keys[1],
                                                     &made->validated_by_policy);
-    /* (without its FINGERPRINT, which tells of a change too) */
+    /* (without its FINGERPRINT, which shows a change too) */
     memcpy(changed, made->message, ROOM);
     changed[3] = (uint8_t)(changed[3] - 8);
     changed[24] ^= 1;

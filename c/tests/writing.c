@@ -143,7 +143,7 @@ static const struct {
       {XORED, 0x0020, "", OTHER(STUN_TYPES_BAD_ARGUMENT)},
       {ADDRESS, 0x0020, "", OTHER(STUN_TYPES_BAD_ARGUMENT)}},
      HEADER("0000")},
-    {"addresses behind a FINGERPRINT",
+    {"addresses after a FINGERPRINT",
      100,
      HEADER("0008") "80280004 3756C07F",
      {{XORED, 0x0020, "C0000201", EXISTING(0x8028)},
@@ -166,7 +166,7 @@ static const struct {
       {ERROR, 400, "61FF", OTHER(STUN_TYPES_INVALID_DATA)},
       {ERROR, 400, "C3", OTHER(STUN_TYPES_INVALID_DATA)}},
      HEADER("0000")},
-    {"errors of which several apply, behind a FINGERPRINT",
+    {"errors of which several apply, after a FINGERPRINT",
      31,
      HEADER("0008") "80280004 3756C07F",
      {{ERROR, 299, "FF*764", STUN_TYPES_OUT_OF_RANGE, 0, 699, 299},
@@ -214,7 +214,7 @@ static const struct {
      NULL},
 };
 
-/* What no add goes on with. */
+/* What no add resumes. */
 static const struct {
     const char *name, *bytes;
     size_t size, written;
@@ -332,7 +332,7 @@ static void test_broken(void) {
         {SIGN, STUN_TYPES_INTEGRITY_SHA1, "pass", OTHER(STUN_TYPES_BAD_ARGUMENT)},
         {SIGN, STUN_TYPES_INTEGRITY_SHA256, "pass", OTHER(STUN_TYPES_BAD_ARGUMENT)},
         {FINGER, 0, NULL, OTHER(STUN_TYPES_BAD_ARGUMENT)},
-        /* what is written is tested before what is handed in */
+        /* what is written is tested before the arguments */
         {ADD, 0x8028, "61", OTHER(STUN_TYPES_BAD_ARGUMENT)},
         {ADD, 0x8022, "A5*65536", OTHER(STUN_TYPES_BAD_ARGUMENT)},
         {ERROR, 299, "6E6F", OTHER(STUN_TYPES_BAD_ARGUMENT)},

@@ -114,7 +114,7 @@ bool take_socket(endpoints *to, int number) {
     return false;
 }
 
-/* ---- Where it listens ------------------------------------------------------------------------ */
+/* ---- Listening ------------------------------------------------------------------------------ */
 
 static bool is_same(const endpoint *a, const endpoint *b) {
     return a->stream == b->stream && memcmp(&a->address, &b->address, sizeof a->address) == 0;

@@ -132,7 +132,7 @@ static void note_dead(void) {
 }
 
 /* Ends those whose loops don't turn. The time is counted in looks of the supervisor's own: if the
- * whole machine stands still for a while, nobody is missed. */
+ * whole machine pauses for a while, nobody is missed. */
 static void end_hung(void) {
     for (worker *at = group.workers; at < group.workers + group.count; at++) {
         uint64_t beats = atomic_load_explicit(&group.tallies[at - group.workers].beats,

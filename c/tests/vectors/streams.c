@@ -18,7 +18,7 @@ static void answer_end(const stun_types_stream *stream, stun_types_answer result
     else answer_refusal(result);
 }
 
-/* Where a stream is cut: after each number of octets, or at two places if that is 0. */
+/* How a stream is cut: after each number of octets, or at two places if that is 0. */
 typedef struct {
     size_t each, first, second;
 } cut_places;
@@ -185,7 +185,7 @@ static stun_types_answer frame_length(const uint8_t *bytes, size_t length, size_
     return stun_types_framed_length(bytes, length, found);
 }
 
-/* How many are whole at the start of octets; *at is where they end. */
+/* How many are whole at the start of octets; *at is their end. */
 static size_t frames_in(slice whole, size_t *at, stun_types_answer *result, bool is_shown) {
     size_t count = 0, length;
     for (*at = 0;; *at += length, count++) {

@@ -95,7 +95,7 @@ static stun_types_answer take(const step *it, draft *to) {
 }
 
 /* Appends what a step answers. In C one code says that an attribute bars another, and its type says
-   which one: by another name if it is FINGERPRINT, or if an ordinary attribute is barred. */
+   which one: by another name if it is FINGERPRINT, or if an ordinary attribute is blocked. */
 static void answer_step(const step *it, stun_types_answer result) {
     bool is_finger = result.type == STUN_TYPES_ATTRIBUTE_FINGERPRINT;
     if (result.code == STUN_TYPES_OK) answer_text("ok");

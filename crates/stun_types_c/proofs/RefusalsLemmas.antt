@@ -17,7 +17,7 @@ pub asks : (r : List ℕ) (refusal : Refusal) (realm nonce : List ℕ) (algorith
 asks r refusal realm nonce algorithms demand result old new fine is written =
     inl (subst (λ (o : Option CallResult). MatchOption o ((demand : Demand) × IsDemand realm nonce algorithms demand × WritesRefusal r refusal (Some demand) result old new) (λ answer. Refuses answer result old new)) (sym fine) (demand, is, written))
 
--- a request is refused by what C hands in
+-- a request is refused by what C passes
 pub refused : (r : List ℕ) (code : ℕ) (realm nonce numbers : List ℕ) (refusal : Refusal) (algorithms : List PasswordAlgorithmValue) (result : CallResult) (old new : Written)
     → message_answer r ≡ None → long_term_refusal code ≡ Some refusal → password_algorithms_named numbers ≡ Some algorithms
     → RefusesDemanding r refusal realm nonce algorithms result old new → RefusesLongTerm r code realm nonce numbers result old new

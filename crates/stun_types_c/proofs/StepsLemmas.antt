@@ -18,7 +18,7 @@ stops First Next answer old new first refused = record { answer = answer; betwee
 pub goes_on : (First Next : CallResult → Written → Written → Type 0) (answer result : CallResult) (old between new : Written) → First answer old between → answer.code ≡ OK → Next result between new → Then First Next result old new
 goes_on First Next answer result old between new first fine next = record { answer = answer; between = between; first = first; next = inl (fine, next) }
 
--- NONCE, and what follows it where there is a list
+-- NONCE, and what follows it if there is a list
 pub listed_stops : (asked : Asked) (list : List ℕ) (answer : CallResult) (old new : Written) → asked.list ≡ Some list → AddsOne (canonical NONCE asked.nonce) answer old new → answer.code ≢ OK
     → AddsEach (canonical NONCE asked.nonce ∷ algorithm_attributes asked.list asked.algorithm) answer old new
 listed_stops asked list answer old new is first refused =

@@ -19,7 +19,7 @@ there {A = A} (y ∷ xs) (suc i) x e =
     let next : suc i + 1 ≡ suc (i + 1) = omega arith in
     there xs i x e ∙ ap (λ (n : ℕ). x ∷ drop n (y ∷ xs)) (sym next)
 
--- where there is none, none is left
+-- if there is none, none is left
 pub away : {A : Type 0} (xs : List A) (i : ℕ) → slice_get xs i ≡ None → drop i xs ≡ []
 away [] zero e = refl
 away [] (suc i) e = refl
@@ -75,7 +75,7 @@ map_none : {A B : Type 0} (f : A → B) (o : Option A) → option_map f o ≡ No
 map_none f None e = refl
 map_none f (Some x) e = absurd cc
 
--- where no attribute has the index of a cursor, none is left
+-- if no attribute has the index of a cursor, none is left
 pub none_left : (cursor : Cursor) (d : List ℕ) → option_map in_c (slice_get (shown d) cursor.index) ≡ None → left cursor d ≡ []
 none_left cursor d e = go (cursor.reserved == 0)
   where

@@ -18,7 +18,7 @@ use Rattle.stun_types_c.specs.PasswordAlgorithms.{password_algorithms_named}
 use Rattle.stun_types_c.specs.Steps.{Then, AddsEach, Ends}
 use Rattle.stun_types_c.specs.Writing.{Written}
 
--- what is asked for, or why the request isn't sent again, as C is told
+-- what is asked for, or why the request isn't sent again, in C's numbers
 abbrev pub in_answer : Result Asked NoRetry → Result Asked CallResult
 in_answer (Ok asked) = Ok asked
 in_answer (Err reason) = Err (retry_answer reason)
@@ -42,7 +42,7 @@ HoldsAsked asked user password result old new =
     × IsSomeAnd new (IsKey None (user_key asked (record { name = user; password = password }))))
     (λ answer. Refuses answer result old new)
 
--- the same by what C hands in
+-- the same by what C passes
 abbrev pub HoldsFor : (numbers d user password : List ℕ) → CallResult
     → (old new : Option IntegrityKey) → Type 0
 HoldsFor numbers d user password result old new =
@@ -64,7 +64,7 @@ abbrev pub AddsAnswer : Asked → (name : List ℕ) → (fingerprint : Bool) →
 AddsAnswer asked name fingerprint key =
     Then (AddsEach (credentials asked name)) (Ends fingerprint (signing_algorithm asked) key)
 
--- the same by what C hands in
+-- the same by what C passes
 abbrev pub AnswersChallenge : (numbers d name : List ℕ) → (fingerprint : Bool)
     → Option IntegrityKey → CallResult → Written
     → Written → Type 0

@@ -14,7 +14,7 @@ abbrev pub first_of_type : ℕ → List Shown → Option Shown
 first_of_type type attributes = slice_get (filter (λ a. a.type == type) attributes) 0
 
 -- the attributes that a walk has yet to yield, whatever its cursor: those that d shows, but for as
--- many as it has yielded; none where the cursor's spare word isn't 0
+-- many as it has yielded; none if the cursor's spare word isn't 0
 abbrev pub left : Cursor → List ℕ → List Shown
 left cursor d = if cursor.reserved == 0 then drop cursor.index (shown d) else []
 

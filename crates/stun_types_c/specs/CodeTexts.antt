@@ -15,7 +15,7 @@ code_text code =
     if code == INTEGRITY_FAILED then codes "the HMAC is wrong" else (
     if code == OUT_OF_MEMORY then codes "out of memory" else (
     if code == TOO_SMALL then codes "the slice is too small" else (
-    if code == EXISTS then codes "an attribute that is written bars the addition" else (
+    if code == EXISTS then codes "an attribute that is written blocks the addition" else (
     if code == ENDING_TYPE then codes "attributes of this type have an add of their own" else (
     if code == OUT_OF_RANGE then codes "a number is out of range" else (
     if code == BAD_ARGUMENT then codes "an argument is invalid" else (
@@ -31,6 +31,6 @@ code_text code =
     if code == SAME_CREDENTIALS then codes "the credentials were refused already" else (
     if code == HMAC_TOO_SHORT then codes "the HMAC is cut to too few bytes" else codes "unknown code"))))))))))))))))))))))))
 
--- the same, and a 0 behind it
+-- the same, and a 0 after it
 abbrev pub ended_text : ℕ → List ℕ
 ended_text code = code_text code ++ 0 ∷ []

@@ -15,7 +15,7 @@ use Rattle.stun_types_c.specs.Writing.{Written}
 abbrev pub signing_named : Authenticated → Option IntegrityAlgorithm
 signing_named told = if told.kind == 1 then algorithm_named told.reply_algorithm else None
 
--- the key that accepted: that by SHA-256 where the acceptance names it, and else the first
+-- the key that accepted: that by SHA-256 if the acceptance names it, otherwise the first
 abbrev pub key_named : Authenticated → (first sha256 : Option IntegrityKey) → Option IntegrityKey
 key_named told first sha256 = if told.password_algorithm == 2 then sha256 else first
 

@@ -63,18 +63,18 @@ HoldsCopy held result old new =
     MatchOption held (Refuses (plain NO_KEY) result old new)
     (λ key. Holds (key_algorithm key) (key_bytes key) result old new)
 
--- what C is told of a key: its bytes in a slice, how many they are, and what it was made for
+-- what C reads of a key: its bytes in a slice, how many they are, and what it was made for
 pub record ToldKey : Type 0 where
   pub slice : List ℕ
   pub count : ℕ
   pub algorithm : ℕ
 
--- why so many bytes are not told: the slice has no room for them
+-- why so many bytes are not written: the slice has no room for them
 abbrev pub room_answer : (needed room : ℕ) → Option CallResult
 room_answer needed room =
     if nat_lt room needed then Some (counted TOO_SMALL needed room) else None
 
--- the bytes of a key are told, or there is no key, or no room for them
+-- the bytes of a key are written, or there is no key, or no room for them
 abbrev pub TellsKey : Option IntegrityKey → CallResult → (old new : ToldKey) → Type 0
 TellsKey held result old new =
     MatchOption held (Refuses (plain NO_KEY) result old new)

@@ -20,13 +20,13 @@ waits_for id kept =
     nat_lt 0 kept.sent && (kept.end == 0 && number kept.id.bytes == id)
 
 -- the place of the transaction that a response is for, by the transaction ID in its header; none
--- where no response begins so
+-- if no response begins so
 abbrev pub addressee : List ℕ → List KeptTransaction → Option ℕ
 addressee d kept =
     if is_some (header_fault d) then None else (
     if is_response (class_of (type_field d)) then position (waits_for (id_field d)) kept else None)
 
--- a number is told, or that there is none, and C's stays
+-- a number is written; or there is none, and C's stays
 abbrev pub TellsNumber : Option ℕ → Bool → (old new : ℕ) → Type 0
 TellsNumber told result old new =
     MatchOption told ((result ≡ false) × (new ≡ old)) (λ number. (result ≡ true) × (new ≡ number))

@@ -50,7 +50,7 @@ no_numbers =
     ∷ RESPONSE_ORIGIN ∷ OTHER_ADDRESS ∷ []
 
 -- how many bytes the number in the value of a type has: none of a type whose value is no number, and
--- any where the type isn't known
+-- any if the type isn't known
 abbrev pub width_of : ℕ → Option ℕ
 width_of type =
     if has type before_three_zeros then Some 1 else (
@@ -95,7 +95,7 @@ number_answer width type n =
 abbrev pub padded : (type : ℕ) → (octets : List ℕ) → List ℕ
 padded type octets = octets ++ replicate (zeros_of type) 0
 
--- it is added, or it is told why not
+-- it is added, or the call says why not
 abbrev pub AddsUnless : Option CallResult → (type : ℕ) → (octets : List ℕ) → CallResult → Written
     → Written
     → Type 0

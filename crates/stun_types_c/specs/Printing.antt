@@ -16,7 +16,7 @@ room_answer length room =
 abbrev pub written_of : ℕ → ℕ → ℕ
 written_of length room = if nat_le length room then count_of length else room
 
--- the text in printable ASCII is laid over the slice, as far as it reaches; where the bytes are no
+-- the text in printable ASCII is laid over the slice, as far as it reaches; if the bytes are no
 -- message, nothing is
 abbrev pub Prints : List ℕ → CallResult → List ℕ → List ℕ → ℕ → ℕ → Type 0
 Prints d result old new written_before written =

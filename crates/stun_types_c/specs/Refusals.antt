@@ -1,4 +1,4 @@
--- The error response to a request that a server refuses, and what it tells at the beginning of its
+-- The error response to a request that a server refuses, and what it says at the beginning of its
 -- nonces (RFC 8489, sections 9.1.3, 9.2, 9.2.4 and 18.1).
 use Rattle.std.specs.Prelude.{◌≡◌, ◌⊎◌, ℕ, ◌+◌, ◌*◌, ◌%◌, Bool, not, List, [], ◌∷◌, ◌++◌, length, drop, Option, None, Some, is_some, MatchOption, nat_lt, ◌==◌, if◌then◌else◌}
 use Rattle.std.specs.Int.{from_bool}
@@ -27,7 +27,7 @@ use Rattle.stun_types_c.specs.Codes.{OK, TOO_LARGE, INVALID_DATA, OUT_OF_MEMORY,
 use Rattle.stun_types_c.specs.PasswordAlgorithms.{password_algorithms_named}
 use Rattle.stun_types_c.specs.Writing.{Written}
 
--- ---- What C hands in
+-- ---- What C passes
 
 -- why d is no request
 abbrev pub message_answer : List ℕ → Option CallResult
@@ -51,7 +51,7 @@ text_answer bytes =
     (if nat_lt text_max (length bytes) then Some (counted TOO_LARGE text_max (length bytes)) else None)
     else Some (plain INVALID_DATA)
 
--- whether a list is sent exactly where the nonce promises one
+-- whether a list is sent exactly if the nonce promises one
 abbrev pub agrees : (nonce : List ℕ) → List PasswordAlgorithmValue → Bool
 agrees nonce [] = not (promises_algorithms nonce)
 agrees nonce (algorithm ∷ algorithms) = promises_algorithms nonce
@@ -108,7 +108,7 @@ RefusesShortTerm r code result old new =
     (λ refusal. WritesRefusal r refusal None result old new))
     (λ answer. Refuses answer result old new)
 
--- what asks for something is written, or it is told why nothing is asked for
+-- what asks for something is written, or the call says why nothing is asked for
 abbrev pub RefusesDemanding : List ℕ → Refusal → (realm nonce : List ℕ)
     → List PasswordAlgorithmValue → CallResult → Written
     → Written → Type 0
@@ -147,14 +147,14 @@ abbrev pub features_number : SecurityFeatures → ℕ
 features_number features =
     from_bool features.password_algorithms + 2 * from_bool features.username_anonymity
 
--- the nonce cookie of the features of a number is told, or no features have this number
+-- the nonce cookie of the features of a number is written, or no features have this number
 abbrev pub TellsCookie : ℕ → CallResult → (old new : Cookie) → Type 0
 TellsCookie number result old new =
     MatchOption (features_named number)
     (Refuses (plain BAD_ARGUMENT) result old new)
     (λ features. (result ≡ plain OK) × (new ≡ record { bytes = cookie features }))
 
--- the features that a nonce tells of, or that it begins with no nonce cookie, and C's number stays
+-- the features that a nonce promises, or that it begins with no nonce cookie, and C's number stays
 abbrev pub TellsFeatures : Option SecurityFeatures → Bool → (old new : ℕ) → Type 0
 TellsFeatures told result old new =
     (result ≡ is_some told) × (new ≡ option_map_or features_number told old)

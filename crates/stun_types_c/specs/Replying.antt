@@ -30,7 +30,7 @@ header_answer slice =
     if nat_lt (length slice) 20 then Some (counted TOO_SMALL 20 (length slice)) else None
 
 -- the response of a class to the request r begins: a header, with no attributes, and what the slice
--- held behind it
+-- held after it
 abbrev pub BeginsResponse : List ℕ → MessageClass → CallResult → Written → Written → Type 0
 BeginsResponse r class result old new =
     MatchOption (header_answer old.slice)

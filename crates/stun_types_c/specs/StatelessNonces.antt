@@ -24,7 +24,7 @@ ByKey Done key features window client result old new =
     Done (minting (key_bytes key) features window) (address_value client) result old new
     ⊎ Refuses (plain OUT_OF_MEMORY) result old new
 
--- the same by what C hands in: the number of the features, an address, and a secret
+-- the same by what C passes: the number of the features, an address, and a secret
 abbrev pub ByMaker : {T : Type 0}
     → (Minting → (place : List ℕ) → CallResult → (old new : T) → Type 0) → Option IntegrityKey
     → (features window : ℕ) → Address → CallResult → (old new : T) → Type 0

@@ -201,7 +201,7 @@ StopsKept result old new =
     MatchKept old ((result ≡ plain BAD_ARGUMENT) × (new ≡ old))
     (λ parts. (result ≡ plain OK) × GoesOn parts (stopped_by (state_in parts)) old new)
 
--- what C reads where nothing is decided: a call that fails writes this
+-- what C reads if nothing is decided: a call that fails writes this
 abbrev pub nothing_wanted : Wanted
 nothing_wanted = record { kind = 0; end = 0; until = 0; reserved = 0 }
 
@@ -323,7 +323,7 @@ claim_number claim = option_map_or (λ code. code) claim.code 0
 abbrev pub proof_number : Option IntegrityAlgorithm → ℕ
 proof_number proof = option_map_or number_of proof 0
 
--- what C reads where nothing is decided: a call that fails writes this
+-- what C reads if nothing is decided: a call that fails writes this
 abbrev pub nothing_received : ReceivedOutcome
 nothing_received = record { kind = 0; number = 0; algorithm = 0; reserved = 0 }
 

@@ -1,4 +1,4 @@
--- What validating a message tells C (RFC 8489, sections 9.1.3, 9.2.4, 14.5 and 14.6).
+-- What validating a message reports to C (RFC 8489, sections 9.1.3, 9.2.4, 14.5 and 14.6).
 use Rattle.std.specs.Prelude.{◌≡◌, ◌⊎◌, ℕ, List, length, Option, None, Some, Result, Ok, Err, MatchOption, MatchResult, if◌then◌else◌}
 use Rattle.std.specs.Option.{option_map_or}
 use Rattle.stun_grammar.specs.declared.integrity_algorithm.IntegrityAlgorithm.{IntegrityAlgorithm}
@@ -20,14 +20,14 @@ use Rattle.stun_types_c.specs.Codes.{OK, OUT_OF_MEMORY, BAD_ARGUMENT, NO_KEY, MI
 use Rattle.stun_types_c.specs.CallResults.{plain, about, counted, parse_result, validate_result}
 use Rattle.stun_types_c.specs.Keys.{number_of}
 
--- ---- What C is told
+-- ---- What C reads
 
 -- how many bytes the HMAC of an algorithm has in d
 abbrev pub hmac_length : IntegrityAlgorithm → List ℕ → ℕ
 hmac_length algorithm d =
     option_map_or (λ a. length a.value) (nth d (type_of_algorithm algorithm) 0) 0
 
--- what C reads where nothing is valid: a call that fails writes this
+-- what C reads if nothing is valid: a call that fails writes this
 abbrev pub not_validated : Validated
 not_validated = record { algorithm = 0; hmac_length = 0; reserved = 0 }
 
@@ -66,7 +66,7 @@ ValidatesWith held d result new =
 -- ---- By a policy
 
 -- whose attribute is checked by a policy that counts that of one algorithm, or both, with a key that
--- was made for one, or serves both; none where the key can't serve what counts
+-- was made for one, or serves both; none if the key can't serve what counts
 abbrev pub checked_for : (counted made_for : Option IntegrityAlgorithm)
     → Option (Option IntegrityAlgorithm)
 checked_for None made_for = Some made_for
@@ -81,7 +81,7 @@ abbrev pub verdict_of : (checked : Option IntegrityAlgorithm) → IntegrityKey �
     → Result IntegrityAlgorithm ValidateError
 verdict_of checked key d = verdict (is_checked_type checked) (λ _. key_bytes key) d
 
--- what a verdict on d is answered by: the HMAC may be right, and have fewer bytes than are asked for
+-- what a call answers for a verdict on d: the HMAC may be right, and have fewer bytes than are asked for
 abbrev pub policy_answer : (shortest : ℕ) → List ℕ → Result IntegrityAlgorithm ValidateError
     → CallResult
 policy_answer shortest d (Ok algorithm) =

@@ -41,7 +41,7 @@ struct Place {
     last: u16,
 }
 
-/// Where the attributes of a message begin.
+/// The beginning of a message's attributes.
 fn start(bytes: &[u8]) -> Option<Place>
     ensures { MatchOption result (shown bytes.now ≡ [])
         (λ at. (at.offset ≤ length bytes.now)

@@ -22,7 +22,7 @@ fn code_text(code: u32) -> &'static str
         codes::INTEGRITY_FAILED => "the HMAC is wrong",
         codes::OUT_OF_MEMORY => "out of memory",
         codes::TOO_SMALL => "the slice is too small",
-        codes::EXISTS => "an attribute that is written bars the addition",
+        codes::EXISTS => "an attribute that is written blocks the addition",
         codes::ENDING_TYPE => "attributes of this type have an add of their own",
         codes::OUT_OF_RANGE => "a number is out of range",
         codes::BAD_ARGUMENT => "an argument is invalid",
@@ -41,7 +41,7 @@ fn code_text(code: u32) -> &'static str
     }
 }
 
-/// The text of a code, and a 0 behind it.
+/// The text of a code, and a 0 after it.
 #[derive(Clone, Copy)]
 struct EndedText {
     code: u32,
@@ -60,7 +60,7 @@ impl PrintText for EndedText {
     }
 }
 
-/// Writes the text of a code, and a 0 behind it, at the start of a slice, as far as there is room.
+/// Writes the text of a code, and a 0 after it, at the start of a slice, as far as there is room.
 /// Returns how many bytes both have.
 #[unsafe(no_mangle)]
 pub extern "C" fn stun_types_text(code: u32, text: &mut [u8]) -> usize

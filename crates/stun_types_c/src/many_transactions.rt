@@ -36,7 +36,7 @@ fn addressee(bytes: &[u8], kept: &[KeptTransaction]) -> Option<usize>
     place_of(kept, header.transaction_id())
 }
 
-/// The place of the transaction that received bytes are for; false where there is none.
+/// The place of the transaction that received bytes are for; false if there is none.
 #[unsafe(no_mangle)]
 pub extern "C" fn stun_types_transactions_find(
     kept: &[KeptTransaction],
@@ -89,7 +89,7 @@ fn soonest(kept: &[KeptTransaction]) -> Option<u64>
     told
 }
 
-/// The soonest moment at which one of the transactions is to be polled; false where none is.
+/// The soonest moment at which one of the transactions is to be polled; false if none is.
 #[unsafe(no_mangle)]
 pub extern "C" fn stun_types_transactions_next(kept: &[KeptTransaction], until: &mut u64) -> bool
     ensures { TellsSoonest kept.now result until.old until.new }
@@ -114,7 +114,7 @@ fn round_trip(kept: &KeptTransaction, now: u64) -> Option<u64>
     }
 }
 
-/// How long a response took, in milliseconds; false where that isn't known.
+/// How long a response took, in milliseconds; false if that isn't known.
 #[unsafe(no_mangle)]
 pub extern "C" fn stun_types_transaction_round_trip(
     kept: &KeptTransaction,

@@ -1,5 +1,5 @@
 //! The error response to a request that a server refuses, and the security features that its nonces
-//! tell of.
+//! promise.
 
 ghost use Rattle.std.specs.Prelude.{◌≡◌, ◌⊎◌, Some, None, take, MatchResult};
 ghost use Rattle.stun_base.specs.MessageTypes.{class_of};
@@ -26,7 +26,7 @@ use stun_types::attribute::{Nonce, PasswordAlgorithms, Realm};
 use stun_types::message::{Message, MessageClass, MessageWriteVec};
 use stun_types::prelude::*;
 
-/// The beginning of a nonce that tells of security features.
+/// The beginning of a nonce that promises security features.
 #[repr(C)]
 #[derive(Clone, Copy, Drop)]
 pub struct Cookie {
@@ -34,7 +34,7 @@ pub struct Cookie {
     pub bytes: [u8; 13],
 }
 
-/// The request that C hands in.
+/// The request that C passes.
 fn request_in(bytes: &[u8]) -> Result<Message<'_>, CallResult>
     ensures { MatchResult result
         (λ message. (message_answer bytes.now ≡ None) × (message_bytes message ≡ bytes.now)
@@ -304,7 +304,7 @@ pub extern "C" fn stun_types_nonce_cookie(features: u32, cookie: &mut Cookie) ->
     plain(codes::OK)
 }
 
-/// The features that a nonce tells of; false where it begins with no nonce cookie.
+/// The features that a nonce promises; false if it begins with no nonce cookie.
 #[unsafe(no_mangle)]
 pub extern "C" fn stun_types_security_features(nonce: &[u8], features: &mut u32) -> bool
     ensures { TellsFeatures (security_features nonce.now) result features.old features.new }

@@ -29,7 +29,7 @@ use stun_types::message::{Message, ValidateError};
 #[repr(C)]
 #[derive(Clone, Copy, Drop)]
 pub struct Validated {
-    /// The number of the algorithm; 0 where the message isn't valid.
+    /// The number of the algorithm; 0 if the message isn't valid.
     pub algorithm: u32,
     /// How many bytes its HMAC has.
     pub hmac_length: u32,
@@ -37,14 +37,14 @@ pub struct Validated {
     pub reserved: u64,
 }
 
-/// What a call leaves where the message isn't valid.
+/// What a call leaves if the message isn't valid.
 const NOT_VALIDATED: Validated = Validated {
     algorithm: 0,
     hmac_length: 0,
     reserved: 0,
 };
 
-/// How many bytes the HMAC of an algorithm has in a message; 0 where there is none.
+/// How many bytes the HMAC of an algorithm has in a message; 0 if there is none.
 fn hmac_length(message: &Message<'_>, algorithm: IntegrityAlgorithm) -> u16
     ensures { result ≡ hmac_length algorithm (message_bytes message.now) }
 {
