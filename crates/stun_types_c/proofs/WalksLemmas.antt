@@ -1,13 +1,13 @@
 -- A walk over the attributes that a message shows, step by step.
 use Rattle.std.proofs.Common.{◌≡◌, ℕ, zero, suc, ◌+◌, Bool, true, false, List, [], ◌∷◌, ◌++◌, length, map, set, drop, Option, None, Some, refl, sym, ap, ◌∙◌, append_assoc, arith}
-use Rattle.std.proofs.lemmas.List.{map-append, length-append, length-map, append-nil}
+use Rattle.std.proofs.lemmas.List.{map-append, length-append, length-map}
 use Rattle.std.specs.Prelude.{slice_get, ◌==◌, if◌then◌else◌}
 use Rattle.std.specs.Option.{option_map}
 use Rattle.stun_grammar.specs.Chains.{Shown}
 use Rattle.stun_grammar.specs.Showing.{shown}
 use Rattle.stun_types_c.specs.declared.attribute.Cursor.{Cursor}
 use Rattle.stun_types_c.specs.declared.attribute.ShownAttribute.{ShownAttribute}
-use Rattle.stun_types_c.specs.Attributes.{in_c, left, laid_over, Lists}
+use Rattle.stun_types_c.specs.Attributes.{in_c, left, laid_over}
 
 -- the element at an index is the first that is left when as many are taken off
 pub there : {A : Type 0} (xs : List A) (i : ℕ) (x : A) → slice_get xs i ≡ Some x → drop i xs ≡ x ∷ drop (i + 1) xs
@@ -43,13 +43,6 @@ pub record Listed (all left : List Shown) (count : ℕ) (places start : List Sho
   pub counted : count ≡ length before
   pub laid : places ≡ laid_over (map in_c before) start
 
-pub none_listed : (all : List Shown) (start : List ShownAttribute) → Listed all all 0 start start
-none_listed all start = record { before = []; split = refl; counted = refl; laid = laid_nothing start }
-  where
-    laid_nothing : (xs : List ShownAttribute) → xs ≡ laid_over [] xs
-    laid_nothing [] = refl
-    laid_nothing (x ∷ xs) = refl
-
 pub one_listed : (all left next : List Shown) (a : Shown) (count more : ℕ) (places new start : List ShownAttribute) (x : ShownAttribute) → Listed all left count places start → left ≡ a ∷ next → x ≡ in_c a
     → more ≡ count + 1 → new ≡ set places count x → Listed all next more new start
 one_listed all left next a count more places new start x so left-is x-is more-is new-is = record {
@@ -62,14 +55,6 @@ one_listed all left next a count more places new start x so left-is x-is more-is
       new-is ∙ (λ j. set (so.laid j) (size j) (x-is j)) ∙ laid_more found start (in_c a)
       ∙ ap (λ (l : List ShownAttribute). laid_over l start) (sym (map-append in_c so.before (a ∷ [])));
 }
-
-pub all_listed : (all left : List Shown) (count : ℕ) (places start : List ShownAttribute) → Listed all left count places start → left ≡ [] → Lists all count start places
-all_listed all left count places start so none =
-    let same : all ≡ so.before = so.split ∙ ap (λ (l : List Shown). so.before ++ l) none ∙ append-nil so.before in
-    record {
-      counted = so.counted ∙ ap length (sym same);
-      listed = so.laid ∙ ap (λ (l : List Shown). laid_over (map in_c l) start) (sym same);
-    }
 
 map_none : {A B : Type 0} (f : A → B) (o : Option A) → option_map f o ≡ None → o ≡ None
 map_none f None e = refl
