@@ -127,7 +127,7 @@ static int receive_datagram(carrier *by, message *got) {
     return RECEIVED;
 }
 
-/* Reads a piece of the stream, where all before is taken. */
+/* Reads a piece of the stream if all before is taken. */
 static int read_piece(carrier *by) {
     if (by->piece_at < by->piece_end) return RECEIVED;
     ssize_t length = recv(by->socket, by->piece, sizeof by->piece, 0);
@@ -318,7 +318,7 @@ static int login(carrier *by, const task *asked, stun_types_key *key, stun_types
     return TOLD;
 }
 
-/* Asks, with credentials where the server wants them, and prints what it answers. */
+/* Asks, with credentials if the server wants them, and prints what it answers. */
 static int run(const task *asked) {
     stun_types_key key = STUN_TYPES_NO_KEY_YET;
     stun_types_received taken;

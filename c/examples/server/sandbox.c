@@ -62,8 +62,8 @@ static const int allowed[] = {
 #ifdef SYS_epoll_wait
     SYS_epoll_wait,
 #endif
-    SYS_epoll_pwait, SYS_recvfrom, SYS_sendto, SYS_epoll_ctl, SYS_accept4, SYS_setsockopt,
-    SYS_shutdown, SYS_close, SYS_clock_gettime,
+    SYS_epoll_pwait, SYS_recvfrom, SYS_sendto, SYS_epoll_ctl, SYS_accept4, SYS_shutdown,
+    SYS_close, SYS_clock_gettime,
 #ifdef SYS_poll
     SYS_poll,
 #endif
