@@ -22,7 +22,7 @@ ghost use Rattle.stun_attributes.specs.declared.unknown_attributes.UnknownAttrib
 ghost use Rattle.stun_attributes.specs.declared.xor_mapped_address.XorMappedAddress.{XorMappedAddress};
 ghost use Rattle.stun_attributes.specs.AddressAttributes.{ReadsAddress, server_addr, written_mapped_addr};
 ghost use Rattle.stun_attributes.specs.ErrorCodes.{error_code, error_reason, IsError, ReadsError};
-ghost use Rattle.stun_attributes.specs.Passwords.{ReadsAlgorithm, ReadsAlgorithms, held_algorithm, held_algorithms};
+ghost use Rattle.stun_attributes.specs.PasswordAlgorithms.{ReadsAlgorithm, ReadsAlgorithms, held_algorithm, held_algorithms};
 ghost use Rattle.stun_attributes.specs.Texts.{text_bytes, IsReadAsText, ReadsText};
 ghost use Rattle.stun_attributes.specs.Unknown.{ReadsTypes, listed};
 
