@@ -241,7 +241,7 @@ static bool is_busy(const client *of, uint64_t now) {
     return now < of->heard + (of->answered < of->sent ? LAST_PATIENCE : EXTRA_TIME);
 }
 
-/* Goes on with the clients that hear nothing; how many are still busy. */
+/* Resumes the clients that hear nothing; how many are still busy. */
 static int push_on(uint64_t now) {
     int busy = 0;
     for (client *of = clients; of < clients + asked.clients; of++) {
