@@ -12,18 +12,18 @@ mod error;
 mod fault;
 mod gather;
 mod input_output;
-mod stored_stream;
 mod laws;
 mod message_stream;
 mod run_error;
+mod stored_stream;
 
 pub use carries::Carries;
 pub use error::{StreamError, StreamFault};
 pub use input_output::{InputError, WriteFailed, read_all, write_all};
-pub use stored_stream::{Pushed, push_stored};
 pub use laws::{
     calls_go_on, cuts_change_nothing, faults_are_right, messages_are_framed, one_cut,
     resuming_changes_nothing,
 };
 pub use message_stream::{GREATEST_MESSAGE, MessageStream};
 pub use run_error::{FAILED, RunError, arguments_error};
+pub use stored_stream::{Pushed, push_stored};

@@ -47,7 +47,8 @@ pub extern "C" fn stun_types_stream_push(
         return plain(codes::BAD_ARGUMENT);
     }
     let size = buffer.len();
-    let Some(answer) = push_stored(Carries::Messages, buffer, kept.pending, kept.offset, piece) else {
+    let Some(answer) = push_stored(Carries::Messages, buffer, kept.pending, kept.offset, piece)
+    else {
         return plain(codes::BAD_ARGUMENT);
     };
     match answer {
