@@ -810,8 +810,8 @@ stun_types_answer stun_types_make_nonce(const stun_types_key *secret, uint32_t f
 
 /* What the server knows of the nonce in a request of this client, for stun_types_authenticate_long_term:
    it is valid; stale, if its window is over or its time is still to come; or unknown, if it was made by
-   another secret, for another client or with other features. One HMAC is computed. A server that
-   changes its secret keeps the old one for a window, and calls this with both.
+   another secret, for another client or with other features. At most one HMAC is computed. A server
+   that changes its secret keeps the old one for a window, and calls this with both.
    BAD_ARGUMENT, NO_KEY: as above. Allocates: OUT_OF_MEMORY. */
 STUN_TYPES_NODISCARD STUN_TYPES_NONNULL((1, 5, 8))
 stun_types_answer stun_types_judge_nonce(const stun_types_key *secret, uint32_t features,

@@ -20,7 +20,7 @@ use Rattle.stun_transactions.specs.Receiving.{received_outcome, content, claim_o
 use Rattle.stun_types.specs.Replies.{responds_to, is_answer_to}
 use Rattle.stun_transactions.specs.Terms.{is_answer}
 use Rattle.stun_agent.specs.declared.query.Login.{Login}
-use Rattle.stun_agent.specs.Binding.{told, protection_of, usage}
+use Rattle.stun_agent.specs.Binding.{reported, protection_of, usage}
 
 -- of a transaction in progress
 in_progress : (ongoing parses answers : Bool) (taken : Outcome) → ongoing ≡ true
@@ -48,9 +48,9 @@ same_guard terms login r d transport signed protection used =
     ∙ ap (λ (p : Protection). answered Udp p terms.usage (signed_by r) d) protection
     ∙ ap (λ (u : Usage). answered Udp (protection_of login) u (signed_by r) d) used
 
-pub received_told : (terms : Terms) (course : RetransmissionState) (login : Option Login) (r d : List ℕ) → is_open course ≡ true → terms.plan.transport ≡ Udp → terms.method ≡ method_of (type_field r) → terms.id ≡ id_field r
-    → terms.signed ≡ signed_by r → terms.protection ≡ protection_of login → terms.usage ≡ usage → received_outcome terms course [] d ≡ told login r d
-received_told terms course login r d ongoing transport method id signed protection used =
+pub received_reported : (terms : Terms) (course : RetransmissionState) (login : Option Login) (r d : List ℕ) → is_open course ≡ true → terms.plan.transport ≡ Udp → terms.method ≡ method_of (type_field r) → terms.id ≡ id_field r
+    → terms.signed ≡ signed_by r → terms.protection ≡ protection_of login → terms.usage ≡ usage → received_outcome terms course [] d ≡ reported login r d
+received_reported terms course login r d ongoing transport method id signed protection used =
     in_progress (is_open course) (not (is_some (parse_fault d))) (is_answer terms d) (answered terms.plan.transport terms.protection terms.usage terms.signed d) ongoing
     ∙ ap (λ (b : Bool). if not (is_some (parse_fault d)) && b then answered terms.plan.transport terms.protection terms.usage terms.signed d else NotForThis) (same_answer terms r d method id)
     ∙ ap (λ (o : Outcome). if not (is_some (parse_fault d)) && is_answer_to r d then o else NotForThis) (same_guard terms login r d transport signed protection used)

@@ -21,7 +21,7 @@ EndsAsking query (Err NoMemory) held held' = Keeps held held'
 EndsAsking query _ held held' = ⊥
 
 -- the whole input is a datagram that says this
-pub record Told (query : Query) (left left' : Option (List ℕ)) (read : BindingResult) : Type 0 where
+pub record Reported (query : Query) (left left' : Option (List ℕ)) (read : BindingResult) : Type 0 where
   pub input : List ℕ
   pub all : ReadsAll greatest_length left left' input
   pub tells : Tells query input read
@@ -29,14 +29,14 @@ pub record Told (query : Query) (left left' : Option (List ℕ)) (read : Binding
 -- all was read, and a prefix of the line was written, but not all of it
 pub record WritesPartOfLine (query : Query) (left left' held held' : Option (List ℕ)) : Type 0 where
   pub read : BindingResult
-  pub told : Told query left left' read
+  pub reported : Reported query left left' read
   pub written : WritesPart held held' (result_text read)
 
 -- the input is read, and the line of what it says is written, or a prefix of it
 abbrev pub EndsTelling : Query → Result RunEnd RunError
     → (left left' held held' : Option (List ℕ)) → Type 0
 EndsTelling query (Ok (Answered read)) left left' held held' =
-    Told query left left' read × Appends held held' (result_text read)
+    Reported query left left' read × Appends held held' (result_text read)
 EndsTelling query (Err WriteFailed) left left' held held' = WritesPartOfLine query left left' held held'
 EndsTelling query (Err TooLong) left left' held held' =
     ReadsTooMuch greatest_length left left' × Keeps held held'

@@ -67,8 +67,8 @@ usage = record { shortest = 32; fingerprint = false }
 -- ---- What a datagram is
 
 -- what a transaction of the request r, by a login or without one, reports of d
-abbrev pub told : Option Login → List ℕ → List ℕ → Outcome
-told login r d =
+abbrev pub reported : Option Login → List ℕ → List ℕ → Outcome
+reported login r d =
     if not (is_some (parse_fault d)) && is_answer_to r d then
     option_map_or (discarded Udp (claim_of d))
     (guard_fault (protection_of login) usage (signed_by r) d)
@@ -102,18 +102,18 @@ MapsTo d _ = ⊥
 
 -- a transaction of the request r takes d as a success response
 abbrev pub Succeeds : Option Login → List ℕ → List ℕ → Type 0
-Succeeds login r d = (proof : Option IntegrityAlgorithm) × (told login r d ≡ Outcome.Success proof)
+Succeeds login r d = (proof : Option IntegrityAlgorithm) × (reported login r d ≡ Outcome.Success proof)
 
 -- what d says of the request r
 abbrev pub TellsOf : Option Login → List ℕ → List ℕ → BindingResult → Type 0
 TellsOf login r d (Mapped a) = Succeeds login r d × MapsTo d (Mapped a)
 TellsOf login r d Unmapped = Succeeds login r d × MapsTo d Unmapped
 TellsOf login r d (Refused code) =
-    (proof : Option IntegrityAlgorithm) × (told login r d ≡ Outcome.Error code proof)
-TellsOf login r d Failed = (failure : Failure) × (told login r d ≡ Outcome.Failed failure)
+    (proof : Option IntegrityAlgorithm) × (reported login r d ≡ Outcome.Error code proof)
+TellsOf login r d Failed = (failure : Failure) × (reported login r d ≡ Outcome.Failed failure)
 TellsOf login r d NotAuthentic =
-    (reason : Discard) × (claim : Claim) × (told login r d ≡ Outcome.Discarded reason claim)
-TellsOf login r d NotAnswered = told login r d ≡ Outcome.NotForThis
+    (reason : Discard) × (claim : Claim) × (reported login r d ≡ Outcome.Discarded reason claim)
+TellsOf login r d NotAnswered = reported login r d ≡ Outcome.NotForThis
 
 abbrev pub Tells : Query → List ℕ → BindingResult → Type 0
 Tells query d answer = TellsOf query.login (request query) d answer

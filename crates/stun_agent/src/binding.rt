@@ -142,7 +142,7 @@ fn mapped(alloc: Global, response: &Message<'_>) -> BindingResult
 
 /// What a datagram says of the binding request of a query. The error says that an allocation
 /// failed: the request that this makes parses, and its first poll sends it.
-#[tactic(auto, using(crate::proofs::BindingLemmas::received_told))]
+#[tactic(auto, using(crate::proofs::BindingLemmas::received_reported))]
 pub fn read_response(
     alloc: Global,
     query: Query,

@@ -11,7 +11,7 @@ use Rattle.stun_attributes.specs.declared.password_algorithm.PasswordAlgorithm.{
 use Rattle.stun_attributes.specs.declared.password_algorithms.PasswordAlgorithms.{PasswordAlgorithms}
 use Rattle.stun_attributes.specs.declared.error_code.ErrorCode.{ErrorCode}
 use Rattle.stun_values.specs.Algorithms.{algorithm_encoding, algorithms_encoding, fault_within, one_algorithm_fault, algorithms_fault}
-use Rattle.stun_attributes.specs.Passwords.{ReadsAlgorithm, ReadsAlgorithms, held_algorithm, held_algorithms}
+use Rattle.stun_attributes.specs.PasswordAlgorithms.{ReadsAlgorithm, ReadsAlgorithms, held_algorithm, held_algorithms}
 use Rattle.stun_values.specs.ErrorValues.{error_value, told_code, error_fault}
 use Rattle.stun_attributes.specs.ErrorCodes.{error_code, error_reason, IsError, ReadsError}
 use Rattle.stun_grammar.specs.Lengths.{range_fault}

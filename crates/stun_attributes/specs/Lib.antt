@@ -1,6 +1,6 @@
 pub mod AddressAttributes
 pub mod ErrorCodes
 pub mod DefaultReasons
-pub mod Passwords
+pub mod PasswordAlgorithms
 pub mod Texts
 pub mod Unknown

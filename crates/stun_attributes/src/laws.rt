@@ -22,8 +22,8 @@ ghost use Rattle.stun_attributes.specs.declared.unknown_attributes.UnknownAttrib
 ghost use Rattle.stun_attributes.specs.declared.xor_mapped_address.XorMappedAddress.{XorMappedAddress};
 ghost use Rattle.stun_attributes.specs.AddressAttributes.{ReadsAddress, server_addr, written_mapped_addr};
 ghost use Rattle.stun_attributes.specs.ErrorCodes.{error_code, error_reason, IsError, ReadsError};
-ghost use Rattle.stun_attributes.specs.Passwords.{ReadsAlgorithm, ReadsAlgorithms, held_algorithm, held_algorithms};
-ghost use Rattle.stun_attributes.specs.Texts.{text_bytes, IsReadAsText, ReadsText};
+ghost use Rattle.stun_attributes.specs.PasswordAlgorithms.{ReadsAlgorithm, ReadsAlgorithms, held_algorithm, held_algorithms};
+ghost use Rattle.stun_attributes.specs.Texts.{text_bytes, ReadsText};
 ghost use Rattle.stun_attributes.specs.Unknown.{ReadsTypes, listed};
 
 use crate::{
@@ -39,17 +39,6 @@ pub fn text_is_read_back<const TYPE: u16, const MAX: u16>()
         (result : Result (TextAttribute TYPE MAX) StunParseError)
         → ReadsText MAX (text_bytes text) result
         → MatchResult result (λ read. text_bytes read ≡ text_bytes text) (λ e. e ≡ OutOfMemory) }
-{}
-
-/// Each of the five names is read by the rule of its own type (RFC 8489, section 18.3) and its own
-/// greatest length.
-pub fn text_types()
-    ensures username { IsReadAsText USERNAME username_max ⟦<Username as AttributeFromRaw<'static>>⟧.reads }
-    ensures realm { IsReadAsText REALM text_max ⟦<Realm as AttributeFromRaw<'static>>⟧.reads }
-    ensures nonce { IsReadAsText NONCE text_max ⟦<Nonce as AttributeFromRaw<'static>>⟧.reads }
-    ensures software { IsReadAsText SOFTWARE text_max ⟦<Software as AttributeFromRaw<'static>>⟧.reads }
-    ensures alternate_domain { IsReadAsText ALTERNATE_DOMAIN 65535
-        ⟦<AlternateDomain as AttributeFromRaw<'static>>⟧.reads }
 {}
 
 /// An address without flow info and scope ID that is XORed twice under one transaction ID is

@@ -23,8 +23,8 @@ pub use alternate_server::AlternateServer;
 pub use error_code::{ErrorCode, ErrorCodeBuilder};
 pub use laws::{
     address_is_read_back, algorithm_is_read_back, algorithms_are_read_back,
-    attribute_types_are_read_back, error_is_read_back, text_is_read_back, text_types,
-    types_are_read_back, xor_twice, xored_address_is_read_back,
+    attribute_types_are_read_back, error_is_read_back, text_is_read_back, types_are_read_back,
+    xor_twice, xored_address_is_read_back,
 };
 pub use mapped::MappedSocketAddr;
 pub use nonce::Nonce;

@@ -1,5 +1,5 @@
 ghost use Rattle.std.specs.Prelude.{◌≡◌};
-ghost use Rattle.stun_attributes.specs.Passwords.{held_algorithm};
+ghost use Rattle.stun_attributes.specs.PasswordAlgorithms.{held_algorithm};
 
 use std::alloc::Global;
 use std::fmt;
@@ -65,7 +65,7 @@ impl EncodeValue for PasswordAlgorithm {
 /// parameters of p bytes as `TooLarge { expected: 4, actual: 4 + p }`; another number as
 /// `InvalidAttributeData`. What follows the first four bytes is ignored.
 impl ReadValue for PasswordAlgorithm {
-    ghost use Rattle.stun_attributes.specs.Passwords.{ReadsAlgorithm};
+    ghost use Rattle.stun_attributes.specs.PasswordAlgorithms.{ReadsAlgorithm};
 
     ghost reads_value = { ReadsAlgorithm };
 

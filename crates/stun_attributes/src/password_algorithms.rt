@@ -23,7 +23,7 @@ pub struct PasswordAlgorithms {
 
 impl PasswordAlgorithms {
     ghost use Rattle.std.specs.Prelude.{◌<◌, ◌*◌, ◌%◌, Err, IfOk, IfErr, MatchResult};
-    ghost use Rattle.stun_attributes.specs.Passwords.{held_algorithms};
+    ghost use Rattle.stun_attributes.specs.PasswordAlgorithms.{held_algorithms};
 
     /// The attribute of these algorithms, copied into memory from `alloc`. An empty list is
     /// accepted, though reading refuses its value.
@@ -100,7 +100,7 @@ impl TypedAttribute for PasswordAlgorithms {
 }
 
 impl EncodeValue for PasswordAlgorithms {
-    ghost use Rattle.stun_attributes.specs.Passwords.{held_algorithms};
+    ghost use Rattle.stun_attributes.specs.PasswordAlgorithms.{held_algorithms};
 
     ghost bytes = { λ attribute. algorithms_encoding (held_algorithms attribute) };
 
@@ -126,7 +126,7 @@ impl EncodeValue for PasswordAlgorithms {
 /// `InvalidAttributeData` if it has another number; and a failed allocation as `OutOfMemory`, since
 /// the list is kept in memory from `alloc`.
 impl ReadValue for PasswordAlgorithms {
-    ghost use Rattle.stun_attributes.specs.Passwords.{ReadsAlgorithms};
+    ghost use Rattle.stun_attributes.specs.PasswordAlgorithms.{ReadsAlgorithms};
 
     ghost reads_value = { ReadsAlgorithms };
 
@@ -139,7 +139,7 @@ impl ReadValue for PasswordAlgorithms {
 
 impl PrintText for PasswordAlgorithms {
     ghost use Rattle.stun_values.specs.Algorithms.{algorithms_text};
-    ghost use Rattle.stun_attributes.specs.Passwords.{held_algorithms};
+    ghost use Rattle.stun_attributes.specs.PasswordAlgorithms.{held_algorithms};
 
     ghost text = { λ attribute. algorithms_text (held_algorithms attribute) };
 
@@ -152,7 +152,7 @@ impl PrintText for PasswordAlgorithms {
 impl fmt::Display for PasswordAlgorithms {
     ghost use Rattle.std.specs.Prelude.{Some};
     ghost use Rattle.stun_values.specs.Algorithms.{algorithms_text};
-    ghost use Rattle.stun_attributes.specs.Passwords.{held_algorithms};
+    ghost use Rattle.stun_attributes.specs.PasswordAlgorithms.{held_algorithms};
 
     ghost output = { λ attribute. Some (algorithms_text (held_algorithms attribute)) };
 

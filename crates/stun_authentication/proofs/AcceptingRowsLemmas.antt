@@ -130,16 +130,16 @@ never_stale policy keys d e =
     let five = handed_on (proof_of policy four.0 d) (λ b. accept four.0 b b) (short.reject d Unauthenticated) goal unknown four.1.1 in
     let last : (let x : Decision = accept four.0 five.0 five.0 in x) ≡ refuse StaleNonce = five.1.1 in absurd cc
 
-told_stale : (x : Decision) → Tells x (Refused StaleNonce) → x ≡ refuse StaleNonce
-told_stale (accept key a s) told = absurd told
-told_stale (refuse refusal) told = ap refuse (sym told)
-told_stale discard told = absurd told
-told_stale not_a_request told = absurd told
+reports_stale : (x : Decision) → Tells x (Refused StaleNonce) → x ≡ refuse StaleNonce
+reports_stale (accept key a s) told = absurd told
+reports_stale (refuse refusal) told = ap refuse (sym told)
+reports_stale discard told = absurd told
+reports_stale not_a_request told = absurd told
 
 none_stale : (policy : Policy) (keys : List ℕ → Option (List ℕ)) (d : List ℕ) → Tells (short.short_term policy keys d) (Refused StaleNonce) → ⊥
-none_stale policy keys d told = never_stale policy keys d (told_stale (short.short_term policy keys d) told)
+none_stale policy keys d told = never_stale policy keys d (reports_stale (short.short_term policy keys d) told)
 
-pub no_nonce : {E : Type 0} (policy : Policy) (keys : List ℕ → Option (List ℕ)) (d : List ℕ) (r : Result Authentication E) → IfOk r (Tells (short.short_term policy keys d)) → IfOk r (λ told. told ≢ Refused StaleNonce)
+pub no_nonce : {E : Type 0} (policy : Policy) (keys : List ℕ → Option (List ℕ)) (d : List ℕ) (r : Result Authentication E) → IfOk r (Tells (short.short_term policy keys d)) → IfOk r (λ answer. answer ≢ Refused StaleNonce)
 no_nonce policy keys d (Ok told) h = λ e. none_stale policy keys d (subst (Tells (short.short_term policy keys d)) e h)
 no_nonce policy keys d (Err e) h = tt
 

@@ -5,9 +5,9 @@ use Rattle.std.proofs.lemmas.Bool.{le-leb}
 use Rattle.stun_authentication.specs.Cookies.{six_bits, security_features, four_characters}
 
 -- a cookie has its two bits
-pub told_bits : (algorithms anonymity : Bool) (more : List ℕ) → security_features (codes "obMatJos2" ++ (four_characters algorithms anonymity ++ more)) ≡ Some (record { password_algorithms = algorithms; username_anonymity = anonymity })
+pub read_bits : (algorithms anonymity : Bool) (more : List ℕ) → security_features (codes "obMatJos2" ++ (four_characters algorithms anonymity ++ more)) ≡ Some (record { password_algorithms = algorithms; username_anonymity = anonymity })
 unfolding security_features six_bits
-told_bits false false more = rw (le-leb 13 (length (codes "obMatJos2AAAA" ++ more)) (omega arith)) refl
-told_bits true false more = rw (le-leb 13 (length (codes "obMatJos2gAAA" ++ more)) (omega arith)) refl
-told_bits false true more = rw (le-leb 13 (length (codes "obMatJos2QAAA" ++ more)) (omega arith)) refl
-told_bits true true more = rw (le-leb 13 (length (codes "obMatJos2wAAA" ++ more)) (omega arith)) refl
+read_bits false false more = rw (le-leb 13 (length (codes "obMatJos2AAAA" ++ more)) (omega arith)) refl
+read_bits true false more = rw (le-leb 13 (length (codes "obMatJos2gAAA" ++ more)) (omega arith)) refl
+read_bits false true more = rw (le-leb 13 (length (codes "obMatJos2QAAA" ++ more)) (omega arith)) refl
+read_bits true true more = rw (le-leb 13 (length (codes "obMatJos2wAAA" ++ more)) (omega arith)) refl

@@ -149,8 +149,8 @@ both_steps u r old mid new a key one two = record {
 pub after_error : (r : Result (Unit {0}) StunWriteError) (e : StunWriteError) (old new : Writer) (a : IntegrityAlgorithm) (key : List ℕ) → Done true (Err e) old new a key → IsErr r × IsErrAnd r (λ made. made ≡ e) → Done true r old new a key
 after_error r e old new a key so told = subst (λ (q : Result (Unit {0}) StunWriteError). Done true q old new a key) (sym (passed_on r e told)) so
 
-pub as_told : (told fingerprint : Bool) (r : Result (Unit {0}) StunWriteError) (old new : Writer) (a : IntegrityAlgorithm) (key : List ℕ) → told ≡ fingerprint → Done fingerprint r old new a key → Done told r old new a key
-as_told told fingerprint r old new a key e so = subst (λ (b : Bool). Done b r old new a key) (sym e) so
+pub as_asked : (told fingerprint : Bool) (r : Result (Unit {0}) StunWriteError) (old new : Writer) (a : IntegrityAlgorithm) (key : List ℕ) → told ≡ fingerprint → Done fingerprint r old new a key → Done told r old new a key
+as_asked told fingerprint r old new a key e so = subst (λ (b : Bool). Done b r old new a key) (sym e) so
 
 -- ---- A FINGERPRINT alone
 

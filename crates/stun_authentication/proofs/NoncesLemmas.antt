@@ -21,7 +21,7 @@ use Rattle.std.proofs.lemmas.List.Sums.{fold-append}
 use Rattle.stun_grammar.specs.Numbers.{be64, number, IsBytes}
 use Rattle.stun_authentication.specs.Cookies.{cookie, four_characters}
 use Rattle.stun_authentication.specs.declared.nonces.Freshness.TheVariants.{Fresh, Stale, Unknown}
-use Rattle.stun_authentication.specs.Nonces.{digit, digit_of, hexed, unhexed, Minting, minted, minted_mac, told_time, aged, freshness, is_qdtext}
+use Rattle.stun_authentication.specs.Nonces.{digit, digit_of, hexed, unhexed, Minting, minted, minted_mac, stated_time, aged, freshness, is_qdtext}
 
 -- ---- Hexadecimal
 
@@ -117,8 +117,8 @@ behind_sixteen : (t : ℕ) (x : List ℕ) → drop 16 (hexed (be64 t) ++ x) ≡ 
 unfolding hexed
 behind_sixteen t x = refl
 
-pub time_told : (m : Minting) (time : ℕ) (place : List ℕ) → time < 2 ^ 64 → told_time (minted m time place) ≡ time
-time_told m time place small =
+pub time_stated : (m : Minting) (time : ℕ) (place : List ℕ) → time < 2 ^ 64 → stated_time (minted m time place) ≡ time
+time_stated m time place small =
     let mac = hexed (minted_mac m time place) in
     ap (λ (x : List ℕ). number (unhexed (take 16 x))) (behind_cookie m.features.password_algorithms m.features.username_anonymity (hexed (be64 time) ++ mac))
     ∙ ap (λ (x : List ℕ). number (unhexed x)) (first_sixteen time mac) ∙ ap number (unhexed_back (be64 time) (time_bytes time)) ∙ number-be64 time small
@@ -126,9 +126,9 @@ time_told m time place small =
 mac_of : List ℕ → List ℕ
 mac_of nonce = unhexed (drop 16 (drop 13 nonce))
 
-mac_told : (m : Minting) (time : ℕ) (place : List ℕ) → mac_of (minted m time place) ≡ minted_mac m time place
+mac_stated : (m : Minting) (time : ℕ) (place : List ℕ) → mac_of (minted m time place) ≡ minted_mac m time place
 unfolding mac_of
-mac_told m time place =
+mac_stated m time place =
     let mac = hexed (minted_mac m time place) in
     ap (λ (x : List ℕ). unhexed (drop 16 x)) (behind_cookie m.features.password_algorithms m.features.username_anonymity (hexed (be64 time) ++ mac))
     ∙ ap unhexed (behind_sixteen time mac) ∙ unhexed_back (minted_mac m time place) (hmac_bytes m.secret _)
@@ -157,7 +157,7 @@ minted_text m time place =
 judged : (m : Minting) (time now : ℕ) (place : List ℕ) → time < 2 ^ 64 → freshness m now place (minted m time place) ≡ aged m now time
 judged m time now place small =
     let n = minted m time place in
-    ap (λ (t : ℕ). if pointwise nat_eq n (minted m t place) then aged m now t else Unknown) (time_told m time place small)
+    ap (λ (t : ℕ). if pointwise nat_eq n (minted m t place) then aged m now t else Unknown) (time_stated m time place small)
     ∙ ap (λ (b : Bool). if b then aged m now time else Unknown) ((bytes_decides n n).1 refl)
 
 pub valid_in_time : (m : Minting) (time now : ℕ) (place : List ℕ) → time < 2 ^ 64 → time ≤ now → now ≤ time + m.window → freshness m now place (minted m time place) ≡ Fresh
@@ -176,17 +176,17 @@ over_later m time now place small late =
     not_le true h = h refl
     not_le false h = refl
 
-pub own_only : (m : Minting) (now : ℕ) (place nonce : List ℕ) → freshness m now place nonce ≢ Unknown → nonce ≡ minted m (told_time nonce) place
-own_only m now place nonce known = elim (cases_Bool (pointwise nat_eq nonce (minted m (told_time nonce) place))) [
-  | inl same ↦ (bytes_decides nonce (minted m (told_time nonce) place)).0 same
-  | inr differs ↦ absurd (known (ap (λ (b : Bool). if b then aged m now (told_time nonce) else Unknown) differs))
+pub own_only : (m : Minting) (now : ℕ) (place nonce : List ℕ) → freshness m now place nonce ≢ Unknown → nonce ≡ minted m (stated_time nonce) place
+own_only m now place nonce known = elim (cases_Bool (pointwise nat_eq nonce (minted m (stated_time nonce) place))) [
+  | inl same ↦ (bytes_decides nonce (minted m (stated_time nonce) place)).0 same
+  | inr differs ↦ absurd (known (ap (λ (b : Bool). if b then aged m now (stated_time nonce) else Unknown) differs))
 ]
 
 pub other_mac : (m other : Minting) (time now : ℕ) (place there : List ℕ) → time < 2 ^ 64 → freshness other now there (minted m time place) ≢ Unknown → minted_mac other time there ≡ minted_mac m time place
 other_mac m other time now place there small known =
     let n = minted m time place in
-    let same : n ≡ minted other time there = own_only other now there n known ∙ ap (λ (t : ℕ). minted other t there) (time_told m time place small) in
-    sym (mac_told other time there) ∙ ap mac_of (sym same) ∙ mac_told m time place
+    let same : n ≡ minted other time there = own_only other now there n known ∙ ap (λ (t : ℕ). minted other t there) (time_stated m time place small) in
+    sym (mac_stated other time there) ∙ ap mac_of (sym same) ∙ mac_stated m time place
 
 -- ---- It is a text
 
@@ -235,22 +235,22 @@ minted_again m time place = ap (λ (bytes : List ℕ). cookie m.features ++ (hex
 
 -- a nonce of another length is unknown
 pub unknown_length : (m : Minting) (now : ℕ) (place nonce : List ℕ) → (length nonce ≡ 93 → ⊥) → freshness m now place nonce ≡ Unknown
-unknown_length m now place nonce other = elim (cases_Bool (pointwise nat_eq nonce (minted m (told_time nonce) place))) [
-  | inl same ↦ absurd (other (ap length ((bytes_decides nonce (minted m (told_time nonce) place)).0 same) ∙ minted_length m (told_time nonce) place))
-  | inr differs ↦ ap (λ (b : Bool). if b then aged m now (told_time nonce) else Unknown) differs
+unknown_length m now place nonce other = elim (cases_Bool (pointwise nat_eq nonce (minted m (stated_time nonce) place))) [
+  | inl same ↦ absurd (other (ap length ((bytes_decides nonce (minted m (stated_time nonce) place)).0 same) ∙ minted_length m (stated_time nonce) place))
+  | inr differs ↦ ap (λ (b : Bool). if b then aged m now (stated_time nonce) else Unknown) differs
 ]
 
 -- one that is the nonce of a time, and one that isn't
-pub known_again : (m : Minting) (now time : ℕ) (place nonce : List ℕ) → time ≡ told_time nonce % 2 ^ 64 → pointwise nat_eq nonce (minted m time place) ≡ true → freshness m now place nonce ≡ aged m now time
+pub known_again : (m : Minting) (now time : ℕ) (place nonce : List ℕ) → time ≡ stated_time nonce % 2 ^ 64 → pointwise nat_eq nonce (minted m time place) ≡ true → freshness m now place nonce ≡ aged m now time
 known_again m now time place nonce is same =
     let small : time < 2 ^ 64 = omega (arith, is) in
     let it : nonce ≡ minted m time place = (bytes_decides nonce (minted m time place)).0 same in
     ap (freshness m now place) it ∙ judged m time now place small
 
-pub unknown_again : (m : Minting) (now time : ℕ) (place nonce : List ℕ) → time ≡ told_time nonce % 2 ^ 64 → pointwise nat_eq nonce (minted m time place) ≡ false → freshness m now place nonce ≡ Unknown
+pub unknown_again : (m : Minting) (now time : ℕ) (place nonce : List ℕ) → time ≡ stated_time nonce % 2 ^ 64 → pointwise nat_eq nonce (minted m time place) ≡ false → freshness m now place nonce ≡ Unknown
 unknown_again m now time place nonce is differs =
-    let made : minted m time place ≡ minted m (told_time nonce) place = ap (λ (t : ℕ). minted m t place) is ∙ minted_again m (told_time nonce) place in
-    ap (λ (b : Bool). if b then aged m now (told_time nonce) else Unknown) (ap (pointwise nat_eq nonce) (sym made) ∙ differs)
+    let made : minted m time place ≡ minted m (stated_time nonce) place = ap (λ (t : ℕ). minted m t place) is ∙ minted_again m (stated_time nonce) place in
+    ap (λ (b : Bool). if b then aged m now (stated_time nonce) else Unknown) (ap (pointwise nat_eq nonce) (sym made) ∙ differs)
 
 -- two characters more
 unhexed_two : (n : ℕ) (xs : List ℕ) (a b : ℕ) → length xs ≡ 2 * n → unhexed (xs ++ a ∷ b ∷ []) ≡ unhexed xs ++ (16 * digit_of a + digit_of b) ∷ []

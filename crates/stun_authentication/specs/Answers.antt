@@ -32,14 +32,14 @@ refusal_reason StaleNonce = codes "Stale Nonce"
 
 -- an answer reports a decision
 pub record TellsAccept (key : List ℕ) (algorithm reply_algorithm : IntegrityAlgorithm)
-    (told : Accepted) : Type 0 where
-  pub key_is : IsKey None key told.key
-  pub algorithm_is : told.algorithm ≡ algorithm
-  pub reply_is : told.reply_algorithm ≡ reply_algorithm
+    (accepted : Accepted) : Type 0 where
+  pub key_is : IsKey None key accepted.key
+  pub algorithm_is : accepted.algorithm ≡ algorithm
+  pub reply_is : accepted.reply_algorithm ≡ reply_algorithm
 
 abbrev pub Tells : Decision → Authentication → Type 0
-Tells (accept key algorithm reply) (AcceptedBy told) = TellsAccept key algorithm reply told
-Tells (refuse refusal) (Refused told) = told ≡ refusal
+Tells (accept key algorithm reply) (AcceptedBy accepted) = TellsAccept key algorithm reply accepted
+Tells (refuse refusal) (Refused reported) = reported ≡ refusal
 Tells discard Discarded = Unit {0}
 Tells not_a_request NotARequest = Unit {0}
 Tells _ _ = ⊥

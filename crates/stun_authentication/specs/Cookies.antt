@@ -5,11 +5,11 @@ use Rattle.std.specs.List.{starts_with}
 use Rattle.std.specs.Option.{option_map}
 use Rattle.stun_authentication.specs.declared.cookie.SecurityFeatures.{SecurityFeatures}
 
--- the characters of base64, in the order of the six bits that each stands for (RFC 4648, section 4)
+-- the characters of base64, in the order of the six bits that each encodes (RFC 4648, section 4)
 abbrev pub base64 : List ℕ
 base64 = codes "ABCDEFGHIJKLMNOPQRSTUVWXYZabcdefghijklmnopqrstuvwxyz0123456789+/"
 
--- the six bits that a character stands for
+-- the six bits that a character encodes
 unfoldable pub six_bits : ℕ → Option ℕ
 six_bits character = position (λ known. known == character) base64
 

@@ -72,8 +72,8 @@ minted minting time place =
     cookie minting.features ++ (hexed (be64 time) ++ hexed (minted_mac minting time place))
 
 -- the time of a nonce
-abbrev pub told_time : List ℕ → ℕ
-told_time nonce = number (unhexed (slice_range nonce 13 29))
+abbrev pub stated_time : List ℕ → ℕ
+stated_time nonce = number (unhexed (slice_range nonce 13 29))
 
 -- ---- What is known of a nonce
 
@@ -86,8 +86,8 @@ aged minting now time =
 -- its time, or it isn't the server's
 abbrev pub freshness : Minting → (now : ℕ) → (place nonce : List ℕ) → Freshness
 freshness minting now place nonce =
-    if pointwise nat_eq nonce (minted minting (told_time nonce) place)
-    then aged minting now (told_time nonce) else Unknown
+    if pointwise nat_eq nonce (minted minting (stated_time nonce) place)
+    then aged minting now (stated_time nonce) else Unknown
 
 -- as `authenticate_long_term` asks for it, if these algorithms are sent with each nonce
 abbrev pub known_as : List PasswordAlgorithmValue → Freshness → Known

@@ -6,7 +6,7 @@ use Rattle.stun_grammar.specs.Headers.{id_field}
 use Rattle.stun_grammar.specs.Writing.{message_encoding}
 use Rattle.stun_base.specs.declared.message_type.MessageClass.TheVariants.{Error as ErrorClass}
 use Rattle.stun_attributes.specs.declared.password_algorithms.PasswordAlgorithms.{PasswordAlgorithms}
-use Rattle.stun_attributes.specs.Passwords.{held_algorithms}
+use Rattle.stun_attributes.specs.PasswordAlgorithms.{held_algorithms}
 use Rattle.stun_attributes.specs.Texts.{text_bytes}
 use Rattle.stun_types.specs.Replies.{error_attribute, response_type}
 use Rattle.stun_values.specs.Algorithms.{algorithms_encoding}

@@ -4,7 +4,7 @@
 ghost use Rattle.std.specs.Prelude.{◌≡◌};
 ghost use Rattle.stun_authentication.specs.Cookies.{security_features, cookie, six_bits};
 
-/// The characters of base64, in the order of the six bits that each stands for (RFC 4648, section
+/// The characters of base64, in the order of the six bits that each encodes (RFC 4648, section
 /// 4).
 const BASE64: [u8; 64] = *b"ABCDEFGHIJKLMNOPQRSTUVWXYZabcdefghijklmnopqrstuvwxyz0123456789+/";
 
@@ -32,7 +32,7 @@ pub fn nonce_cookie(features: SecurityFeatures) -> &'static str
     }
 }
 
-/// The six bits that a character of base64 stands for.
+/// The six bits that a character of base64 encodes.
 #[tactic(auto, unfolding(crate::specs::Cookies::six_bits))]
 fn six_bits(character: u8) -> Option<usize>
     ensures { result ≡ six_bits character }

@@ -11,7 +11,7 @@ ghost use Rattle.stun_authentication.specs.declared.cookie.SecurityFeatures.{Sec
 ghost use Rattle.stun_authentication.specs.declared.policy.Policy.{Policy};
 ghost use Rattle.stun_authentication.specs.declared.nonces.Freshness.TheVariants.{Fresh, Stale, Unknown};
 ghost use Rattle.stun_values.specs.TextValues.{text_max, text_fault};
-ghost use Rattle.stun_authentication.specs.Nonces.{Minting, minted, minted_mac, told_time, freshness, is_qdtext};
+ghost use Rattle.stun_authentication.specs.Nonces.{Minting, minted, minted_mac, stated_time, freshness, is_qdtext};
 ghost use Rattle.stun_authentication.specs.Accepted.{IsUsers, IsLogin};
 ghost use Rattle.stun_authentication.specs.Answers.{accept};
 ghost use Rattle.stun_authentication.specs.Cookies.{cookie, security_features};
@@ -76,7 +76,7 @@ pub fn nonces_are_texts()
     ensures features { (minting : Minting) (time : ℕ) (place : List ℕ)
         → security_features (minted minting time place) ≡ Some minting.features }
     ensures time { (minting : Minting) (time : ℕ) (place : List ℕ)
-        → time < 2 ^ 64 → told_time (minted minting time place) ≡ time }
+        → time < 2 ^ 64 → stated_time (minted minting time place) ≡ time }
 {
     cookie_is_read();
 }
@@ -94,7 +94,7 @@ pub fn nonces_are_timed()
         → freshness minting now place (minted minting time place) ≡ Stale }
     ensures own { (minting : Minting) (now : ℕ) (place nonce : List ℕ)
         → freshness minting now place nonce ≢ Unknown
-        → nonce ≡ minted minting (told_time nonce) place }
+        → nonce ≡ minted minting (stated_time nonce) place }
     ensures other { (minting other : Minting) (time now : ℕ) (place there : List ℕ)
         → time < 2 ^ 64
         → freshness other now there (minted minting time place) ≢ Unknown

@@ -5,7 +5,7 @@ ghost use Rattle.std.specs.List.{concat};
 ghost use Rattle.stun_attributes.specs.Texts.{text_bytes};
 ghost use Rattle.stun_keys.specs.Keys.{key_bytes};
 ghost use Rattle.stun_values.specs.Addresses.{address_value};
-ghost use Rattle.stun_authentication.specs.Nonces.{digit, digits, digit_of, hexed, minted, minted_mac, minting, told_time, minting_of, freshness, aged, known_as, state_of};
+ghost use Rattle.stun_authentication.specs.Nonces.{digit, digits, digit_of, hexed, minted, minted_mac, minting, stated_time, minting_of, freshness, aged, known_as, state_of};
 
 use crate::{KnownNonce, Nonces, SecurityFeatures, nonce_cookie};
 use std::alloc::Global;
@@ -99,9 +99,9 @@ fn digit_of(character: u8) -> u64
 }
 
 /// The time in a nonce, if it is one of a `NonceMaker`; else some number.
-fn told_time(nonce: &[u8]) -> u64
+fn stated_time(nonce: &[u8]) -> u64
     requires { length nonce.now ≡ 93 }
-    ensures { result ≡ told_time nonce.now % 2 ^ 64 }
+    ensures { result ≡ stated_time nonce.now % 2 ^ 64 }
 {
     let mut time = 0u64;
     for i in 0..8 {
@@ -188,9 +188,9 @@ impl NonceMaker {
         }
     }
 
-    /// What is known at a time, `now`, of a nonce that came from a client. It takes one HMAC and no
-    /// memory, whatever the nonce is, and every byte is compared, even after a difference; constant
-    /// time is not claimed.
+    /// What is known at a time, `now`, of a nonce that came from a client. It takes at most one HMAC,
+    /// none if the nonce hasn't 93 bytes, and no memory; every byte is compared, even after a
+    /// difference; constant time is not claimed.
     pub fn freshness(&self, now: u64, client: &SocketAddr, nonce: &[u8]) -> Freshness
         ensures { result
             ≡ freshness (minting_of self.now) now (address_value client.now) nonce.now }
@@ -198,7 +198,7 @@ impl NonceMaker {
         if nonce.len() != LENGTH {
             return Freshness::Unknown;
         }
-        let time = told_time(nonce);
+        let time = stated_time(nonce);
         let made = self.text(time, client);
         if same_bytes(nonce, &made) {
             self.aged(now, time)

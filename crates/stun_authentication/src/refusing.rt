@@ -5,7 +5,7 @@ ghost use Rattle.std.specs.Option.{option_copied};
 ghost use Rattle.stun_base.specs.MessageTypes.{class_of};
 ghost use Rattle.stun_base.specs.declared.message_type.MessageClass.TheVariants.{Request};
 ghost use Rattle.stun_attributes.specs.ErrorCodes.{error_code, error_reason, IsError};
-ghost use Rattle.stun_attributes.specs.Passwords.{held_algorithms};
+ghost use Rattle.stun_attributes.specs.PasswordAlgorithms.{held_algorithms};
 ghost use Rattle.stun_attributes.specs.Texts.{text_bytes};
 ghost use Rattle.stun_grammar.specs.Adding.{Fits, add_refusal, IsAddAnswer};
 ghost use Rattle.stun_grammar.specs.Attributes.{canonical};

@@ -103,7 +103,7 @@ pub fn challenge_of<'a>(
 ) -> Result<Challenge<'a>, NoRetry>
     ensures { let asked = challenge_of supported.now (option_map (λ text. text.now) tried.entry)
         (option_map (λ value. value.now) seen.entry) (message_bytes response.now) in
-        MatchResult result (λ told. asked ≡ Ok (asked_by told)) (λ e. asked ≡ Err e) }
+        MatchResult result (λ challenge. asked ≡ Ok (asked_by challenge)) (λ e. asked ≡ Err e) }
 {
     if !is_challenge(response) {
         return Err(NoRetry::NotAChallenge);

@@ -85,7 +85,7 @@ pub fn authenticate_short_term<K: ShortTermKeys>(
     ensures decision { IfOk result
         (Tells (short_term policy (K.key_of keys.now) (message_bytes message.now))) }
     ensures memory { needs_key policy (message_bytes message.now) ≡ false → IsOk result }
-    ensures no_nonce { IfOk result (λ told. told ≢ Authentication.Refused Refusal.StaleNonce) }
+    ensures no_nonce { IfOk result (λ answer. answer ≢ Authentication.Refused Refusal.StaleNonce) }
 {
     checked(alloc, message, policy, keys)
 }

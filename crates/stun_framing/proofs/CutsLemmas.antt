@@ -10,7 +10,7 @@ use Rattle.stun_grammar.specs.Showing.{frame_fault}
 use Rattle.stun_grammar.proofs.HeadersLemmas.{header, header_there, header_length, frame_there, framed_length, field_fits, frame-whole, begins_some, begins_from, whole_begins, begins_whole}
 use Rattle.stun_framing.specs.declared.error.StreamFault.{StreamFault}
 use Rattle.stun_framing.specs.Framing.{Room, begins_channel, channel_length, stated_length, IsStunMessage, IsChannelData, IsMessage, IsCut, MayBegin, begins_either, header_refusal, length_refusal, stream_fault}
-use Rattle.stun_framing.specs.Gathering.{IsKept}
+use Rattle.stun_framing.specs.Gathering.{IsGathered}
 use Rattle.stun_framing.specs.Streams.{is_whole}
 use Rattle.stun_framing.proofs.FramingLemmas.{begun_is_stun, channel_stays, either_stun, either_channel, either_parts, begun_if, unrefused, begins_stays, no_fault, faultless, header_passes, field_passes, stun_refusal, channel_refusal, stun_length, channel_stated, least_stated, stated_stays, field_stays, fault_passes, whole_sound, fits, padded, wanted_short, wanted_long, whole_if, whole_parts}
 
@@ -114,11 +114,11 @@ pub longest : (room : Room) (m : List ℕ) → IsMessage room m → IsBytes m �
 longest room m (inl is) bytes = omega (arith, is.whole, is.padded, field_fits m bytes)
 longest room m (inr (there, is)) bytes = omega (arith, is.whole, field_fits m bytes)
 
--- what is kept is a message once all is there that is wanted
-pub kept_message : (room : Room) (m : List ℕ) (wanted : ℕ) → IsKept room m wanted → length m ≡ wanted → IsMessage room m
-kept_message room m wanted kept all = elim (cases_lt (length m) 4) [
-  | inl short ↦ absurd (omega (arith, short, all, kept.wanted_is, wanted_short m short))
-  | inr long ↦ message_is room m kept.sound long (all ∙ kept.wanted_is ∙ wanted_long m long)
+-- what is gathered is a message once all is there that is wanted
+pub gathered_message : (room : Room) (m : List ℕ) (wanted : ℕ) → IsGathered room m wanted → length m ≡ wanted → IsMessage room m
+gathered_message room m wanted gathered all = elim (cases_lt (length m) 4) [
+  | inl short ↦ absurd (omega (arith, short, all, gathered.wanted_is, wanted_short m short))
+  | inr long ↦ message_is room m gathered.sound long (all ∙ gathered.wanted_is ∙ wanted_long m long)
 ]
 
 -- ---- One cut

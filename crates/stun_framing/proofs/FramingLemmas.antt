@@ -16,7 +16,7 @@ use Rattle.stun_framing.specs.declared.error.StreamFault.TheVariants.{NotStun, N
 use Rattle.stun_framing.specs.declared.carries.Carries.{Carries}
 use Rattle.stun_framing.specs.Framing.{Room, has_channels, begins_channel, channel_length, stated_length, begins_either, header_refusal, size_refusal, field_refusal, length_refusal, stream_fault}
 use Rattle.stun_framing.specs.Streams.{is_whole, of_first}
-use Rattle.stun_framing.specs.Gathering.{wanted_for, IsKept}
+use Rattle.stun_framing.specs.Gathering.{wanted_for, IsGathered}
 
 -- ---- Whether a header begins, by the fault of the header
 
@@ -397,8 +397,8 @@ first_sound room b e =
     ]
 
 -- these are bytes of a message
-pub kept_of : (room : Room) (b : List ℕ) → 4 ≤ room.size → stream_fault room b ≡ None → IsKept room (take (wanted_for b) b) (wanted_for b)
-kept_of room b least e =
+pub gathered_of : (room : Room) (b : List ℕ) → 4 ≤ room.size → stream_fault room b ≡ None → IsGathered room (take (wanted_for b) b) (wanted_for b)
+gathered_of room b least e =
     let n = wanted_for b in
     let m = take n b in
     let joined : m ++ drop n b ≡ b = take-append-drop n b in

@@ -4,11 +4,11 @@ use Rattle.std.specs.Prelude.{MatchResult}
 use Rattle.std.proofs.lemmas.List.{length-append, length-take, take_at, take_min, take-append-le, take-append-drop}
 use Rattle.std.proofs.Math.Seq.{take-append-add}
 use Rattle.stun_framing.specs.declared.error.StreamFault.{StreamFault}
-use Rattle.stun_framing.specs.declared.gather.Kept.{Kept}
+use Rattle.stun_framing.specs.declared.gather.Gathered.{Gathered}
 use Rattle.stun_framing.specs.declared.carries.Carries.{Carries}
 use Rattle.stun_framing.specs.Framing.{room_of, stream_fault}
 use Rattle.stun_framing.specs.Gathering.{wanted_for, HoldsStart, HoldsFirst, Refuses}
-use Rattle.stun_framing.proofs.FramingLemmas.{fault_grows, wanted_four, first_sound, kept_of}
+use Rattle.stun_framing.proofs.FramingLemmas.{fault_grows, wanted_four, first_sound, gathered_of}
 
 -- bytes between the first ones of a list and its last ones
 pub behind_first : (old bytes rest : List ℕ) (held count : ℕ) → held ≤ length old → length bytes ≡ count → take (held + count) (take held old ++ bytes ++ rest) ≡ take held old ++ bytes
@@ -40,32 +40,32 @@ pub start_held : (carries : Carries) (old new piece : List ℕ) (held start want
 start_held carries old new piece held start wanted same within room count bytes sound e =
     let b = take held old ++ piece in
     let long : length b ≡ held + length piece = omega (arith, length-append (take held old) piece, length-take held old) in
-    let kept = kept_of (room_of carries (length old)) (take start new) room sound in
+    let gathered = gathered_of (room_of carries (length old)) (take start new) room sound in
     record {
       bytes = bytes;
       count = count ∙ ap (min 4) (sym long);
       wanted = e ∙ ap wanted_for bytes ∙ wanted_four b;
-      fits = omega (arith, e, kept.fits, same);
+      fits = omega (arith, e, gathered.fits, same);
     }
 
 -- no message begins with the first bytes of b
 pub first_refused : (carries : Carries) (old new piece : List ℕ) (held count n : ℕ) (fault : StreamFault)
     → take count new ≡ take n (take held old ++ piece) → take held new ≡ take held old
     → stream_fault (room_of carries (length old)) (take count new) ≡ Some fault → Refuses carries held piece fault old new
-first_refused carries old new piece held count n fault bytes kept e =
+first_refused carries old new piece held count n fault bytes stays e =
     let room = room_of carries (length old) in
     let b = take held old ++ piece in
     record {
       fault_is = ap (stream_fault room) (sym (take-append-drop n b)) ∙ fault_grows room (take n b) (drop n b) fault (ap (stream_fault room) (sym bytes) ∙ e);
-      kept = kept;
+      stays = stays;
     }
 
 -- what is wanted of b is there, as far as b has it
-pub gathered : (carries : Carries) (old new piece : List ℕ) (held wanted now : ℕ) → length new ≡ length old → wanted ≡ wanted_for (take held old ++ piece)
+pub first_gathered : (carries : Carries) (old new piece : List ℕ) (held wanted now : ℕ) → length new ≡ length old → wanted ≡ wanted_for (take held old ++ piece)
     → take now new ≡ take wanted (take held old ++ piece) → now ≤ length new
     → stream_fault (room_of carries (length old)) (take now new) ≡ None
     → HoldsFirst carries (take held old ++ piece) (record { held = now; wanted = wanted }) new
-gathered carries old new piece held wanted now same e bytes bound sound =
+first_gathered carries old new piece held wanted now same e bytes bound sound =
     let room = room_of carries (length old) in
     let b = take held old ++ piece in
     let first : take now new ≡ take (wanted_for b) b = bytes ∙ ap (λ (n : ℕ). take n b) e in
@@ -93,13 +93,13 @@ cut_behind old piece held start short within count =
     ∙ ap (λ (xs : List ℕ). h ++ xs) (take-append-drop (start - held) piece)
 
 -- how many bytes of a piece belong to the first four
-pub start_count : (old piece buffer : List ℕ) (held : ℕ) (kept : Kept) → held ≤ length old → HoldsStart (take held old ++ piece) kept buffer → kept.held ≡ min 4 (held + length piece)
-start_count old piece buffer held kept within start =
+pub start_count : (old piece buffer : List ℕ) (held : ℕ) (gathered : Gathered) → held ≤ length old → HoldsStart (take held old ++ piece) gathered buffer → gathered.held ≡ min 4 (held + length piece)
+start_count old piece buffer held gathered within start =
     let long : length (take held old ++ piece) ≡ held + length piece = omega (arith, length-append (take held old) piece, length-take held old) in
     start.count ∙ ap (min 4) long
 
 -- the first four bytes of b and those after them are b
-pub start_joined : (old mid piece : List ℕ) (held : ℕ) (start : Kept) → held < 4 → held ≤ length old → HoldsStart (take held old ++ piece) start mid
+pub start_joined : (old mid piece : List ℕ) (held : ℕ) (start : Gathered) → held < 4 → held ≤ length old → HoldsStart (take held old ++ piece) start mid
     → take start.held mid ++ drop (start.held - held) piece ≡ take held old ++ piece
 start_joined old mid piece held start short within holds =
     ap (λ (xs : List ℕ). xs ++ drop (start.held - held) piece) holds.bytes
@@ -108,10 +108,10 @@ start_joined old mid piece held start short within holds =
 -- what is held and refused after them
 pub refused_behind : (carries : Carries) (old mid new piece behind : List ℕ) (held start : ℕ) (fault : StreamFault) → length mid ≡ length old → length new ≡ length mid → held ≤ start → start ≤ length mid
     → take start mid ++ behind ≡ take held old ++ piece → take held mid ≡ take held old → Refuses carries start behind fault mid new → Refuses carries held piece fault old new
-refused_behind carries old mid new piece behind held start fault same same' within bound joined kept refuses = record {
+refused_behind carries old mid new piece behind held start fault same same' within bound joined stays refuses = record {
   fault_is = ap (stream_fault (room_of carries (length old))) (sym joined)
       ∙ ap (λ (n : ℕ). stream_fault (room_of carries n) (take start mid ++ behind)) (sym same) ∙ refuses.fault_is;
-  kept = sym (shorter held start new within (omega (arith, bound, same'))) ∙ ap (take held) refuses.kept ∙ shorter held start mid within bound ∙ kept;
+  stays = sym (shorter held start new within (omega (arith, bound, same'))) ∙ ap (take held) refuses.stays ∙ shorter held start mid within bound ∙ stays;
 }
   where
     shorter : (held start : ℕ) (xs : List ℕ) → held ≤ start → start ≤ length xs → take held (take start xs) ≡ take held xs
@@ -119,11 +119,11 @@ refused_behind carries old mid new piece behind held start fault same same' with
         sym (take-append-le held (take start xs) (drop start xs) (omega (arith, length-take start xs))) ∙ ap (take held) (take-append-drop start xs)
 
 -- what is gathered after the first four bytes is gathered of all
-pub gathered_behind : (carries : Carries) (old mid new piece behind : List ℕ) (held : ℕ) (start : Kept) (result : Result Kept StreamFault) → length mid ≡ length old → length new ≡ length mid
+pub gathered_behind : (carries : Carries) (old mid new piece behind : List ℕ) (held : ℕ) (start : Gathered) (result : Result Gathered StreamFault) → length mid ≡ length old → length new ≡ length mid
     → held ≤ start.held → start.held ≤ length mid → take start.held mid ++ behind ≡ take held old ++ piece → take held mid ≡ take held old
-    → MatchResult result (λ kept. HoldsFirst carries (take start.held mid ++ behind) kept new) (λ fault. Refuses carries start.held behind fault mid new)
-    → MatchResult result (λ kept. HoldsFirst carries (take held old ++ piece) kept new) (λ fault. Refuses carries held piece fault old new)
-gathered_behind carries old mid new piece behind held start (Ok kept) same same' within bound joined stays holds =
-    subst (λ (b : List ℕ). HoldsFirst carries b kept new) joined holds
+    → MatchResult result (λ gathered. HoldsFirst carries (take start.held mid ++ behind) gathered new) (λ fault. Refuses carries start.held behind fault mid new)
+    → MatchResult result (λ gathered. HoldsFirst carries (take held old ++ piece) gathered new) (λ fault. Refuses carries held piece fault old new)
+gathered_behind carries old mid new piece behind held start (Ok gathered) same same' within bound joined stays holds =
+    subst (λ (b : List ℕ). HoldsFirst carries b gathered new) joined holds
 gathered_behind carries old mid new piece behind held start (Err fault) same same' within bound joined stays refuses =
     refused_behind carries old mid new piece behind held start.held fault same same' within bound joined stays refuses

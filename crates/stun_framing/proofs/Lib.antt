@@ -5,5 +5,5 @@ mod CutsLemmas
 mod RunsLemmas
 pub mod ComingLemmas
 mod ResumingLemmas
-pub mod KeptLemmas
+pub mod StoredLemmas
 pub mod KnownBytesLemmas

@@ -12,7 +12,7 @@ use Rattle.stun_framing.specs.Gathering.{wanted_for}
 use Rattle.stun_framing.specs.Streams.{Stream, is_whole, of_first, offset_of, joined, can_resume, resumed, answer_of, answer, left, with_bytes, left_of}
 use Rattle.stun_framing.specs.Fields.{IsStream}
 use Rattle.stun_framing.specs.Runs.{HasCome}
-use Rattle.stun_framing.proofs.FramingLemmas.{wanted_long, wanted_short, whole_if, kept_of}
+use Rattle.stun_framing.proofs.FramingLemmas.{wanted_long, wanted_short, whole_if, gathered_of}
 
 whole_by : (b : List ℕ) → wanted_for b ≤ length b → is_whole b ≡ true
 whole_by b all = elim (cases_lt (length b) 4) [
@@ -59,7 +59,7 @@ pub resumed_is : (carries : Carries) (buffer : List ℕ) (held : ℕ) → Resume
 resumed_is carries buffer held resumes =
     let b = take held buffer in
     let long : length b ≡ held = omega (arith, length-take held buffer, resumes.within) in
-    let kept = kept_of (room_of carries (length buffer)) b (omega (arith, resumes.room)) resumes.sound in
+    let gathered = gathered_of (room_of carries (length buffer)) b (omega (arith, resumes.room)) resumes.sound in
     record {
       room = resumes.room;
       bound = resumes.within;
@@ -67,7 +67,7 @@ resumed_is carries buffer held resumes =
         sound = resumes.sound;
         wanted_is = refl;
         within = omega (arith, long, resumes.part);
-        fits = kept.fits;
+        fits = gathered.fits;
       };
       ended = λ there. resumes.part;
     }

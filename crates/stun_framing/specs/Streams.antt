@@ -3,7 +3,7 @@ use Rattle.std.specs.Prelude.{◌≡◌, ℕ, ◌+◌, ◌-◌, ◌^◌, min, Bo
 use Rattle.std.specs.Option.{option_or}
 use Rattle.std.specs.Result.{result_map_both}
 use Rattle.stun_framing.specs.declared.error.StreamError.{StreamError}
-use Rattle.stun_framing.specs.declared.kept_stream.Pushed.{Pushed}
+use Rattle.stun_framing.specs.declared.stored_stream.Pushed.{Pushed}
 use Rattle.stun_framing.specs.declared.carries.Carries.{Carries}
 use Rattle.stun_framing.specs.Framing.{Room, room_of, stated_length, stream_fault}
 
@@ -47,7 +47,7 @@ can_resume carries buffer held =
 abbrev pub of_first : List ℕ → List ℕ
 of_first b = if is_whole b then take (stated_length b) b else b
 
--- an offset of a stream in 64 bits: the greatest one stands for those beyond
+-- an offset of a stream in 64 bits: the greatest one if it is beyond
 abbrev pub offset_of : ℕ → ℕ
 offset_of n = min n (2 ^ 64 - 1)
 

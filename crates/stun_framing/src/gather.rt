@@ -2,7 +2,7 @@
 
 ghost use Rattle.std.specs.Prelude.{◌≡◌, ◌+◌, ◌<◌, ◌≤◌, ◌++◌, length, take, drop, min, true, false, MatchOption, MatchResult};
 ghost use Rattle.stun_framing.specs.Framing.{room_of};
-ghost use Rattle.stun_framing.specs.Gathering.{wanted_for, IsKept, HoldsStart, HoldsFirst, Refuses};
+ghost use Rattle.stun_framing.specs.Gathering.{wanted_for, IsGathered, HoldsStart, HoldsFirst, Refuses};
 ghost use Rattle.stun_framing.specs.Streams.{can_resume};
 
 use crate::carries::Carries;
@@ -13,23 +13,23 @@ use stun_base::MessageHeader;
 /// What a buffer holds of a message: how many bytes, and how many are wanted. Until its first four
 /// are there, these are four, and then as many as they state.
 #[derive(Clone, Copy, Debug)]
-pub(crate) struct Kept {
+pub(crate) struct Gathered {
     pub(crate) held: usize,
     pub(crate) wanted: usize,
 }
 
 /// Nothing of a message.
-pub(crate) const NOTHING: Kept = Kept {
+pub(crate) const NOTHING: Gathered = Gathered {
     held: 0,
     wanted: START,
 };
 
 /// What a buffer holds of a message whose first `held` bytes it begins with, unless no message
 /// begins so for which there is room, or they are all of it.
-pub(crate) fn held_part(carries: Carries, buffer: &[u8], held: usize) -> Option<Kept>
+pub(crate) fn held_part(carries: Carries, buffer: &[u8], held: usize) -> Option<Gathered>
     ensures { MatchOption result (can_resume carries buffer.now held ≡ false)
-        (λ kept. (can_resume carries buffer.now held ≡ true)
-        × (kept ≡ record { held = held; wanted = wanted_for (take held buffer.now) })) }
+        (λ gathered. (can_resume carries buffer.now held ≡ true)
+        × (gathered ≡ record { held = held; wanted = wanted_for (take held buffer.now) })) }
 {
     if buffer.len() < MessageHeader::LENGTH || buffer.len() < held {
         return None;
@@ -40,7 +40,7 @@ pub(crate) fn held_part(carries: Carries, buffer: &[u8], held: usize) -> Option<
     if wanted <= held {
         return None;
     }
-    Some(Kept { held, wanted })
+    Some(Gathered { held, wanted })
 }
 
 /// Copies `bytes` to the place after the first `held` bytes of `buffer`.
@@ -59,7 +59,7 @@ fn fill(buffer: &mut [u8], held: usize, wanted: usize, piece: &[u8]) -> usize
     requires room { wanted ≤ length buffer.old }
     ensures count { result ≡ min wanted (held + length piece.now) }
     ensures bytes { take result buffer.new ≡ take wanted (take held buffer.old ++ piece.now) }
-    ensures kept { take held buffer.new ≡ take held buffer.old }
+    ensures stays { take held buffer.new ≡ take held buffer.old }
 {
     let count = (wanted - held).min(piece.len());
     copy_behind(buffer, held, &piece[..count]);
@@ -76,18 +76,18 @@ fn gather_start(
     buffer: &mut [u8],
     held: usize,
     piece: &[u8],
-) -> Result<Kept, StreamFault>
+) -> Result<Gathered, StreamFault>
     requires held { held < 4 }
     requires room { 4 ≤ length buffer.old }
-    ensures kept { take held buffer.new ≡ take held buffer.old }
+    ensures stays { take held buffer.new ≡ take held buffer.old }
     ensures start { MatchResult result
-        (λ kept. HoldsStart (take held buffer.old ++ piece.now) kept buffer.new)
+        (λ gathered. HoldsStart (take held buffer.old ++ piece.now) gathered buffer.new)
         (λ fault. Refuses carries held piece.now fault buffer.old buffer.new) }
 {
     let room = buffer.len();
     let start = fill(buffer, held, START, piece);
     match wanted_length(carries, room, &buffer[..start]) {
-        Ok(wanted) => Ok(Kept {
+        Ok(wanted) => Ok(Gathered {
             held: start,
             wanted,
         }),
@@ -96,7 +96,7 @@ fn gather_start(
 }
 
 /// Copies what belongs to a message of which it is known how many bytes are wanted, unless `piece`
-/// is empty, after the bytes that are kept of it.
+/// is empty, after the bytes that are gathered of it.
 ///
 /// # Errors
 ///
@@ -104,53 +104,53 @@ fn gather_start(
 fn gather_rest(
     carries: Carries,
     buffer: &mut [u8],
-    kept: Kept,
+    gathered: Gathered,
     piece: &[u8],
-) -> Result<Kept, StreamFault>
-    requires held { kept.held ≤ kept.wanted }
-    requires fits { kept.wanted ≤ length buffer.old }
-    requires wanted { kept.wanted ≡ wanted_for (take kept.held buffer.old ++ piece.now) }
+) -> Result<Gathered, StreamFault>
+    requires held { gathered.held ≤ gathered.wanted }
+    requires fits { gathered.wanted ≤ length buffer.old }
+    requires wanted { gathered.wanted ≡ wanted_for (take gathered.held buffer.old ++ piece.now) }
     ensures { MatchResult result
-        (λ new. HoldsFirst carries (take kept.held buffer.old ++ piece.now) new buffer.new)
-        (λ fault. Refuses carries kept.held piece.now fault buffer.old buffer.new) }
+        (λ new. HoldsFirst carries (take gathered.held buffer.old ++ piece.now) new buffer.new)
+        (λ fault. Refuses carries gathered.held piece.now fault buffer.old buffer.new) }
 {
     let room = buffer.len();
-    let now = fill(buffer, kept.held, kept.wanted, piece);
+    let now = fill(buffer, gathered.held, gathered.wanted, piece);
     match stream_fault(carries, room, &buffer[..now]) {
         Some(fault) => Err(fault),
-        None => Ok(Kept {
+        None => Ok(Gathered {
             held: now,
-            wanted: kept.wanted,
+            wanted: gathered.wanted,
         }),
     }
 }
 
-/// Copies what belongs to the message after the bytes that are kept of it.
+/// Copies what belongs to the message after the bytes that are gathered of it.
 ///
 /// # Errors
 ///
-/// Why no message for which there is room begins with the bytes that are kept and `piece`. The
-/// bytes that are kept stay.
+/// Why no message for which there is room begins with the bytes that are gathered and `piece`. The
+/// bytes that are gathered stay.
 pub(crate) fn gather(
     carries: Carries,
     buffer: &mut [u8],
-    kept: Kept,
+    gathered: Gathered,
     piece: &[u8],
-) -> Result<Kept, StreamFault>
-    requires bound { kept.held < kept.wanted }
-    requires kept { IsKept (room_of carries (length buffer.old)) (take kept.held buffer.old)
-        kept.wanted }
+) -> Result<Gathered, StreamFault>
+    requires bound { gathered.held < gathered.wanted }
+    requires gathered { IsGathered (room_of carries (length buffer.old)) (take gathered.held buffer.old)
+        gathered.wanted }
     ensures { MatchResult result
-        (λ new. HoldsFirst carries (take kept.held buffer.old ++ piece.now) new buffer.new)
-        (λ fault. Refuses carries kept.held piece.now fault buffer.old buffer.new) }
+        (λ new. HoldsFirst carries (take gathered.held buffer.old ++ piece.now) new buffer.new)
+        (λ fault. Refuses carries gathered.held piece.now fault buffer.old buffer.new) }
 {
-    if kept.held >= START {
-        return gather_rest(carries, buffer, kept, piece);
+    if gathered.held >= START {
+        return gather_rest(carries, buffer, gathered, piece);
     }
-    let start = match gather_start(carries, buffer, kept.held, piece) {
+    let start = match gather_start(carries, buffer, gathered.held, piece) {
         Ok(start) => start,
         Err(fault) => return Err(fault),
     };
-    let behind = &piece[start.held - kept.held..];
+    let behind = &piece[start.held - gathered.held..];
     gather_rest(carries, buffer, start, behind)
 }

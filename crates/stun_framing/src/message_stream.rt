@@ -5,7 +5,7 @@ ghost use Rattle.stun_framing.specs.Fields.{pending_of, offset_behind};
 
 use crate::carries::Carries;
 use crate::error::StreamError;
-use crate::gather::{Kept, NOTHING, gather, held_part};
+use crate::gather::{Gathered, NOTHING, gather, held_part};
 use std::marker::Model;
 
 /// The greatest length of a message in a stream, in bytes: a buffer of this length takes any.
@@ -14,22 +14,22 @@ use std::marker::Model;
 /// (RFC 8489, section 5).
 pub const GREATEST_MESSAGE: usize = 65552;
 
-/// What is kept of a message that isn't whole.
-pub(crate) fn pending_of(kept: Kept) -> Kept
-    ensures { result ≡ pending_of kept }
+/// What is gathered of a message that isn't whole.
+pub(crate) fn pending_of(gathered: Gathered) -> Gathered
+    ensures { result ≡ pending_of gathered }
 {
-    if kept.held == kept.wanted {
+    if gathered.held == gathered.wanted {
         return NOTHING;
     }
-    kept
+    gathered
 }
 
-/// The offset of what comes next, if what is kept began at `offset`.
-pub(crate) fn offset_behind(offset: u64, kept: Kept) -> u64
-    ensures { result ≡ offset_behind offset kept }
+/// The offset of what comes next, if what is gathered began at `offset`.
+pub(crate) fn offset_behind(offset: u64, gathered: Gathered) -> u64
+    ensures { result ≡ offset_behind offset gathered }
 {
-    if kept.held == kept.wanted {
-        return offset.saturating_add(kept.held as u64);
+    if gathered.held == gathered.wanted {
+        return offset.saturating_add(gathered.held as u64);
     }
     offset
 }
@@ -61,7 +61,7 @@ pub(crate) fn offset_behind(offset: u64, kept: Kept) -> u64
 pub struct MessageStream<'b> {
     carries: Carries,
     buffer: &'b mut [u8],
-    kept: Kept,
+    gathered: Gathered,
     offset: u64,
     error: Option<StreamError>,
 }
@@ -72,9 +72,9 @@ impl<'b> Model for MessageStream<'b> {
 
     ghost Value = { Stream };
 
-    ghost view = { λ s. stream_of s.carries s.buffer.now s.kept s.offset s.error };
+    ghost view = { λ s. stream_of s.carries s.buffer.now s.gathered s.offset s.error };
 
-    ghost invariant = { λ s. IsStream s.carries s.buffer.now s.kept s.error };
+    ghost invariant = { λ s. IsStream s.carries s.buffer.now s.gathered s.error };
 }
 
 impl<'b> MessageStream<'b> {
@@ -109,7 +109,7 @@ impl<'b> MessageStream<'b> {
         MessageStream {
             carries,
             buffer,
-            kept: NOTHING,
+            gathered: NOTHING,
             offset: 0,
             error: None,
         }
@@ -140,10 +140,10 @@ impl<'b> MessageStream<'b> {
             (take held buffer.old))) }
     {
         match held_part(carries, buffer, held) {
-            Some(kept) => Some(MessageStream {
+            Some(gathered) => Some(MessageStream {
                 carries,
                 buffer,
-                kept,
+                gathered,
                 offset,
                 error: None,
             }),
@@ -176,19 +176,19 @@ impl<'b> MessageStream<'b> {
         if let Some(error) = self.error {
             return Err(error);
         }
-        let pending = pending_of(self.kept);
+        let pending = pending_of(self.gathered);
         match gather(self.carries, self.buffer, pending, piece) {
-            Ok(kept) => {
-                self.offset = offset_behind(self.offset, kept);
-                self.kept = kept;
-                Ok(kept.held - pending.held)
+            Ok(gathered) => {
+                self.offset = offset_behind(self.offset, gathered);
+                self.gathered = gathered;
+                Ok(gathered.held - pending.held)
             }
             Err(fault) => {
                 let error = StreamError {
                     offset: self.offset,
                     fault,
                 };
-                self.kept = pending;
+                self.gathered = pending;
                 self.error = Some(error);
                 Err(error)
             }
@@ -205,10 +205,10 @@ impl<'b> MessageStream<'b> {
             (λ message. self.now.message ≡ Some message.now) }
         ensures whole { IfSome result (λ message. IsMessage self.now.room message.now) }
     {
-        if self.kept.held < self.kept.wanted {
+        if self.gathered.held < self.gathered.wanted {
             return None;
         }
-        Some(&self.buffer[..self.kept.held])
+        Some(&self.buffer[..self.gathered.held])
     }
 
     /// The bytes that have come of a message that isn't whole. If there are none, the stream may
@@ -218,7 +218,7 @@ impl<'b> MessageStream<'b> {
     pub fn pending(&self) -> &[u8]
         ensures { result.now ≡ self.now.pending }
     {
-        &self.buffer[..pending_of(self.kept).held]
+        &self.buffer[..pending_of(self.gathered).held]
     }
 
     /// The offset in the stream at which the pending bytes begin, or the next byte if there are

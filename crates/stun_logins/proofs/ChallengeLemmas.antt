@@ -31,7 +31,7 @@ use Rattle.stun_authentication.specs.declared.answer.Refusal.TheVariants.{BadReq
 use Rattle.stun_authentication.specs.declared.demand.Demand.{Demand}
 use Rattle.stun_authentication.specs.Refusing.{listed, refusal_attributes}
 use Rattle.stun_attributes.specs.declared.password_algorithms.PasswordAlgorithms.{PasswordAlgorithms}
-use Rattle.stun_attributes.specs.Passwords.{held_algorithms}
+use Rattle.stun_attributes.specs.PasswordAlgorithms.{held_algorithms}
 use Rattle.stun_attributes.specs.Texts.{text_bytes}
 use Rattle.stun_authentication.specs.declared.challenge.NoRetry.TheVariants.{NotAChallenge, BidDown, Incomplete, NoAlgorithm, SameCredentials}
 use Rattle.stun_authentication.specs.Answers.{refusal_code, refusal_reason}

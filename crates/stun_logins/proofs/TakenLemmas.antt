@@ -38,7 +38,7 @@ use Rattle.stun_transactions.specs.declared.terms.Terms.{Terms}
 use Rattle.stun_transactions.specs.declared.usage.Usage.{Usage}
 use Rattle.stun_transactions.specs.Usages.{lacks_fingerprint}
 use Rattle.stun_authentication.specs.Policies.{proved_at}
-use Rattle.stun_transactions.specs.Guards.{guard_fault, signed_by, is_signed, signs_by, is_unsigned_bad_request, validated, matched_by, proof_of, short_term_fault, long_term_fault, mechanism_fault, IsKeptAs}
+use Rattle.stun_transactions.specs.Guards.{guard_fault, signed_by, is_signed, signs_by, is_unsigned_bad_request, validated, matched_by, proof_of, short_term_fault, long_term_fault, mechanism_fault, IsStoredAs}
 use Rattle.stun_transactions.specs.Outcomes.{is_open}
 use Rattle.stun_transactions.specs.Receiving.{content, claim_of, discarded, received_outcome}
 use Rattle.stun_transactions.specs.Terms.{AreTerms, is_answer}
@@ -169,7 +169,7 @@ heard_as terms state understood r d plan protection usage a are ongoing parses a
 kept_works : (k kept : IntegrityKey) (a : IntegrityAlgorithm) (key : List ℕ) → IsKey None (key_bytes k) kept → key_bytes k ≡ key → WorksAs key a kept
 kept_works k kept a key is same = record { bytes_are = is.bytes_are ∙ same; works = ap (λ (o : Option IntegrityAlgorithm). serves o a) is.algorithm_is }
 
-kept_long : (p : Protection) (k : IntegrityKey) (usage : Usage) (by : Signed) (a : IntegrityAlgorithm) (key d : List ℕ) → IsKeptAs (P.LongTerm k) p → key_bytes k ≡ key → ((kept : IntegrityKey) → WorksAs key a kept → IsTaken (P.LongTerm kept) usage by d a) → IsTaken p usage by d a
+kept_long : (p : Protection) (k : IntegrityKey) (usage : Usage) (by : Signed) (a : IntegrityAlgorithm) (key d : List ℕ) → IsStoredAs (P.LongTerm k) p → key_bytes k ≡ key → ((kept : IntegrityKey) → WorksAs key a kept → IsTaken (P.LongTerm kept) usage by d a) → IsTaken p usage by d a
 kept_long P.Unprotected k usage by a key d is same then_taken = absurd is
 kept_long P.FirstLongTerm k usage by a key d is same then_taken = absurd is
 kept_long (P.ShortTerm kept) k usage by a key d is same then_taken = absurd is

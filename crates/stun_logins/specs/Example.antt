@@ -1,4 +1,4 @@
--- One login, at which all premises of the law hold together.
+-- One login, at which the premises of the clause `accepted` hold together, but for the one about keys.
 use Rattle.std.specs.Prelude.{◌≡◌, ℕ, true, false, List, [], ◌∷◌, codes, Some, None}
 use Rattle.stun_base.specs.declared.message_type.MessageClass.TheVariants.{Request}
 use Rattle.stun_base.specs.MessageTypes.{class_of}

@@ -5,7 +5,7 @@ use Rattle.std.specs.Cmp.Lexicographic.{pointwise}
 use Rattle.std.specs.Option.{option_map, option_map_or}
 use Rattle.stun_grammar.specs.Attributes.{Attribute}
 use Rattle.stun_grammar.specs.Writing.{message_encoding}
-use Rattle.stun_attributes.specs.Passwords.{held_algorithms}
+use Rattle.stun_attributes.specs.PasswordAlgorithms.{held_algorithms}
 use Rattle.stun_attributes.specs.Texts.{text_bytes}
 use Rattle.stun_values.specs.declared.algorithm.PasswordAlgorithmValue.{PasswordAlgorithmValue}
 use Rattle.stun_values.specs.Algorithms.{algorithms_encoding}

@@ -74,6 +74,6 @@ pub record Suits (usage : Usage) (fingerprint : Bool) : Type 0 where
   pub printed : IsPrinted usage.fingerprint fingerprint
 
 -- a key with these bytes, that works with an algorithm
-pub record WorksAs (key : List ℕ) (algorithm : IntegrityAlgorithm) (kept : IntegrityKey) : Type 0 where
-  pub bytes_are : key_bytes kept ≡ key
-  pub works : serves (key_algorithm kept) algorithm ≡ true
+pub record WorksAs (key : List ℕ) (algorithm : IntegrityAlgorithm) (stored : IntegrityKey) : Type 0 where
+  pub bytes_are : key_bytes stored ≡ key
+  pub works : serves (key_algorithm stored) algorithm ≡ true

@@ -159,24 +159,25 @@ pub fn short_term_login_is_accepted()
     // with a transaction of that request that was begun with the key, and waits for a response to it
     ensures heard { (sent counts : Option IntegrityAlgorithm) (a : IntegrityAlgorithm)
         (fingerprint finger : Bool) (kind id other : ℕ) (before answer : List Attribute)
-        (name key : List ℕ) (kept : IntegrityKey) (plan : Plan) (usage : Usage) (terms : Terms)
+        (name key : List ℕ) (stored : IntegrityKey) (plan : Plan) (usage : Usage) (terms : Terms)
         (state : RetransmissionState) (understood : List AttributeType)
         → let r = short_term_request fingerprint sent kind id before name key in
         let reply = signed_reply finger other id answer a key in
         IsOwn kind id before → IsNamed name
         → HasRoom kind id (short_term_attributes fingerprint sent kind id before name key)
-        → checked counts sent ≡ Some a → WorksAs key a kept
+        → checked counts sent ≡ Some a → WorksAs key a stored
         → IsOpen other id answer
         → HasRoom other id (finished finger other id (signed other id answer a key))
-        → Suits usage finger → AreTerms r plan (Protection.ShortTerm kept) usage terms
+        → Suits usage finger → AreTerms r plan (Protection.ShortTerm stored) usage terms
         → is_open state ≡ true → is_answer_to r reply ≡ true
         → received_outcome terms state understood reply ≡ content (Some a) understood reply }
 {
     shown_is_found();
 }
 
-/// The premises of `login_is_accepted` can be met, all at once. (The one about keys is met by the
-/// look-up that returns this user's key.)
+/// One login meets the premises of the clause `accepted` of `login_is_accepted` all at once, but for
+/// the one about keys, which isn't stated: a look-up that returns this user's key meets it. The
+/// premises of the other clauses aren't covered.
 pub fn premises_are_met()
     ensures { IsMet }
 {

@@ -25,7 +25,7 @@ use Rattle.stun_transactions.specs.declared.terms.BeginError.{BeginError}
 use Rattle.stun_transactions.specs.declared.transaction.Transaction.{Transaction}
 use Rattle.stun_transactions.specs.Schedules.{requests_in}
 use Rattle.stun_transactions.specs.Retransmissions.{later, ended_by, stopped_by, Polls}
-use Rattle.stun_transactions.specs.Guards.{signed_by, is_signed, protects, IsKeptAs}
+use Rattle.stun_transactions.specs.Guards.{signed_by, is_signed, protects, IsStoredAs}
 use Rattle.stun_transactions.specs.Outcomes.{after}
 use Rattle.stun_authentication.specs.LongTerm.{is_request}
 use Rattle.stun_transactions.specs.Terms.{mismatch, begin_fault}
@@ -145,7 +145,7 @@ record Kept (protection kept : Protection) : Type 0 where
   mechanism : signs (mechanism_of kept) ≡ protects protection
   key : key_fault (mechanism_of kept) (key_in kept) ≡ None
 
-kept_is : (protection kept : Protection) → IsKeptAs protection kept → Kept protection kept
+kept_is : (protection kept : Protection) → IsStoredAs protection kept → Kept protection kept
 kept_is FirstLongTerm kept is = subst (Kept FirstLongTerm) (sym is) (record { mechanism = refl; key = refl })
 kept_is Unprotected kept is = subst (Kept Unprotected) (sym is) (record { mechanism = refl; key = refl })
 kept_is (ShortTerm key) kept is = subst (Kept (ShortTerm key)) (sym is) (record { mechanism = refl; key = refl })

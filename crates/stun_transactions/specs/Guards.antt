@@ -49,14 +49,14 @@ protects FirstLongTerm = false
 protects (ShortTerm key) = true
 protects (LongTerm key) = true
 
--- what is kept of a protection, to validate responses: a long-term key works with both algorithms
+-- what is stored of a protection, to validate responses: a long-term key works with both algorithms
 -- (section 9.2.5)
-abbrev pub IsKeptAs : Protection → Protection → Type 0
-IsKeptAs Unprotected kept = kept ≡ Unprotected
-IsKeptAs FirstLongTerm kept = kept ≡ FirstLongTerm
-IsKeptAs (ShortTerm key) kept = kept ≡ ShortTerm key
-IsKeptAs (LongTerm key) (LongTerm kept) = IsKey None (key_bytes key) kept
-IsKeptAs (LongTerm key) _ = ⊥
+abbrev pub IsStoredAs : Protection → Protection → Type 0
+IsStoredAs Unprotected stored = stored ≡ Unprotected
+IsStoredAs FirstLongTerm stored = stored ≡ FirstLongTerm
+IsStoredAs (ShortTerm key) stored = stored ≡ ShortTerm key
+IsStoredAs (LongTerm key) (LongTerm stored) = IsKey None (key_bytes key) stored
+IsStoredAs (LongTerm key) _ = ⊥
 
 -- the same protection: by the same mechanism, with a key of the same bytes that was made for the
 -- same algorithm

@@ -25,11 +25,11 @@ use Rattle.stun_transactions.specs.Guards.{proof_of, guard_fault}
 use Rattle.stun_transactions.specs.Terms.{is_answer}
 use Rattle.stun_transactions.specs.Outcomes.{is_open}
 
--- what a response that is kept out claims: its code, if it is an error response
+-- what a response that isn't taken claims: its code, if it is an error response
 abbrev pub claim_of : List ℕ → Claim
 claim_of d = record { code = response_code d }
 
--- the report on a response that is kept out: over a reliable transport one whose HMAC is wrong or
+-- the report on a response that isn't taken: over a reliable transport one whose HMAC is wrong or
 -- missing ends the transaction
 abbrev pub discarded : TransportType → Claim → Discard → Outcome
 discarded Tcp claim NotAuthentic = Failed (IntegrityViolated claim)
@@ -46,7 +46,7 @@ content_by_class proof ErrorClass d =
     option_map_or (λ code. Error code proof) (shown_code d) (Failed NoErrorCode)
 content_by_class proof _ d = Success proof
 
--- what a response that isn't kept out reports, with the algorithm that authenticates it
+-- what a response that isn't discarded reports, with the algorithm that authenticates it
 abbrev pub content : Option IntegrityAlgorithm → List AttributeType → List ℕ → Outcome
 content proof understood d =
     option_map_or (λ type. Failed (UnknownAttribute type)) (first_beyond understood d)

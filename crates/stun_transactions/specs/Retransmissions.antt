@@ -112,6 +112,6 @@ is_timed state = is_answered state.end && (state.sent == 1)
 
 -- the time is known from when the request was sent to a moment, if it is reported
 abbrev pub TellsTime : RetransmissionState → Duration → Option Duration → Type 0
-TellsTime state now told =
-    MatchOption told (is_timed state ≡ false)
+TellsTime state now reported =
+    MatchOption reported (is_timed state ≡ false)
     (λ time. (is_timed state ≡ true) × (as_nanos time ≡ as_nanos now - as_nanos state.last))

@@ -157,15 +157,15 @@ stopping t = record t { state = stopped_by (state_of t) }
 
 -- what is reported of d for a transaction: its ID, and what d is for it alone
 pub record IsFor (t : Transaction) (understood : List AttributeType) (d : List ℕ)
-    (told : ℕ × Received) : Type 0 where
-  pub id : told.0 ≡ id_of t
-  pub outcome : outcome_of told.1 ≡ received_outcome (terms_of t) (state_of t) understood d
-  pub message : Holds told.1 d
+    (reported : ℕ × Received) : Type 0 where
+  pub id : reported.0 ≡ id_of t
+  pub outcome : outcome_of reported.1 ≡ received_outcome (terms_of t) (state_of t) understood d
+  pub message : Holds reported.1 d
 
 -- the same, if there is a transaction, otherwise nothing
 abbrev pub Tells : Option Transaction → List AttributeType → List ℕ → Option (ℕ × Received) → Type 0
-Tells slot understood d told =
-    MatchOption slot (told ≡ None) (λ t. IsSomeAnd told (IsFor t understood d))
+Tells slot understood d reported =
+    MatchOption slot (reported ≡ None) (λ t. IsSomeAnd reported (IsFor t understood d))
 
 -- the place of the transaction that received bytes are for, by the ID of the message that they are
 abbrev pub addressee : List ℕ → List (Option Transaction) → Option ℕ

@@ -10,7 +10,7 @@ use Rattle.stun_transactions.specs.declared.usage.Usage.{Usage}
 use Rattle.stun_transactions.specs.declared.terms.Terms.{Terms}
 use Rattle.stun_transactions.specs.declared.terms.BeginError.{BeginError}
 use Rattle.stun_transactions.specs.declared.terms.BeginError.TheVariants.{NotARequest, NotSigned, Signed}
-use Rattle.stun_transactions.specs.Guards.{signed_by, is_signed, protects, IsKeptAs, HasSameKey}
+use Rattle.stun_transactions.specs.Guards.{signed_by, is_signed, protects, IsStoredAs, HasSameKey}
 
 -- why no transaction begins by whether a credential is to protect the request, and whether it is
 -- signed
@@ -33,7 +33,7 @@ pub record AreTerms (r : List ℕ) (plan : Plan) (protection : Protection) (usag
   pub method_is : terms.method ≡ method_of (type_field r)
   pub id_is : terms.id ≡ id_field r
   pub signed_is : terms.signed ≡ signed_by r
-  pub protection_is : IsKeptAs protection terms.protection
+  pub protection_is : IsStoredAs protection terms.protection
   pub usage_is : terms.usage ≡ usage
 
 -- the same terms: those of the same request, protected by the same key

@@ -142,13 +142,13 @@ fn long_term_fault(authentic: bool, message: &Message<'_>) -> Option<Discard>
 impl Protection {
     ghost use Rattle.std.specs.Prelude.{◌≡◌, true, None, Some, IfErr, OnOk, MatchResult};
     ghost use Rattle.stun_types.specs.Message.{message_bytes};
-    ghost use Rattle.stun_transactions.specs.Guards.{proof_of, mechanism_fault, guard_fault, protects, IsKeptAs, HasSameKey, has_prepared_key};
+    ghost use Rattle.stun_transactions.specs.Guards.{proof_of, mechanism_fault, guard_fault, protects, IsStoredAs, HasSameKey, has_prepared_key};
     ghost use Rattle.stun_transactions.specs.Parts.{mechanism_of, key_in, key_fault};
 
     /// What a transaction keeps of it, to validate responses: a long-term key works with both
     /// algorithms (RFC 8489, section 9.2.5).
     pub(crate) fn for_responses(self) -> Protection
-        ensures { IsKeptAs self result }
+        ensures { IsStoredAs self result }
     {
         match self {
             Protection::LongTerm(key) => Protection::LongTerm(key.for_both()),

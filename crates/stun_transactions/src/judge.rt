@@ -63,7 +63,7 @@ fn content(
     }
 }
 
-/// What a response claims that is kept out.
+/// What a response that isn't taken claims.
 fn claim_of(message: &Message<'_>) -> Claim
     ensures { result ≡ claim_of (message_bytes message.now) }
 {
@@ -72,7 +72,7 @@ fn claim_of(message: &Message<'_>) -> Claim
     }
 }
 
-/// What a response that is kept out is for its transaction.
+/// What a response that isn't taken is for its transaction.
 fn discarded(transport: TransportType, claim: Claim, reason: Discard) -> Outcome
     ensures { result ≡ discarded transport claim reason }
 {

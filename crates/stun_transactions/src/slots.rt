@@ -181,7 +181,7 @@ fn receive_at<'m>(
     message: Message<'m>,
     understood: &[AttributeType],
 ) -> Option<(TransactionId, Received<'m>)>
-    ensures told { Tells slot.old understood.now (message_bytes message.entry) result }
+    ensures reported { Tells slot.old understood.now (message_bytes message.entry) result }
     ensures slot { slot.new
         ≡ option_map (after_receiving understood.now (message_bytes message.entry)) slot.old }
 {
@@ -201,7 +201,7 @@ fn receive_for<'m>(
     message: Message<'m>,
     understood: &[AttributeType],
 ) -> Option<(TransactionId, Received<'m>)>
-    ensures told { Tells (held slots.old (place_of id slots.old)) understood.now
+    ensures reported { Tells (held slots.old (place_of id slots.old)) understood.now
         (message_bytes message.entry) result }
     ensures slots { slots.new ≡ changed (after_receiving understood.now
         (message_bytes message.entry))
@@ -219,7 +219,7 @@ pub(crate) fn receive<'m>(
     bytes: &'m [u8],
     understood: &[AttributeType],
 ) -> Option<(TransactionId, Received<'m>)>
-    ensures told { Tells (held slots.old (addressee bytes.now slots.old)) understood.now bytes.now
+    ensures reported { Tells (held slots.old (addressee bytes.now slots.old)) understood.now bytes.now
         result }
     ensures slots { slots.new
         ≡ changed (after_receiving understood.now bytes.now)

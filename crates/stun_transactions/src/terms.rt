@@ -4,7 +4,6 @@ ghost use Rattle.std.specs.Prelude.{◌≡◌, None, Some, MatchResult};
 ghost use Rattle.stun_base.specs.MessageTypes.{class_of};
 ghost use Rattle.stun_grammar.specs.Headers.{type_field};
 ghost use Rattle.stun_types.specs.Message.{message_bytes};
-ghost use Rattle.stun_authentication.specs.LongTerm.{is_request};
 ghost use Rattle.stun_transactions.specs.Terms.{begin_fault, AreTerms, is_answer};
 
 use crate::guard::{Protection, Signed, signed_by};
@@ -38,13 +37,6 @@ pub struct Terms {
     pub(crate) usage: Usage,
 }
 
-/// Whether a class is that of a request.
-fn is_request(class: MessageClass) -> bool
-    ensures { result ≡ is_request class }
-{
-    matches!(class, MessageClass::Request)
-}
-
 impl Terms {
     ghost use Rattle.std.specs.Prelude.{◌≡◌, None, Some, MatchResult};
     ghost use Rattle.stun_types.specs.Message.{message_bytes};
@@ -63,7 +55,7 @@ impl Terms {
             (λ e. begin_fault protection (message_bytes request.now) ≡ Some e) }
     {
         let signed = signed_by(request);
-        if !is_request(request.class()) {
+        if !request.has_class(MessageClass::Request) {
             return Err(BeginError::NotARequest);
         }
         match (protection.protects(), signed.is_signed()) {

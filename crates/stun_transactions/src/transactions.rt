@@ -131,7 +131,7 @@ impl<const N: usize> Transactions<N> {
         bytes: &'m [u8],
         understood: &[AttributeType],
     ) -> Option<(TransactionId, Received<'m>)>
-        ensures told { Tells (held self.old (addressee bytes.now self.old)) understood.now bytes.now
+        ensures reported { Tells (held self.old (addressee bytes.now self.old)) understood.now bytes.now
             result }
         ensures slots { self.new
             ≡ changed (after_receiving understood.now bytes.now)

@@ -1,4 +1,5 @@
 pub mod Message
+pub mod ReadTypes
 pub mod Registered
 pub mod Replies
 pub mod Shown

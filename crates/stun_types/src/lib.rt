@@ -14,10 +14,12 @@
 
 pub mod attribute;
 pub mod data;
+mod laws;
 pub mod message;
 pub mod prelude;
 pub mod show;
 
+pub use laws::types_are_read;
 pub use stun_attributes::{attribute_types_are_read_back, xor_twice};
 pub use stun_base::{AddressFamily, ParseTransportTypeError, TransportType};
 pub use stun_grammar::{

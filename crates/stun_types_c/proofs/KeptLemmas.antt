@@ -33,7 +33,7 @@ use Rattle.stun_transactions.specs.Retransmissions.{later, ended_by, stopped_by,
 use Rattle.stun_transactions.specs.Outcomes.{after}
 use Rattle.stun_transactions.specs.Parts.{plan_in, state_in, at_state, mechanism_of, signs, parts_of, is_signed_otherwise, parts_fault}
 use Rattle.stun_transactions.specs.Schedules.{requests_over, requests_in}
-use Rattle.stun_transactions.specs.Guards.{signed_by, is_signed, protects, IsKeptAs}
+use Rattle.stun_transactions.specs.Guards.{signed_by, is_signed, protects, IsStoredAs}
 use Rattle.stun_authentication.specs.LongTerm.{is_request}
 use Rattle.stun_transactions.specs.Terms.{mismatch, begin_fault}
 use Rattle.stun_transactions.specs.Transactions.{terms_of, state_of, Begins}
@@ -348,7 +348,7 @@ gone_on old new same = rw same refl
 
 -- ---- A transaction that begins
 
-same_mechanism : (by kept : Protection) → IsKeptAs by kept → mechanism_of kept ≡ mechanism_of by
+same_mechanism : (by kept : Protection) → IsStoredAs by kept → mechanism_of kept ≡ mechanism_of by
 same_mechanism Unprotected kept is = ap mechanism_of is
 same_mechanism FirstLongTerm kept is = ap mechanism_of is
 same_mechanism (ShortTerm key) kept is = ap mechanism_of is

@@ -5,7 +5,7 @@ ghost use Rattle.stun_types_c.specs.Streams.{fault_result, PushesPiece};
 
 use crate::call_result::{CallResult, counted, plain};
 use crate::codes;
-use stun_framing::{Carries, StreamFault, push_kept};
+use stun_framing::{Carries, StreamFault, push_stored};
 
 /// A stream, as C keeps it.
 #[repr(C)]
@@ -47,7 +47,8 @@ pub extern "C" fn stun_types_stream_push(
         return plain(codes::BAD_ARGUMENT);
     }
     let size = buffer.len();
-    let Some(answer) = push_kept(Carries::Messages, buffer, kept.pending, kept.offset, piece) else {
+    let Some(answer) = push_stored(Carries::Messages, buffer, kept.pending, kept.offset, piece)
+    else {
         return plain(codes::BAD_ARGUMENT);
     };
     match answer {

@@ -13,8 +13,9 @@ use stun_types::message::{
 use stun_types::prelude::*;
 use test_messages::{header, short_term};
 use user_examples::{
-    Blob, WriteFixed, header_behind_adds, nominate_sixteen, overwrite, software_behind,
-    software_in_slice, software_message, steps_in_array, validates_own,
+    Blob, WriteFixed, add_by_match, add_if_short, add_or_return, header_behind_adds,
+    nominate_sixteen, overwrite, software_behind, software_in_slice, software_message,
+    steps_in_array, validates_own,
 };
 
 /// The binding request with the transaction ID 1000 and the SOFTWARE `stun-types`, and four bytes
@@ -56,6 +57,31 @@ fn adds_to_a_request_in_a_callers_slice(rt: HostRuntime) -> Result<(), Fail> {
     buf[..20].copy_from_slice(&header(0));
     assert!(rt; software_behind(rt.alloc(), &software, &mut buf, 20) == Ok(36));
     assert!(rt; buf == IN_FORTY);
+    Ok(())
+}
+
+/// What three raw attributes of the type 0x0001 add to a request.
+const THREE: [u8; 20] = [
+    0x00, 0x01, 0x00, 0x04, 0x01, 0x02, 0x03, 0x04, 0x00, 0x01, 0x00, 0x01, 0x05, 0x00, 0x00, 0x00,
+    0x00, 0x01, 0x00, 0x00,
+];
+
+#[test]
+fn adds_raw_attributes_of_a_literal_type(rt: HostRuntime) -> Result<(), Fail> {
+    let write = MessageWriteVec::new(rt.alloc());
+    let mut message = Message::builder(binding_request(), TransactionId::from(1000), write)?;
+    let long = vec![in rt.alloc(); 0x5A; 65536]?;
+    let refused = StunWriteError::TooLarge {
+        expected: 65535,
+        actual: 65536,
+    };
+    assert!(rt; add_or_return(&long, &mut message) == Err(refused));
+    assert!(rt; add_by_match(&long, &mut message) == Err(refused));
+    assert!(rt; add_if_short(&long, &mut message) == Ok(false));
+    assert!(rt; add_or_return(&[1, 2, 3, 4], &mut message) == Ok(()));
+    assert!(rt; add_by_match(&[5], &mut message) == Ok(()));
+    assert!(rt; add_if_short(&[], &mut message) == Ok(true));
+    assert!(rt; &message.data()[20..] == THREE.as_slice());
     Ok(())
 }
 

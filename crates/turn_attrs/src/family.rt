@@ -33,7 +33,7 @@ impl fmt::Display for OnlyIpv6 {
     }
 }
 
-/// The byte that stands for a family: 1 for IPv4 and 2 for IPv6 (RFC 8489, section 14.1).
+/// The byte that encodes a family: 1 for IPv4 and 2 for IPv6 (RFC 8489, section 14.1).
 pub(crate) fn family_to_byte(family: AddressFamily) -> u8
     ensures { result ≡ family_byte family }
 {
@@ -43,7 +43,7 @@ pub(crate) fn family_to_byte(family: AddressFamily) -> u8
     }
 }
 
-/// The family that a byte stands for, if it stands for one.
+/// The family that a byte encodes, if it encodes one.
 pub(crate) fn family_from_byte(byte: u8) -> Option<AddressFamily>
     ensures { result ≡ family_of_byte byte }
 {

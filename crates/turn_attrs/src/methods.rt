@@ -8,7 +8,7 @@ pub const ALLOCATE: Method = Method(3);
 pub const REFRESH: Method = Method(4);
 /// Sends data to a peer; an indication.
 pub const SEND: Method = Method(6);
-/// Hands on data of a peer; an indication.
+/// Passes on data of a peer; an indication.
 pub const DATA: Method = Method(7);
 /// Lets peers send data.
 pub const CREATE_PERMISSION: Method = Method(8);
@@ -18,5 +18,5 @@ pub const CHANNEL_BIND: Method = Method(9);
 pub const CONNECT: Method = Method(10);
 /// Binds a connection of the client to one of a peer.
 pub const CONNECTION_BIND: Method = Method(11);
-/// Tells that a peer has connected; an indication.
+/// Reports that a peer has connected; an indication.
 pub const CONNECTION_ATTEMPT: Method = Method(12);

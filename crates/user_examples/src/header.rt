@@ -25,7 +25,7 @@ pub fn header_behind_adds<B: MessageWrite>(
     requires empty { (B.state message.old).bytes ≡ [] }
     requires room { Fits (B.state message.old).greatest 20 }
     requires ready { 20 ≤ (B.state message.old).ready_bytes }
-    ensures told { IfOk result (λ told. (told.0 ≡ mtype) × (told.1 ≡ id)) }
+    ensures answer { IfOk result (λ read. (read.0 ≡ mtype) × (read.1 ≡ id)) }
     ensures kind { type_field (B.state message.new).bytes ≡ mtype }
     ensures id { id_field (B.state message.new).bytes ≡ id }
 {

@@ -7,7 +7,7 @@ use Rattle.stun_values.specs.TypeLists.{types_encoding}
 use Rattle.stun_attrs.proofs.ReadBackLemmas.{own_value}
 use Rattle.stun_attributes.specs.AddressAttributes.{ReadsAddress, server_addr, written_mapped_addr}
 use Rattle.stun_attributes.specs.ErrorCodes.{error_code, error_reason, ReadsError}
-use Rattle.stun_attributes.specs.Passwords.{ReadsAlgorithm, ReadsAlgorithms, held_algorithm, held_algorithms}
+use Rattle.stun_attributes.specs.PasswordAlgorithms.{ReadsAlgorithm, ReadsAlgorithms, held_algorithm, held_algorithms}
 use Rattle.stun_attributes.specs.Texts.{text_bytes, ReadsText}
 use Rattle.stun_attributes.specs.Unknown.{ReadsTypes, listed}
 use Rattle.stun_attributes.proofs.AddressesLemmas.{address_back}

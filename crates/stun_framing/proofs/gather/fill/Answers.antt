@@ -13,8 +13,8 @@ returns-clause-bytes c =
     ∙ behind_first old (take count piece) (drop (held + length (take count piece)) old) held count (omega arith) (omega (arith, length-take count piece))
     ∙ filled old piece held c.args.wanted count (omega arith) c.requires.held c.min-count.ensures
 
-pub returns-clause-kept : goal.returns-clause-kept
-returns-clause-kept c =
+pub returns-clause-stays : goal.returns-clause-stays
+returns-clause-stays c =
     let old = c.args.buffer.now in
     let bytes = take c.min-count.result c.args.piece.now in
     ap (take c.args.held) c.copy_behind.ensures

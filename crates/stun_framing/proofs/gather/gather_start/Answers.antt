@@ -10,4 +10,4 @@ returns-in-Ok-clause-start c =
 pub returns-in-Err-clause-start : goal.returns-in-Err-clause-start
 returns-in-Err-clause-start c =
     first_refused c.args.carries c.args.buffer.now c.fill-start.new.buffer c.args.piece.now c.args.held c.fill-start.result 4 c.in-Err.fault
-    c.fill-start.ensures.bytes c.fill-start.ensures.kept c.in-Err.ensures
+    c.fill-start.ensures.bytes c.fill-start.ensures.stays c.in-Err.ensures

@@ -1,5 +1,5 @@
 use Rattle.std.proofs.Common.{None, sym, subst}
-use Rattle.stun_framing.specs.declared.gather.Kept.{Kept}
+use Rattle.stun_framing.specs.declared.gather.Gathered.{Gathered}
 use Rattle.stun_framing.specs.Fields.{IsStream}
 use Rattle.stun_framing.proofs.ResumingLemmas.{resumes_if, resumed_is}
 use Rattle.stun_framing.proofs.message_stream.MessageStream.resume.Goals as goal
@@ -7,5 +7,5 @@ use Rattle.stun_framing.proofs.message_stream.MessageStream.resume.Goals as goal
 pub invariant_of-result : goal.invariant_of-result
 invariant_of-result c =
     let held = c.in-Some.ensures in
-    subst (λ (kept : Kept). IsStream c.args.carries c.args.buffer.now kept None) (sym held.1)
+    subst (λ (gathered : Gathered). IsStream c.args.carries c.args.buffer.now gathered None) (sym held.1)
     (resumed_is c.args.carries c.args.buffer.now c.args.held (resumes_if c.args.carries c.args.buffer.now c.args.held held.0))

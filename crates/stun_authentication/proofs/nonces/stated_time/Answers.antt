@@ -2,7 +2,7 @@ use Rattle.std.proofs.Common.{◌≡◌, ℕ, ◌+◌, ◌*◌, get_or, drop, re
 use Rattle.std.proofs.lemmas.List.{length-drop, get_or-drop}
 use Rattle.stun_authentication.specs.Nonces.{unhexed, digit_of}
 use Rattle.stun_authentication.proofs.NoncesLemmas.{time_step}
-use Rattle.stun_authentication.proofs.nonces.told_time.Goals as goal
+use Rattle.stun_authentication.proofs.nonces.stated_time.Goals as goal
 
 pub loop-i-init : goal.loop-i-init
 unfolding unhexed

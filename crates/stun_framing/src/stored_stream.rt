@@ -7,7 +7,7 @@ ghost use Rattle.stun_framing.specs.Streams.{resumed, can_resume, pushed, left, 
 
 use crate::carries::Carries;
 use crate::error::StreamError;
-use crate::gather::{Kept, gather, held_part};
+use crate::gather::{Gathered, gather, held_part};
 use crate::message_stream::{offset_behind, pending_of};
 
 /// What a piece made of a stream of which the caller keeps the buffer.
@@ -27,11 +27,11 @@ pub struct Pushed {
 }
 
 /// How many bytes are the message, if it is complete.
-fn whole_length(kept: Kept) -> Option<usize>
-    ensures { result ≡ (if is_all kept then Some kept.held else None) }
+fn whole_length(gathered: Gathered) -> Option<usize>
+    ensures { result ≡ (if is_all gathered then Some gathered.held else None) }
 {
-    if kept.held == kept.wanted {
-        return Some(kept.held);
+    if gathered.held == gathered.wanted {
+        return Some(gathered.held);
     }
     None
 }
@@ -48,7 +48,7 @@ fn whole_length(kept: Kept) -> Option<usize>
 /// stays as it was.
 ///
 /// ```
-/// let pushed = push_kept(Carries::Messages, &mut buffer, held, offset, piece)
+/// let pushed = push_stored(Carries::Messages, &mut buffer, held, offset, piece)
 ///     .ok_or(Error::BadArgument)??;
 /// (held, offset) = (pushed.pending, pushed.offset);
 /// rest = &piece[pushed.taken..];
@@ -64,8 +64,8 @@ fn whole_length(kept: Kept) -> Option<usize>
 ///
 /// [`MessageStream::push`]: crate::MessageStream::push
 /// [`MessageStream::resume`]: crate::MessageStream::resume
-#[tactic(auto, using(crate::proofs::KeptLemmas::resumed_kept))]
-pub fn push_kept(
+#[tactic(auto, using(crate::proofs::StoredLemmas::resumed_gathered))]
+pub fn push_stored(
     carries: Carries,
     buffer: &mut [u8],
     held: usize,
@@ -80,11 +80,11 @@ pub fn push_kept(
 {
     let part = held_part(carries, buffer, held)?;
     Some(match gather(carries, buffer, part, piece) {
-        Ok(kept) => Ok(Pushed {
-            taken: kept.held - held,
-            offset: offset_behind(offset, kept),
-            pending: pending_of(kept).held,
-            message: whole_length(kept),
+        Ok(gathered) => Ok(Pushed {
+            taken: gathered.held - held,
+            offset: offset_behind(offset, gathered),
+            pending: pending_of(gathered).held,
+            message: whole_length(gathered),
         }),
         Err(fault) => Err(StreamError { offset, fault }),
     })

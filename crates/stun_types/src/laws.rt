@@ -1,0 +1,71 @@
+//! By which rule each typed attribute is read. The function does nothing: its contract is the law.
+
+ghost use Rattle.stun_grammar.specs.AttributeTypes.{ALTERNATE_DOMAIN, ALTERNATE_SERVER, ERROR_CODE, FINGERPRINT, MESSAGE_INTEGRITY, MESSAGE_INTEGRITY_SHA256, NONCE, PASSWORD_ALGORITHM, PASSWORD_ALGORITHMS, REALM, SOFTWARE, UNKNOWN_ATTRIBUTES, USERHASH, USERNAME, XOR_MAPPED_ADDRESS};
+ghost use Rattle.stun_values.specs.TextValues.{text_max, username_max};
+ghost use Rattle.stun_attributes.specs.AddressAttributes.{ReadsAddress, server_addr, written_mapped_addr};
+ghost use Rattle.stun_attributes.specs.ErrorCodes.{ReadsError};
+ghost use Rattle.stun_attributes.specs.PasswordAlgorithms.{ReadsAlgorithm, ReadsAlgorithms};
+ghost use Rattle.stun_attributes.specs.Texts.{ReadsText};
+ghost use Rattle.stun_attributes.specs.Unknown.{ReadsTypes};
+ghost use Rattle.stun_integrity.specs.Integrity.{ReadsFingerprint, ReadsIntegrity, ReadsIntegritySha256};
+ghost use Rattle.stun_integrity.specs.Userhash.{ReadsUserhash};
+ghost use Rattle.stun_types.specs.ReadTypes.{IsReadBy};
+
+use stun_attributes::{
+    AlternateDomain, AlternateServer, ErrorCode, Nonce, PasswordAlgorithm, PasswordAlgorithms,
+    Realm, Software, UnknownAttributes, Username, XorMappedAddress,
+};
+use stun_attrs::AttributeFromRaw;
+use stun_integrity::{Fingerprint, MessageIntegrity, MessageIntegritySha256, Userhash};
+
+/// Each of the fifteen types is read under its own number (RFC 8489, section 18.3), by the rule of
+/// its own value: whatever `from_raw_ref` and `from_raw` may return (`reads_ref` and `reads` of
+/// [`AttributeFromRaw`]). A text has its own greatest length.
+pub fn types_are_read()
+    ensures username { IsReadBy USERNAME (ReadsText username_max)
+        ⟦<Username as AttributeFromRaw<'static>>⟧.reads_ref
+        ⟦<Username as AttributeFromRaw<'static>>⟧.reads }
+    ensures realm { IsReadBy REALM (ReadsText text_max)
+        ⟦<Realm as AttributeFromRaw<'static>>⟧.reads_ref
+        ⟦<Realm as AttributeFromRaw<'static>>⟧.reads }
+    ensures nonce { IsReadBy NONCE (ReadsText text_max)
+        ⟦<Nonce as AttributeFromRaw<'static>>⟧.reads_ref
+        ⟦<Nonce as AttributeFromRaw<'static>>⟧.reads }
+    ensures software { IsReadBy SOFTWARE (ReadsText text_max)
+        ⟦<Software as AttributeFromRaw<'static>>⟧.reads_ref
+        ⟦<Software as AttributeFromRaw<'static>>⟧.reads }
+    ensures alternate_domain { IsReadBy ALTERNATE_DOMAIN (ReadsText 65535)
+        ⟦<AlternateDomain as AttributeFromRaw<'static>>⟧.reads_ref
+        ⟦<AlternateDomain as AttributeFromRaw<'static>>⟧.reads }
+    ensures alternate_server { IsReadBy ALTERNATE_SERVER (ReadsAddress server_addr)
+        ⟦<AlternateServer as AttributeFromRaw<'static>>⟧.reads_ref
+        ⟦<AlternateServer as AttributeFromRaw<'static>>⟧.reads }
+    // the address as it is written, which is XORed
+    ensures xor_mapped_address { IsReadBy XOR_MAPPED_ADDRESS (ReadsAddress written_mapped_addr)
+        ⟦<XorMappedAddress as AttributeFromRaw<'static>>⟧.reads_ref
+        ⟦<XorMappedAddress as AttributeFromRaw<'static>>⟧.reads }
+    ensures error_code { IsReadBy ERROR_CODE ReadsError
+        ⟦<ErrorCode as AttributeFromRaw<'static>>⟧.reads_ref
+        ⟦<ErrorCode as AttributeFromRaw<'static>>⟧.reads }
+    ensures unknown_attributes { IsReadBy UNKNOWN_ATTRIBUTES ReadsTypes
+        ⟦<UnknownAttributes as AttributeFromRaw<'static>>⟧.reads_ref
+        ⟦<UnknownAttributes as AttributeFromRaw<'static>>⟧.reads }
+    ensures password_algorithm { IsReadBy PASSWORD_ALGORITHM ReadsAlgorithm
+        ⟦<PasswordAlgorithm as AttributeFromRaw<'static>>⟧.reads_ref
+        ⟦<PasswordAlgorithm as AttributeFromRaw<'static>>⟧.reads }
+    ensures password_algorithms { IsReadBy PASSWORD_ALGORITHMS ReadsAlgorithms
+        ⟦<PasswordAlgorithms as AttributeFromRaw<'static>>⟧.reads_ref
+        ⟦<PasswordAlgorithms as AttributeFromRaw<'static>>⟧.reads }
+    ensures message_integrity { IsReadBy MESSAGE_INTEGRITY ReadsIntegrity
+        ⟦<MessageIntegrity as AttributeFromRaw<'static>>⟧.reads_ref
+        ⟦<MessageIntegrity as AttributeFromRaw<'static>>⟧.reads }
+    ensures message_integrity_sha256 { IsReadBy MESSAGE_INTEGRITY_SHA256 ReadsIntegritySha256
+        ⟦<MessageIntegritySha256 as AttributeFromRaw<'static>>⟧.reads_ref
+        ⟦<MessageIntegritySha256 as AttributeFromRaw<'static>>⟧.reads }
+    ensures fingerprint { IsReadBy FINGERPRINT ReadsFingerprint
+        ⟦<Fingerprint as AttributeFromRaw<'static>>⟧.reads_ref
+        ⟦<Fingerprint as AttributeFromRaw<'static>>⟧.reads }
+    ensures userhash { IsReadBy USERHASH ReadsUserhash
+        ⟦<Userhash as AttributeFromRaw<'static>>⟧.reads_ref
+        ⟦<Userhash as AttributeFromRaw<'static>>⟧.reads }
+{}
