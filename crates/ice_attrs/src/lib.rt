@@ -23,8 +23,8 @@ pub use kinds::{
 pub use laws::{greater_tiebreaker_controls, one_split};
 pub use pacing::{DEFAULT_TA, LEAST_RTO, LEAST_TA, agreed_ta, check_rto, gathering_rto};
 pub use roles::{Role, RoleDecision, decide_role};
-pub use symmetry::{Symmetry, TransportAddresses, compare_addresses};
 use stun_types::attribute::ErrorCode;
+pub use symmetry::{Symmetry, TransportAddresses, compare_addresses};
 
 /// 487: both agents have the same role (RFC 8445, section 16.2). Its reason is `Role Conflict`.
 pub const ROLE_CONFLICT: u16 = ErrorCode::ROLE_CONFLICT;
