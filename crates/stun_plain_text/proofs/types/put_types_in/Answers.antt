@@ -1,30 +1,23 @@
-use Rattle.std.proofs.Common.{◌≡◌, ◌/◌, ◌<◌, ◌++◌, length, take, sym, ap, ◌∙◌, arith}
-use Rattle.std.proofs.lemmas.List.{take_all}
+use Rattle.std.proofs.Common.{◌≡◌, ℕ, ◌/◌, ◌++◌, length, ap, arith}
 use Rattle.stun_text.proofs.Joining.{both, spelled_so}
-use Rattle.stun_text.proofs.ListsLemmas.{commas_next}
 use Rattle.stun_text.specs.Lists.{with_commas, comma_before}
+use Rattle.stun_plain_text.proofs.TypesLemmas.{types_more}
 use Rattle.stun_plain_text.specs.PlainValues.{type_text}
-use Rattle.stun_values.specs.TypeLists.{types_in}
-use Rattle.stun_values.proofs.TypesLemmas.{type_at, count_of_types}
+use Rattle.stun_values.specs.TypeLists.{types_within}
 use Rattle.stun_plain_text.proofs.types.put_types_in.Goals as goal
 
 pub loop-i-preserved : goal.loop-i-preserved
 loop-i-preserved g c =
     let wrote = g.S.TextSink.wrote in
     let joins = g.met.S.TextSink.joins in
-    let i = c.loop-i.i in
-    let types = types_in c.args.value.now in
+    let next = comma_before c.loop-i.i ++ type_text c.number_at.result in
     let before = c.loop-i.invariant in
     let one = c.in_ok-put_listed.ensures in
-    let within : i < length types = omega (arith, count_of_types c.args.value.now, c.loop-i-test.true) in
-    let same = type_at (length c.args.value.now / 2) i c.args.value.now c.loop-i-test.true ∙ sym c.number_at.ensures in
-    spelled_so wrote joins
-    (ap (λ n. with_commas type_text (take i types) ++ (comma_before i ++ type_text n)) (sym same) ∙ commas_next type_text types i 0 within)
-    (both wrote joins before one)
+    spelled_so wrote joins (types_more type_text c.loop-i.i c.number_at.result c.args.value.now c.number_at.ensures) (both wrote joins {b = next} before one)
 
 pub returns : goal.returns
 returns g c =
-    let types = types_in c.args.value.now in
-    let all : take c.loop-i.i types ≡ types = take_all c.loop-i.i types (omega (arith, count_of_types c.args.value.now, c.loop-i-test.false)) in
+    let value = c.args.value.now in
+    let all : c.loop-i.i ≡ length value / 2 = omega arith in
     let before = c.loop-i.invariant in
-    spelled_so g.S.TextSink.wrote g.met.S.TextSink.joins (ap (with_commas type_text) all) before
+    spelled_so g.S.TextSink.wrote g.met.S.TextSink.joins (ap (λ (n : ℕ). with_commas type_text (types_within n value)) all) before
