@@ -370,7 +370,9 @@ stun_types_answer stun_types_read_address(const uint8_t *bytes, size_t length,
                                           stun_types_address *address);
 
 /* The code, 300 to 699, in an ERROR-CODE (RFC 8489, section 14.8), and the offset of its reason in
-   the message: UTF-8, at most 763 bytes. TRUNCATED, TOO_LARGE, INVALID_DATA. */
+   the message: UTF-8, at most 763 bytes. An ADDRESS-ERROR-CODE (RFC 8656, section 18.12) is read so
+   too: the first byte of its value is the family, 1 for IPv4 and 2 for IPv6, which the call ignores.
+   TRUNCATED, TOO_LARGE, INVALID_DATA. */
 STUN_TYPES_NODISCARD STUN_TYPES_NONNULL((3, 4, 5, 6))
 stun_types_answer stun_types_read_error(const uint8_t *bytes, size_t length,
                                         const stun_types_attribute *attribute, uint16_t *code,
@@ -418,9 +420,9 @@ stun_types_answer stun_types_read_u64(const uint8_t *bytes, size_t length,
 /* The message as a text, by its names and values, without a final 0: one line of printable ASCII, for
    logs and terminals. In the texts of the message, each byte that is no printable character of ASCII,
    and each backslash, is escaped: \xHH. Attributes and methods of ICE, TURN and NAT discovery have
-   their names too, PRIORITY and LIFETIME are numbers, addresses are addresses, and the values of all
-   others are hexadecimal. NOT_STUN, TRUNCATED, TOO_LARGE,
-   FINGERPRINT_MISMATCH: it is no message. TOO_SMALL: expected is how many bytes the text has, and
+   their names too, also the types in an UNKNOWN-ATTRIBUTES; PRIORITY and LIFETIME are numbers,
+   addresses are addresses, and the values of all others are hexadecimal. NOT_STUN, TRUNCATED,
+   TOO_LARGE, FINGERPRINT_MISMATCH: it is no message. TOO_SMALL: expected is how many bytes the text has, and
    the first room of them are written. *written is how many bytes are written. */
 STUN_TYPES_NODISCARD STUN_TYPES_NONNULL((5))
 stun_types_answer stun_types_print(const uint8_t *bytes, size_t length, char *text, size_t room,
@@ -644,7 +646,8 @@ stun_types_answer stun_types_add_address(uint8_t *room, size_t size, size_t *wri
                                          const stun_types_address *address);
 
 /* Adds an ERROR-CODE with a reason, UTF-8. OUT_OF_RANGE: the code is none of 300 to 699.
-   TOO_LARGE: the reason has more than 763 bytes. INVALID_DATA: it isn't UTF-8. */
+   TOO_LARGE: the reason has more than 763 bytes. INVALID_DATA: it isn't UTF-8. An ADDRESS-ERROR-CODE is
+   added by stun_types_add: its value is the family, a zero, code / 100, code % 100, and the reason. */
 STUN_TYPES_NODISCARD STUN_TYPES_NONNULL((3))
 stun_types_answer stun_types_add_error(uint8_t *room, size_t size, size_t *written,
                                        stun_types_code code, const void *reason,
@@ -754,7 +757,7 @@ stun_types_answer stun_types_finish_reply(uint8_t *room, size_t size, size_t *wr
    length of the response, and nothing is written. Allocates: OUT_OF_MEMORY. */
 STUN_TYPES_NODISCARD STUN_TYPES_NONNULL((6))
 stun_types_answer stun_types_refuse_short_term(const uint8_t *request, size_t request_length,
-                                               uint32_t code, uint8_t *room, size_t size,
+                                               stun_types_code code, uint8_t *room, size_t size,
                                                size_t *written);
 
 /* The same under long-term credentials, with the code 400, 401 or 438 (section 9.2.4). A 401 and a 438
@@ -769,10 +772,11 @@ stun_types_answer stun_types_refuse_short_term(const uint8_t *request, size_t re
    OUT_OF_MEMORY. */
 STUN_TYPES_NODISCARD STUN_TYPES_NONNULL((12))
 stun_types_answer stun_types_refuse_long_term(const uint8_t *request, size_t request_length,
-                                              uint32_t code, const void *realm, size_t realm_length,
-                                              const void *nonce, size_t nonce_length,
-                                              const uint16_t *algorithms, size_t algorithms_count,
-                                              uint8_t *room, size_t size, size_t *written);
+                                              stun_types_code code, const void *realm,
+                                              size_t realm_length, const void *nonce,
+                                              size_t nonce_length, const uint16_t *algorithms,
+                                              size_t algorithms_count, uint8_t *room, size_t size,
+                                              size_t *written);
 
 /* The security features of a server, which its nonces begin with (RFC 8489, sections 9.2 and 18.1): a
    sum of these. */
