@@ -22,6 +22,11 @@ def part(name, passed, failed, since):
     print(f"{name}: {passed} passed, {failed} failed ({time.time() - since:.1f} s)", flush=True)
 
 
+def skipped(what, why):
+    """Names what this machine can't check. It counts as neither."""
+    print(f"{what}: skipped, {why}", flush=True)
+
+
 def end():
     print(f"{totals[0]} passed, {totals[1]} failed")
     sys.exit(1 if totals[1] or not totals[0] else 0)

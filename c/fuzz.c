@@ -463,7 +463,7 @@ static void check_replies(const uint8_t *bytes, size_t length, stun_types_answer
     if (answer.code == STUN_TYPES_OK) HOLDS(model_parse(room, written).code == STUN_TYPES_OK);
 }
 
-/* A number is read where the width is that of the value, or its type has none. */
+/* A number is read if the width is that of the value, or its type has none. */
 static void check_number(const uint8_t *bytes, size_t length, const stun_types_attribute *shown) {
     uint8_t of_8 = 0;
     uint16_t of_16 = 0;
@@ -621,15 +621,15 @@ static bool has(const writing *one, unsigned type) {
 }
 
 /* Whether a written attribute of this type blocks the addition of one. */
-static bool bars(unsigned written, unsigned type) {
+static bool blocks(unsigned written, unsigned type) {
     if (type == 0x8028) return written == 0x8028;
     if (type == 0x001C) return written == 0x001C || written == 0x8028;
     return model_is_ending(written);
 }
 
-static bool is_barred(const writing *one, unsigned type) {
-    return (has(one, 0x0008) && bars(0x0008, type)) || (has(one, 0x001C) && bars(0x001C, type))
-        || (has(one, 0x8028) && bars(0x8028, type));
+static bool is_blocked(const writing *one, unsigned type) {
+    return (has(one, 0x0008) && blocks(0x0008, type)) || (has(one, 0x001C) && blocks(0x001C, type))
+        || (has(one, 0x8028) && blocks(0x8028, type));
 }
 
 /* An add of an attribute, of which the value is known unless it is refused, was answered. What it
@@ -638,7 +638,7 @@ static void check_added(writing *one, stun_types_answer answer, unsigned type, c
                         size_t length, stun_types_answer fault) {
     size_t grown = one->wanted.length + 4 + model_padded(length);
     if (answer.code == STUN_TYPES_OK) {
-        HOLDS(fault.code == STUN_TYPES_OK && !is_barred(one, type));
+        HOLDS(fault.code == STUN_TYPES_OK && !is_blocked(one, type));
         HOLDS(grown <= one->size && grown <= MODEL_MOST && length <= 65535);
         one->added[one->count].value_at = one->wanted.length + 4;
         one->added[one->count].type = (uint16_t)type;
@@ -647,8 +647,8 @@ static void check_added(writing *one, stun_types_answer answer, unsigned type, c
         append(&one->wanted, type, value, length);
     } else if (answer.code == STUN_TYPES_EXISTS) {
         bool either = answer.type == 0x0008 && !model_is_ending(type) && has(one, 0x001C);
-        HOLDS(is_barred(one, type));
-        HOLDS(either || (has(one, answer.type) && bars(answer.type, type)));
+        HOLDS(is_blocked(one, type));
+        HOLDS(either || (has(one, answer.type) && blocks(answer.type, type)));
     } else if (answer.code == STUN_TYPES_TOO_SMALL) {
         HOLDS(is_same(answer, model_answer(STUN_TYPES_TOO_SMALL, 0, grown, one->size))
               && grown > one->size);

@@ -32,6 +32,17 @@ def calls():
     return made
 
 
+def slices():
+    """Each call with slices, and the places of their addresses among its parameters."""
+    made = {}
+    for name, (_, parameters) in calls().items():
+        pairs = enumerate(zip(parameters, parameters[1:]))
+        places = [i for i, (a, b) in pairs if "*" in a and re.fullmatch(r"size_t \w+", b)]
+        if places:
+            made[name] = places
+    return made
+
+
 def structs():
     """Each struct, and the names of its fields."""
     made = {}
@@ -42,6 +53,11 @@ def structs():
             names += [re.search(r"(\w+)(?:\[[^\]]*\])?$", it)[1] for it in each]
         made[name] = names
     return made
+
+
+def enumerations():
+    """The types that are enumerations."""
+    return re.findall(r"^typedef enum (stun_types_\w+) \{", plain(), re.M)
 
 
 def enumerators():

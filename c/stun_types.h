@@ -10,8 +10,8 @@
  *   frees it, and has it alone.
  * - Numbers in messages are big-endian; numbers in these structs are the machine's.
  * - Most calls return a stun_types_answer. If its code isn't STUN_TYPES_OK, the call writes nothing
- *   else, unless its comment says otherwise. Where several codes apply, the answer has the one that
- *   the comment lists first; OUT_OF_MEMORY may come before the last of them.
+ *   else, unless its comment says otherwise. If several codes apply, the answer has the one that the
+ *   comment lists first; OUT_OF_MEMORY may come before the last of them.
  * - No zero permits anything. A verdict is a struct of type stun_types_validated,
  *   stun_types_authentication, stun_types_action or stun_types_received: a call that fails fills it
  *   with zeros, which say that nothing is decided. A stun_types_policy of zeros is the strictest of
@@ -252,8 +252,7 @@ typedef STUN_TYPES_ENUM(stun_types_integrity) {
 STUN_TYPES_NODISCARD
 uint16_t stun_types_message_type(stun_types_class message_class, stun_types_method method);
 
-/* Which protocol a packet is of by its first byte, where several share a socket (RFC 7983, section
-   7). */
+/* Which protocol a packet is of by its first byte, if several share a socket (RFC 7983, section 7). */
 typedef STUN_TYPES_ENUM(stun_types_protocol) {
     STUN_TYPES_PROTOCOL_UNKNOWN = 0,
     STUN_TYPES_PROTOCOL_STUN = 1,         /* 0 to 3 */
@@ -288,9 +287,9 @@ typedef struct {
     uint16_t length; /* of the value, without padding */
 } stun_types_attribute;
 
-/* Tells how many bytes the message has that begins here, in a stream's buffer or in a longer one:
-   20 and its length field. *message_length is 0 if more bytes are needed to know it.
-   NOT_STUN: no message begins so. */
+/* How many bytes the message has that begins here, in a stream's buffer or in a longer one: 20 and its
+   length field. *message_length is 0 if more bytes are needed to know it. NOT_STUN: no message begins
+   so. */
 STUN_TYPES_NODISCARD STUN_TYPES_NONNULL((3))
 stun_types_answer stun_types_framed_length(const uint8_t *bytes, size_t length,
                                            size_t *message_length);
@@ -371,14 +370,16 @@ stun_types_answer stun_types_read_address(const uint8_t *bytes, size_t length,
                                           stun_types_address *address);
 
 /* The code, 300 to 699, in an ERROR-CODE (RFC 8489, section 14.8), and the offset of its reason in
-   the message: UTF-8, at most 763 bytes. TRUNCATED, TOO_LARGE, INVALID_DATA. */
+   the message: UTF-8, at most 763 bytes. An ADDRESS-ERROR-CODE (RFC 8656, section 18.12) is read so
+   too: the first byte of its value is the family, 1 for IPv4 and 2 for IPv6, which the call ignores.
+   TRUNCATED, TOO_LARGE, INVALID_DATA. */
 STUN_TYPES_NODISCARD STUN_TYPES_NONNULL((3, 4, 5, 6))
 stun_types_answer stun_types_read_error(const uint8_t *bytes, size_t length,
                                         const stun_types_attribute *attribute, uint16_t *code,
                                         size_t *reason_at, size_t *reason_length);
 
-/* The types in an UNKNOWN-ATTRIBUTES (RFC 8489, section 14.13). *count is how many there are, also
-   where it is more than room; the first room of them are written. INVALID_DATA: an odd length. */
+/* The types in an UNKNOWN-ATTRIBUTES (RFC 8489, section 14.13). *count is how many there are, even if
+   that is more than room; the first room of them are written. INVALID_DATA: an odd length. */
 STUN_TYPES_NODISCARD STUN_TYPES_NONNULL((3, 6))
 stun_types_answer stun_types_read_types(const uint8_t *bytes, size_t length,
                                         const stun_types_attribute *attribute, uint16_t *types,
@@ -419,9 +420,9 @@ stun_types_answer stun_types_read_u64(const uint8_t *bytes, size_t length,
 /* The message as a text, by its names and values, without a final 0: one line of printable ASCII, for
    logs and terminals. In the texts of the message, each byte that is no printable character of ASCII,
    and each backslash, is escaped: \xHH. Attributes and methods of ICE, TURN and NAT discovery have
-   their names too, PRIORITY and LIFETIME are numbers, addresses are addresses, and the values of all
-   others are hexadecimal. NOT_STUN, TRUNCATED, TOO_LARGE,
-   FINGERPRINT_MISMATCH: it is no message. TOO_SMALL: expected is how many bytes the text has, and
+   their names too, also the types in an UNKNOWN-ATTRIBUTES; PRIORITY and LIFETIME are numbers,
+   addresses are addresses, and the values of all others are hexadecimal. NOT_STUN, TRUNCATED,
+   TOO_LARGE, FINGERPRINT_MISMATCH: it is no message. TOO_SMALL: expected is how many bytes the text has, and
    the first room of them are written. *written is how many bytes are written. */
 STUN_TYPES_NODISCARD STUN_TYPES_NONNULL((5))
 stun_types_answer stun_types_print(const uint8_t *bytes, size_t length, char *text, size_t room,
@@ -486,7 +487,7 @@ typedef struct {
     uint8_t bytes[32];
 } stun_types_hash;
 
-/* The SHA-256 of user:realm, by which a request names its user where the server asks for that (RFC
+/* The SHA-256 of user:realm, by which a request names its user if the server asks for that (RFC
    8489, section 14.4). INVALID_DATA: a text isn't UTF-8. */
 STUN_TYPES_NODISCARD STUN_TYPES_NONNULL((5))
 stun_types_answer stun_types_userhash(const void *user, size_t user_length, const void *realm,
@@ -498,7 +499,7 @@ void stun_types_keys_free(stun_types_key *keys, size_t count);
 
 /* The same with one key. With STUN_TYPES_NO_KEY_YET, and with NULL, it does nothing. */
 static inline void stun_types_key_free(stun_types_key *key) {
-    stun_types_keys_free(key, key == NULL ? 0 : 1);
+    stun_types_keys_free(key, key ? 1 : 0);
 }
 
 /* Which messages a usage takes. All zeros are the strictest policy: both algorithms serve, an HMAC
@@ -547,9 +548,12 @@ STUN_TYPES_NODISCARD STUN_TYPES_NONNULL((3, 4))
 stun_types_answer stun_types_validate(const uint8_t *bytes, size_t length,
                                       const stun_types_key *key, stun_types_validated *validated);
 
-/* The same by a short-term or a long-term credential, of which the key is made and freed: of the
-   long-term one that of the algorithm that is checked. After the errors of stun_types_parse comes
-   INVALID_DATA: a text of the long-term one isn't UTF-8. Allocates: OUT_OF_MEMORY. */
+/* The same by a short-term or a long-term credential, of which the key is made and freed. A long-term
+   one has two: the key by SHA-256 checks a MESSAGE-INTEGRITY-SHA256, and the key by MD5 a
+   MESSAGE-INTEGRITY. A client signs both with the key by MD5 if the server's list prefers MD5: its
+   MESSAGE-INTEGRITY-SHA256 is INTEGRITY_FAILED here, so validate it with that key, by a call above.
+   After the errors of stun_types_parse comes INVALID_DATA: a text of the long-term one isn't UTF-8.
+   Allocates: OUT_OF_MEMORY. */
 STUN_TYPES_NODISCARD STUN_TYPES_NONNULL((5))
 stun_types_answer stun_types_validate_short_term(const uint8_t *bytes, size_t length,
                                                  const void *password, size_t password_length,
@@ -575,7 +579,7 @@ stun_types_answer stun_types_validate_long_term(const uint8_t *bytes, size_t len
      MESSAGE-INTEGRITY, MESSAGE-INTEGRITY-SHA256 or FINGERPRINT, which have adds of their own. EXISTS:
      an attribute that blocks the addition is written: nothing follows a FINGERPRINT; a
      MESSAGE-INTEGRITY-SHA256 only a FINGERPRINT; a MESSAGE-INTEGRITY only these two. The type is that
-     of the attribute, but MESSAGE-INTEGRITY's where either bars one that is none of these three;
+     of the attribute, but MESSAGE-INTEGRITY's if either blocks one that is none of these three;
    - the room. TOO_SMALL: the slice hasn't room for expected bytes, the whole message with its
      addition. TOO_LARGE: the message would be longer than 65,555 bytes. */
 
@@ -642,7 +646,8 @@ stun_types_answer stun_types_add_address(uint8_t *room, size_t size, size_t *wri
                                          const stun_types_address *address);
 
 /* Adds an ERROR-CODE with a reason, UTF-8. OUT_OF_RANGE: the code is none of 300 to 699.
-   TOO_LARGE: the reason has more than 763 bytes. INVALID_DATA: it isn't UTF-8. */
+   TOO_LARGE: the reason has more than 763 bytes. INVALID_DATA: it isn't UTF-8. An ADDRESS-ERROR-CODE is
+   added by stun_types_add: its value is the family, a zero, code / 100, code % 100, and the reason. */
 STUN_TYPES_NODISCARD STUN_TYPES_NONNULL((3))
 stun_types_answer stun_types_add_error(uint8_t *room, size_t size, size_t *written,
                                        stun_types_code code, const void *reason,
@@ -670,9 +675,9 @@ stun_types_answer stun_types_add_fingerprint(uint8_t *room, size_t size, size_t 
 #define STUN_TYPES_GREATEST_REPLY 32840
 
 /* Writes the reply to a datagram that came from source: to a binding request the address that it
-   came from, or 420 where it shows types that must be understood; with a FINGERPRINT where the
-   request has one. *reply_length is 0 if none is owed. A reply is at most 48 bytes longer than
-   its request and at most three times as long.
+   came from, or 420 if it shows types that must be understood; with a FINGERPRINT if the request has
+   one. *reply_length is 0 if none is owed. A reply is at most 48 bytes longer than its request and at
+   most three times as long.
    BAD_ARGUMENT: the family. TOO_SMALL: expected is what the reply takes, and nothing is written. */
 STUN_TYPES_NODISCARD STUN_TYPES_NONNULL((3, 6))
 stun_types_answer stun_types_binding_reply(const uint8_t *bytes, size_t length,
@@ -752,7 +757,7 @@ stun_types_answer stun_types_finish_reply(uint8_t *room, size_t size, size_t *wr
    length of the response, and nothing is written. Allocates: OUT_OF_MEMORY. */
 STUN_TYPES_NODISCARD STUN_TYPES_NONNULL((6))
 stun_types_answer stun_types_refuse_short_term(const uint8_t *request, size_t request_length,
-                                               uint32_t code, uint8_t *room, size_t size,
+                                               stun_types_code code, uint8_t *room, size_t size,
                                                size_t *written);
 
 /* The same under long-term credentials, with the code 400, 401 or 438 (section 9.2.4). A 401 and a 438
@@ -767,10 +772,11 @@ stun_types_answer stun_types_refuse_short_term(const uint8_t *request, size_t re
    OUT_OF_MEMORY. */
 STUN_TYPES_NODISCARD STUN_TYPES_NONNULL((12))
 stun_types_answer stun_types_refuse_long_term(const uint8_t *request, size_t request_length,
-                                              uint32_t code, const void *realm, size_t realm_length,
-                                              const void *nonce, size_t nonce_length,
-                                              const uint16_t *algorithms, size_t algorithms_count,
-                                              uint8_t *room, size_t size, size_t *written);
+                                              stun_types_code code, const void *realm,
+                                              size_t realm_length, const void *nonce,
+                                              size_t nonce_length, const uint16_t *algorithms,
+                                              size_t algorithms_count, uint8_t *room, size_t size,
+                                              size_t *written);
 
 /* The security features of a server, which its nonces begin with (RFC 8489, sections 9.2 and 18.1): a
    sum of these. */
@@ -865,8 +871,8 @@ typedef struct {
     uint64_t reserved;
 } stun_types_transaction;
 
-/* Begins the transaction of a request, signed where it is protected. key is that of the credential
-   that protects it, and isn't looked at otherwise. Nothing allocates.
+/* Begins the transaction of a request, which is signed if it is protected. key is that of the
+   credential that protects it, and isn't looked at otherwise. Nothing allocates.
    The errors of stun_types_parse; BAD_ARGUMENT: transport, protection, or schedule->shortest, which
    is none of 0, 16, 20, 24, 28 and 32; OUT_OF_RANGE, of no number: one of the schedule is 0, or they
    are too large; NOT_A_REQUEST; NOT_SIGNED, SIGNED: against protection; NO_KEY; BAD_ARGUMENT: a key of
@@ -940,7 +946,7 @@ typedef struct {
    understood are the types below 0x8000 that the caller understands, but for those of RFC 8489, at
    most 64 of them. key is that which the transaction began with.
    BAD_ARGUMENT: the transaction isn't one, or more types. NO_KEY, BAD_ARGUMENT: the key isn't one that
-   the transaction can have begun with. Allocates where a credential protects the request, for a copy
+   the transaction can have begun with. Allocates if a credential protects the request, for a copy
    of the key: OUT_OF_MEMORY. If the call fails, the transaction stays as it was. */
 STUN_TYPES_NODISCARD STUN_TYPES_NONNULL((1, 2, 7))
 stun_types_answer stun_types_transaction_receive(stun_types_transaction *transaction,
@@ -1088,7 +1094,7 @@ STUN_TYPES_NODISCARD STUN_TYPES_NONNULL((3))
 stun_types_answer stun_types_read_channel_data(const uint8_t *bytes, size_t length,
                                                stun_types_channel_data *channel_data);
 
-/* Writes one, padded with zeros to a multiple of 4 where padded. OUT_OF_RANGE: the channel.
+/* Writes one, padded with zeros to a multiple of 4 if padded is true. OUT_OF_RANGE: the channel.
    TOO_LARGE: more than 65,535 bytes of data. TOO_SMALL. */
 STUN_TYPES_NODISCARD STUN_TYPES_NONNULL((7))
 stun_types_answer stun_types_write_channel_data(uint16_t channel, const void *data,

@@ -26,7 +26,7 @@
 
 #include "addresses.h"
 
-enum { TOLD = 0, REFUSED = 1, FAILED = 2, UNUSABLE = 3, SILENT = 4 };
+enum { REPORTED = 0, REFUSED = 1, FAILED = 2, UNUSABLE = 3, SILENT = 4 };
 enum {
     MESSAGE_ROOM = STUN_TYPES_GREATEST_MESSAGE,
     CONNECTING_TIME = 10000, /* milliseconds */
@@ -127,7 +127,7 @@ static int receive_datagram(carrier *by, message *got) {
     return RECEIVED;
 }
 
-/* Reads a piece of the stream, where all before is taken. */
+/* Reads a piece of the stream if all before is taken. */
 static int read_piece(carrier *by) {
     if (by->piece_at < by->piece_end) return RECEIVED;
     ssize_t length = recv(by->socket, by->piece, sizeof by->piece, 0);
@@ -214,7 +214,7 @@ static bool hear(carrier *by, stun_types_transaction *transaction, const stun_ty
                                           understood, 0, taken).code == STUN_TYPES_OK;
 }
 
-/* Sends the request as often as it takes, until a response is taken: TOLD, and *taken is what it
+/* Sends the request as often as it takes, until a response is taken: REPORTED, and *taken is what it
  * is; any other status is the end. */
 static int exchange(carrier *by, stun_types_transaction *transaction, const stun_types_key *key,
                     stun_types_received *taken) {
@@ -233,7 +233,7 @@ static int exchange(carrier *by, stun_types_transaction *transaction, const stun
                 return say(FAILED, "the transaction broke");
             }
         } else if (action.kind == STUN_TYPES_WAIT && taken->kind >= STUN_TYPES_TAKEN_SUCCESS) {
-            return TOLD;
+            return REPORTED;
         }
     }
 }
@@ -263,7 +263,7 @@ static int tell_address(void) {
     }
     print_address(stdout, &address);
     putchar('\n');
-    return fflush(stdout) == 0 ? TOLD : FAILED;
+    return fflush(stdout) == 0 ? REPORTED : FAILED;
 }
 
 /* Prints the code and the reason of the error response, which is a stranger's text: what isn't
@@ -309,16 +309,16 @@ static int login(carrier *by, const task *asked, stun_types_key *key, stun_types
     memset(&challenge, 0, sizeof challenge);
     for (int sent = 1; asks_for_login(taken); sent++) {
         stun_types_answer answer = take_challenge(&challenge);
-        if (answer.code == STUN_TYPES_SAME_CREDENTIALS || sent == MOST_REQUESTS) return TOLD;
+        if (answer.code == STUN_TYPES_SAME_CREDENTIALS || sent == MOST_REQUESTS) return REPORTED;
         if (answer.code != STUN_TYPES_OK) return say(UNUSABLE, stun_types_message_of(answer.code));
         if (!login_request(asked, key)) return say(FAILED, "the request can't be made");
         int status = ask(by, STUN_TYPES_LONG_TERM, key, taken);
-        if (status != TOLD) return status;
+        if (status != REPORTED) return status;
     }
-    return TOLD;
+    return REPORTED;
 }
 
-/* Asks, with credentials where the server wants them, and prints what it answers. */
+/* Asks, with credentials if the server wants them, and prints what it answers. */
 static int run(const task *asked) {
     stun_types_key key = STUN_TYPES_NO_KEY_YET;
     stun_types_received taken;
@@ -328,9 +328,9 @@ static int run(const task *asked) {
     int status = ask(&connection,
                      asked->user != NULL ? STUN_TYPES_FIRST_LONG_TERM : STUN_TYPES_UNPROTECTED,
                      &key, &taken);
-    if (status == TOLD && asked->user != NULL) status = login(&connection, asked, &key, &taken);
+    if (status == REPORTED && asked->user != NULL) status = login(&connection, asked, &key, &taken);
     stun_types_key_free(&key);
-    if (status != TOLD) return status;
+    if (status != REPORTED) return status;
     return taken.kind == STUN_TYPES_TAKEN_SUCCESS ? tell_address() : tell_error();
 }
 

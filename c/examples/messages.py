@@ -5,8 +5,8 @@ python3 messages.py [LIBRARY]    LIBRARY is by default what the loader finds as 
 """
 import ipaddress
 import sys
-from ctypes import (CDLL, POINTER, Structure, byref, c_bool, c_char_p, c_size_t, c_uint8, c_uint16,
-                    c_uint32, c_uint64, c_void_p, create_string_buffer)
+from ctypes import (CDLL, POINTER, Structure, c_bool, c_char_p, c_size_t, c_uint8, c_uint16, c_uint32,
+                    c_uint64, c_void_p, create_string_buffer)
 
 # The structs and numbers of stun_types.h, named as there.
 class Answer(Structure):
@@ -55,8 +55,8 @@ def check(answer, call, _arguments):
 
 def load(name):
     library = CDLL(name)
-    for call, (result, *arguments) in CALLS.items():
-        call = getattr(library, call)
+    for name, (result, *arguments) in CALLS.items():
+        call = getattr(library, name)
         call.restype, call.argtypes = result, arguments
         if result is Answer:
             call.errcheck = check
@@ -64,38 +64,34 @@ def load(name):
 
 
 def address_in(stun, message):
-    found, address = Attribute(), Address()
-    stun.stun_types_parse(message, len(message))
-    if not stun.stun_types_find(message, len(message), STUN_TYPES_ATTRIBUTE_XOR_MAPPED_ADDRESS,
-                                byref(found)):
+    found, address, size = Attribute(), Address(), len(message)
+    stun.stun_types_parse(message, size)
+    if not stun.stun_types_find(message, size, STUN_TYPES_ATTRIBUTE_XOR_MAPPED_ADDRESS, found):
         raise ValueError("the response reports no address")
-    stun.stun_types_read_xor_address(message, len(message), byref(found), byref(address))
+    stun.stun_types_read_xor_address(message, size, found, address)
     octets = bytes(address.octets)[: 4 if address.family == 4 else 16]
-    return ipaddress.ip_address(octets), address.port
+    return f"{ipaddress.ip_address(octets)}:{address.port}"
 
 
 def signed_request(stun, user, key):
-    room, length = create_string_buffer(200), c_size_t()
-    written = (room, len(room), byref(length))
+    room, size, length = create_string_buffer(200), 200, c_size_t()
     random = Id((c_uint8 * 12)(*range(1, 13)))  # yours is drawn at random
     kind = stun.stun_types_message_type(STUN_TYPES_CLASS_REQUEST, STUN_TYPES_METHOD_BINDING)
-    stun.stun_types_begin(room, len(room), kind, byref(random), byref(length))
-    stun.stun_types_add(*written, STUN_TYPES_ATTRIBUTE_USERNAME, user, len(user))
-    stun.stun_types_add_integrity(*written, byref(key), STUN_TYPES_INTEGRITY_SHA256)
-    stun.stun_types_add_fingerprint(*written)
+    stun.stun_types_begin(room, size, kind, random, length)
+    stun.stun_types_add(room, size, length, STUN_TYPES_ATTRIBUTE_USERNAME, user, len(user))
+    stun.stun_types_add_integrity(room, size, length, key, STUN_TYPES_INTEGRITY_SHA256)
+    stun.stun_types_add_fingerprint(room, size, length)
     return room.raw[: length.value]
 
 
 def main():
     stun = load(sys.argv[1] if len(sys.argv) > 1 else "libstun_types.so.0.1")
-    print("{}:{}".format(*address_in(stun, RESPONSE)))
-    key, password = Key(), b"wonderland"
-    stun.stun_types_key_short_term(byref(key), password, len(password))
+    print(address_in(stun, RESPONSE))
+    key, password, strictest, validated = Key(), b"wonderland", Policy(), Validated()
+    stun.stun_types_key_short_term(key, password, len(password))
     request = signed_request(stun, b"alice", key)
-    strictest, validated = Policy(), Validated()
-    stun.stun_types_validate_by_policy(request, len(request), byref(strictest), byref(key),
-                                       byref(validated))
-    stun.stun_types_keys_free(byref(key), 1)
+    stun.stun_types_validate_by_policy(request, len(request), strictest, key, validated)
+    stun.stun_types_keys_free(key, 1)
     print(request.hex())
 
 

@@ -1,5 +1,4 @@
 // Reads the address in a response, and writes and validates a signed request, as messages.c does.
-use std::net::Ipv4Addr;
 
 /// The structs, numbers and calls of stun_types.h, named as there.
 #[rustfmt::skip]
@@ -52,78 +51,49 @@ fn check(answer: Answer) -> Result<(), String> {
     }
 }
 
-impl Key {
-    fn short_term(password: &str) -> Result<Key, String> {
-        let (at, held) = (std::ptr::null_mut(), 0);
-        let mut key = Key { at, held };
-        check(unsafe { stun_types_key_short_term(&mut key, password.as_ptr(), password.len()) })?;
-        Ok(key)
-    }
-}
-
 impl Drop for Key {
     fn drop(&mut self) {
         unsafe { stun_types_keys_free(self, 1) }
     }
 }
 
-fn address_in(message: &[u8]) -> Result<(Ipv4Addr, u16), String> {
-    let (bytes, length) = (message.as_ptr(), message.len());
+fn address_in(message: &[u8]) -> Result<String, String> {
+    let (bytes, size) = (message.as_ptr(), message.len());
     let (mut found, mut address) = (Attribute::default(), Address::default());
     let wanted = STUN_TYPES_ATTRIBUTE_XOR_MAPPED_ADDRESS;
-    check(unsafe { stun_types_parse(bytes, length) })?;
-    if !unsafe { stun_types_find(bytes, length, wanted, &mut found) } {
-        return Err("the response reports no address".to_string());
+    check(unsafe { stun_types_parse(bytes, size) })?;
+    if !unsafe { stun_types_find(bytes, size, wanted, &mut found) } {
+        return Err("the response reports no address".into());
     }
-    check(unsafe { stun_types_read_xor_address(bytes, length, &found, &mut address) })?;
+    check(unsafe { stun_types_read_xor_address(bytes, size, &found, &mut address) })?;
     let [a, b, c, d, ..] = address.octets;
-    Ok((Ipv4Addr::new(a, b, c, d), address.port))
+    Ok(format!("{a}.{b}.{c}.{d}:{}", address.port))
 }
 
 fn signed_request(user: &str, key: &Key) -> Result<Vec<u8>, String> {
-    let (mut room, mut length) = (vec![0; 200], 0);
-    let (data, size, name) = (room.as_mut_ptr(), room.len(), STUN_TYPES_ATTRIBUTE_USERNAME);
+    let (mut room, mut length) = ([0; 200], 0);
+    let (at, size, sha256) = (room.as_mut_ptr(), room.len(), STUN_TYPES_INTEGRITY_SHA256);
+    let (name, text, many) = (STUN_TYPES_ATTRIBUTE_USERNAME, user.as_ptr(), user.len());
     let bytes = [1, 2, 3, 4, 5, 6, 7, 8, 9, 10, 11, 12]; // yours are drawn at random
     unsafe {
         let kind = stun_types_message_type(STUN_TYPES_CLASS_REQUEST, STUN_TYPES_METHOD_BINDING);
-        check(stun_types_begin(
-            data,
-            size,
-            kind,
-            &Id { bytes },
-            &mut length,
-        ))?;
-        check(stun_types_add(
-            data,
-            size,
-            &mut length,
-            name,
-            user.as_ptr(),
-            user.len(),
-        ))?;
-        check(stun_types_add_integrity(
-            data,
-            size,
-            &mut length,
-            key,
-            STUN_TYPES_INTEGRITY_SHA256,
-        ))?;
-        check(stun_types_add_fingerprint(data, size, &mut length))?;
+        check(stun_types_begin(at, size, kind, &Id { bytes }, &mut length))?;
+        check(stun_types_add(at, size, &mut length, name, text, many))?;
+        check(stun_types_add_integrity(at, size, &mut length, key, sha256))?;
+        check(stun_types_add_fingerprint(at, size, &mut length))?;
     }
-    room.truncate(length);
-    Ok(room)
+    Ok(room[..length].to_vec())
 }
 
 fn main() -> Result<(), String> {
-    let (ip, port) = address_in(RESPONSE)?;
-    println!("{ip}:{port}");
-    let key = Key::short_term("wonderland")?;
+    println!("{}", address_in(RESPONSE)?);
+    let (at, held, password) = (std::ptr::null_mut(), 0, "wonderland");
+    let mut key = Key { at, held };
+    check(unsafe { stun_types_key_short_term(&mut key, password.as_ptr(), password.len()) })?;
     let request = signed_request("alice", &key)?;
-    let (strictest, mut validated) = (Policy::default(), Validated::default());
-    let (bytes, length) = (request.as_ptr(), request.len());
-    check(unsafe {
-        stun_types_validate_by_policy(bytes, length, &strictest, &key, &mut validated)
-    })?;
+    let (bytes, size) = (request.as_ptr(), request.len());
+    let (policy, mut validated) = (Policy::default(), Validated::default()); // the strictest
+    check(unsafe { stun_types_validate_by_policy(bytes, size, &policy, &key, &mut validated) })?;
     let hex: String = request.iter().map(|byte| format!("{byte:02x}")).collect();
     println!("{hex}");
     Ok(())

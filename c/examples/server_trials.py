@@ -4,6 +4,7 @@ machine may pause for seconds."""
 import contextlib
 import os
 import pathlib
+import platform
 import pwd
 import queue
 import random
@@ -36,6 +37,14 @@ class Wrong(Exception):
     """What isn't as it should be."""
 
 
+class Skipped(Exception):
+    """Why a step isn't tried on this machine."""
+
+
+def skip(name, why):
+    print(f"{name}: skipped, {why}", flush=True)
+
+
 def check(holds, told):
     if not holds:
         raise Wrong(told)
@@ -43,11 +52,13 @@ def check(holds, told):
 
 @contextlib.contextmanager
 def step(name):
-    """A step: it passes if nothing is wrong in it."""
+    """A step: it passes if nothing is wrong in it. If it is skipped, it counts as neither."""
     global passed, failed
     began = time.monotonic()
     try:
         yield
+    except Skipped as why:
+        skip(name, why)
     except (Wrong, OSError, ValueError, subprocess.SubprocessError) as error:
         failed += 1
         print(f"{name}: {type(error).__name__}: {error}", flush=True)
@@ -97,12 +108,15 @@ def built(compiler, folder, archives):
     kinds = {"server": [*server, *archives], "sandbox_trial": trial}
     if has_sanitizers(compiler, folder):
         kinds["sanitized"] = [*server, *archives, *SANITIZED]
+    else:
+        skip("server with sanitizers", f"{compiler} has none here")
     for name, words in kinds.items():
         with step(f"c/examples/server is built: {name}"):
             build(compiler, *words, "-o", folder / name)
-    if shutil.which("clang"):
-        with step("c/examples/server, by clang"):
-            build("clang", "-fsyntax-only", *server, HERE / "sandbox_trial.c")
+    with step("c/examples/server, by clang"):
+        if not shutil.which("clang"):
+            raise Skipped("clang isn't on this machine")
+        build("clang", "-fsyntax-only", *server, HERE / "sandbox_trial.c")
     return {name: str(folder / name) for name in kinds}
 
 
@@ -130,7 +144,7 @@ class Server:
         words = [word for address in at for word in (address, self.port)]
         pipes = {"stdin": subprocess.DEVNULL, "stdout": subprocess.PIPE, "stderr": subprocess.PIPE}
         self.ran = subprocess.Popen([*command, program, *options, *words], text=True, **pipes, **how)
-        self.lines = queue.Queue()
+        self.lines, self.others = queue.Queue(), []
         self.reader = threading.Thread(target=self.read, daemon=True)
         self.reader.start()
 
@@ -149,19 +163,19 @@ class Server:
         return self
 
     def wait_for(self, event):
-        """The values of the next line of an event."""
-        others = []
-        while True:
+        """The values of the next line of an event. Lines of others are kept."""
+        found = [line for line in self.others if line.startswith(f"event={event} ")]
+        while not found:
             try:
                 line = self.lines.get(timeout=PATIENCE)
             except queue.Empty:
-                raise Wrong(f"no event {event}, but {others}") from None
-            check(line, f"the server has ended before the event {event}: {others}")
-            values = dict(word.split("=", 1) for word in line.split() if "=" in word)
-            if values.get("event") == event:
-                check(re.fullmatch(r"[a-z_]+=\S+( [a-z_]+=\S+)*\n", line), f"the line is {line!r}")
-                return values
-            others.append(line)
+                raise Wrong(f"no event {event}, but {self.others}") from None
+            check(line, f"the server has ended before the event {event}: {self.others}")
+            self.others.append(line)
+            found = [line] if line.startswith(f"event={event} ") else []
+        self.others.remove(found[0])
+        check(re.fullmatch(r"[a-z_]+=\S+( [a-z_]+=\S+)*\n", found[0]), f"the line is {found[0]!r}")
+        return dict(word.split("=", 1) for word in found[0].split())
 
     def counts(self, number=signal.SIGHUP):
         """Its counts, as it prints them at a signal."""
@@ -194,6 +208,14 @@ class Server:
                     found.append(int(path.parent.name))
         return found
 
+    def sockets(self):
+        """How many sockets each of its workers has, in ascending order."""
+        counts = []
+        for worker in self.workers():
+            links = pathlib.Path(f"/proc/{worker}/fd").iterdir()
+            counts.append(sum(os.readlink(link).startswith("socket:") for link in links))
+        return sorted(counts)
+
     def connect(self, source="127.0.0.1"):
         where = ("127.0.0.1", int(self.port))
         return socket.create_connection(where, PATIENCE, (source, 0))
@@ -218,6 +240,37 @@ def put_load(program, address, port, window=4):
     numbers = ["-c", str(LOAD["clients"]), "-m", str(LOAD["requests"]), "-w", str(window)]
     status, out, told = run([program, *numbers, "-t", "10", address, port], 15)
     check(status == 0, f"status {status}: {out}{told}")
+
+
+def after(statements):
+    """A command that starts a program after some statements of Python."""
+    imports = "import ctypes, os, resource, signal, struct, sys"
+    return [sys.executable, "-c", f"{imports}\n{statements}\nos.execv(sys.argv[1], sys.argv[1:])"]
+
+
+# has a system call fail with EPERM, unless one of its arguments is an allowed number
+REFUSE = """
+steps = [(0x20, 0, 0, 0), (0x15, 0, 3, {call}), (0x20, 0, 0, 16 + 8 * {place}),
+         (0x15, 1, 0, {allowed}), (0x06, 0, 0, 0x00050001), (0x06, 0, 0, 0x7FFF0000)]
+code = ctypes.create_string_buffer(b"".join(struct.pack("HBBI", *step) for step in steps))
+program = struct.pack("HP", len(steps), ctypes.addressof(code))
+system = ctypes.CDLL(None)
+if system.prctl(38, 1, 0, 0, 0) != 0 or system.prctl(22, 2, program) != 0:
+    sys.exit("no filter")
+"""
+
+
+def refusing(name, place, allowed):
+    """Statements after which the system refuses a call."""
+    numbers = {"x86_64": {"seccomp": 317, "prlimit64": 302},
+               "aarch64": {"seccomp": 277, "prlimit64": 261}}
+    if platform.machine() not in numbers:
+        raise Skipped("the system calls of this machine have other numbers")
+    call = numbers[platform.machine()][name]
+    statements = REFUSE.format(call=call, place=place, allowed=allowed)
+    if run([*after(statements), "/bin/true"])[0] != 0:
+        raise Skipped("system calls can't be filtered here")
+    return statements
 
 
 # ---- Arguments
@@ -439,12 +492,21 @@ def over_tcp(programs):
         check(counted["tcp_accepted"] == 7 and counted["tcp_refused"] == 0, str(counted))
 
 
+@contextlib.contextmanager
+def many_files():
+    """Lets this process, and those that it starts, have as many files as the system allows."""
+    before = resource.getrlimit(resource.RLIMIT_NOFILE)
+    resource.setrlimit(resource.RLIMIT_NOFILE, (before[1], before[1]))
+    try:
+        yield
+    finally:
+        resource.setrlimit(resource.RLIMIT_NOFILE, before)
+
+
 def full_table(programs):
     """Sixteen addresses have 64 connections each, all that there are; one more client is served, as
     often as it likes, and none of its connections is closed for another."""
-    most = resource.getrlimit(resource.RLIMIT_NOFILE)
-    resource.setrlimit(resource.RLIMIT_NOFILE, (most[1], most[1]))
-    with Server(programs["server"], "-t") as server, contextlib.ExitStack() as all_of:
+    with many_files(), Server(programs["server"], "-t") as server, contextlib.ExitStack() as all_of:
         for i in range(16 * 64):
             all_of.enter_context(server.connect(f"127.0.0.{1 + i % 16}"))
         others = []
@@ -454,7 +516,22 @@ def full_table(programs):
         for stream in others:
             ask_on(stream)
         expect(server.end(), tcp_accepted=1044, tcp_displaced=20, tcp_received=40, tcp_sent=40)
-    resource.setrlimit(resource.RLIMIT_NOFILE, most)
+
+
+def few_files(programs):
+    """If the system refuses more files, there are as many connections as it allowed before: 19 of 100
+    files, since 16 + 64 are for other uses, and one is the listening socket."""
+    most = resource.getrlimit(resource.RLIMIT_NOFILE)[1]
+    fewer = f"resource.setrlimit(resource.RLIMIT_NOFILE, (100, {most}))"
+    command = after(fewer + refusing("prlimit64", 2, 0))
+    options = ["-t", "-o", "max-connections=50"]
+    with Server(programs["server"], *options, command=command) as server:
+        check(server.wait_for("few-files")["connections"] == "19", "other connections")
+        with contextlib.ExitStack() as all_of:
+            streams = [all_of.enter_context(server.connect()) for _ in range(19)]
+            for stream in streams:
+                ask_on(stream)
+        expect(server.end(), tcp_accepted=19, tcp_received=19, tcp_sent=19)
 
 
 def displaced(programs):
@@ -477,6 +554,28 @@ def displaced(programs):
         for stream in [*few[1:], many[0], *many[3:], *new]:
             ask_on(stream)
         expect(server.end(), tcp_accepted=11, tcp_displaced=3, tcp_received=20, tcp_sent=20)
+
+
+def last_displaced(programs):
+    """The connection that is closed for another may be the last of the table, time and again; a place
+    that is free again is used."""
+    options = ["-t", "-o", "max-connections=4"]
+    with Server(programs["server"], *options) as server, contextlib.ExitStack() as all_of:
+        *kept, last = [all_of.enter_context(server.connect()) for _ in range(4)]
+        ask_on(last)
+        for _ in range(3):
+            time.sleep(0.02)
+            for stream in kept:
+                ask_on(stream)
+            other = all_of.enter_context(server.connect())
+            ask_on(other)
+            check(is_closed(last), "another connection is closed")
+            last = other
+        last.close()
+        time.sleep(0.1)
+        for stream in [all_of.enter_context(server.connect()), *kept]:
+            ask_on(stream)
+        expect(server.end(), tcp_accepted=8, tcp_displaced=3, tcp_received=17, tcp_sent=17)
 
 
 def drip(stream):
@@ -528,6 +627,7 @@ def both_at_once(programs):
     at = ("127.0.0.1", "::1")
     with Server(programs["server"], "-t", "-j", "2", at=at) as server:
         check(server.started["workers"] == "5" and len(server.workers()) == 5, str(server.started))
+        wait_until(lambda: server.sockets() == [1, 1, 1, 1, 2], "workers have sockets of others")
         for address in at:
             ask_once(server, address)
             ask(programs["client"], address, server.port, "-s")
@@ -541,10 +641,10 @@ def both_at_once(programs):
         expect(server.end(), **{**counts, "udp_received": 3, "udp_sent": 3})
 
 
-def replaced(programs):
+def replaced(programs, command=()):
     """A worker that hangs or dies is replaced; one that hangs doesn't keep the server from ending."""
     options = ["-t", "-o", "hang-timeout=2"]
-    with Server(programs["server"], *options) as server:
+    with Server(programs["server"], *options, command=command) as server:
         for number, event in [(signal.SIGSTOP, "hung"), (signal.SIGKILL, "died")]:
             before = server.workers()
             for worker in before:
@@ -561,10 +661,65 @@ def replaced(programs):
         check(counted["udp_sent"] >= 2 and counted["tcp_sent"] == 2, str(counted))
 
 
+def replaced_unseen(programs):
+    """The same if the server is started with SIGCHLD ignored."""
+    replaced(programs, after("signal.signal(signal.SIGCHLD, signal.SIG_IGN)"))
+
+
+def not_started(programs):
+    """If the system starts no worker, the server says so once, and tries until it does."""
+    options, lift = [], ""
+    if os.geteuid() == 0:  # (the limit doesn't hold for root)
+        user = pwd.getpwnam("nobody")
+        options, lift = ["-U", "nobody"], f"os.setgid({user.pw_gid}); os.setuid({user.pw_uid}); "
+    limit = resource.getrlimit(resource.RLIMIT_NPROC)
+    command = after(f"resource.setrlimit(resource.RLIMIT_NPROC, (1, {limit[1]}))")
+    with Server(programs["server"], *options, command=command) as server:
+        server.wait_for("worker-not-started")
+        time.sleep(0.5)
+        server.counts()
+        check(not server.others, f"it says more: {server.others}")
+        lift += f"resource.prlimit({server.ran.pid}, resource.RLIMIT_NPROC, {limit})"
+        status, _, told = run([*after(lift), "/bin/true"])
+        check(status == 0, told)
+        ask(programs["client"], "127.0.0.1", server.port)
+        counted = server.end()
+        check(counted["workers_died"] == 0 and counted["udp_sent"] > 0, str(counted))
+
+
+def unconfined(programs):
+    """A worker whose system calls can't be filtered serves nobody."""
+    command = after(refusing("seccomp", 0, 2))  # (2 asks what can be filtered)
+    with Server(programs["server"], "-t", command=command) as server:
+        check(server.started["seccomp"] == "on", str(server.started))
+        with asking_socket(server) as asking, server.connect() as stream:
+            asking.send(REQUEST + bytes(12))
+            stream.send(REQUEST + bytes(12))
+            for _ in range(6):
+                status = server.wait_for("worker-died").get("status")
+                check(status == "1", f"a worker ends with status {status}")
+        counted = server.end()
+        expect(counted, workers_died=counted["workers_died"])
+
+
 def status_of(process):
     """The lines of a process' status."""
     lines = pathlib.Path(f"/proc/{process}/status").read_text().splitlines()
     return {name: value.split() for name, _, value in (line.partition(":") for line in lines)}
+
+
+def has_rights(programs, server, user, groups):
+    """Each process of a server has a user's rights alone, and these groups."""
+    for process in [server.ran.pid, *server.workers()]:
+        status = status_of(process)
+        check(status["Uid"] == [str(user.pw_uid)] * 4, f"{process}: {status['Uid']}")
+        check(status["Gid"] == [str(user.pw_gid)] * 4, f"{process}: {status['Gid']}")
+        check({*map(int, status["Groups"])} == groups, f"{process}: {status['Groups']}")
+        for held in ("CapInh", "CapPrm", "CapEff", "CapAmb"):
+            check(int(status[held][0], 16) == 0, f"{process}: {held} {status[held]}")
+    ask(programs["client"], "127.0.0.1", server.port)
+    check(server.started["uid"] == str(user.pw_uid), str(server.started))
+    server.end()
 
 
 def rights(programs):
@@ -572,19 +727,27 @@ def rights(programs):
     as_root = os.geteuid() == 0
     user = pwd.getpwnam("nobody") if as_root else pwd.getpwuid(os.geteuid())
     with Server(programs["server"], "-t", "-U", user.pw_name) as server:
-        for process in [server.ran.pid, *server.workers()]:
-            status = status_of(process)
-            check(status["Uid"] == [str(user.pw_uid)] * 4, f"{process}: {status['Uid']}")
-            check(status["Gid"] == [str(user.pw_gid)] * 4, f"{process}: {status['Gid']}")
-            check(not as_root or status["Groups"] == [str(user.pw_gid)], str(status["Groups"]))
-            for held in ("CapPrm", "CapEff", "CapAmb"):
-                check(int(status[held][0], 16) == 0, f"{process}: {held} {status[held]}")
-        ask(programs["client"], "127.0.0.1", server.port)
-        check(server.started["uid"] == str(user.pw_uid), str(server.started))
-        server.end()
+        has_rights(programs, server, user, {user.pw_gid} if as_root else {*os.getgroups()})
     for name in ("root", "no-such-user"):
         status, _, told = run([programs["server"], "-U", name, "127.0.0.1", free_port(["127.0.0.1"])])
         check(status == 1 and name in told, f"status {status}: {told}")
+
+
+def granted_rights(programs):
+    """-U gives up capabilities that its own user was granted, and groups if these let it."""
+    if os.geteuid() != 0 or not shutil.which("setpriv"):
+        raise Skipped("it takes root and setpriv")
+    user = pwd.getpwnam("nobody")
+    with tempfile.TemporaryDirectory(prefix="server-") as folder:
+        os.chmod(folder, 0o755)
+        program = shutil.copy(programs["server"], folder)
+        for granted, groups in [("+net_bind_service", {user.pw_gid, 4242}),
+                                ("+net_bind_service,+setgid,+setuid", {user.pw_gid})]:
+            command = ["setpriv", f"--reuid={user.pw_uid}", f"--regid={user.pw_gid}",
+                       f"--groups={user.pw_gid},4242", f"--inh-caps={granted}",
+                       f"--ambient-caps={granted}"]
+            with Server(program, "-t", "-U", user.pw_name, command=command) as server:
+                has_rights(programs, server, user, groups)
 
 
 def sandbox(programs):
@@ -595,13 +758,13 @@ def sandbox(programs):
     version, can_filter = int(lines[0][1]), lines[0][3] == "1"
     met = {(kind, name): int(error) for kind, name, error in lines[1:]}
     check(len(met) == 21, out)
-    barred = {"open-file", "make-file", "start-program"} if version >= 1 else set()
-    barred |= {"signal-parent"} if version >= 6 else set()
+    closed = {"open-file", "make-file", "start-program"} if version >= 1 else set()
+    closed |= {"signal-parent"} if version >= 6 else set()
     for (kind, name), error in met.items():
         if kind == "both" and can_filter:
             check(error == (0 if name == "close" else -signal.SIGSYS), f"{kind} {name}: {error}")
         else:
-            refused = kind != "none" and name in barred
+            refused = kind != "none" and name in closed
             check(error > 0 if refused else error == 0, f"{kind} {name}: {error}")
     with Server(programs["server"], "-t") as server:
         words = {"seccomp": "on" if can_filter else "none", "landlock": str(version or "none")}
@@ -661,6 +824,11 @@ def passed_on(programs):
         others = {**os.environ, "LISTEN_FDS": "1", "LISTEN_PID": "1"}
         status, _, told = run([programs["server"]], env=others)
         check(status == 2, f"another process' sockets: status {status}: {told}")
+        for number in ["33", "0", "x", "", "-1"]:
+            news = f"os.environ.update(LISTEN_FDS='{number}', LISTEN_PID=str(os.getpid()))"
+            status, _, told = run([*after(news), programs["server"], "-j", "2"])
+            right = status == 1 and told.startswith(f"server: LISTEN_FDS={number}: ") and "32" in told
+            check(right, f"LISTEN_FDS={number}: status {status}: {told}")
         with socket.socket() as deaf:
             command = [sys.executable, "-c", PASS_ON, "1", str(deaf.fileno())]
             status, _, told = run([*command, programs["server"]], pass_fds=[deaf.fileno()])
@@ -676,6 +844,7 @@ def notified(programs, name):
         with Server(programs["server"], env=news) as server:
             check(manager.recv(200) == b"READY=1", "it isn't ready first")
             check(manager.recv(200) == b"WATCHDOG=1", "it doesn't say that it lives")
+            wait_until(lambda: server.sockets() == [1], "a worker has the manager's socket")
             ask(programs["client"], "127.0.0.1", server.port)
             server.end()
             told = manager.recv(200)
@@ -684,16 +853,23 @@ def notified(programs, name):
             check(told == b"STOPPING=1", f"it says {told}")
 
 
+UNIT = (HERE / "stun-server.service").read_text()
+UNIT_COMMAND = re.search(r"^ExecStart=(.*)$", UNIT, re.M)[1].split()
+
+
+def unit_command(programs):
+    """The command of the unit runs."""
+    status, _, told = run([programs["server"], *UNIT_COMMAND[1:-2], "-V"])
+    right = UNIT_COMMAND[0] == "/usr/local/bin/stun-server" and status == 0
+    check(right, f"status {status}: {told}")
+
+
 def unit_file(programs, folder):
-    """The unit says what systemd understands, where it is installed, and its command runs."""
-    text = (HERE / "stun-server.service").read_text()
-    words = re.search(r"^ExecStart=(.*)$", text, re.M)[1].split()
-    status, _, told = run([programs["server"], *words[1:-2], "-V"])
-    check(words[0] == "/usr/local/bin/stun-server" and status == 0, f"status {status}: {told}")
+    """The unit says what systemd understands."""
     if not shutil.which("systemd-analyze"):
-        return
+        raise Skipped("systemd-analyze isn't on this machine")
     tried = folder / "stun-server.service"
-    tried.write_text(text.replace(words[0], programs["server"]))
+    tried.write_text(UNIT.replace(UNIT_COMMAND[0], programs["server"]))
     status, out, told = run(["systemd-analyze", "verify", "--man=no", str(tried)], 60)
     check(status == 0 and out + told == "", f"status {status}: {out}{told}")
 
@@ -724,12 +900,18 @@ def run_all(programs):
         ("over UDP, a limit of answers", limited),
         ("over TCP", over_tcp),
         ("over TCP, 1,024 connections of 16 addresses", full_table),
+        ("over TCP, few files", few_files),
         ("over TCP, a connection for another", displaced),
+        ("over TCP, a connection for the last", last_displaced),
         ("over TCP, time-outs", timed_out),
         ("over UDP and TCP, and its counts", both_at_once),
         ("workers that hang and die", replaced),
+        ("workers that hang and die, with SIGCHLD ignored", replaced_unseen),
+        ("workers that can't be started", not_started),
         ("without rights", rights),
+        ("without rights that its user was granted", granted_rights),
         ("in its sandbox", sandbox),
+        ("workers that can't be confined", unconfined),
         ("with sockets that were opened before", passed_on),
     ]:
         with step(f"server, {name}"):
@@ -737,7 +919,7 @@ def run_all(programs):
     if "sanitized" in programs:
         # (what looks for leaks can't do so in the sandbox; nothing is allocated)
         os.environ["ASAN_OPTIONS"] = "detect_leaks=0"
-        for trial in (unanswered, software, over_tcp, displaced, timed_out):
+        for trial in (unanswered, software, over_tcp, displaced, last_displaced, timed_out):
             with step(f"server with sanitizers, {trial.__name__.replace('_', ' ')}"):
                 trial({**programs, "server": programs["sanitized"]})
     with tempfile.TemporaryDirectory(prefix="server-") as folder:
@@ -747,3 +929,5 @@ def run_all(programs):
             notified(programs, f"@stun-server-{os.getpid()}")
         with step("server, its unit file"):
             unit_file(programs, pathlib.Path(folder))
+        with step("server, the command of its unit"):
+            unit_command(programs)

@@ -5,7 +5,7 @@
  *     cc -I c c/examples/show.c libstun_types_c.a liblibc_c.a -o show
  *     ./show [password] < message
  *
- * The status is 0 where the message was shown (and is valid with the password that was given), 1
+ * The status is 0 if the message was shown (and is valid with the password that was given), 1
  * if it was refused or isn't valid, and 2 with every other end. */
 #define _POSIX_C_SOURCE 200809L
 #include <errno.h>

@@ -563,28 +563,32 @@ static void test_refusal_rooms(void) {
 
 static const struct {
     const char *name;
-    uint32_t kind, algorithm, password_algorithm;
+    uint32_t kind, algorithm, password_algorithm, reserved;
     bool has_first, has_sha256, prints;
     size_t size;
     uint32_t code;
     uint64_t expected;
     size_t written;
 } finished[] = {
-    {"nothing decided", 0, 0x0008, 1, true, true, true, 100, STUN_TYPES_BAD_ARGUMENT, 0, 20},
-    {"refused", 2, 0x0008, 1, true, true, true, 100, STUN_TYPES_BAD_ARGUMENT, 0, 20},
-    {"discarded", 3, 0x0008, 1, true, true, true, 100, STUN_TYPES_BAD_ARGUMENT, 0, 20},
-    {"not checked", 4, 0x0008, 1, true, true, true, 100, STUN_TYPES_BAD_ARGUMENT, 0, 20},
-    {"another kind", 5, 0x0008, 1, true, true, true, 100, STUN_TYPES_BAD_ARGUMENT, 0, 20},
-    {"no algorithm", 1, 0, 1, true, true, true, 100, STUN_TYPES_BAD_ARGUMENT, 0, 20},
-    {"another algorithm", 1, 3, 1, true, true, true, 100, STUN_TYPES_BAD_ARGUMENT, 0, 20},
-    {"short-term, by SHA-1", 1, 0x0008, 0, true, false, false, 44, STUN_TYPES_OK, 0, 44},
-    {"short-term, by SHA-256", 1, 0x001C, 0, true, false, true, 64, STUN_TYPES_OK, 0, 64},
-    {"by the MD5 key", 1, 0x001C, 1, true, false, true, 64, STUN_TYPES_OK, 0, 64},
-    {"by the SHA-256 key", 1, 0x001C, 2, false, true, true, 64, STUN_TYPES_OK, 0, 64},
-    {"without the MD5 key", 1, 0x0008, 1, false, true, true, 19, STUN_TYPES_NO_KEY, 0, 20},
-    {"without the SHA-256 key", 1, 0x001C, 2, true, false, true, 64, STUN_TYPES_NO_KEY, 0, 20},
-    {"no room for the HMAC", 1, 0x0008, 0, true, false, true, 43, STUN_TYPES_TOO_SMALL, 44, 20},
-    {"no room for the FINGERPRINT", 1, 0x0008, 0, true, false, true, 51, STUN_TYPES_TOO_SMALL, 52, 44},
+    {"nothing decided", 0, 0x0008, 1, 0, true, true, true, 100, STUN_TYPES_BAD_ARGUMENT, 0, 20},
+    {"refused", 2, 0x0008, 1, 0, true, true, true, 100, STUN_TYPES_BAD_ARGUMENT, 0, 20},
+    {"discarded", 3, 0x0008, 1, 0, true, true, true, 100, STUN_TYPES_BAD_ARGUMENT, 0, 20},
+    {"not checked", 4, 0x0008, 1, 0, true, true, true, 100, STUN_TYPES_BAD_ARGUMENT, 0, 20},
+    {"another kind", 5, 0x0008, 1, 0, true, true, true, 100, STUN_TYPES_BAD_ARGUMENT, 0, 20},
+    {"no algorithm", 1, 0, 1, 0, true, true, true, 100, STUN_TYPES_BAD_ARGUMENT, 0, 20},
+    {"another algorithm", 1, 3, 1, 0, true, true, true, 100, STUN_TYPES_BAD_ARGUMENT, 0, 20},
+    {"a spare word that isn't 0", 1, 0x0008, 0, 1, true, true, true, 100, STUN_TYPES_BAD_ARGUMENT, 0,
+     20},
+    {"a spare word that has the highest bit", 1, 0x0008, 0, 1u << 31, true, true, true, 100,
+     STUN_TYPES_BAD_ARGUMENT, 0, 20},
+    {"short-term, by SHA-1", 1, 0x0008, 0, 0, true, false, false, 44, STUN_TYPES_OK, 0, 44},
+    {"short-term, by SHA-256", 1, 0x001C, 0, 0, true, false, true, 64, STUN_TYPES_OK, 0, 64},
+    {"by the MD5 key", 1, 0x001C, 1, 0, true, false, true, 64, STUN_TYPES_OK, 0, 64},
+    {"by the SHA-256 key", 1, 0x001C, 2, 0, false, true, true, 64, STUN_TYPES_OK, 0, 64},
+    {"without the MD5 key", 1, 0x0008, 1, 0, false, true, true, 19, STUN_TYPES_NO_KEY, 0, 20},
+    {"without the SHA-256 key", 1, 0x001C, 2, 0, true, false, true, 64, STUN_TYPES_NO_KEY, 0, 20},
+    {"no room for the HMAC", 1, 0x0008, 0, 0, true, false, true, 43, STUN_TYPES_TOO_SMALL, 44, 20},
+    {"no room for the FINGERPRINT", 1, 0x0008, 0, 0, true, false, true, 51, STUN_TYPES_TOO_SMALL, 52, 44},
 };
 
 static void test_finish_reply(void) {
@@ -603,6 +607,7 @@ static void test_finish_reply(void) {
         decision->kind = finished[i].kind;
         decision->reply_algorithm = finished[i].algorithm;
         decision->password_algorithm = finished[i].password_algorithm;
+        decision->reserved = finished[i].reserved;
         first = finished[i].has_first ? bytes_key(hex(KEY_MD5), 0) : no_key();
         sha256 = finished[i].has_sha256 ? bytes_key(hex(KEY_SHA256), 0) : no_key();
         ANSWERS(stun_types_finish_reply(bytes, finished[i].size, written, decision, first, sha256,

@@ -54,7 +54,7 @@ static void end_row(void) {
     row_name = NULL;
 }
 
-/* Tells the row in which a page that may not be touched was touched. */
+/* Prints the row in which a page that may not be touched was touched. */
 static void touched(int number) {
     static const char text[] = ": a page that may not be touched was touched, or a slice written\n";
     ssize_t told = write(2, row_group, strlen(row_group));

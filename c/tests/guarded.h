@@ -12,7 +12,7 @@ typedef struct {
     size_t size;
 } guarded_region;
 
-/* A region of at least size bytes. It ends the program where the system gives none. */
+/* A region of at least size bytes. It ends the program if the system gives none. */
 guarded_region guarded_make(size_t size);
 
 /* Which end of a slice is at the page that may not be touched. */

@@ -91,6 +91,30 @@ static void test_logins(void) {
     }
 }
 
+/* A client signs by SHA-256 with the key by MD5 if the server prefers MD5: the call that makes its own
+   keys doesn't try that one. */
+static void test_preferred_md5(void) {
+    static const stun_types_id id = {{0}};
+    stun_types_key *key;
+    stun_types_validated *validated;
+    uint8_t *bytes;
+    size_t *written;
+    row("stun_types_validate_long_term", "SHA-256 with the key by MD5");
+    key = login_key(STUN_TYPES_PASSWORD_MD5);
+    validated = NEW(stun_types_validated);
+    written = NEW(size_t);
+    bytes = room(56);
+    ANSWERS(stun_types_begin(bytes, 56, 0x0001, &id, written), OK_ANSWER);
+    ANSWERS(stun_types_add_integrity(bytes, 56, written, key, STUN_TYPES_INTEGRITY_SHA256), OK_ANSWER);
+    heap_allow(true);
+    ANSWERS(stun_types_validate_long_term(bytes, 56, "user", 4, "realm", 5, "pass", 4, validated),
+            PLAIN(STUN_TYPES_INTEGRITY_FAILED));
+    heap_allow(false);
+    ANSWERS(stun_types_validate(bytes, 56, key, validated), OK_ANSWER);
+    CHECK(validated->algorithm == STUN_TYPES_INTEGRITY_SHA256);
+    stun_types_key_free(key);
+}
+
 static void test_hashes(void) {
     static const char *const names[][2] = {{"FF", "61"}, {"61", "61C3"}};
     size_t i;
@@ -565,6 +589,7 @@ void test_keys(void) {
     test_policies();
     test_changes();
     test_logins();
+    test_preferred_md5();
     test_hashes();
     test_not_made();
     test_memory();

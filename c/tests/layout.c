@@ -36,6 +36,8 @@ static const place places[] = {
 
     SIZE(hash, 32), AT(hash, bytes, 0),
 
+    SIZE(cookie, 13), AT(cookie, bytes, 0),
+
     SIZE(policy, 16), AT(policy, algorithm, 0), AT(policy, shortest, 4), AT(policy, fingerprint, 8),
     AT(policy, reserved, 12),
 

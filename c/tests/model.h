@@ -43,11 +43,11 @@ stun_types_answer model_validate(const uint8_t *bytes, size_t length, const char
 stun_types_answer model_address(const uint8_t *value, size_t length, stun_types_address *address);
 stun_types_answer model_error(const uint8_t *value, size_t length, uint16_t *code);
 
-/* The address that is written where this one is to be XORed, and the other way round. */
+/* The address that is written if this one is to be XORed, and the other way round. */
 void model_xor(const uint8_t *bytes, stun_types_address *address);
 
 /* The end of the first message of a stream, of which these are the bytes from its beginning on
-   and which is read into a buffer of so many: its length, 0 where more bytes are needed, or why
+   and which is read into a buffer of so many: its length, 0 if more bytes are needed, or why
    no message begins there. */
 stun_types_answer model_cut(const uint8_t *bytes, size_t length, size_t buffer,
                             size_t *message_length);

@@ -1,4 +1,4 @@
-/* Slices of length 0 that are NULL, in each call that takes a slice. */
+/* Slices of length 0 that are NULL: each slice of each call, which c/run_tests looks for here. */
 #include <string.h>
 
 #include "check.h"
@@ -44,6 +44,21 @@ static void test_read(void) {
     CHECK(*count == 0);
 }
 
+static void test_numbers_read(void) {
+    stun_types_attribute *attribute = NEW(stun_types_attribute);
+    memset(attribute, 0, sizeof *attribute);
+    ANSWERS(stun_types_read_u8(NULL, 0, attribute, NEW(uint8_t)),
+            LENGTHS(STUN_TYPES_TRUNCATED, 1, 0));
+    ANSWERS(stun_types_read_u16(NULL, 0, attribute, NEW(uint16_t)),
+            LENGTHS(STUN_TYPES_TRUNCATED, 2, 0));
+    ANSWERS(stun_types_read_u32(NULL, 0, attribute, NEW(uint32_t)),
+            LENGTHS(STUN_TYPES_TRUNCATED, 4, 0));
+    ANSWERS(stun_types_read_u64(NULL, 0, attribute, NEW(uint64_t)),
+            LENGTHS(STUN_TYPES_TRUNCATED, 8, 0));
+    CHECK(stun_types_known_types(NULL, 0) == 11);
+    CHECK(stun_types_text(STUN_TYPES_OK, NULL, 0) == sizeof "no error");
+}
+
 static void test_made(void) {
     stun_types_key *key = no_key();
     stun_types_validated *validated = NEW(stun_types_validated);
@@ -79,14 +94,24 @@ static void test_made(void) {
             OK_ANSWER);
     heap_allow(false);
     stun_types_key_free(key);
+    stun_types_keys_free(NULL, 0);
 }
 
 static void test_written(void) {
     size_t *written = NEW(size_t), *other = NEW(size_t);
     uint8_t *bytes = room(40);
     stun_types_key *key = password_key(text("pass"));
+    const slice request = hex(REQUEST);
     ANSWERS(stun_types_begin(NULL, 0, 1, &id, written), LENGTHS(STUN_TYPES_TOO_SMALL, 20, 0));
+    ANSWERS(stun_types_begin_reply(NULL, 0, NULL, 0, STUN_TYPES_CLASS_SUCCESS, written), NOTHING);
+    ANSWERS(stun_types_begin_reply(NULL, 0, request.bytes, request.length, STUN_TYPES_CLASS_SUCCESS,
+                                   written),
+            LENGTHS(STUN_TYPES_TOO_SMALL, 20, 0));
     *written = 0;
+    ANSWERS(stun_types_add_u8(NULL, 0, written, 0x0018, 0), PLAIN(STUN_TYPES_BAD_ARGUMENT));
+    ANSWERS(stun_types_add_u16(NULL, 0, written, 0x0027, 0), PLAIN(STUN_TYPES_BAD_ARGUMENT));
+    ANSWERS(stun_types_add_u32(NULL, 0, written, 0x0024, 0), PLAIN(STUN_TYPES_BAD_ARGUMENT));
+    ANSWERS(stun_types_add_u64(NULL, 0, written, 0x8029, 0), PLAIN(STUN_TYPES_BAD_ARGUMENT));
     ANSWERS(stun_types_add(NULL, 0, written, 0x8022, NULL, 0), PLAIN(STUN_TYPES_BAD_ARGUMENT));
     ANSWERS(stun_types_add_address(NULL, 0, written, 1, &address), PLAIN(STUN_TYPES_BAD_ARGUMENT));
     ANSWERS(stun_types_add_xor_address(NULL, 0, written, 0x20, &address),
@@ -115,6 +140,64 @@ static void test_written(void) {
     stun_types_key_free(key);
 }
 
+static void test_servers_with_credentials(void) {
+    static const stun_types_authentication accepted = {
+        STUN_TYPES_ACCEPTED, (stun_types_code)0, STUN_TYPES_INTEGRITY_SHA1, STUN_TYPES_INTEGRITY_SHA1,
+        (stun_types_password)0, 0};
+    stun_types_key *key = password_key(text("pass"));
+    stun_types_nonce_state *state = NEW(stun_types_nonce_state);
+    size_t *written = NEW(size_t);
+    const slice request = hex(REQUEST);
+    heap_allow(true);
+    ANSWERS(stun_types_refuse_short_term(NULL, 0, 401, NULL, 0, written), NOTHING);
+    ANSWERS(stun_types_refuse_short_term(request.bytes, request.length, 401, NULL, 0, written),
+            LENGTHS(STUN_TYPES_TOO_SMALL, 44, 0));
+    ANSWERS(stun_types_refuse_long_term(NULL, 0, 401, NULL, 0, NULL, 0, NULL, 0, NULL, 0, written),
+            NOTHING);
+    ANSWERS(stun_types_refuse_long_term(request.bytes, request.length, 401, NULL, 0, NULL, 0, NULL, 0,
+                                        NULL, 0, written),
+            LENGTHS(STUN_TYPES_TOO_SMALL, 52, 0));
+    ANSWERS(stun_types_make_nonce(key, 0, 600, 7, &address, NULL, 0, written),
+            LENGTHS(STUN_TYPES_TOO_SMALL, STUN_TYPES_NONCE_LENGTH, 0));
+    ANSWERS(stun_types_judge_nonce(key, 0, 600, 7, &address, NULL, 0, state), OK_ANSWER);
+    CHECK(*state == STUN_TYPES_NONCE_UNKNOWN);
+    heap_allow(false);
+    CHECK(!stun_types_security_features(NULL, 0, NEW(uint32_t)));
+    *written = 0;
+    ANSWERS(stun_types_finish_reply(NULL, 0, written, &accepted, key, no_key(), true),
+            PLAIN(STUN_TYPES_BAD_ARGUMENT));
+    stun_types_key_free(key);
+}
+
+static void test_answers(void) {
+    static const uint16_t both[] = {STUN_TYPES_PASSWORD_SHA256, STUN_TYPES_PASSWORD_MD5};
+    stun_types_key *key = no_key();
+    size_t *written = NEW(size_t);
+    uint8_t *bytes = room(200);
+    const slice asks = hex(CHALLENGE);
+    heap_allow(true);
+    ANSWERS(stun_types_key_for(key, NULL, 0, NULL, 0, NULL, 0, NULL, 0), NOTHING);
+    ANSWERS(stun_types_key_for(key, asks.bytes, asks.length, NULL, 0, NULL, 0, NULL, 0),
+            PLAIN(STUN_TYPES_NO_ALGORITHM));
+    ANSWERS(stun_types_key_for(key, asks.bytes, asks.length, both, 2, NULL, 0, NULL, 0), OK_ANSWER);
+    heap_allow(false);
+    *written = 0;
+    ANSWERS(stun_types_answer_challenge(NULL, 0, written, NULL, 0, NULL, 0, NULL, 0, key, true),
+            NOTHING);
+    ANSWERS(stun_types_answer_challenge(NULL, 0, written, asks.bytes, asks.length, both, 2, NULL, 0,
+                                        key, true),
+            PLAIN(STUN_TYPES_BAD_ARGUMENT));
+    ANSWERS(stun_types_begin(bytes, 200, 1, &id, written), OK_ANSWER);
+    ANSWERS(stun_types_answer_challenge(bytes, 200, written, asks.bytes, asks.length, NULL, 0, NULL, 0,
+                                        key, true),
+            PLAIN(STUN_TYPES_NO_ALGORITHM));
+    ANSWERS(stun_types_answer_challenge(bytes, 200, written, asks.bytes, asks.length, both, 2, NULL, 0,
+                                        key, true),
+            OK_ANSWER);
+    ANSWERS(stun_types_parse(bytes, *written), OK_ANSWER);
+    stun_types_key_free(key);
+}
+
 static void test_clients_and_streams(void) {
     stun_types_transaction *transaction = NEW(stun_types_transaction);
     stun_types_received *received = NEW(stun_types_received);
@@ -131,6 +214,8 @@ static void test_clients_and_streams(void) {
     ANSWERS(stun_types_transaction_receive(transaction, no_key(), NULL, 0, NULL, 0, received),
             OK_ANSWER);
     CHECK(received->kind == STUN_TYPES_NOT_FOR_THIS);
+    CHECK(!stun_types_transactions_find(NULL, 0, NULL, 0, taken));
+    CHECK(!stun_types_transactions_next(NULL, 0, NEW(uint64_t)));
     ANSWERS(stun_types_challenge_of(NULL, 0, NULL, 0, true, NULL, 0, false, challenge), NOTHING);
     ANSWERS(stun_types_challenge_of(asks.bytes, asks.length, NULL, 0, false, NULL, 0, false, challenge),
             PLAIN(STUN_TYPES_NO_ALGORITHM));
@@ -144,10 +229,16 @@ static void test_clients_and_streams(void) {
 void test_nulls(void) {
     row("slices that are NULL", "that are read");
     test_read();
+    row("slices that are NULL", "of which numbers are read");
+    test_numbers_read();
     row("slices that are NULL", "of which keys are made, and those that are validated");
     test_made();
     row("slices that are NULL", "that are written");
     test_written();
+    row("slices that are NULL", "of servers with credentials");
+    test_servers_with_credentials();
+    row("slices that are NULL", "of answers to a challenge");
+    test_answers();
     row("slices that are NULL", "of clients and streams");
     test_clients_and_streams();
 }

@@ -62,7 +62,7 @@ typedef enum {
 
 typedef struct {
     step_kind kind;
-    uint16_t number;
+    uint32_t number;
     const char *value;
     uint32_t code, type;
     uint64_t expected, actual;
@@ -162,6 +162,7 @@ static const struct {
       {ERROR, 700, "6E6F", STUN_TYPES_OUT_OF_RANGE, 0, 699, 700},
       {ERROR, 0, "", STUN_TYPES_OUT_OF_RANGE, 0, 699, 0},
       {ERROR, 65535, "", STUN_TYPES_OUT_OF_RANGE, 0, 699, 65535},
+      {ERROR, 65936, "", STUN_TYPES_OUT_OF_RANGE, 0, 699, 65936},
       {ERROR, 400, "61*764", LARGE(763, 764)},
       {ERROR, 400, "61FF", OTHER(STUN_TYPES_INVALID_DATA)},
       {ERROR, 400, "C3", OTHER(STUN_TYPES_INVALID_DATA)}},

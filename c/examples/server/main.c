@@ -148,6 +148,7 @@ static int run(const socket_address *addresses, size_t count, uint32_t passed) {
     rate_table *rates = NULL;
     sigprocmask(SIG_BLOCK, &signals, NULL);
     signal(SIGPIPE, SIG_IGN);
+    signal(SIGCHLD, SIG_DFL); /* (ignored, as it may be inherited, it hides dead workers) */
     if (!open_all(&opened, addresses, count, passed)) return 1;
     if (options.rate > 0 && (rates = make_rate_table()) == NULL) return 1;
     if (options.user != NULL && !become_user(options.user)) return 1;
@@ -164,7 +165,8 @@ int main(int count, char **arguments) {
         if (option == 'V') return print_version();
         if (!read_option(option, optarg)) return print_usage(stderr);
     }
-    uint32_t passed = passed_sockets();
+    uint32_t passed;
+    if (!count_passed(&passed)) return 1;
     int words = count - optind;
     size_t read = read_addresses(arguments + optind, words, addresses);
     if (passed > 0 ? words > 0 : read == 0) return print_usage(stderr);

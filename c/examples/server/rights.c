@@ -2,10 +2,27 @@
 #include "server.h"
 
 #include <grp.h>
+#include <linux/capability.h>
 #include <pwd.h>
-#include <sys/types.h>
+#include <sys/syscall.h>
 
-/* Whether the process runs as a user and in their group alone, and can't become root again. */
+/* Gives up all capabilities; without them none is ambient either. */
+static bool drop_capabilities(void) {
+    struct __user_cap_header_struct header = {_LINUX_CAPABILITY_VERSION_3, 0};
+    struct __user_cap_data_struct none[_LINUX_CAPABILITY_U32S_3];
+    memset(none, 0, sizeof none);
+    return syscall(SYS_capset, &header, none) == 0;
+}
+
+/* Becomes a user. A process that is this user's, and may not change its groups, keeps them. */
+static bool change_to(uid_t user, gid_t group) {
+    bool is_theirs = geteuid() == user;
+    if (setgroups(1, &group) != 0 && !(is_theirs && errno == EPERM)) return false;
+    return setresgid(group, group, group) == 0 && setresuid(user, user, user) == 0 &&
+           drop_capabilities();
+}
+
+/* Whether the process is a user's and of their group, and can't become root again. */
 static bool is_user(uid_t user, gid_t group) {
     uid_t users[3];
     gid_t groups[3];
@@ -27,10 +44,7 @@ bool become_user(const char *name) {
     }
     uid_t uid = user->pw_uid;
     gid_t gid = user->pw_gid;
-    if (geteuid() != uid &&
-        (setgroups(1, &gid) != 0 || setgid(gid) != 0 || setuid(uid) != 0)) {
-        return cannot("-U");
-    }
+    if (!change_to(uid, gid)) return cannot("-U");
     if (is_user(uid, gid)) return true;
     fprintf(stderr, "server: -U %s: rights are left\n", name);
     return false;

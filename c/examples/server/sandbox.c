@@ -62,8 +62,8 @@ static const int allowed[] = {
 #ifdef SYS_epoll_wait
     SYS_epoll_wait,
 #endif
-    SYS_epoll_pwait, SYS_recvfrom, SYS_sendto, SYS_epoll_ctl, SYS_accept4, SYS_setsockopt,
-    SYS_shutdown, SYS_close, SYS_clock_gettime,
+    SYS_epoll_pwait, SYS_recvfrom, SYS_sendto, SYS_epoll_ctl, SYS_accept4, SYS_shutdown,
+    SYS_close, SYS_clock_gettime,
 #ifdef SYS_poll
     SYS_poll,
 #endif
@@ -87,7 +87,7 @@ static struct sock_filter load(size_t offset) {
     return (struct sock_filter)BPF_STMT(BPF_LD | BPF_W | BPF_ABS, (uint32_t)offset);
 }
 
-/* Goes on with the next step if what was loaded is a number, otherwise with the one after it. */
+/* Continues with the next step if what was loaded is a number, otherwise with the one after it. */
 static struct sock_filter if_equal(uint32_t number) {
     return (struct sock_filter)BPF_JUMP(BPF_JMP | BPF_JEQ | BPF_K, number, 0, 1);
 }

@@ -62,22 +62,22 @@ bool take_socket(endpoints *to, int number);
 
 void print_endpoints(const endpoints *of);
 
-/* Sets an option of a socket that it can serve without. */
-void set_option(int number, int level, int name, int value);
-
 /* ---- The service manager (service.c) --------------------------------------------------------- */
 
-/* How many open sockets the server was started with, from number FIRST_PASSED on. */
+/* Counts the open sockets that the server was started with, from number FIRST_PASSED on. False:
+ * there are too many of them, or what says how many is no number; why is printed. */
 enum { FIRST_PASSED = 3 };
-uint32_t passed_sockets(void);
+bool count_passed(uint32_t *count);
 
 void connect_notify(void);
+void close_notify(void);
 void notify(const char *state);
 void notify_alive(void);
 
 /* ---- Rights (rights.c, sandbox.c) ------------------------------------------------------------ */
 
-/* Gives up all rights but those of a user, for good. */
+/* Gives up all rights but those of a user, for good: capabilities, and groups but the user's own.
+ * If this user has started the server, it keeps its other groups, unless it may drop them. */
 bool become_user(const char *name);
 
 /* Closes off files, TCP sockets of its own and other processes by Landlock. Returns the version of

@@ -7,17 +7,17 @@
 
 static int notify_socket = -1;
 
-/* A number in the environment; 0: there is none. */
-static uint32_t environment_number(const char *name, uint32_t most) {
-    const char *text = getenv(name);
-    uint32_t number = 0;
-    return text != NULL && read_number(text, 1, most, &number) ? number : 0;
-}
-
 /* They are this process's if LISTEN_PID says so. */
-uint32_t passed_sockets(void) {
-    if (environment_number("LISTEN_PID", UINT32_MAX) != (uint32_t)getpid()) return 0;
-    return environment_number("LISTEN_FDS", MOST_WORKERS / options.processes);
+bool count_passed(uint32_t *count) {
+    const char *text = getenv("LISTEN_FDS"), *of = getenv("LISTEN_PID");
+    unsigned most = MOST_WORKERS / options.processes;
+    uint32_t process = 0;
+    *count = 0;
+    if (text == NULL || of == NULL || !read_number(of, 1, UINT32_MAX, &process)) return true;
+    if (process != (uint32_t)getpid() || read_number(text, 1, most, count)) return true;
+    fprintf(stderr, "server: LISTEN_FDS=%s: it takes 1 to %u sockets with -j %u\n", text, most,
+            (unsigned)options.processes);
+    return false;
 }
 
 /* Connects to NOTIFY_SOCKET: a path, or after an @ a name that is no file. It stays open, since it
@@ -35,9 +35,13 @@ void connect_notify(void) {
     socklen_t size = (socklen_t)(offsetof(struct sockaddr_un, sun_path) + length);
     if (notify_socket >= 0 && connect(notify_socket, (const struct sockaddr *)&to, size) != 0) {
         cannot("NOTIFY_SOCKET");
-        close(notify_socket);
-        notify_socket = -1;
+        close_notify();
     }
+}
+
+void close_notify(void) {
+    if (notify_socket >= 0) close(notify_socket);
+    notify_socket = -1;
 }
 
 /* (a manager that takes no news doesn't keep the server from serving) */

@@ -2,10 +2,12 @@
 #include "server.h"
 
 #include <fcntl.h>
+#include <netinet/tcp.h>
 
 enum { QUEUE = 4 << 20 }; /* bytes that may wait in a socket for UDP, if the system allows them */
 
-void set_option(int number, int level, int name, int value) {
+/* Sets an option of a socket that it can serve without. */
+static void set_option(int number, int level, int name, int value) {
     (void)setsockopt(number, level, name, &value, sizeof value);
 }
 
@@ -38,6 +40,8 @@ static bool append(endpoints *to, const struct sockaddr_storage *at, endpoint ma
         return false;
     }
     made.wildcard = is_wildcard(at);
+    /* (what it accepts has this option too) */
+    if (made.stream) set_option(made.socket, IPPROTO_TCP, TCP_NODELAY, 1);
     if (!made.stream && !prepare_udp(made.socket, at->ss_family, made.wildcard)) return false;
     to->all[to->count++] = made;
     return true;

@@ -14,7 +14,7 @@ enum {
 
 typedef struct {
     const endpoint *from; /* it receives datagrams there; NULL: it has all connections */
-    pid_t process;        /* below 1: none */
+    pid_t process;        /* 0: none; -1: it could not be started */
     uint64_t started;
     uint64_t beats;  /* as they were seen last */
     uint32_t missed; /* how often in turn they were the same, looked at once a second */
@@ -77,19 +77,35 @@ static void heed_signals(void) {
     sigprocmask(SIG_UNBLOCK, &signals, NULL);
 }
 
+/* Closes the sockets that a worker doesn't use: it has one over UDP, or all over TCP. */
+static void close_others(const worker *as) {
+    const endpoint *end = group.endpoints->all + group.endpoints->count;
+    close_notify();
+    for (const endpoint *at = group.endpoints->all; at < end; at++) {
+        bool is_used = as->from == NULL ? at->stream : at == as->from;
+        if (!is_used) close(at->socket);
+    }
+}
+
 /* Runs as a worker, which ends with its supervisor. */
 static void work(const worker *as, tally *mine, pid_t supervisor) {
     prctl(PR_SET_PDEATHSIG, SIGKILL);
     if (getppid() != supervisor) _exit(1);
     heed_signals();
+    close_others(as);
     if (as->from == NULL && !begin_tcp(group.endpoints, mine)) _exit(1);
-    if (options.sandbox && can_filter() && !filter_calls()) cannot("seccomp");
+    if (options.sandbox && can_filter() && !filter_calls()) {
+        cannot("seccomp");
+        _exit(1);
+    }
     if (as->from != NULL) serve_udp(as->from, group.rates, mine);
     else serve_tcp();
     _exit(0);
 }
 
+/* Starts a worker. If the system can't, that is an event once, however often it is tried again. */
 static void start(worker *started) {
+    bool has_failed = started->process < 0;
     pid_t supervisor = getpid();
     tally *mine = &group.tallies[started - group.workers];
     started->started = milliseconds();
@@ -97,6 +113,9 @@ static void start(worker *started) {
     started->hung = false;
     started->process = fork();
     if (started->process == 0) work(started, mine, supervisor);
+    if (started->process < 0 && !has_failed) {
+        fprintf(stderr, "event=worker-not-started error=%d\n", errno);
+    }
 }
 
 /* ---- Looking after them ---------------------------------------------------------------------- */

@@ -1,7 +1,6 @@
 /* Serving TCP: one process has all connections. */
 #include "server.h"
 
-#include <netinet/tcp.h>
 #include <sys/epoll.h>
 #include <sys/mman.h>
 #include <sys/resource.h>
@@ -39,6 +38,7 @@ typedef struct {
 
 static struct {
     connection *connections, *end;
+    connection *open_end; /* no connection from here on is open */
     connection_bytes *bytes;
     int poller;
     bool accepting;
@@ -51,15 +51,15 @@ static struct {
 
 /* As many connections as the process may have: it asks the system for as many files as it may. */
 static size_t most_connections(size_t other_files) {
-    struct rlimit limit;
-    size_t wanted = options.max_connections;
+    struct rlimit limit, more;
+    rlim_t wanted = options.max_connections + other_files;
     if (getrlimit(RLIMIT_NOFILE, &limit) != 0) return 1;
-    if (limit.rlim_cur < wanted + other_files) {
-        limit.rlim_cur = wanted + other_files;
-        if (limit.rlim_cur > limit.rlim_max) limit.rlim_cur = limit.rlim_max;
-        if (setrlimit(RLIMIT_NOFILE, &limit) != 0) return 1;
+    if (limit.rlim_cur < wanted) {
+        more = limit;
+        more.rlim_cur = wanted < limit.rlim_max ? wanted : limit.rlim_max;
+        if (setrlimit(RLIMIT_NOFILE, &more) == 0) limit = more;
     }
-    if (limit.rlim_cur >= wanted + other_files) return wanted;
+    if (limit.rlim_cur >= wanted) return options.max_connections;
     return limit.rlim_cur > other_files ? (size_t)limit.rlim_cur - other_files : 1;
 }
 
@@ -76,6 +76,7 @@ bool make_connections(size_t listeners) {
     tcp.connections = zeros(most * sizeof *tcp.connections);
     tcp.bytes = zeros(most * sizeof *tcp.bytes);
     if (tcp.connections == NULL || tcp.bytes == NULL) return cannot("no memory");
+    tcp.open_end = tcp.connections;
     tcp.end = tcp.connections + most;
     if (most < options.max_connections) fprintf(stderr, "event=few-files connections=%zu\n", most);
     return true;
@@ -89,7 +90,7 @@ static bool are_neighbours(const stun_types_address *a, const stun_types_address
 /* Counts a connection in for its address, or out. */
 static void count_crowd(connection *changed, bool in) {
     changed->crowd = 0;
-    for (connection *at = tcp.connections; at < tcp.end; at++) {
+    for (connection *at = tcp.connections; at < tcp.open_end; at++) {
         if (at == changed || !at->open || !are_neighbours(&at->source, &changed->source)) continue;
         if (in) at->crowd++;
         else at->crowd--;
@@ -102,13 +103,14 @@ static void close_connection(connection *closed) {
     close(closed->socket);
     closed->open = false;
     count_crowd(closed, false);
+    while (tcp.open_end > tcp.connections && !tcp.open_end[-1].open) tcp.open_end--;
 }
 
 /* The connection that is closed for a new one: of the addresses with most connections, that which
  * has been idle longest. */
 static connection *find_least_needed(void) {
     connection *least = tcp.connections;
-    for (connection *at = tcp.connections; at < tcp.end; at++) {
+    for (connection *at = tcp.connections; at < tcp.open_end; at++) {
         if (at->crowd > least->crowd || (at->crowd == least->crowd && at->heard < least->heard)) {
             least = at;
         }
@@ -118,9 +120,10 @@ static connection *find_least_needed(void) {
 
 /* A place for a new connection: a free one if there is. */
 static connection *free_place(void) {
-    for (connection *at = tcp.connections; at < tcp.end; at++) {
+    for (connection *at = tcp.connections; at < tcp.open_end; at++) {
         if (!at->open) return at;
     }
+    if (tcp.open_end < tcp.end) return tcp.open_end;
     connection *least = find_least_needed();
     close_connection(least);
     count(tcp.mine, TCP_DISPLACED, 1);
@@ -243,9 +246,9 @@ static bool enter(int socket, const struct sockaddr_storage *from) {
     place->source = source;
     place->awaited = EPOLLIN;
     place->accepted = place->heard = tcp.now;
-    set_option(socket, IPPROTO_TCP, TCP_NODELAY, 1);
     if (!control(EPOLL_CTL_ADD, socket, EPOLLIN, (size_t)(place - tcp.connections))) return false;
     place->open = true;
+    if (place >= tcp.open_end) tcp.open_end = place + 1;
     count_crowd(place, true);
     return true;
 }
@@ -293,7 +296,7 @@ static int overdue(const connection *of) {
 
 /* Closes the connections whose time is over: first in one direction. */
 static void close_overdue(void) {
-    for (connection *at = tcp.connections; at < tcp.end; at++) {
+    for (connection *at = tcp.connections; at < tcp.open_end; at++) {
         if (!at->open) continue;
         if (at->half_closed) {
             if (tcp.now >= at->closed_at) close_connection(at);

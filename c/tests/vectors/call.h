@@ -5,7 +5,7 @@
 
 #include "../check.h"
 
-/* The room that is given where a call names none: more than the longest message. */
+/* The room that is given if a call names none: more than the longest message. */
 enum { ANY_ROOM = 66000 };
 
 /* ---- words */

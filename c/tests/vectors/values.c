@@ -5,7 +5,18 @@
 #include <stdlib.h>
 #include <string.h>
 
-typedef enum { NOTHING, ADDRESS, XOR_ADDRESS, ERROR, TYPES, OF_8, OF_16, OF_32, OF_64 } value_kind;
+typedef enum {
+    NOTHING,
+    ADDRESS,
+    XOR_ADDRESS,
+    ERROR,
+    ADDRESS_ERROR,
+    TYPES,
+    OF_8,
+    OF_16,
+    OF_32,
+    OF_64
+} value_kind;
 
 /* What C reads a value of this type as. */
 static value_kind kind_of(uint16_t type) {
@@ -18,6 +29,7 @@ static value_kind kind_of(uint16_t type) {
     case STUN_TYPES_ATTRIBUTE_XOR_PEER_ADDRESS:
     case STUN_TYPES_ATTRIBUTE_XOR_RELAYED_ADDRESS: return XOR_ADDRESS;
     case STUN_TYPES_ATTRIBUTE_ERROR_CODE: return ERROR;
+    case STUN_TYPES_ATTRIBUTE_ADDRESS_ERROR_CODE: return ADDRESS_ERROR;
     case STUN_TYPES_ATTRIBUTE_UNKNOWN_ATTRIBUTES: return TYPES;
     case STUN_TYPES_ATTRIBUTE_REQUESTED_TRANSPORT:
     case STUN_TYPES_ATTRIBUTE_REQUESTED_ADDRESS_FAMILY:
@@ -68,6 +80,18 @@ static stun_types_answer read_error(slice octets, const stun_types_attribute *at
     answer_text("%u ", (unsigned)*code);
     answer_octets(octets.bytes + *at, *length);
     return result;
+}
+
+/* The same with an error of a family, the first octet, which the call ignores. */
+static stun_types_answer read_address_error(slice octets, const stun_types_attribute *attribute,
+                                            bool is_shown) {
+    stun_types_answer result = read_error(octets, attribute, false);
+    uint8_t family;
+    if (result.code != STUN_TYPES_OK) return result;
+    family = octets.bytes[attribute->value_at];
+    if (family != 1 && family != 2) return PLAIN(STUN_TYPES_INVALID_DATA);
+    if (is_shown) answer_text(family == 1 ? "ipv4 " : "ipv6 ");
+    return read_error(octets, attribute, is_shown);
 }
 
 /* The same with a list of types. That a length is odd has a code without numbers in C. */
@@ -143,6 +167,7 @@ static stun_types_answer read_value(uint16_t type, slice value, const stun_types
     case ADDRESS: return read_address(octets, &attribute, false, is_shown);
     case XOR_ADDRESS: return read_address(octets, &attribute, true, is_shown);
     case ERROR: return read_error(octets, &attribute, is_shown);
+    case ADDRESS_ERROR: return read_address_error(octets, &attribute, is_shown);
     case TYPES: return read_types(octets, &attribute, is_shown);
     case OF_8: return read_8(octets, &attribute, is_shown);
     case OF_16: return read_16(octets, &attribute, is_shown);
@@ -245,9 +270,34 @@ static void make_error(void) {
     draft message = begun(&id);
     slice reason = octets_of(word == NULL ? "-" : word);
     stun_types_answer result = stun_types_add_error(message.room, message.size, &message.written,
-                                                  (uint16_t)code, reason.bytes, reason.length);
+                                                  (stun_types_code)code, reason.bytes,
+                                                  reason.length);
     if (word == NULL) answer_unknown();
     else answer_value(&message, result);
+}
+
+/* The next word, which must be there. */
+static const char *call_meaning(void) {
+    const char *word = call_word();
+    if (word == NULL) answer_unknown();
+    return word == NULL ? "" : word;
+}
+
+/* (by its octets, as the header says) */
+static void make_address_error(void) {
+    uint8_t start[4] = {0};
+    stun_types_id id = id_of("0");
+    draft message = begun(&id);
+    uint64_t code;
+    slice value;
+    start[0] = strcmp(call_meaning(), "ipv4") == 0 ? 1 : 2;
+    code = call_count();
+    start[2] = (uint8_t)(code / 100);
+    start[3] = (uint8_t)(code % 100);
+    value = joined(given(start, sizeof start), octets_of(call_meaning()));
+    answer_value(&message, stun_types_add(message.room, message.size, &message.written,
+                                          STUN_TYPES_ATTRIBUTE_ADDRESS_ERROR_CODE, value.bytes,
+                                          value.length));
 }
 
 static void make_list(void) {
@@ -260,13 +310,6 @@ static void make_list(void) {
         stun_types_add_unknown_types(message.room, message.size, &message.written,
                                      (const uint16_t *)(const void *)listed.bytes, count);
     answer_value(&message, result);
-}
-
-/* The next word, which must be there. */
-static const char *call_meaning(void) {
-    const char *word = call_word();
-    if (word == NULL) answer_unknown();
-    return word == NULL ? "" : word;
 }
 
 /* The number that is the meaning in the next words. */
@@ -327,6 +370,7 @@ static void make(void) {
     case ADDRESS: make_address(type, false); break;
     case XOR_ADDRESS: make_address(type, true); break;
     case ERROR: make_error(); break;
+    case ADDRESS_ERROR: make_address_error(); break;
     case TYPES: make_list(); break;
     case OF_8:
     case OF_16:

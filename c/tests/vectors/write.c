@@ -94,7 +94,7 @@ static stun_types_answer take(const step *it, draft *to) {
     }
 }
 
-/* Appends what a step answers. In C one code says that an attribute bars another, and its type says
+/* Appends what a step answers. In C one code says that an attribute blocks another, and its type says
    which one: by another name if it is FINGERPRINT, or if an ordinary attribute is blocked. */
 static void answer_step(const step *it, stun_types_answer result) {
     bool is_finger = result.type == STUN_TYPES_ATTRIBUTE_FINGERPRINT;

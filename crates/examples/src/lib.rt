@@ -1,6 +1,8 @@
 //! Examples of what `stun_types` is used for, each a module of its own.
 #![tactic(auto)]
 
+pub mod agent;
+pub mod allocation;
 pub mod client;
 pub mod ice;
 pub mod login;

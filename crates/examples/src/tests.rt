@@ -1,5 +1,7 @@
 //! The examples at work, on bytes that other implementations wrote: one test a module.
 
+mod agent;
+mod allocation;
 mod exchanges;
 mod vectors;
 
@@ -13,6 +15,7 @@ use crate::{ice, printer, turn};
 use ice_attrs::{Role, Ufrag};
 use rand::make_rng;
 use rand::rngs::StdRng;
+use std::alloc::Global;
 use std::net::{IpAddr, Ipv4Addr, SocketAddr};
 use std::test::Fail;
 use stun_authentication::{NonceMaker, SecurityFeatures, challenge_of};
@@ -203,23 +206,37 @@ fn agents_check_each_other(rt: HostRuntime) -> Result<(), Fail> {
     Ok(())
 }
 
-#[test]
-fn client_allocates(rt: HostRuntime) -> Result<(), Fail> {
-    let alloc = rt.alloc();
+/// The users of a TURN server.
+fn users(alloc: Global) -> Result<Vec<LongTermCredentials>, Fail> {
     let copy = |text| String::from_str(alloc, text);
-    let users = vec![in alloc; LongTermCredentials::new(copy("user")?, copy("pass")?)]?;
+    Ok(vec![in alloc; LongTermCredentials::new(copy("user")?, copy("pass")?)]?)
+}
+
+/// What makes its nonces.
+fn nonces(alloc: Global) -> Result<NonceMaker, Fail> {
     let secret = IntegrityKey::new(alloc, b"a secret that nobody else knows.", None)?;
     let features = SecurityFeatures {
         password_algorithms: true,
         username_anonymity: false,
     };
-    let nonces = NonceMaker::new(secret, features, 600);
+    Ok(NonceMaker::new(secret, features, 600))
+}
+
+/// The address that it relays.
+fn relayed() -> SocketAddr {
+    SocketAddr::new(IpAddr::V4(Ipv4Addr::new(192, 0, 2, 15)), 49152)
+}
+
+#[test]
+fn client_allocates(rt: HostRuntime) -> Result<(), Fail> {
+    let alloc = rt.alloc();
+    let (users, nonces) = (users(alloc)?, nonces(alloc)?);
     let mut server = Server {
         users: &users,
         nonces: &nonces,
         now: 1000,
     };
-    let relayed = SocketAddr::new(IpAddr::V4(Ipv4Addr::new(192, 0, 2, 15)), 49152);
+    let relayed = relayed();
     let login = ("user", "pass");
     let first = turn::allocate_request(alloc, 0x7501, 600, None, login)?;
     assert!(rt; first.as_slice() == exchanges::ALLOCATE.as_slice());

@@ -3,3 +3,4 @@ pub mod Pacing
 pub mod Roles
 pub mod Credentials
 pub mod CheckUsernames
+pub mod Symmetry

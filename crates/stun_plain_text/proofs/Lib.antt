@@ -1,2 +1,3 @@
 mod ItemsLemmas
 mod EscapingLemmas
+mod TypesLemmas

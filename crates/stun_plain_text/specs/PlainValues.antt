@@ -3,10 +3,12 @@ use Rattle.std.specs.Prelude.{ℕ, Bool, ◌==◌, ◌||◌, List, ◌++◌, len
 use Rattle.std.specs.Fmt.{decimal}
 use Rattle.std.specs.Net.Text.{socket_text}
 use Rattle.std.specs.Option.{option_map_or}
-use Rattle.stun_grammar.specs.AttributeTypes.{MAPPED_ADDRESS}
+use Rattle.stun_text.specs.Lists.{with_commas}
+use Rattle.stun_grammar.specs.AttributeTypes.{MAPPED_ADDRESS, UNKNOWN_ATTRIBUTES}
 use Rattle.stun_grammar.specs.Names.{hex, numbered_text}
 use Rattle.stun_grammar.specs.Numbers.{number}
 use Rattle.stun_values.specs.Addresses.{address_fault, address_in, xored_text}
+use Rattle.stun_values.specs.TypeLists.{types_fault, types_in}
 use Rattle.stun_values.specs.Typed.{value_fault, value_text}
 use Rattle.ice_attrs.specs.Ice.{PRIORITY}
 use Rattle.turn_basics.specs.TurnBasics.{LIFETIME, XOR_PEER_ADDRESS}
@@ -65,9 +67,26 @@ malformed_type_text type = type_text type ++ codes "(Malformed): "
 abbrev pub malformed_text : ℕ → List ℕ → List ℕ
 malformed_text type value = malformed_type_text type ++ octets_text value
 
--- an attribute of a type and a value
-abbrev pub attribute_text : ℕ → List ℕ → List ℕ
-attribute_text type value =
+-- an UNKNOWN-ATTRIBUTES (RFC 8489, section 14.13): the types that it lists, by number and name, in
+-- brackets
+abbrev pub listed_types_text : List ℕ → List ℕ
+listed_types_text value =
+    type_text UNKNOWN_ATTRIBUTES ++ codes ": [" ++ with_commas type_text (types_in value) ++ codes "]"
+
+abbrev pub unknown_attributes_text : List ℕ → List ℕ
+unknown_attributes_text value =
+    option_map_or (λ fault. malformed_text UNKNOWN_ATTRIBUTES value) (types_fault value)
+    (listed_types_text value)
+
+-- an attribute of another type: one of the fifteen as `{}` prints it
+abbrev pub typed_or_other_text : ℕ → List ℕ → List ℕ
+typed_or_other_text type value =
     option_map_or (λ fault.
     option_map_or (λ e. malformed_text type value) fault (value_text type value))
     (value_fault type value) (other_text type value)
+
+-- an attribute of a type and a value
+abbrev pub attribute_text : ℕ → List ℕ → List ℕ
+attribute_text type value =
+    if type == UNKNOWN_ATTRIBUTES then unknown_attributes_text value
+    else (typed_or_other_text type value)

@@ -5,6 +5,7 @@
 mod escaping;
 mod names;
 mod printing;
+mod types;
 mod values;
 
 pub use printing::write_plain_text;

@@ -2,15 +2,16 @@
 
 ghost use Rattle.std.specs.Prelude.{◌≡◌, OnOk};
 ghost use Rattle.stun_attrs.specs.Raw.{raw_type, raw_value};
-ghost use Rattle.stun_plain_text.specs.PlainValues.{octets_text, number_text, address_text, xor_address_text, is_number_type, is_address_type, is_xor_address_type, other_value_text, type_text, other_text, malformed_type_text, malformed_text, attribute_text};
+ghost use Rattle.stun_plain_text.specs.PlainValues.{octets_text, number_text, address_text, xor_address_text, is_number_type, is_address_type, is_xor_address_type, other_value_text, type_text, other_text, malformed_type_text, malformed_text, typed_or_other_text, attribute_text};
 
 use crate::names::type_name;
+use crate::types::print_unknown_attributes;
 use byteorder::{BigEndian, ByteOrder};
 use discovery_attrs::attribute_types::{OTHER_ADDRESS, RESPONSE_ORIGIN};
 use ice_attrs::attribute_types::PRIORITY;
 use stun_attrs::{Attribute, RawAttribute};
 use stun_base::{AttributeType, Hex};
-use stun_grammar::attribute_types::MAPPED_ADDRESS;
+use stun_grammar::attribute_types::{MAPPED_ADDRESS, UNKNOWN_ATTRIBUTES};
 use stun_grammar::put_numbered;
 use stun_text::{PrintText, TextSink, put_decimal, put_socket};
 use stun_values::{read_address, read_value, write_xored};
@@ -93,7 +94,7 @@ fn put_other_value<S: TextSink>(sink: &mut S, atype: u16, value: &[u8]) -> Resul
 }
 
 /// Writes a type, by its number and its name.
-fn put_type<S: TextSink>(sink: &mut S, atype: AttributeType) -> Result<(), S::Error>
+pub(crate) fn put_type<S: TextSink>(sink: &mut S, atype: AttributeType) -> Result<(), S::Error>
     ensures { OnOk result (S.wrote sink.old (type_text atype.0) sink.new) }
 {
     put_numbered(sink, atype.value(), type_name(atype))
@@ -125,7 +126,7 @@ fn put_malformed_type<S: TextSink>(sink: &mut S, atype: AttributeType) -> Result
 
 /// Prints an attribute whose value isn't what its type asks for.
 #[tactic(auto, using(stun_text::proofs::Joining::both, stun_text::proofs::Joining::spelled_so))]
-fn print_malformed<S: TextSink>(
+pub(crate) fn print_malformed<S: TextSink>(
     sink: &mut S,
     atype: AttributeType,
     value: &[u8],
@@ -135,6 +136,21 @@ fn print_malformed<S: TextSink>(
     put_malformed_type(sink, atype)?;
     put_octets(sink, value)?;
     Ok(())
+}
+
+/// Prints an attribute that is no UNKNOWN-ATTRIBUTES.
+fn print_typed_or_other<S: TextSink>(
+    sink: &mut S,
+    atype: AttributeType,
+    value: &[u8],
+) -> Result<(), S::Error>
+    ensures { OnOk result (S.wrote sink.old (typed_or_other_text atype.0 value.now) sink.new) }
+{
+    match read_value(atype, value) {
+        Some(Ok(typed)) => typed.print(sink, atype),
+        Some(Err(_)) => print_malformed(sink, atype, value),
+        None => print_other(sink, atype, value),
+    }
 }
 
 /// Prints an attribute.
@@ -147,9 +163,9 @@ pub(crate) fn print_attribute<S: TextSink>(
 {
     let atype = raw.get_type();
     let value = raw.value().as_bytes();
-    match read_value(atype, value) {
-        Some(Ok(typed)) => typed.print(sink, atype),
-        Some(Err(_)) => print_malformed(sink, atype, value),
-        None => print_other(sink, atype, value),
+    if atype.value() == UNKNOWN_ATTRIBUTES {
+        print_unknown_attributes(sink, value)
+    } else {
+        print_typed_or_other(sink, atype, value)
     }
 }

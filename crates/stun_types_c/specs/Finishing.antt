@@ -1,5 +1,5 @@
 -- The end of a reply to a message that was accepted (RFC 8489, sections 7, 9.1.3 and 9.2.4).
-use Rattle.std.specs.Prelude.{Bool, Option, None, MatchOption, ◌==◌, if◌then◌else◌}
+use Rattle.std.specs.Prelude.{Bool, ◌&&◌, Option, None, MatchOption, ◌==◌, if◌then◌else◌}
 use Rattle.stun_grammar.specs.declared.integrity_algorithm.IntegrityAlgorithm.{IntegrityAlgorithm}
 use Rattle.stun_keys.specs.declared.keys.integrity_key.IntegrityKey.{IntegrityKey}
 use Rattle.stun_keys.specs.Keys.{key_bytes}
@@ -11,9 +11,10 @@ use Rattle.stun_types_c.specs.Keys.{algorithm_named}
 use Rattle.stun_types_c.specs.Steps.{Ends}
 use Rattle.stun_types_c.specs.Writing.{Written}
 
--- the algorithm that signs the reply, if C's numbers are those of an acceptance
+-- the algorithm that signs the reply, if C's numbers are those of an acceptance, whose spare word is 0
 abbrev pub signing_named : Authenticated → Option IntegrityAlgorithm
-signing_named told = if told.kind == 1 then algorithm_named told.reply_algorithm else None
+signing_named told =
+    if (told.kind == 1) && (told.reserved == 0) then algorithm_named told.reply_algorithm else None
 
 -- the key that accepted: that by SHA-256 if the acceptance names it, otherwise the first
 abbrev pub key_named : Authenticated → (first sha256 : Option IntegrityKey) → Option IntegrityKey

@@ -174,7 +174,7 @@ pub(crate) fn policy_of(counted: &CountedIntegrity) -> Option<Policy>
     })
 }
 
-/// The password algorithm of a key that accepted, where the user has keys of both.
+/// The password algorithm of a key that accepted, if the user has keys of both.
 fn password_used(md5: Option<&IntegrityKey>, key: &IntegrityKey) -> u32
     ensures { result ≡ password_used (borrowed_bytes md5.entry) (key_bytes key.now) }
 {
@@ -233,7 +233,7 @@ fn in_c(answer: &Authentication, used: KeyUsed<'_>) -> Authenticated
     }
 }
 
-/// Tells C an answer, or that an allocation failed.
+/// Writes an answer for C, or that nothing is decided, since an allocation failed.
 fn tell(
     answer: Result<Authentication, AllocError>,
     used: KeyUsed<'_>,

@@ -5,7 +5,7 @@ use std::alloc::Allocator;
 use std::marker::Model;
 
 /// A box that has been taken apart. It owns what the box owned: the value, and the right to free
-/// its memory. It isn't `Drop`, so it can't be let go by mistake: it becomes a box again.
+/// its memory. It isn't `Drop`, so it can't be dropped by mistake: it becomes a box again.
 pub(crate) struct BoxParts<T, A: Allocator> {
     pub(crate) at: *mut T,
     pub(crate) alloc: A,
@@ -32,9 +32,9 @@ impl<T: Drop, A: Allocator> BoxParts<T, A> {
         ensures { result.value ≡ self.value }
     {
         let BoxParts { at, alloc } = self;
-        // The only `unsafe` of the library. `Box::from_raw` asks for memory that holds a value and
-        // that the allocator may free. This struct owns just that, as its `also_owns` states, and
-        // the proof of this function hands it over.
+        // `Box::from_raw` requires memory that holds a value and that the allocator may free. This
+        // struct owns just that, as its `also_owns` states, and the proof of this function passes
+        // it on.
         unsafe { Box::from_raw(alloc, at) }
     }
 }

@@ -86,7 +86,7 @@ fn in_c(response: &[u8], challenge: &Challenge<'_>) -> Asked
     }
 }
 
-/// The realm that credentials were tried in, if C hands one in, or that it is no text.
+/// The realm in which credentials were tried, if C passes one; an error if it isn't UTF-8.
 fn tried_in(was_tried: bool, realm: &[u8]) -> Result<Option<&str>, CallResult>
     ensures { let tried = tried_in was_tried realm.now in MatchResult result
         (λ told. (tried_answer tried ≡ None) × (option_map (λ text. text.now) told ≡ tried))

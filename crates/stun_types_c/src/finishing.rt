@@ -18,7 +18,7 @@ use stun_types::message::keys::IntegrityKey;
 fn signing_named(told: &Authenticated) -> Option<IntegrityAlgorithm>
     ensures { result ≡ signing_named told.now }
 {
-    if told.kind == 1 {
+    if told.kind == 1 && told.reserved == 0 {
         algorithm_of(told.reply_algorithm)
     } else {
         None

@@ -17,7 +17,7 @@ use stun_types::message::keys::IntegrityKey;
 ///
 /// - It begins a handle as `{ NULL, 0 }`, and from then on neither reads nor writes its fields.
 /// - It copies no handle: the key of two would be freed twice. (It may move one to another place,
-///   if it uses the old one no more.)
+///   if it no longer uses the old one.)
 /// - It leaves a handle on its thread, or orders by a lock or a join what one thread does with it
 ///   after another. While a call has the handle, no other call has it or shares its key.
 /// - It ends a handle that holds a key by the call that frees it, or the key leaks and its bytes

@@ -14,8 +14,7 @@ use stun_types::message::keys::IntegrityKey;
 /// A C function can't take a type that leads to a key, since a key may be written where it is
 /// shared. So the address is that of a byte. A `Global` takes no bytes: the struct is one pointer.
 ///
-/// It isn't `Drop`: whoever has one says whether a key is there, and takes the key out or ends the
-/// place with none.
+/// It isn't `Drop`: the owner must call `into_parts` if it holds a key, otherwise `end`.
 #[repr(C)]
 pub(crate) struct KeyPlace {
     at: *mut u8,

@@ -103,7 +103,7 @@ pub extern "C" fn stun_types_transactions_next(kept: &[KeptTransaction], until: 
     }
 }
 
-/// How long a response took, where that is known.
+/// How long a response took, if that is known.
 fn round_trip(kept: &KeptTransaction, now: u64) -> Option<u64>
     ensures { TakesTime now kept.now result }
 {

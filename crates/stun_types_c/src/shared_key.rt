@@ -12,8 +12,8 @@ use stun_types::message::keys::IntegrityKey;
 /// right:
 ///
 /// - The bytes are those that a call with the handle of the key left, or `{ NULL, 0 }`.
-/// - From the beginning of the call to its end no other call is handed the handle of the key, which
-///   would replace or free it. Calls that use the key may run in as many threads as C likes.
+/// - From the beginning of the call to its end no other call takes the handle of the key, which would
+///   replace or free it. Calls that use the key may run in as many threads as C likes.
 #[repr(C)]
 pub struct SharedKey {
     pub(crate) place: SharedPlace,

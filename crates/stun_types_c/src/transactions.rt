@@ -66,7 +66,7 @@ pub struct KeptTransaction {
     pub clock: u64,
     /// The transaction ID.
     pub id: Id,
-    /// How many polls have answered that the request is to be sent.
+    /// How many polls have returned that the request is to be sent.
     pub sent: u32,
     /// The method of the request.
     pub method: u16,
@@ -539,7 +539,7 @@ pub extern "C" fn stun_types_transaction_receive(
     }
 }
 
-/// Sends the request of a transaction no more, unless it has ended.
+/// Stops sending the request of a transaction, unless it has ended.
 #[unsafe(no_mangle)]
 pub extern "C" fn stun_types_transaction_stop_sending(kept: &mut KeptTransaction) -> CallResult
     ensures { StopsKept result kept.old kept.new }

@@ -69,7 +69,7 @@ fn checked_in(message: &Message<'_>, algorithm: IntegrityAlgorithm) -> Validated
     }
 }
 
-/// Tells C a verdict on a message.
+/// Reports a verdict on a message to C.
 fn tell_verdict(
     message: &Message<'_>,
     verdict: Result<IntegrityAlgorithm, ValidateError>,
@@ -143,7 +143,7 @@ fn verdict_by(
     }
 }
 
-/// Tells C a verdict on a message, if its HMAC has at least so many bytes.
+/// Reports a verdict on a message to C, if its HMAC has at least so many bytes.
 fn tell_long_enough(
     message: &Message<'_>,
     shortest: usize,

@@ -1,10 +1,12 @@
 //! Writing a message step by step into a slice of the caller's.
 
-ghost use Rattle.std.specs.Prelude.{◌≡◌, ◌<◌, ◌≤◌, None, length, take, MatchResult, MatchOption};
+ghost use Rattle.std.specs.Prelude.{◌≡◌, ◌<◌, ◌≤◌, Some, None, length, take, MatchResult, MatchOption};
 ghost use Rattle.stun_grammar.specs.AttributeTypes.{FINGERPRINT};
 ghost use Rattle.stun_grammar.specs.Fingerprints.{fingerprint_value};
 ghost use Rattle.stun_grammar.specs.Steps.{finger};
 ghost use Rattle.stun_values.specs.Addresses.{address_value};
+ghost use Rattle.stun_values.specs.ErrorValues.{making_fault};
+ghost use Rattle.stun_values.specs.TextValues.{text_max};
 ghost use Rattle.stun_write.specs.ResumePoints.{any_in, step_in};
 ghost use Rattle.stun_types_c.specs.Codes.{OK};
 ghost use Rattle.stun_types_c.specs.KeyHandles.{shared_key};
@@ -161,6 +163,24 @@ pub extern "C" fn stun_types_add_xor_address(
     add_socket(room, written, atype, xored)
 }
 
+/// Tests that an ERROR-CODE may be made of a code of C's and a reason, and returns the code.
+fn check_code(code: u32, reason: &[u8]) -> Result<u16, StunWriteError>
+    ensures { MatchResult result
+        (λ checked. (checked ≡ code) × (making_fault code reason.now ≡ None) × (code ≤ 699)
+        × (length reason.now ≤ text_max))
+        (λ e. making_fault code reason.now ≡ Some e) }
+{
+    let narrow = u16::try_from(code).unwrap_or(u16::MAX);
+    match check_error(narrow, reason) {
+        Ok(()) => Ok(narrow),
+        Err(StunWriteError::OutOfRange { value: _, min, max }) => {
+            let value = code as usize;
+            Err(StunWriteError::OutOfRange { value, min, max })
+        }
+        Err(error) => Err(error),
+    }
+}
+
 /// Adds an ERROR-CODE.
 #[unsafe(no_mangle)]
 pub extern "C" fn stun_types_add_error(
@@ -176,12 +196,10 @@ pub extern "C" fn stun_types_add_error(
     let Ok(point) = ResumePoint::check(room, *written) else {
         return plain(codes::BAD_ARGUMENT);
     };
-    let Ok(code) = u16::try_from(code) else {
-        return counted(codes::OUT_OF_RANGE, 699, code as usize);
+    let code = match check_code(code, reason) {
+        Ok(code) => code,
+        Err(error) => return write_result(error),
     };
-    if let Err(error) = check_error(code, reason) {
-        return write_result(error);
-    }
     if text_in(reason).is_none() {
         return plain(codes::INVALID_DATA);
     }
