@@ -1,5 +1,5 @@
 -- The binding request, and what a datagram says of it (RFC 8489, sections 6.1, 6.3.3, 6.3.4 and 9.1).
-use Rattle.std.specs.Prelude.{◌≡◌, ℕ, ◌∷◌, ◌++◌, List, [], Bool, true, false, not, ◌&&◌, codes, Option, None, Some, Ok, Err, is_some, if◌then◌else◌}
+use Rattle.std.specs.Prelude.{◌≡◌, ℕ, ◌∷◌, ◌++◌, List, [], true, false, not, ◌&&◌, codes, Option, None, Some, Ok, Err, is_some, if◌then◌else◌}
 use Rattle.std.specs.Option.{option_map_or}
 use Rattle.std.specs.Fmt.{decimal}
 use Rattle.std.specs.Net.Text.{socket_text}
