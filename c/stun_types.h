@@ -802,8 +802,9 @@ bool stun_types_security_features(const void *nonce, size_t nonce_length, uint32
 
 /* Makes a nonce that the server need not store: the cookie of these features, the time now, in seconds
    since a moment that stays the same, and an HMAC-SHA256 of both and of the client's address and port.
-   It is valid for window seconds, for this client alone. The secret, which only the server knows, is a
-   key of at least 32 random bytes (stun_types_key_from_bytes, for STUN_TYPES_INTEGRITY_ANY).
+   It is valid for this client alone, for window seconds: the nonce doesn't contain the window, so pass
+   the same one to stun_types_judge_nonce. The secret, which only the server knows, is a key of at least
+   32 random bytes (stun_types_key_from_bytes, for STUN_TYPES_INTEGRITY_ANY).
    BAD_ARGUMENT: another sum of features, or the family of the address. NO_KEY: there is no secret.
    TOO_SMALL. Allocates: OUT_OF_MEMORY. */
 STUN_TYPES_NODISCARD STUN_TYPES_NONNULL((1, 5, 8))
