@@ -9,6 +9,4 @@ pub mod login;
 pub mod own;
 pub mod printer;
 pub mod stream;
-#[cfg(test)]
-mod tests;
 pub mod turn;

@@ -7,6 +7,8 @@
 #[cfg(test)]
 mod addresses;
 #[cfg(test)]
+mod at_work;
+#[cfg(test)]
 mod borrowed;
 #[cfg(test)]
 mod bounds;

@@ -1,9 +1,9 @@
 //! Allocate requests in transactions, and the server of `turn.rt`.
 
 use super::{exchanges, nonces, relayed, source, users};
-use crate::allocation::{Allocate, AllocateStep};
-use crate::turn;
-use crate::turn::Server;
+use examples::allocation::{Allocate, AllocateStep};
+use examples::turn;
+use examples::turn::Server;
 use std::alloc::Global;
 use std::test::Fail;
 use std::time::Duration;

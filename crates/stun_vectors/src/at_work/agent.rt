@@ -1,8 +1,8 @@
 //! Checks in transactions.
 
 use super::{agents, exchanges, source};
-use crate::agent::{Check, CheckStep, schedule};
-use crate::ice::{self, Agent};
+use examples::agent::{Check, CheckStep, schedule};
+use examples::ice::{self, Agent};
 use ice_attrs::{IceControlled, Role, TransportAddresses};
 use std::alloc::Global;
 use std::net::{IpAddr, Ipv4Addr, SocketAddr};
