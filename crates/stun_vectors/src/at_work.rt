@@ -1,4 +1,4 @@
-//! The examples at work, on bytes that other implementations wrote: one test a module.
+//! The examples at work, on bytes that other implementations wrote.
 
 mod agent;
 mod allocation;

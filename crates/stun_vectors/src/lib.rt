@@ -1,7 +1,7 @@
 //! Tests of what the rows of `vectors/` can't ask, since only Rattle can say it: borrowed and owned
-//! bytes, what outlives what, bounds, conversions of errors, a user's own generator of random numbers,
-//! attributes, writers, helpers and registered functions of a user's own, the capacity that a writer
-//! has, and transactions that are taken apart.
+//! bytes, what outlives what, bounds, conversions of errors, random numbers, attributes, writers,
+//! helpers and registered functions of a user's own, the capacity that a writer has, and transactions
+//! that are taken apart. `at_work` has the tests of the crate `examples`.
 #![tactic(auto)]
 
 #[cfg(test)]
