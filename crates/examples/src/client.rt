@@ -42,7 +42,7 @@ pub fn signed_request(
     name: &str,
     password: &str,
 ) -> Result<Vec<u8>, StunWriteError> {
-    let password = String::from_str(alloc, password).map_err(|_| StunWriteError::OutOfMemory)?;
+    let password = String::from_str(alloc, password)?;
     let credentials = MessageIntegrityCredentials::from(ShortTermCredentials::new(password));
     let mtype = MessageType::from_class_method(MessageClass::Request, BINDING);
     let id = TransactionId::from(id);

@@ -73,9 +73,10 @@ fn user_of(
         return Ok(users);
     };
     if fragments.receiver.text() == agent.own.0.text() {
-        let copy = |text| String::from_str(alloc, text).map_err(|_| StunWriteError::OutOfMemory);
-        let user = LongTermCredentials::new(copy(username.username())?, copy(agent.own.1)?);
-        users.push(user).map_err(|_| StunWriteError::OutOfMemory)?;
+        let name = String::from_str(alloc, username.username())?;
+        let password = String::from_str(alloc, agent.own.1)?;
+        let user = LongTermCredentials::new(name, password);
+        users.push(user).map_err(AllocError::from)?;
     }
     Ok(users)
 }
@@ -121,13 +122,12 @@ pub fn answer(
         fingerprint: true,
     };
     let vector = MessageWriteVec::new(alloc);
-    let accepted = match authenticate_short_term(alloc, check, policy, &Logins::new(&users)) {
-        Ok(Authentication::Accepted(accepted)) => accepted,
-        Ok(Authentication::Refused(refusal)) => {
+    let accepted = match authenticate_short_term(alloc, check, policy, &Logins::new(&users))? {
+        Authentication::Accepted(accepted) => accepted,
+        Authentication::Refused(refusal) => {
             return Ok(Some(refuse_short_term(alloc, check, refusal, vector)?.finish()));
         }
-        Ok(_) => return Ok(None),
-        Err(_) => return Err(StunWriteError::OutOfMemory),
+        _ => return Ok(None),
     };
     let mut reply = match decide(alloc, agent, check).error_code() {
         Some(code) => {

@@ -39,13 +39,13 @@ pub fn lines(alloc: Global, message: &Message<'_>) -> Result<String, StunWriteEr
     registry.add_display_impl(Location::TYPE, print_location)?;
     let mut text = String::new(alloc);
     let (class, method, id) = (message.class(), message.method(), message.transaction_id());
-    write!(text, "{class:?} {method} {id}\n").map_err(|_| StunWriteError::OutOfMemory)?;
+    write!(text, "{class:?} {method} {id}\n")?;
     for (offset, raw) in message.iter_attributes() {
         let shown = Shown {
             registry: &registry,
             raw: &raw,
         };
-        write!(text, "{offset}: {shown}\n").map_err(|_| StunWriteError::OutOfMemory)?;
+        write!(text, "{offset}: {shown}\n")?;
     }
     Ok(text)
 }

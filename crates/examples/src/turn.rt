@@ -149,15 +149,14 @@ pub fn answer(
     let users = Logins::new(server.users);
     let policy = Policy::default();
     Ok(
-        match authenticate_long_term(alloc, request, REALM, policy, &nonces, &users) {
-            Ok(Authentication::Accepted(accepted)) => {
+        match authenticate_long_term(alloc, request, REALM, policy, &nonces, &users)? {
+            Authentication::Accepted(accepted) => {
                 Some(allocated(alloc, request, &accepted, client, relayed)?)
             }
-            Ok(Authentication::Refused(refusal)) => {
+            Authentication::Refused(refusal) => {
                 Some(refused(alloc, server, request, client, refusal)?)
             }
-            Ok(_) => None,
-            Err(_) => return Err(StunWriteError::OutOfMemory),
+            _ => None,
         },
     )
 }

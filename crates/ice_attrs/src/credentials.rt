@@ -1,12 +1,12 @@
 //! The credentials of checks: username fragments, the username made of two, and passwords (RFC
 //! 8445, sections 5.3 and 7.2.2).
 
-ghost use Rattle.std.specs.Prelude.{◌≡◌, ◌++◌, codes, IsTrue, IfOk, IfErr};
+ghost use Rattle.std.specs.Prelude.{◌≡◌, ◌++◌, codes, IsTrue, IfOk};
 ghost use Rattle.std.specs.String.{string_bytes};
 ghost use Rattle.std.specs.List.{list_all};
 ghost use Rattle.ice_attrs.specs.Credentials.{is_ice_char, is_ufrag, is_password};
 
-use std::alloc::Global;
+use std::alloc::{AllocError, Global};
 use stun_types::attribute::Username;
 use stun_types::message::StunWriteError;
 
@@ -126,12 +126,8 @@ impl<'a> CheckUsername<'a> {
 }
 
 /// Two texts with a colon between them.
-fn joined(alloc: Global, before: &str, behind: &str) -> Result<String, StunWriteError>
-    ensures ok { IfOk result (λ text. string_bytes text ≡ before.now ++ codes ":" ++ behind.now) }
-    ensures err { IfErr result (λ e. e ≡ StunWriteError.OutOfMemory) }
+fn joined(alloc: Global, before: &str, behind: &str) -> Result<String, AllocError>
+    ensures { IfOk result (λ text. string_bytes text ≡ before.now ++ codes ":" ++ behind.now) }
 {
-    match format!(in alloc; "{before}:{behind}") {
-        Ok(text) => Ok(text),
-        Err(_) => Err(StunWriteError::OutOfMemory),
-    }
+    format!(in alloc; "{before}:{behind}")
 }

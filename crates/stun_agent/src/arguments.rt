@@ -15,6 +15,7 @@ use std::env::Args;
 use std::net::{IpAddr, SocketAddr};
 use stun_authentication::Policy;
 use stun_framing::RunError;
+use stun_keys::keys::key_of_bytes;
 use stun_types::attribute::Username;
 use stun_types::message::{
     IntegrityAlgorithm, ShortTermCredentials, StunWriteError, TransactionId,
@@ -151,10 +152,9 @@ fn login_in(alloc: Global, user: &str, password: String) -> Result<Login, RunErr
         Err(StunWriteError::OutOfMemory) => return Err(RunError::NoMemory),
         Err(_) => return Err(RunError::Usage),
     };
-    match ShortTermCredentials::new(password).make_key(alloc) {
-        Ok(key) => Ok(Login { username, key }),
-        Err(_) => Err(RunError::NoMemory),
-    }
+    let credentials = ShortTermCredentials::new(password);
+    let key = key_of_bytes(alloc, credentials.password().as_bytes(), None)?;
+    Ok(Login { username, key })
 }
 
 /// The login that the arguments after the transaction ID give, if there are any.

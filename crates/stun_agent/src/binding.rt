@@ -8,9 +8,10 @@ ghost use Rattle.stun_types.specs.Message.{message_bytes};
 ghost use Rattle.stun_agent.specs.Binding.{request_by, request, protection_of, IsSent, MapsTo, Tells, IsPolled};
 
 use crate::query::{Login, Query};
-use std::alloc::{AllocError, Global};
+use std::alloc::Global;
 use std::net::SocketAddr;
 use std::time::Duration;
+use stun_framing::RunError;
 use stun_transactions::{
     Action, Protection, Received, Schedule, Transaction, Usage, response_address,
 };
@@ -48,19 +49,19 @@ fn binding_request() -> MessageType
 
 /// The binding request that nobody signs. The error says that an allocation failed.
 #[tactic(auto, unfolding(stun_grammar::specs::Sending::body_from))]
-fn unsigned(alloc: Global, id: TransactionId) -> Result<Vec<u8>, AllocError>
+fn unsigned(alloc: Global, id: TransactionId) -> Result<Vec<u8>, RunError>
     ensures { IfOk result (λ text. text.items ≡ request_by id None) }
 {
     match Message::builder(binding_request(), id, MessageWriteVec::new(alloc)) {
         Ok(write) => Ok(write.finish()),
-        Err(_) => Err(AllocError),
+        Err(_) => Err(RunError::NoMemory),
     }
 }
 
 /// The binding request that this login signs, by both algorithms, since it isn't known which ones
 /// the server takes (RFC 8489, section 9.1.2). The error says that an allocation failed: a message
 /// of one user name and two HMACs is refused nothing.
-fn signed(alloc: Global, id: TransactionId, login: &Login) -> Result<Vec<u8>, AllocError>
+fn signed(alloc: Global, id: TransactionId, login: &Login) -> Result<Vec<u8>, RunError>
     ensures { IfOk result (λ text. text.items ≡ request_by id (Some login.now)) }
 {
     let mut verdicts = [Ok(()); 3];
@@ -73,12 +74,12 @@ fn signed(alloc: Global, id: TransactionId, login: &Login) -> Result<Vec<u8>, Al
     let written = write_steps(alloc, binding_request(), id, &steps, &mut verdicts, vector);
     match (written, verdicts) {
         (Ok(write), [Ok(()), Ok(()), Ok(())]) => Ok(write.finish()),
-        _ => Err(AllocError),
+        _ => Err(RunError::NoMemory),
     }
 }
 
 /// The binding request of a query. The error says that an allocation failed.
-pub fn request(alloc: Global, query: &Query) -> Result<Vec<u8>, AllocError>
+pub fn request(alloc: Global, query: &Query) -> Result<Vec<u8>, RunError>
     ensures { IfOk result (λ text. text.items ≡ request query.now) }
 {
     match &query.login {
@@ -98,21 +99,21 @@ fn protection(login: Option<Login>) -> Protection
 }
 
 /// A transaction that has begun, after its first poll.
-fn polled(mut transaction: Transaction) -> Result<Transaction, AllocError>
+fn polled(mut transaction: Transaction) -> Result<Transaction, RunError>
     ensures { IfOk result (IsPolled transaction) }
 {
     match transaction.poll(Duration::ZERO) {
         Action::Send => Ok(transaction),
-        _ => Err(AllocError),
+        _ => Err(RunError::NoMemory),
     }
 }
 
 /// A transaction of the request, which is sent.
-fn sent(bytes: &[u8], login: Option<Login>) -> Result<Transaction, AllocError>
+fn sent(bytes: &[u8], login: Option<Login>) -> Result<Transaction, RunError>
     ensures { IfOk result (IsSent bytes.now login) }
 {
     let Ok(request) = Message::from_bytes(bytes) else {
-        return Err(AllocError);
+        return Err(RunError::NoMemory);
     };
     let schedule = Schedule::new_default();
     let protection = protection(login);
@@ -126,7 +127,7 @@ fn sent(bytes: &[u8], login: Option<Login>) -> Result<Transaction, AllocError>
         now,
     ) {
         Ok(transaction) => polled(transaction),
-        Err(_) => Err(AllocError),
+        Err(_) => Err(RunError::NoMemory),
     }
 }
 
@@ -147,7 +148,7 @@ pub fn read_response(
     alloc: Global,
     query: Query,
     datagram: &[u8],
-) -> Result<BindingResult, AllocError>
+) -> Result<BindingResult, RunError>
     ensures { IfOk result (Tells query datagram.now) }
 {
     let bytes = request(alloc, &query)?;

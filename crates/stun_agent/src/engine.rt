@@ -44,7 +44,10 @@ pub fn reply_to<R: Read, W: Write>(
         (W.contents writer.old) (W.contents writer.new) }
 {
     let input = read_all(alloc, GREATEST_LENGTH, reader)?;
-    let Some(text) = reply(alloc, source, &input)? else {
+    let Ok(replied) = reply(alloc, source, &input) else {
+        return Err(RunError::NoMemory);
+    };
+    let Some(text) = replied else {
         return Ok(RunEnd::NoReply);
     };
     write_all(&text, writer)?;

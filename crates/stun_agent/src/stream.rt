@@ -47,10 +47,11 @@ fn answer<W: Write>(
         (λ error. Fails error (W.contents writer.old) (W.contents writer.new)
         (answer_to source message.now)) }
 {
-    if let Some(text) = reply(alloc, source, message)? {
-        write_all(&text, writer)?;
+    match reply(alloc, source, message) {
+        Ok(Some(text)) => Ok(write_all(&text, writer)?),
+        Ok(None) => Ok(()),
+        Err(_) => Err(RunError::NoMemory),
     }
-    Ok(())
 }
 
 /// Passes bytes to a stream, and answers the message that they complete, if they do. Returns how

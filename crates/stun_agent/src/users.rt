@@ -81,7 +81,7 @@ pub enum AuthenticatedReply {
 
 /// The two users.
 fn users(alloc: Global) -> Result<[LongTermCredentials; 2], StunWriteError> {
-    let copy = |text| String::from_str(alloc, text).map_err(|_| StunWriteError::OutOfMemory);
+    let copy = |text| String::from_str(alloc, text);
     Ok([
         LongTermCredentials::new(copy("alice")?, copy("wonderland")?),
         LongTermCredentials::new(copy("bob")?, copy("builder")?),
@@ -156,18 +156,17 @@ fn by_short_term(
     logins: &Logins<'_>,
 ) -> Result<AuthenticatedReply, StunWriteError> {
     let is_request = message.has_class(MessageClass::Request);
-    match authenticate_short_term(alloc, message, policy, logins) {
-        Err(_) => Err(StunWriteError::OutOfMemory),
-        Ok(Authentication::Accepted(accepted)) if is_request => {
+    match authenticate_short_term(alloc, message, policy, logins)? {
+        Authentication::Accepted(accepted) if is_request => {
             let reply = reply(alloc, message, &accepted, source)?;
             Ok(AuthenticatedReply::Accepted(Some(reply)))
         }
-        Ok(Authentication::Refused(why)) if is_request => {
+        Authentication::Refused(why) if is_request => {
             let reply = refuse_short_term(alloc, message, why, MessageWriteVec::new(alloc))?;
             Ok(AuthenticatedReply::Refused(printed(reply)?))
         }
-        Ok(Authentication::Accepted(_)) => Ok(AuthenticatedReply::Accepted(None)),
-        Ok(_) => Ok(AuthenticatedReply::Discarded),
+        Authentication::Accepted(_) => Ok(AuthenticatedReply::Accepted(None)),
+        _ => Ok(AuthenticatedReply::Discarded),
     }
 }
 
@@ -181,19 +180,18 @@ fn by_long_term(
     logins: &Logins<'_>,
 ) -> Result<AuthenticatedReply, StunWriteError> {
     let is_request = message.has_class(MessageClass::Request);
-    match authenticate_long_term(alloc, message, REALM, policy, &issued, logins) {
-        Err(_) => Err(StunWriteError::OutOfMemory),
-        Ok(Authentication::Accepted(accepted)) if is_request => {
+    match authenticate_long_term(alloc, message, REALM, policy, &issued, logins)? {
+        Authentication::Accepted(accepted) if is_request => {
             let reply = reply(alloc, message, &accepted, source)?;
             Ok(AuthenticatedReply::Accepted(Some(reply)))
         }
-        Ok(Authentication::Refused(why)) if is_request => {
+        Authentication::Refused(why) if is_request => {
             let demand = demand(alloc, issued)?;
             let vector = MessageWriteVec::new(alloc);
             let reply = refuse_long_term(alloc, message, why, &demand, vector)?;
             Ok(AuthenticatedReply::Refused(printed(reply)?))
         }
-        Ok(_) => Ok(AuthenticatedReply::Discarded),
+        _ => Ok(AuthenticatedReply::Discarded),
     }
 }
 

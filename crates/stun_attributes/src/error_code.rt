@@ -123,7 +123,7 @@ impl ErrorCode {
         ensures { MakesError code reason.now result }
     {
         check_error(code, reason.as_bytes())?;
-        let reason = String::from_str(alloc, reason).map_err(|_| StunWriteError::OutOfMemory)?;
+        let reason = String::from_str(alloc, reason)?;
         Ok(ErrorCode { code, reason })
     }
 
@@ -136,9 +136,7 @@ impl ErrorCode {
         ensures same { IfOk result (IsError (error_code self.now) (error_reason self.now)) }
         ensures err { IfErr result (λ e. e ≡ StunWriteError.OutOfMemory) }
     {
-        let reason = String::from_str(alloc, self.reason()).map_err(
-            |_| StunWriteError::OutOfMemory,
-        )?;
+        let reason = String::from_str(alloc, self.reason())?;
         Ok(ErrorCode {
             code: self.code,
             reason,
@@ -251,7 +249,7 @@ impl ReadValue for ErrorCode {
 
     fn read_value(alloc: Global, value: &[u8]) -> Result<Self, StunParseError> {
         let (code, reason) = read_error(value)?;
-        let reason = String::from_str(alloc, reason).map_err(|_| StunParseError::OutOfMemory)?;
+        let reason = String::from_str(alloc, reason)?;
         Ok(ErrorCode { code, reason })
     }
 }

@@ -1,7 +1,7 @@
 ghost use Rattle.std.specs.Prelude.{◌≡◌, ◌≤◌, ◌/◌, None, length};
 ghost use Rattle.stun_values.specs.Algorithms.{algorithms_encoding, fault_within};
 
-use std::alloc::Global;
+use std::alloc::{AllocError, Global};
 use std::fmt;
 use stun_attrs::{EncodeValue, ReadValue, TypedAttribute};
 use stun_base::{StunParseError, StunWriteError};
@@ -45,9 +45,7 @@ impl PasswordAlgorithms {
                 actual: algorithms.len(),
             });
         }
-        let algorithms = Vec::from_slice(alloc, algorithms).map_err(
-            |_| StunWriteError::OutOfMemory,
-        )?;
+        let algorithms = Vec::from_slice(alloc, algorithms)?;
         Ok(PasswordAlgorithms { algorithms })
     }
 
@@ -83,9 +81,7 @@ impl PasswordAlgorithms {
         let mut list = Vec::new(alloc);
         for i in 0..value.len() / 4 {
             let algorithm = read_algorithm(&value[4 * i..])?;
-            let Ok(()) = list.push(algorithm) else {
-                return Err(StunParseError::OutOfMemory);
-            };
+            list.push(algorithm).map_err(AllocError::from)?;
         }
         Ok(list)
     }

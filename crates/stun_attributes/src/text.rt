@@ -49,7 +49,7 @@ impl<const TYPE: u16, const MAX: u16> TextAttribute<TYPE, MAX> {
                 actual: text.len(),
             });
         }
-        let text = String::from_str(alloc, text).map_err(|_| StunWriteError::OutOfMemory)?;
+        let text = String::from_str(alloc, text)?;
         Ok(TextAttribute { text })
     }
 
@@ -116,7 +116,7 @@ impl<const TYPE: u16, const MAX: u16> ReadValue for TextAttribute<TYPE, MAX> {
 
     fn read_value(alloc: Global, value: &[u8]) -> Result<Self, StunParseError> {
         let text = read_text(value, MAX)?;
-        let text = String::from_str(alloc, text).map_err(|_| StunParseError::OutOfMemory)?;
+        let text = String::from_str(alloc, text)?;
         Ok(TextAttribute { text })
     }
 }

@@ -2,7 +2,7 @@ ghost use Rattle.std.specs.Prelude.{◌≡◌, ◌*◌, ◌≤◌, ◌++◌, len
 ghost use Rattle.stun_values.specs.TypeLists.{types_encoding};
 
 use byteorder::{BigEndian, ByteOrder};
-use std::alloc::Global;
+use std::alloc::{AllocError, Global};
 use std::fmt;
 use stun_attrs::{EncodeValue, ReadValue, TypedAttribute};
 use stun_base::{AttributeType, StunParseError, StunWriteError, number_at};
@@ -47,7 +47,7 @@ impl UnknownAttributes {
             → IfErr result (λ e. e ≡ StunWriteError.OutOfMemory) }
     {
         check_type_count(attrs.len())?;
-        let types = Vec::from_slice(alloc, attrs).map_err(|_| StunWriteError::OutOfMemory)?;
+        let types = Vec::from_slice(alloc, attrs)?;
         Ok(UnknownAttributes { types })
     }
 
@@ -103,9 +103,8 @@ impl UnknownAttributes {
             return Ok(());
         }
         check_type_count(self.types.len() + 1)?;
-        self.types
-            .push(attr)
-            .map_err(|_| StunWriteError::OutOfMemory)
+        self.types.push(attr).map_err(AllocError::from)?;
+        Ok(())
     }
 
     /// The types in a value of an even number of bytes.
@@ -119,9 +118,7 @@ impl UnknownAttributes {
         let mut list = Vec::new(alloc);
         for i in 0..value.len() / 2 {
             let atype = AttributeType(number_at(value, 2 * i));
-            let Ok(()) = list.push(atype) else {
-                return Err(StunParseError::OutOfMemory);
-            };
+            list.push(atype).map_err(AllocError::from)?;
         }
         Ok(list)
     }

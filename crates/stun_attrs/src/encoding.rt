@@ -160,9 +160,7 @@ pub fn to_owned_raw<'a, V: EncodeValue>(
     ensures err { IfErr result (λ e. e ≡ StunWriteError.OutOfMemory) }
 {
     let mut bytes = Vec::new(alloc);
-    bytes
-        .resize(value.value_length() as usize, 0)
-        .map_err(|_| StunWriteError::OutOfMemory)?;
+    bytes.resize(value.value_length() as usize, 0)?;
     value.write_value(&mut bytes);
     Ok(owned_attribute(atype, bytes.into_boxed_slice()))
 }

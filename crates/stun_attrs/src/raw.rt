@@ -165,9 +165,7 @@ impl<'a> RawAttribute<'a> {
         ensures err { IfErr result (λ e. e ≡ StunWriteError.OutOfMemory) }
     {
         let mut bytes = Vec::new(alloc);
-        bytes
-            .resize(self.padded_len(), 0)
-            .map_err(|_| StunWriteError::OutOfMemory)?;
+        bytes.resize(self.padded_len(), 0)?;
         self.write_into_unchecked(&mut bytes);
         Ok(bytes)
     }

@@ -57,9 +57,7 @@ impl<'a> DataSlice<'a> {
         ensures bytes { IfOk result (λ copy. owned_bytes copy ≡ slice_bytes self.now) }
         ensures err { IfErr result (λ e. e ≡ StunWriteError.OutOfMemory) }
     {
-        let bytes = BoxedSlice::from_slice(alloc, self.bytes).map_err(
-            |_| StunWriteError::OutOfMemory,
-        )?;
+        let bytes = BoxedSlice::from_slice(alloc, self.bytes)?;
         Ok(DataOwned { bytes })
     }
 }

@@ -255,7 +255,7 @@ impl MessageType {
         ensures err { IfErr result (λ e. e ≡ StunWriteError.OutOfMemory) }
     {
         let bytes = self.0.to_be_bytes();
-        Vec::from_slice(alloc, &bytes).map_err(|_| StunWriteError::OutOfMemory)
+        Vec::from_slice(alloc, &bytes).map_err(StunWriteError::from)
     }
 
     /// Reads the type from the first two bytes. What follows them is not looked at.

@@ -1,4 +1,5 @@
 use crate::AttributeType;
+use std::alloc::AllocError;
 use thiserror::Error;
 
 /// Why bytes are not a STUN message, or not the expected attribute.
@@ -107,6 +108,30 @@ pub enum StunWriteError {
     OutOfMemory,
 }
 
+/// An allocation that failed, so that `?` passes it on. `OutOfMemory` is made nowhere else.
+impl From<AllocError> for StunParseError {
+    ghost use Rattle.std.specs.Prelude.{◌≡◌};
+    ghost use Rattle.stun_grammar.specs.declared.error.StunParseError.TheVariants.{OutOfMemory};
+
+    ghost from_gives = { λ _ error. error ≡ OutOfMemory };
+
+    fn from(_failed: AllocError) -> Self {
+        StunParseError::OutOfMemory
+    }
+}
+
+/// An allocation that failed, so that `?` passes it on. `OutOfMemory` is made nowhere else.
+impl From<AllocError> for StunWriteError {
+    ghost use Rattle.std.specs.Prelude.{◌≡◌};
+    ghost use Rattle.stun_grammar.specs.declared.error.StunWriteError.TheVariants.{OutOfMemory};
+
+    ghost from_gives = { λ _ error. error ≡ OutOfMemory };
+
+    fn from(_failed: AllocError) -> Self {
+        StunWriteError::OutOfMemory
+    }
+}
+
 /// The error of writing that says the same, so that `?` passes on an error of reading.
 ///
 /// `TooLarge` and `OutOfMemory` are kept with their fields, and `Truncated` becomes `TooSmall` with
@@ -151,6 +176,19 @@ pub enum ValidateError {
     /// is allowed.
     #[error("The message failed integrity checks")]
     IntegrityFailed,
+}
+
+/// An allocation that failed, so that `?` passes it on.
+impl From<AllocError> for ValidateError {
+    ghost use Rattle.std.specs.Prelude.{◌≡◌};
+    ghost use Rattle.stun_grammar.specs.declared.error.StunParseError.TheVariants.{OutOfMemory};
+    ghost use Rattle.stun_grammar.specs.declared.error.ValidateError.TheVariants.{Parse};
+
+    ghost from_gives = { λ _ error. error ≡ Parse OutOfMemory };
+
+    fn from(failed: AllocError) -> Self {
+        ValidateError::Parse(StunParseError::from(failed))
+    }
 }
 
 impl From<StunParseError> for ValidateError {

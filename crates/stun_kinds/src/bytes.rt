@@ -5,6 +5,7 @@ ghost use Rattle.stun_base.specs.Data.{data_bytes};
 
 use crate::AttributeKind;
 use std::alloc::Global;
+use std::boxed::BoxedSlice;
 use std::fmt;
 use std::marker::PhantomData;
 use stun_attrs::{
@@ -149,11 +150,13 @@ impl<'a, K: AttributeKind> AttributeFromRaw<'a> for BytesAttribute<K, ShortBytes
         ensures owned { IfOk result (λ read. bytes_are_borrowed read ≡ false) }
     {
         check_type(raw, AttributeType(K::NUMBER))?;
-        let copy = raw.clone(alloc).map_err(|_| StunParseError::OutOfMemory)?;
-        let copy = copy
-            .into_owned(alloc)
-            .map_err(|_| StunParseError::OutOfMemory)?;
-        Self::from_raw(alloc, copy)
+        let copy = BoxedSlice::from_slice(alloc, raw.value().as_bytes())?;
+        Ok(BytesAttribute {
+            value: ShortBytes {
+                bytes: Data::from(copy),
+            },
+            kind: PhantomData,
+        })
     }
 
     fn from_raw(_alloc: Global, raw: RawAttribute<'a>) -> Result<Self, StunParseError>

@@ -16,22 +16,7 @@ use find::find_checked;
 use std::alloc::Global;
 use stun_base::{StunParseError, ValidateError};
 use stun_grammar::IntegrityAlgorithm;
-use stun_keys::keys::{IntegrityKey, MessageIntegrityCredentials};
-
-/// Makes the key that the credentials give for an algorithm; the error says that an allocation
-/// failed.
-fn key_for(
-    alloc: Global,
-    credentials: &MessageIntegrityCredentials,
-    algorithm: IntegrityAlgorithm,
-) -> Result<IntegrityKey, ValidateError>
-    ensures ok { IfOk result (λ key. key_bytes key ≡ credentials_key credentials.now algorithm) }
-    ensures err { IfErr result (λ e. e ≡ ValidateError.Parse StunParseError.OutOfMemory) }
-{
-    credentials
-        .make_key(alloc, algorithm)
-        .map_err(|_| ValidateError::Parse(StunParseError::OutOfMemory))
-}
+use stun_keys::keys::{IntegrityKey, MessageIntegrityCredentials, key_of_credentials};
 
 /// Checks the last integrity attribute that is shown, with the key that the credentials give for
 /// its algorithm, and returns that algorithm. `offsets` are those that
@@ -57,7 +42,7 @@ pub fn validate_bytes(
     ensures bytes { IsBytes bytes.now }
 {
     let found = find_checked(bytes, offsets, None)?;
-    let key = key_for(alloc, credentials, found.algorithm)?;
+    let key = key_of_credentials(alloc, credentials, found.algorithm)?;
     compare_hmac(bytes, found, &key)
 }
 

@@ -20,7 +20,7 @@ ghost use Rattle.stun_write.specs.Writers.{Allocates, Gains};
 ghost use Rattle.stun_server.specs.Making.{FailsForMemory, IsSoFar, TakesFingerprint};
 ghost use Rattle.stun_server.specs.Reply.{comprehended, success_reply, response, unfinished_reply, binding_reply, reply};
 
-use std::alloc::{AllocError, Global};
+use std::alloc::Global;
 use std::net::SocketAddr;
 use stun_types::attribute::{Fingerprint, Software, XorMappedAddress};
 use stun_types::message::{BINDING, Message, MessageClass, MessageWriteVec, StunWriteError};
@@ -206,21 +206,23 @@ pub(crate) fn request_in(datagram: &[u8]) -> Option<Message<'_>>
 }
 
 /// The reply to a datagram that came from `source`, if it deserves one: a binding request does, and
-/// whatever else is silently discarded (RFC 8489, section 6.3). The error says that an allocation
-/// failed: no reply is refused for its length, since 65555 bytes show at most 16383 types.
+/// whatever else is silently discarded (RFC 8489, section 6.3).
+///
+/// # Errors
+///
+/// `OutOfMemory` alone, if an allocation failed: no reply is refused for its length, since 65555
+/// bytes show at most 16383 types.
 pub fn reply(
     alloc: Global,
     source: SocketAddr,
     datagram: &[u8],
-) -> Result<Option<Vec<u8>>, AllocError>
-    ensures { IfOk result
+) -> Result<Option<Vec<u8>>, StunWriteError>
+    ensures made { IfOk result
         (λ made. reply source datagram.now ≡ option_map (λ text. text.items) made) }
+    ensures err { FailsForMemory result }
 {
     let Some(request) = request_in(datagram) else {
         return Ok(None);
     };
-    match binding_response(alloc, &request, source) {
-        Ok(text) => Ok(Some(text)),
-        Err(_) => Err(AllocError),
-    }
+    Ok(Some(binding_response(alloc, &request, source)?))
 }

@@ -13,7 +13,8 @@ ghost use Rattle.std.specs.Option.{option_map};
 use std::alloc::{AllocError, Global};
 use stun_base::Hex;
 use stun_types::attribute::RawAttribute;
-use stun_types::message::keys::{IntegrityAlgorithm, ShortTermCredentials};
+use stun_keys::keys::key_of_bytes;
+use stun_types::message::keys::IntegrityAlgorithm;
 use stun_types::message::{Message, MessageHeader, StunParseError, ValidateError};
 
 /// How a run ends that has written a report.
@@ -117,10 +118,7 @@ fn verdict_of(
     ensures { IfOk result
         (λ answer. answer ≡ password_verdict (message_bytes message.now) password.now) }
 {
-    let password = String::from_str(alloc, password)?;
-    let Ok(key) = ShortTermCredentials::new(password).make_key(alloc) else {
-        return Err(AllocError);
-    };
+    let key = key_of_bytes(alloc, password.as_bytes(), None)?;
     Ok(message.validate_integrity_with_key(&key))
 }
 

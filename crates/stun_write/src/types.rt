@@ -79,9 +79,7 @@ impl WrittenTypes {
         if self.types.len() < self.types.capacity() {
             return Ok(());
         }
-        self.types
-            .reserve(1)
-            .map_err(|_| StunWriteError::OutOfMemory)
+        self.types.reserve(1).map_err(StunWriteError::from)
     }
 
     /// Appends a type, for which there is room.

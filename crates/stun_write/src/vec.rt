@@ -72,7 +72,7 @@ impl MessageWriteVec {
             (λ write. (⟦<MessageWriteVec as MessageWrite>⟧.state write).ready_types ≡ 16) }
         ensures err { IfErr result (λ e. e ≡ StunWriteError.OutOfMemory) }
     {
-        let output = Vec::with_capacity(alloc, capacity).map_err(|_| StunWriteError::OutOfMemory)?;
+        let output = Vec::with_capacity(alloc, capacity)?;
         Ok(MessageWriteVec {
             output,
             attributes: WrittenTypes::new(alloc),
@@ -143,10 +143,10 @@ impl MessageWrite for MessageWriteVec {
             return self
                 .output
                 .extend_from_slice(more)
-                .map_err(|_| StunWriteError::OutOfMemory);
+                .map_err(StunWriteError::from);
         }
         let len = self.output.len();
-        lengthen(&mut self.output, len + more.len()).map_err(|_| StunWriteError::OutOfMemory)?;
+        lengthen(&mut self.output, len + more.len())?;
         write_at(&mut self.output, len, more);
         Ok(())
     }
@@ -160,7 +160,7 @@ impl MessageWrite for MessageWriteVec {
         let len = self.output.len();
         let grown_length = len + attribute.padded_len();
         self.attributes.reserve_one()?;
-        lengthen(&mut self.output, grown_length).map_err(|_| StunWriteError::OutOfMemory)?;
+        lengthen(&mut self.output, grown_length)?;
         append_sized(attribute, len, grown_length, &mut self.output);
         self.attributes.push_reserved(attribute.get_type());
         Ok(())
@@ -175,7 +175,7 @@ impl MessageWrite for MessageWriteVec {
         let len = self.output.len();
         let grown_length = len + 4 + pad_attribute_len(more.len());
         self.attributes.reserve_one()?;
-        lengthen(&mut self.output, grown_length).map_err(|_| StunWriteError::OutOfMemory)?;
+        lengthen(&mut self.output, grown_length)?;
         append_value(atype, more, len, &mut self.output);
         self.attributes.push_reserved(atype);
         Ok(())

@@ -1,6 +1,6 @@
 //! Who sent a message that validates.
 
-ghost use Rattle.std.specs.Prelude.{◌≡◌, All, IfOk, length};
+ghost use Rattle.std.specs.Prelude.{◌≡◌, All, IfOk, IfErr, length};
 ghost use Rattle.stun_keys.specs.Keys.{key_bytes, key_algorithm};
 ghost use Rattle.stun_grammar.specs.Sending.{sent_encoding, IsEncodableSent};
 ghost use Rattle.stun_write.specs.Runs.{AddsOrdinary, sent};
@@ -27,6 +27,7 @@ fn write_own(
         (sent (λ o. atype o.now) (λ o. value o.now) mtype id steps.now verdicts.new)) }
     ensures encodable { IfOk result (λ _. IsEncodableSent
         (sent (λ o. atype o.now) (λ o. value o.now) mtype id steps.now verdicts.new)) }
+    ensures err { IfErr result (λ e. e ≡ StunWriteError.OutOfMemory) }
 {
     let write = MessageWriteVec::new(alloc);
     let written = write_steps(alloc, mtype, id, steps, verdicts, write)?;
@@ -60,7 +61,10 @@ pub fn validates_own(
 {
     let bytes = match write_own(alloc, mtype, id, steps, verdicts) {
         Ok(bytes) => bytes,
-        Err(_) => return Err(ValidateError::Parse(StunParseError::OutOfMemory)),
+        Err(StunWriteError::OutOfMemory) => {
+            return Err(ValidateError::Parse(StunParseError::OutOfMemory));
+        }
+        Err(_) => unreachable!(),
     };
     let message = Message::from_bytes(&bytes)?;
     message.validate_integrity_with_key(key)

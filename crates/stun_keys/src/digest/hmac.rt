@@ -8,7 +8,8 @@ ghost use Rattle.stun_keys.specs.Blocks.{filled_up, blocks_over, AreKeyed};
 use super::hash_function::HashFunction;
 use sha1::Sha1;
 use sha2::Sha256;
-use stun_grammar::{IntegrityAlgorithm, StunWriteError};
+use std::alloc::AllocError;
+use stun_grammar::IntegrityAlgorithm;
 
 /// How many bytes a block of either digest has.
 pub(crate) const BLOCK: usize = 64;
@@ -65,19 +66,14 @@ fn key_block<const N: usize, H: HashFunction<N>>(key: &[u8]) -> [u8; 64]
 pub(crate) fn push_blocks<const N: usize, H: HashFunction<N>>(
     secret: &mut Vec<u8>,
     key: &[u8],
-) -> Result<(), StunWriteError>
+) -> Result<(), AllocError>
     requires { N ≤ 64 }
-    ensures ok { IfOk result (λ _. secret.new.items
+    ensures { IfOk result (λ _. secret.new.items
         ≡ secret.old.items ++ blocks_over (digest_of H.algorithm) key.now) }
-    ensures err { IfErr result (λ e. e ≡ StunWriteError.OutOfMemory) }
 {
     let block = key_block::<N, H>(key);
-    secret
-        .extend_from_slice(&padded(&block, INNER_PAD))
-        .map_err(|_| StunWriteError::OutOfMemory)?;
-    secret
-        .extend_from_slice(&padded(&block, OUTER_PAD))
-        .map_err(|_| StunWriteError::OutOfMemory)
+    secret.extend_from_slice(&padded(&block, INNER_PAD))?;
+    secret.extend_from_slice(&padded(&block, OUTER_PAD))
 }
 
 /// A hasher that has taken in a block.

@@ -12,8 +12,7 @@ ghost use Rattle.stun_keys.specs.Prepared.{ArePrepared, IfPrepared, are_there, k
 use super::hmac::{KeyedHashers, hmac_by};
 use sha1::Sha1;
 use sha2::Sha256;
-use std::alloc::Global;
-use stun_grammar::StunWriteError;
+use std::alloc::{AllocError, Global};
 
 /// The hashers of a key's HMACs, by each algorithm for which there are some: each has taken in one
 /// of the key's two blocks, so that an HMAC compresses two blocks fewer.
@@ -50,16 +49,13 @@ impl Prepared {
     }
 
     /// Keeps hashers, in memory from `alloc`.
-    pub(crate) fn of(alloc: Global, hashers: BothHashers) -> Result<Self, StunWriteError>
+    pub(crate) fn of(alloc: Global, hashers: BothHashers) -> Result<Self, AllocError>
         ensures ok { IfOk result (λ made. IfSome made.both (λ both. box_value both ≡ hashers)) }
         ensures there { (sha1 sha256 : Bool) → are_there hashers sha1 sha256 ≡ true
             → IfOk result (λ made. keeps made.both sha1 sha256 ≡ true) }
-        ensures err { IfErr result (λ e. e ≡ StunWriteError.OutOfMemory) }
     {
-        match Box::new(alloc, hashers) {
-            Ok(both) => Ok(Prepared { both: Some(both) }),
-            Err(_) => Err(StunWriteError::OutOfMemory),
-        }
+        let both = Box::new(alloc, hashers)?;
+        Ok(Prepared { both: Some(both) })
     }
 
     /// Whether there are hashers by both algorithms, as far as they are wanted.

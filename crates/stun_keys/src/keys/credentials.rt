@@ -1,8 +1,8 @@
 ghost use Rattle.std.specs.Prelude.{◌≡◌, IfOk, IfErr};
 ghost use Rattle.stun_keys.specs.Keys.{SameCredentials, IsKey, credentials_key, credentials_algorithm};
 
-use crate::keys::{IntegrityKey, LongTermKeyCredentials, ShortTermCredentials};
-use std::alloc::Global;
+use crate::keys::{IntegrityKey, LongTermKeyCredentials, ShortTermCredentials, key_of_texts};
+use std::alloc::{AllocError, Global};
 use stun_grammar::{IntegrityAlgorithm, StunWriteError};
 
 /// The credentials with which a message is signed and validated (RFC 8489, section 9). Their texts
@@ -14,6 +14,32 @@ pub enum MessageIntegrityCredentials {
     ShortTerm(ShortTermCredentials),
     /// Long-term credentials: a username and a password in a realm.
     LongTerm(LongTermKeyCredentials),
+}
+
+/// Makes the key that [`MessageIntegrityCredentials::make_key`] makes, and fails only if an
+/// allocation does.
+pub fn key_of_credentials(
+    alloc: Global,
+    credentials: &MessageIntegrityCredentials,
+    algorithm: IntegrityAlgorithm,
+) -> Result<IntegrityKey, AllocError>
+    ensures { IfOk result (IsKey (credentials_algorithm credentials.now algorithm)
+        (credentials_key credentials.now algorithm)) }
+{
+    match credentials {
+        MessageIntegrityCredentials::ShortTerm(short) => {
+            IntegrityKey::of_bytes(alloc, short.password().as_bytes(), None)
+        }
+        MessageIntegrityCredentials::LongTerm(long) => {
+            key_of_texts(
+                alloc,
+                long.username(),
+                long.realm(),
+                long.password(),
+                algorithm,
+            )
+        }
+    }
 }
 
 impl MessageIntegrityCredentials {
@@ -54,10 +80,7 @@ impl MessageIntegrityCredentials {
             (credentials_key self.now algorithm)) }
         ensures err { IfErr result (λ e. e ≡ StunWriteError.OutOfMemory) }
     {
-        match self {
-            MessageIntegrityCredentials::ShortTerm(short) => short.make_key(alloc),
-            MessageIntegrityCredentials::LongTerm(long) => long.make_key(alloc, algorithm),
-        }
+        Ok(key_of_credentials(alloc, self, algorithm)?)
     }
 }
 

@@ -1,4 +1,4 @@
-ghost use Rattle.std.specs.Prelude.{◌≡◌, ◌≤◌, ◌++◌, length, IfOk, IfErr};
+ghost use Rattle.std.specs.Prelude.{◌≡◌, ◌≤◌, ◌++◌, length, IfOk};
 ghost use Rattle.std.specs.Box.{boxed_slice_items};
 ghost use Rattle.stun_keys.specs.Blocks.{key_in, ready_blocks};
 ghost use Rattle.stun_keys.specs.Prepared.{IfPrepared};
@@ -7,7 +7,7 @@ use crate::digest::{BothHashers, KeyedHashers, Prepared, push_blocks};
 use crate::keys::secret::SecretBytes;
 use sha1::Sha1;
 use sha2::Sha256;
-use std::alloc::Global;
+use std::alloc::{AllocError, Global};
 use stun_grammar::{IntegrityAlgorithm, StunWriteError};
 
 /// How many bytes the ready blocks take: two for each of the two digests.
@@ -42,17 +42,12 @@ pub struct IntegrityKey {
 }
 
 /// A key's bytes and its ready blocks, in memory that `alloc` gives.
-fn with_blocks(alloc: Global, key: &[u8]) -> Result<SecretBytes, StunWriteError>
-    ensures ok { IfOk result
+fn with_blocks(alloc: Global, key: &[u8]) -> Result<SecretBytes, AllocError>
+    ensures { IfOk result
         (λ made. boxed_slice_items made.bytes ≡ key.now ++ ready_blocks key.now) }
-    ensures err { IfErr result (λ e. e ≡ StunWriteError.OutOfMemory) }
 {
-    let mut secret = Vec::with_capacity(alloc, key.len() + READY).map_err(
-        |_| StunWriteError::OutOfMemory,
-    )?;
-    secret
-        .extend_from_slice(key)
-        .map_err(|_| StunWriteError::OutOfMemory)?;
+    let mut secret = Vec::with_capacity(alloc, key.len() + READY)?;
+    secret.extend_from_slice(key)?;
     push_blocks::<20, Sha1>(&mut secret, key)?;
     push_blocks::<32, Sha256>(&mut secret, key)?;
     Ok(SecretBytes::new(secret))
@@ -67,6 +62,35 @@ impl IntegrityKey {
     ghost use Rattle.stun_keys.specs.Blocks.{blocks_over, ready_blocks};
     ghost use Rattle.stun_keys.specs.Prepared.{ArePrepared, are_there};
     ghost use Rattle.stun_keys.specs.Keys.{key_bytes, key_algorithm, serves, is_prepared, IsKey};
+
+    /// The key that [`IntegrityKey::new`] makes; only an allocation fails.
+    pub(crate) fn of_bytes(
+        alloc: Global,
+        bytes: &[u8],
+        algorithm: Option<IntegrityAlgorithm>,
+    ) -> Result<Self, AllocError>
+        ensures { IfOk result (IsKey algorithm bytes.now) }
+    {
+        Ok(IntegrityKey {
+            algorithm,
+            bytes: with_blocks(alloc, bytes)?,
+            prepared: Prepared::none(),
+        })
+    }
+
+    /// Prepares the key as [`IntegrityKey::prepare`] does; only an allocation fails.
+    pub(crate) fn prepare_in(&mut self, alloc: Global) -> Result<(), AllocError>
+        ensures key { IsKey (key_algorithm self.old) (key_bytes self.old) self.new }
+        ensures prepared { OnOk result (is_prepared self.new ≡ true) }
+    {
+        let sha1 = self.serves(IntegrityAlgorithm::Sha1);
+        let sha256 = self.serves(IntegrityAlgorithm::Sha256);
+        if self.prepared.are_there(sha1, sha256) {
+            return Ok(());
+        }
+        self.prepared = Prepared::of(alloc, self.hashers(sha1, sha256))?;
+        Ok(())
+    }
 
     /// The key with these bytes, made for an algorithm or with none. The bytes are copied, and the
     /// blocks of its HMACs are made, in one allocation by `alloc`. For a key that makes more than two
@@ -87,11 +111,7 @@ impl IntegrityKey {
         ensures ok { IfOk result (IsKey algorithm bytes.now) }
         ensures err { IfErr result (λ e. e ≡ StunWriteError.OutOfMemory) }
     {
-        Ok(IntegrityKey {
-            algorithm,
-            bytes: with_blocks(alloc, bytes)?,
-            prepared: Prepared::none(),
-        })
+        Ok(Self::of_bytes(alloc, bytes, algorithm)?)
     }
 
     /// Prepares the key for many HMACs by the algorithms that it serves, in one allocation by
@@ -110,13 +130,7 @@ impl IntegrityKey {
         ensures prepared { OnOk result (is_prepared self.new ≡ true) }
         ensures err { IfErr result (λ e. e ≡ StunWriteError.OutOfMemory) }
     {
-        let sha1 = self.serves(IntegrityAlgorithm::Sha1);
-        let sha256 = self.serves(IntegrityAlgorithm::Sha256);
-        if self.prepared.are_there(sha1, sha256) {
-            return Ok(());
-        }
-        self.prepared = Prepared::of(alloc, self.hashers(sha1, sha256))?;
-        Ok(())
+        Ok(self.prepare_in(alloc)?)
     }
 
     /// The hashers of the key's HMACs, by the algorithms that are wanted.

@@ -7,7 +7,7 @@ use crate::keys::copied::copied;
 use crate::keys::md5_key::md5_key;
 use crate::keys::secret::SecretText;
 use crate::keys::sha256_key::sha256_key;
-use std::alloc::Global;
+use std::alloc::{AllocError, Global};
 use stun_grammar::{IntegrityAlgorithm, StunWriteError};
 
 /// A username and a password in a realm, which give a key (RFC 8489, section 9.2.2).
@@ -21,6 +21,30 @@ pub struct LongTermKeyCredentials {
     username: String,
     password: SecretText,
     realm: String,
+}
+
+/// Makes the key that [`LongTermKeyCredentials::make_key`] makes of these three texts, copies none of
+/// them, and fails only if an allocation does.
+pub fn key_of_texts(
+    alloc: Global,
+    username: &str,
+    realm: &str,
+    password: &str,
+    algorithm: IntegrityAlgorithm,
+) -> Result<IntegrityKey, AllocError>
+    ensures { IfOk result (IsKey (Some algorithm)
+        (long_term_key algorithm username.now realm.now password.now)) }
+{
+    match algorithm {
+        IntegrityAlgorithm::Sha1 => {
+            let bytes = md5_key(username, realm, password);
+            IntegrityKey::of_bytes(alloc, &bytes, Some(IntegrityAlgorithm::Sha1))
+        }
+        IntegrityAlgorithm::Sha256 => {
+            let bytes = sha256_key(username, realm, password);
+            IntegrityKey::of_bytes(alloc, &bytes, Some(IntegrityAlgorithm::Sha256))
+        }
+    }
 }
 
 impl LongTermKeyCredentials {
@@ -107,17 +131,6 @@ impl LongTermKeyCredentials {
         ensures err { IfErr result (λ e. e ≡ StunWriteError.OutOfMemory) }
     {
         let (username, realm, password) = (self.username(), self.realm(), self.password());
-        match algorithm {
-            IntegrityAlgorithm::Sha1 => IntegrityKey::new(
-                alloc,
-                &md5_key(username, realm, password),
-                Some(IntegrityAlgorithm::Sha1),
-            ),
-            IntegrityAlgorithm::Sha256 => IntegrityKey::new(
-                alloc,
-                &sha256_key(username, realm, password),
-                Some(IntegrityAlgorithm::Sha256),
-            ),
-        }
+        Ok(key_of_texts(alloc, username, realm, password, algorithm)?)
     }
 }

@@ -3,16 +3,15 @@
 //! What frees memory is a function of C that the compiler doesn't see into, so that it keeps what
 //! is written before. Copies on the stack aren't reached.
 
-ghost use Rattle.std.specs.Prelude.{◌≡◌, IfOk, IfErr, replicate};
+ghost use Rattle.std.specs.Prelude.{◌≡◌, IfOk, replicate};
 ghost use Rattle.std.specs.Box.{boxed_slice_items};
 ghost use Rattle.std.specs.String.{string_bytes};
 ghost use Rattle.std.specs.Vec.{vec_capacity};
 
 use crate::keys::copied::copied;
-use std::alloc::Global;
+use std::alloc::{AllocError, Global};
 use std::boxed::BoxedSlice;
 use std::fmt;
-use stun_grammar::StunWriteError;
 
 /// What stands for a secret in a Debug text.
 const HIDDEN: &str = "[hidden]";
@@ -42,9 +41,8 @@ impl SecretText {
     }
 
     /// A copy, in memory that `alloc` gives.
-    pub(crate) fn copied(&self, alloc: Global) -> Result<Self, StunWriteError>
-        ensures ok { IfOk result (λ copy. string_bytes copy.text ≡ string_bytes self.now.text) }
-        ensures err { IfErr result (λ e. e ≡ StunWriteError.OutOfMemory) }
+    pub(crate) fn copied(&self, alloc: Global) -> Result<Self, AllocError>
+        ensures { IfOk result (λ copy. string_bytes copy.text ≡ string_bytes self.now.text) }
     {
         let text = copied(alloc, &self.text)?;
         Ok(SecretText { text })

@@ -19,7 +19,7 @@ ghost use Rattle.stun_types.specs.Message.{message_bytes};
 ghost use Rattle.stun_types.specs.Replies.{is_answer_to, response_type, error_attribute, bad_reply, unknown_reply, is_unknown, unknown_types, lacks, check_reply, IsReply, IsReplyAnswer, Replies, attribute_of, IsMakeable, AddsMade};
 
 use super::Message;
-use std::alloc::Global;
+use std::alloc::{AllocError, Global};
 use stun_attributes::{ErrorCode, Software, UnknownAttributes};
 use stun_attrs::AttributeWrite;
 use stun_base::{AttributeType, MessageClass, MessageType, StunWriteError};
@@ -147,7 +147,7 @@ fn unknown_types_of(
     for (_offset, attribute) in message.iter_attributes() {
         let atype = attribute.header().get_type();
         if must_be_understood(supported, atype) {
-            found.push(atype).map_err(|_| StunWriteError::OutOfMemory)?;
+            found.push(atype).map_err(AllocError::from)?;
         }
     }
     Ok(found)

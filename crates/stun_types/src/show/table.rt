@@ -2,7 +2,7 @@ ghost use Rattle.std.specs.Prelude.{◌≡◌, ℕ, ◌==◌, None, IfErr, OnOk,
 ghost use Rattle.std.specs.List.{position};
 ghost use Rattle.stun_types.specs.Table.{value_of, Sets};
 
-use std::alloc::Global;
+use std::alloc::{AllocError, Global};
 use stun_base::StunWriteError;
 
 /// Values by number, at most one for each.
@@ -55,7 +55,7 @@ impl<V: Copy + Drop> Table<V> {
             None => self
                 .entries
                 .push((number, value))
-                .map_err(|_| StunWriteError::OutOfMemory)?,
+                .map_err(AllocError::from)?,
         }
         Ok(())
     }
