@@ -205,8 +205,8 @@ pub(crate) fn request_in(datagram: &[u8]) -> Option<Message<'_>>
     Some(request)
 }
 
-/// The reply to a datagram that came from `source`, if it deserves one: a binding request does, and
-/// whatever else is silently discarded (RFC 8489, section 6.3).
+/// Returns the reply to a datagram that came from `source`, if it deserves one: a binding request
+/// does, and whatever else is silently discarded (RFC 8489, section 6.3).
 ///
 /// # Errors
 ///
