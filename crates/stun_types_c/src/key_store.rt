@@ -18,13 +18,9 @@ pub fn hold(handle: &mut KeyHandle, alloc: Global, key: IntegrityKey) -> Result<
     ensures holds { IfOk result (λ _. held_key handle.new ≡ Some key) }
     ensures unchanged { IfErr result (λ _. handle.new ≡ handle.old) }
 {
-    match Box::new(alloc, key) {
-        Ok(boxed) => {
-            *handle = KeyHandle::of(boxed);
-            Ok(())
-        }
-        Err(_) => Err(AllocError),
-    }
+    let boxed = Box::new(alloc, key)?;
+    *handle = KeyHandle::of(boxed);
+    Ok(())
 }
 
 /// Overwrites the bytes of the key that the handle holds, and frees it. The handle then holds none.

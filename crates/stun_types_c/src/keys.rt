@@ -15,7 +15,7 @@ use crate::key_store::{hold, release};
 use crate::password_algorithms::password_of;
 use crate::shared_key::SharedKey;
 use crate::values::text_in;
-use std::alloc::Global;
+use std::alloc::{AllocError, Global};
 use stun_types::attribute::Userhash;
 use stun_types::message::StunWriteError;
 use stun_types::message::keys::{IntegrityAlgorithm, IntegrityKey, LongTermKeyCredentials};
@@ -55,7 +55,7 @@ pub(crate) fn hold_made(
             let _prepared = made.prepare(alloc);
             match hold(key, alloc, made) {
                 Ok(()) => plain(codes::OK),
-                Err(_) => plain(codes::OUT_OF_MEMORY),
+                Err(AllocError) => plain(codes::OUT_OF_MEMORY),
             }
         }
         Err(error) => write_result(error),
@@ -179,7 +179,7 @@ fn text_of(alloc: Global, bytes: &[u8]) -> Result<String, CallResult>
     };
     match String::from_str(alloc, text) {
         Ok(text) => Ok(text),
-        Err(_) => Err(plain(codes::OUT_OF_MEMORY)),
+        Err(AllocError) => Err(plain(codes::OUT_OF_MEMORY)),
     }
 }
 

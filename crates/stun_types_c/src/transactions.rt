@@ -19,8 +19,9 @@ use crate::reading::Id;
 use crate::shared_key::SharedKey;
 use crate::type_list::types_of;
 use crate::usages::shortest_of;
-use std::alloc::Global;
+use std::alloc::{AllocError, Global};
 use std::time::Duration;
+use stun_keys::keys::key_of_bytes;
 use stun_transactions::{
     Action, Claim, Discard, Failure, Mechanism, PartsError, Received, Schedule, Transaction,
     TransactionEnd, TransactionParts, Usage,
@@ -477,9 +478,9 @@ fn key_for(
         return Err(answer);
     }
     match (has_key(mechanism), key.key()) {
-        (true, Some(key)) => match key.clone(alloc) {
+        (true, Some(key)) => match key_of_bytes(alloc, key.as_bytes(), key.algorithm()) {
             Ok(copy) => Ok(Some(copy)),
-            Err(_) => Err(plain(codes::OUT_OF_MEMORY)),
+            Err(AllocError) => Err(plain(codes::OUT_OF_MEMORY)),
         },
         _ => Ok(None),
     }

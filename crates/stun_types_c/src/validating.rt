@@ -16,9 +16,10 @@ use crate::call_result::{
 use crate::codes;
 use crate::keys::{long_term_of, number_of};
 use crate::shared_key::SharedKey;
-use std::alloc::Global;
+use std::alloc::{AllocError, Global};
 use stun_authentication::{Policy, has_least_length};
 use stun_grammar::attribute_types::FINGERPRINT;
+use stun_keys::keys::key_of_bytes;
 use stun_types::attribute::{
     AttributeStaticType, Fingerprint, MessageIntegrity, MessageIntegritySha256,
 };
@@ -132,13 +133,12 @@ fn verdict_by(
         | (Some(IntegrityAlgorithm::Sha256), Some(IntegrityAlgorithm::Sha256)) => {
             Ok(message.validate_integrity_with_key(key))
         }
-        (Some(algorithm), None) => match key.clone(alloc) {
-            Ok(copy) => {
-                let copy = copy.made_for(Some(algorithm));
-                Ok(message.validate_integrity_with_key(&copy))
+        (Some(algorithm), None) => {
+            match key_of_bytes(alloc, key.as_bytes(), Some(algorithm)) {
+                Ok(copy) => Ok(message.validate_integrity_with_key(&copy)),
+                Err(AllocError) => Err(plain(codes::OUT_OF_MEMORY)),
             }
-            Err(_) => Err(plain(codes::OUT_OF_MEMORY)),
-        },
+        }
         (Some(_), Some(_)) => Err(plain(codes::BAD_ARGUMENT)),
     }
 }
