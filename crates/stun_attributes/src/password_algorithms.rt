@@ -93,7 +93,10 @@ impl PasswordAlgorithms {
         let mut list = Vec::new(alloc);
         for i in 0..value.len() / 4 {
             let algorithm = read_algorithm(&value[4 * i..])?;
-            list.push(algorithm).map_err(AllocError::from)?;
+            match list.push(algorithm) {
+                Ok(()) => {}
+                Err(refused) => return Err(StunParseError::from(AllocError::from(refused))),
+            }
         }
         Ok(list)
     }

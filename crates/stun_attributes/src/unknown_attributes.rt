@@ -153,7 +153,10 @@ impl UnknownAttributes {
         let mut list = Vec::new(alloc);
         for i in 0..value.len() / 2 {
             let atype = AttributeType(number_at(value, 2 * i));
-            list.push(atype).map_err(AllocError::from)?;
+            match list.push(atype) {
+                Ok(()) => {}
+                Err(refused) => return Err(StunParseError::from(AllocError::from(refused))),
+            }
         }
         Ok(list)
     }
