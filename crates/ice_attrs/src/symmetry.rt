@@ -45,10 +45,19 @@ fn is_same(one: SocketAddr, other: SocketAddr) -> bool
 /// peer signals has neither. If one socket serves link-local candidates on several links, compare
 /// `scope_id` as well. An IPv4-mapped IPv6 address differs from the IPv4 address in it.
 ///
+/// # Examples
+///
 /// ```
-/// if compare_addresses(&sent, &received) == Symmetry::NonSymmetric {
-///     pair.state = PairState::Failed;
-/// }
+/// use ice_attrs::{Symmetry, TransportAddresses, compare_addresses};
+/// use std::net::SocketAddr;
+///
+/// let (own, peer): (SocketAddr, SocketAddr) = ("10.0.1.1:8998".parse()?, "192.0.2.1:3478".parse()?);
+/// let other: SocketAddr = "192.0.2.7:3478".parse()?;
+/// let sent = TransportAddresses { source: own, destination: peer };
+/// let received = TransportAddresses { source: peer, destination: own };
+/// assert_eq!(rt; compare_addresses(&sent, &received), Symmetry::Symmetric);
+/// let received = TransportAddresses { source: other, destination: own };
+/// assert_eq!(rt; compare_addresses(&sent, &received), Symmetry::NonSymmetric);
 /// ```
 pub fn compare_addresses(request: &TransportAddresses, response: &TransportAddresses) -> Symmetry
     ensures { (result ≡ Symmetry.Symmetric) ↔ AreSymmetric request.now response.now }
