@@ -51,7 +51,8 @@ fn is_ufrag(text: &str) -> bool
 }
 
 /// A username fragment: 4 to 256 letters, digits, `+` and `/` (RFC 8839, section 5.4), so that it
-/// has room for 24 bits of random numbers (RFC 8445, section 5.3). An agent must send at most 32 characters.
+/// has room for 24 bits of random numbers (RFC 8445, section 5.3). An agent must send at most 32
+/// characters.
 #[derive(Clone, Copy, Debug, PartialEq, Eq)]
 pub struct Ufrag<'a> {
     text: &'a str,

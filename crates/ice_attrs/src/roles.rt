@@ -35,8 +35,8 @@ impl Role {
 pub enum RoleDecision {
     /// The agent keeps its role and answers the check, since there is no conflict.
     Keep,
-    /// The agent switches to the other role and answers the check. It computes the priorities of its
-    /// pairs again.
+    /// The agent switches to the other role and answers the check. It computes the priorities of
+    /// its pairs again.
     Switch,
     /// The agent keeps its role and answers with error 487 (Role Conflict).
     Refuse,

@@ -83,8 +83,8 @@ impl Schedule {
     ///
     /// # Errors
     ///
-    /// `Zero` if one of the numbers is 0, `TooLong` if the end of the transaction needs more
-    /// than 64 bits: it is `rto * (2 ^ (max_requests - 1) - 1 + last_wait_factor)` milliseconds after
+    /// `Zero` if one of the numbers is 0, `TooLong` if the end of the transaction needs more than
+    /// 64 bits: it is `rto * (2 ^ (max_requests - 1) - 1 + last_wait_factor)` milliseconds after
     /// the first request.
     pub fn new(
         rto: u64,

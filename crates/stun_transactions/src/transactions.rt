@@ -111,8 +111,8 @@ impl<const N: usize> Transactions<N> {
     /// Call it until it answers `WaitUntil` or `Idle`.
     ///
     /// - `Send(id)`: send the request with this ID, as for `Send` of [`Transaction::poll`].
-    /// - `Ended(id, end)`: this transaction has ended, or ends now since its time is up. Each end is
-    ///   returned once: the transaction is gone, and its slot and its ID are free.
+    /// - `Ended(id, end)`: this transaction has ended, or ends now since its time is up. Each end
+    ///   is returned once: the transaction is gone, and its slot and its ID are free.
     /// - `WaitUntil(time)`: nothing before `time`, which is the soonest moment at which one of them
     ///   has something to do, unless a message is received.
     /// - `Idle`: there is no transaction.

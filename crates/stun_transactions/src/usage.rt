@@ -10,8 +10,8 @@ use stun_types::message::Message;
 /// The requirements of a STUN usage on the responses that a client takes: those of ICE's checks, of
 /// TURN, or of NAT discovery.
 ///
-/// `Usage::default()` is for a usage that specifies nothing: a MESSAGE-INTEGRITY-SHA256 must have 32
-/// bytes, and FINGERPRINT isn't required.
+/// `Usage::default()` is for a usage that specifies nothing: a MESSAGE-INTEGRITY-SHA256 must have
+/// 32 bytes, and FINGERPRINT isn't required.
 ///
 /// ```
 /// let ice = Usage { fingerprint: true, ..Usage::default() };
