@@ -13,8 +13,13 @@ use stun_types::message::Message;
 /// `Usage::default()` is for a usage that specifies nothing: a MESSAGE-INTEGRITY-SHA256 must have
 /// 32 bytes, and FINGERPRINT isn't required.
 ///
+/// # Examples
+///
 /// ```
+/// use stun_transactions::Usage;
+///
 /// let ice = Usage { fingerprint: true, ..Usage::default() };
+/// assert_eq!(rt; ice.shortest, 32);
 /// ```
 #[derive(Clone, Copy, Debug, PartialEq, Eq)]
 pub struct Usage {
