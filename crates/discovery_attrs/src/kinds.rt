@@ -27,9 +27,9 @@ impl AttributeKind for MappedAddressKind {
     }
 }
 
-/// CHANGE-REQUEST: from where the server is to answer (RFC 5780, section 7.2). The value is four
-/// bytes, in whose last 0x4 is "change IP" and 0x2 "change port"; the other bits are written 0 and
-/// ignored.
+/// CHANGE-REQUEST: the address from which the server is to answer (RFC 5780, section 7.2). The
+/// value is four bytes, in whose last 0x4 is "change IP" and 0x2 "change port"; the other bits are
+/// written 0 and ignored.
 pub type ChangeRequest = FieldsAttribute<ChangeRequestKind, Change>;
 
 /// The kind of [`ChangeRequest`].
@@ -115,8 +115,9 @@ impl AttributeKind for OtherAddressKind {
     }
 }
 
-/// TRANSACTION_TRANSMIT_COUNTER: how often a request and its response were sent (RFC 7982, section
-/// 3.1). The value is two bytes that are written 0 and ignored, and a byte for each count.
+/// TRANSACTION_TRANSMIT_COUNTER: the numbers of times that a request and its response were sent
+/// (RFC 7982, section 3.1). The value is two bytes that are written 0 and ignored, and a byte for
+/// each count.
 pub type TransactionTransmitCounter = FieldsAttribute<
     TransactionTransmitCounterKind,
     Transmissions,

@@ -17,14 +17,14 @@ impl ResponsePort {
     ghost use Rattle.std.specs.Prelude.{◌≡◌};
     ghost use Rattle.discovery_attrs.specs.Discovery.{port_of};
 
-    /// The attribute of this port.
+    /// Makes the attribute of this port.
     pub fn new(port: u16) -> Self
         ensures { port_of result ≡ port }
     {
         ResponsePort { port }
     }
 
-    /// The port.
+    /// Returns the port that the response is to be sent to.
     pub fn port(&self) -> u16
         ensures { result ≡ port_of self.now }
     {

@@ -3,19 +3,19 @@
 
 use stun_types::attribute::AttributeType;
 
-/// PRIORITY.
+/// The type of PRIORITY (RFC 8445, section 16.1).
 pub const PRIORITY: u16 = 0x0024;
 
-/// USE-CANDIDATE.
+/// The type of USE-CANDIDATE (RFC 8445, section 16.1).
 pub const USE_CANDIDATE: u16 = 0x0025;
 
-/// ICE-CONTROLLED.
+/// The type of ICE-CONTROLLED (RFC 8445, section 16.1).
 pub const ICE_CONTROLLED: u16 = 0x8029;
 
-/// ICE-CONTROLLING.
+/// The type of ICE-CONTROLLING (RFC 8445, section 16.1).
 pub const ICE_CONTROLLING: u16 = 0x802A;
 
-/// The types of this crate, for `Message::check_attribute_types`.
+/// The types of the attributes of ICE, for `Message::check_attribute_types`.
 pub const KNOWN: [AttributeType; 4] = [
     AttributeType(PRIORITY),
     AttributeType(USE_CANDIDATE),
@@ -23,9 +23,10 @@ pub const KNOWN: [AttributeType; 4] = [
     AttributeType(ICE_CONTROLLING),
 ];
 
-/// Registers the names and the functions that print of this crate, so that a message shows its
-/// attributes as what they are. Call it in the body of a function that makes the registry itself
-/// and returns a `Result`; it returns from it with `OutOfMemory` if an allocation fails.
+/// Registers the attributes of ICE in a `Registry`, by their names and the functions that print
+/// them, so that a message shows them as what they are. Call it in the body of a function that
+/// makes the registry itself and returns a `Result`; it returns from it with `OutOfMemory` if an
+/// allocation fails.
 ///
 /// ```
 /// let mut registry = Registry::new(alloc);

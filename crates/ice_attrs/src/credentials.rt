@@ -24,8 +24,9 @@ fn are_ice_chars(bytes: &[u8]) -> bool
     bytes.iter().all(|byte| is_ice_char(*byte))
 }
 
-/// Whether a text is a password: 22 to 256 letters, digits, `+` and `/` (RFC 8839, section 5.4), so
-/// that it has room for 128 bits of random numbers (RFC 8445, section 5.3).
+/// Returns `true` if a text may be the password of an agent: 22 to 256 letters, digits, `+` and `/`
+/// (RFC 8839, section 5.4), so that it has room for 128 bits of random numbers (RFC 8445, section
+/// 5.3).
 pub fn is_password(text: &str) -> bool
     ensures { result ≡ is_password text.now }
 {
@@ -52,7 +53,8 @@ impl<'a> Ufrag<'a> {
     ghost use Rattle.ice_attrs.specs.Credentials.{is_ufrag};
     ghost use Rattle.ice_attrs.specs.CheckUsernames.{ufrag_text};
 
-    /// The fragment, which borrows the text; `None` if it has another length or another character.
+    /// Returns the fragment of this text, which it borrows; `None` if the text has another length
+    /// or another character.
     pub fn new(text: &'a str) -> Option<Self>
         ensures { MatchOption result (is_ufrag text.now ≡ false)
             (λ ufrag. IsTrue (is_ufrag text.now) × (ufrag_text ufrag ≡ text.now)) }
@@ -64,7 +66,7 @@ impl<'a> Ufrag<'a> {
         }
     }
 
-    /// The text, for as long as it is borrowed.
+    /// Returns the text of the fragment, for as long as it is borrowed.
     pub fn text(&self) -> &'a str
         ensures text { result.now ≡ ufrag_text self.now }
         ensures sound { IsTrue (is_ufrag result.now) }
@@ -110,7 +112,7 @@ impl<'a> CheckUsername<'a> {
         })
     }
 
-    /// The USERNAME of the check, at most 513 bytes in memory from `alloc`.
+    /// Makes the USERNAME of the check, at most 513 bytes in memory from `alloc`.
     ///
     /// # Errors
     ///

@@ -3,8 +3,9 @@ ghost use Rattle.ice_attrs.specs.Ice.{candidate_priority, priority_fault, candid
 
 use stun_types::message::StunWriteError;
 
-/// The priority of a candidate by the recommended formula (RFC 8445, section 5.1.2.1): 2^24 times
-/// the preference of its type, 2^8 times its local preference, and 256 less its component.
+/// Computes the priority of a candidate by the recommended formula (RFC 8445, section 5.1.2.1):
+/// 2^24 times the preference of its type, 2^8 times its local preference, and 256 less its
+/// component.
 ///
 /// # Errors
 ///
@@ -37,7 +38,7 @@ pub fn priority(
 /// The greatest priority of a candidate (RFC 8445, section 5.1.2).
 const GREATEST_PRIORITY: u32 = 0x7FFF_FFFF;
 
-/// The priority of a candidate pair (RFC 8445, section 6.1.2.3), of the priorities of the
+/// Computes the priority of a candidate pair (RFC 8445, section 6.1.2.3) from the priorities of the
 /// candidates of the controlling and of the controlled agent: 2^32 times the smaller one, twice the
 /// greater one, and 1 if that of the controlling agent is the greater one. Pairs are checked in
 /// decreasing order of it, and both agents compute the same.

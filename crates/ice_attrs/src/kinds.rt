@@ -3,8 +3,8 @@
 use crate::attribute_types;
 use stun_types::attribute::{AttributeKind, EmptyAttribute, NumberAttribute};
 
-/// PRIORITY: the priority of the peer-reflexive candidate that this check may discover, as
-/// [`crate::priority`] computes it. The value is four bytes, big-endian.
+/// PRIORITY: the priority of the peer-reflexive candidate that a check may discover, as
+/// [`crate::priority`] computes it (RFC 8445, section 16.1). The value is four bytes, big-endian.
 pub type Priority = NumberAttribute<PriorityKind, u32>;
 
 /// The kind of [`Priority`].
@@ -25,7 +25,8 @@ impl AttributeKind for PriorityKind {
     }
 }
 
-/// USE-CANDIDATE: the controlling agent nominates the pair that is checked. The value has no bytes.
+/// USE-CANDIDATE: the controlling agent nominates the pair that is checked (RFC 8445, section
+/// 16.1). The value has no bytes.
 pub type UseCandidate = EmptyAttribute<UseCandidateKind>;
 
 /// The kind of [`UseCandidate`].
@@ -46,8 +47,8 @@ impl AttributeKind for UseCandidateKind {
     }
 }
 
-/// ICE-CONTROLLED: the agent believes that it is in the controlled role. The value is its
-/// tiebreaker, eight bytes, big-endian.
+/// ICE-CONTROLLED: the agent believes that it is in the controlled role (RFC 8445, section 16.1).
+/// The value is its tiebreaker, eight bytes, big-endian.
 pub type IceControlled = NumberAttribute<IceControlledKind, u64>;
 
 /// The kind of [`IceControlled`].
@@ -68,8 +69,8 @@ impl AttributeKind for IceControlledKind {
     }
 }
 
-/// ICE-CONTROLLING: the agent believes that it is in the controlling role. The value is its
-/// tiebreaker, eight bytes, big-endian.
+/// ICE-CONTROLLING: the agent believes that it is in the controlling role (RFC 8445, section 16.1).
+/// The value is its tiebreaker, eight bytes, big-endian.
 pub type IceControlling = NumberAttribute<IceControllingKind, u64>;
 
 /// The kind of [`IceControlling`].

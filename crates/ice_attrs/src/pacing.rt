@@ -14,7 +14,7 @@ pub const LEAST_TA: u32 = 5;
 /// The least RTO, in milliseconds (RFC 8445, section 14.3).
 pub const LEAST_RTO: u64 = 500;
 
-/// Ta, in milliseconds, of two agents: the greater one of the values that they propose
+/// Returns the Ta of two agents, in milliseconds: the greater one of the values that they propose
 /// (RFC 8445, section 14.2). `None` stands for [`DEFAULT_TA`], and the result is at least
 /// [`LEAST_TA`].
 ///
@@ -28,7 +28,7 @@ pub fn agreed_ta(own: Option<u32>, peer: Option<u32>) -> u32
         .max(LEAST_TA)
 }
 
-/// RTO, in milliseconds, while an agent gathers candidates: Ta times the number of its
+/// Computes RTO, in milliseconds, while an agent gathers candidates: Ta times the number of its
 /// server-reflexive and relayed candidates, and at least [`LEAST_RTO`] (RFC 8445, section 14.3).
 pub fn gathering_rto(ta: u32, candidates: u32) -> u64
     ensures { result ≡ gathering_wait ta candidates }
@@ -36,9 +36,9 @@ pub fn gathering_rto(ta: u32, candidates: u32) -> u64
     (u64::from(ta) * u64::from(candidates)).max(LEAST_RTO)
 }
 
-/// RTO, in milliseconds, of a connectivity check: Ta times the number of all checks that are to be
-/// performed, times the number of those in the checklist set that are Waiting or In-Progress, and
-/// at least [`LEAST_RTO`] (RFC 8445, section 14.3). `u64::MAX` if it is greater.
+/// Computes RTO, in milliseconds, of a connectivity check: Ta times the number of all checks that
+/// are to be performed, times the number of those in the checklist set that are Waiting or
+/// In-Progress, and at least [`LEAST_RTO`] (RFC 8445, section 14.3). `u64::MAX` if it is greater.
 ///
 /// It changes from one transaction to the next, as checks end.
 pub fn check_rto(ta: u32, checks: u32, waiting: u32, in_progress: u32) -> u64

@@ -21,7 +21,8 @@ pub struct TransportAddresses {
 pub enum Symmetry {
     /// The response comes from where the check was sent to, and arrives where it was sent from.
     Symmetric,
-    /// One of the two differs: the pair has failed, even if the response is authentic.
+    /// The response comes from elsewhere, or arrives elsewhere: the pair has failed, even if the
+    /// response is authentic.
     NonSymmetric,
 }
 

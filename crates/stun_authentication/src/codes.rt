@@ -7,8 +7,8 @@ ghost use Rattle.stun_authentication.specs.Codes.{shown_code, response_code, is_
 use stun_types::attribute::{AttributeStaticType, ErrorCode, read_error};
 use stun_types::message::{Message, MessageClass};
 
-/// The code that a message shows, if its first ERROR-CODE has one: 300 to 699, with a reason that
-/// is a text.
+/// Returns the code in the first ERROR-CODE that a message shows, if it has one: 300 to 699, with a
+/// reason that is a text.
 pub fn shown_code(message: &Message<'_>) -> Option<u16>
     ensures { result ≡ shown_code (message_bytes message.now) }
 {
@@ -19,7 +19,7 @@ pub fn shown_code(message: &Message<'_>) -> Option<u16>
     }
 }
 
-/// The code of an error response; `None` for a message of another class.
+/// Returns the code of an error response; `None` for a message of another class.
 pub fn response_code(message: &Message<'_>) -> Option<u16>
     ensures { result ≡ response_code (message_bytes message.now) }
 {
@@ -29,7 +29,8 @@ pub fn response_code(message: &Message<'_>) -> Option<u16>
     }
 }
 
-/// Whether a message asks for credentials: an error response with the code 401 or 438.
+/// Returns `true` if a message asks for credentials: if it is an error response with the code 401
+/// or 438.
 pub fn is_challenge(message: &Message<'_>) -> bool
     ensures { result ≡ is_challenge (message_bytes message.now) }
 {

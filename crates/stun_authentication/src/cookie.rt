@@ -12,15 +12,16 @@ const BASE64: [u8; 64] = *b"ABCDEFGHIJKLMNOPQRSTUVWXYZabcdefghijklmnopqrstuvwxyz
 /// section 18.1).
 #[derive(Clone, Copy, Debug, Default, PartialEq, Eq)]
 pub struct SecurityFeatures {
-    /// The server sends the list of its password algorithms, PASSWORD-ALGORITHMS, with the nonce.
-    /// Bit 0, the most significant one.
+    /// Whether the server sends PASSWORD-ALGORITHMS, the list of its password algorithms, with the
+    /// nonce. Bit 0, the most significant one.
     pub password_algorithms: bool,
-    /// The server knows its users by USERHASH too. Bit 1.
+    /// Whether the server knows its users by USERHASH too. Bit 1.
     pub username_anonymity: bool,
 }
 
-/// The thirteen bytes with which a nonce begins whose server has these features: `obMatJos2`, and
-/// 24 bits in base64, of which bits 2 to 23 are 0 (RFC 8489, section 9.2).
+/// Returns the nonce cookie of a server with these features, the thirteen bytes with which its
+/// nonces begin: `obMatJos2`, and 24 bits in base64, of which bits 2 to 23 are 0 (RFC 8489, section
+/// 9.2).
 pub fn nonce_cookie(features: SecurityFeatures) -> &'static str
     ensures { result.now ≡ cookie features }
 {
@@ -40,9 +41,9 @@ fn six_bits(character: u8) -> Option<usize>
     BASE64.iter().position(|known| *known == character)
 }
 
-/// The security features of a nonce, or `None` if it doesn't begin with a nonce
-/// cookie: `obMatJos2`, and four characters of base64, which spell 24 bits (RFC 8489, section 9.2).
-/// Bits 2 to 23 may be anything.
+/// Returns the security features of a nonce, or `None` if it doesn't begin with a nonce cookie:
+/// `obMatJos2`, and four characters of base64, which spell 24 bits (RFC 8489, section 9.2). Bits 2
+/// to 23 may be anything.
 #[tactic(auto, unfolding(crate::specs::Cookies::security_features))]
 pub fn security_features(nonce: &[u8]) -> Option<SecurityFeatures>
     ensures { result ≡ security_features nonce.now }

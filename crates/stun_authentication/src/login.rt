@@ -19,8 +19,8 @@ use stun_types::message::{IntegrityKey, LongTermKeyCredentials, StunWriteError};
 use stun_types::prelude::*;
 use stun_values::{USERNAME_MAX, write_algorithm};
 
-/// The key of a user in the realm of a challenge, by the password algorithm that it asks for (RFC
-/// 8489, sections 9.2.2 and 18.5.1). It works with both integrity algorithms.
+/// Returns the key of a user in the realm of a challenge, by the password algorithm that it asks
+/// for (RFC 8489, sections 9.2.2 and 18.5.1). It works with both integrity algorithms.
 ///
 /// # Errors
 ///

@@ -22,12 +22,12 @@ use stun_types::attribute::{
 };
 use stun_types::message::{IntegrityAlgorithm, IntegrityKey, Message, MessageClass};
 
-/// By which password algorithm a request is processed.
+/// The password algorithm by which a request is processed.
 #[derive(Clone, Copy, Debug, PartialEq, Eq)]
 pub enum Hashing {
-    /// As though its PASSWORD-ALGORITHM were MD5.
+    /// The request is processed as though its PASSWORD-ALGORITHM were MD5.
     AsThoughMd5,
-    /// By the one that it chose.
+    /// The request is processed by the password algorithm that it chose.
     Chosen(PasswordAlgorithmValue),
 }
 

@@ -33,15 +33,16 @@ pub struct NonceMaker {
     window: u64,
 }
 
-/// What a server knows of a nonce that it may have made.
+/// Whether a nonce is valid, as [`NonceMaker::freshness`] returns it.
 #[derive(Clone, Copy, Debug, PartialEq, Eq)]
 pub enum Freshness {
-    /// It is valid.
+    /// The nonce is valid.
     Fresh,
-    /// This server made it for this client, and its window is over or its time is still to come.
+    /// The server made the nonce for this client, and its window is over or its time is still to
+    /// come.
     Stale,
-    /// The server didn't make it, or made it for another client, under another secret, or with
-    /// other features.
+    /// The server didn't make the nonce, or made it for another client, under another secret, or
+    /// with other features.
     Unknown,
 }
 
@@ -164,8 +165,8 @@ impl NonceMaker {
         text
     }
 
-    /// The nonce for a client at a time, `now`, in seconds since any moment that stays the same.
-    /// `client` is the address and port that the request came from: two clients get different
+    /// Makes the nonce for a client at a time, `now`, in seconds since any moment that stays the
+    /// same. `client` is the address and port that the request came from: two clients get different
     /// nonces (RFC 8489, section 9.2.4). It is copied into memory from `alloc`.
     ///
     /// # Errors
@@ -188,9 +189,9 @@ impl NonceMaker {
         }
     }
 
-    /// What is known at a time, `now`, of a nonce that came from a client. It takes at most one HMAC,
-    /// none if the nonce hasn't 93 bytes, and no memory; every byte is compared, even after a
-    /// difference; constant time is not claimed.
+    /// Returns whether a nonce that came from a client is valid at a time, `now`. It computes at
+    /// most one HMAC, none if the nonce hasn't 93 bytes, and allocates nothing; every byte is
+    /// compared, even after a difference; constant time is not claimed.
     pub fn freshness(&self, now: u64, client: &SocketAddr, nonce: &[u8]) -> Freshness
         ensures { result
             ≡ freshness (minting_of self.now) now (address_value client.now) nonce.now }
@@ -218,8 +219,8 @@ impl NonceMaker {
         }
     }
 
-    /// The nonces at a time, `now`, for one client, to authenticate its requests. With each nonce
-    /// the server sends these algorithms; none, if it sends no list.
+    /// Returns the nonces at a time, `now`, for one client, to authenticate its requests. With each
+    /// nonce the server sends these algorithms; none, if it sends no list.
     pub fn nonces<'a>(
         &'a self,
         now: u64,

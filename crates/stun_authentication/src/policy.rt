@@ -10,24 +10,24 @@ use stun_types::attribute::{
 };
 use stun_types::message::{IntegrityAlgorithm, IntegrityKey, Message};
 
-/// Which messages a server takes, and which integrity attributes count for it.
+/// The messages that a server takes, and the integrity attributes that count for it.
 ///
 /// `Policy::default()` takes both algorithms, a MESSAGE-INTEGRITY-SHA256 of 32 bytes alone, and
 /// messages without a FINGERPRINT.
 #[derive(Clone, Copy, Debug, PartialEq, Eq)]
 pub struct Policy {
-    /// The one algorithm that serves, or `None` if both do. The integrity attribute of an
+    /// The one integrity algorithm that serves, or `None` if both do. The integrity attribute of an
     /// algorithm that doesn't serve counts as absent.
     pub algorithm: Option<IntegrityAlgorithm>,
-    /// How many bytes a MESSAGE-INTEGRITY-SHA256 has at least. A usage may say 16, 20, 24 or 28;
-    /// otherwise it is 32 (RFC 8489, section 14.6).
+    /// The least length of the HMAC in a MESSAGE-INTEGRITY-SHA256, in bytes. A usage may say 16,
+    /// 20, 24 or 28; otherwise it is 32 (RFC 8489, section 14.6).
     pub shortest: usize,
     /// Whether the usage uses FINGERPRINT, as ICE does: a message without one is then discarded (RFC
     /// 8489, sections 6.3 and 7). A message with a wrong one is no message for `Message::from_bytes`.
     pub fingerprint: bool,
 }
 
-/// Whether the HMAC of an algorithm has at least `shortest` bytes in a message. That of a
+/// Returns `true` if the HMAC of an algorithm has at least `shortest` bytes in a message. That of a
 /// MESSAGE-INTEGRITY has 20 always, and only that of a MESSAGE-INTEGRITY-SHA256 may be cut, if the
 /// usage says so (RFC 8489, section 14.6).
 pub fn has_least_length(

@@ -18,9 +18,9 @@ use stun_types::attribute::{
 use stun_types::message::Message;
 use stun_values::{NONCE_MAX, REALM_MAX, read_text};
 
-/// Whether the nonce of a response promises PASSWORD-ALGORITHMS, and the response shows none:
-/// an attacker may have removed it (RFC 8489, sections 9.2.1 and 9.2.5). A client that
-/// uses long-term credentials ignores such a response, and doesn't retry after such a 401 or 438.
+/// Returns `true` if the nonce of a response promises PASSWORD-ALGORITHMS, and the response shows
+/// none: an attacker may have removed it (RFC 8489, sections 9.2.1 and 9.2.5). A client that uses
+/// long-term credentials ignores such a response, and doesn't retry after such a 401 or 438.
 pub fn is_bid_down(response: &Message<'_>) -> bool
     ensures { result ≡ is_bid_down (message_bytes response.now) }
 {
@@ -69,8 +69,8 @@ fn repeats(response: &Message<'_>, tried: Option<&str>, realm: &str) -> bool
     }
 }
 
-/// What a 401 or a 438 asks the next request to carry, or why the request isn't sent again (RFC
-/// 8489, section 9.2.5).
+/// Returns what a 401 or a 438 asks the next request to carry, or why the request isn't sent again
+/// (RFC 8489, section 9.2.5).
 ///
 /// `supported` are the password algorithms that the client supports. Two more arguments say what
 /// the client knows from earlier challenges; both are `None` for the first:

@@ -10,20 +10,20 @@ use std::io::{ErrorKind, Read, Write};
 /// Why an input wasn't read to its end.
 #[derive(Debug, Clone, Copy, PartialEq, Eq)]
 pub enum InputError {
-    /// There are more bytes than may be read.
+    /// The input has more bytes than may be read.
     TooLong,
-    /// A read failed.
+    /// The reader failed with an error.
     ReadFailed,
-    /// An allocation failed.
+    /// An allocation for the bytes failed.
     NoMemory,
 }
 
-/// A write failed, or took no bytes.
+/// The error of a write that failed, or that took no bytes.
 #[derive(Debug, Clone, Copy, PartialEq, Eq)]
 pub struct WriteFailed;
 
-/// Reads to the end of `reader`, at most `most` bytes, into memory that `alloc` gives. A read that
-/// is interrupted is tried again.
+/// Reads to the end of `reader`, at most `most` bytes, into memory from `alloc`. A read that is
+/// interrupted is tried again.
 ///
 /// # Errors
 ///
@@ -56,8 +56,8 @@ pub fn read_all<R: Read>(alloc: Global, most: usize, reader: &mut R) -> Result<V
     Err(InputError::ReadFailed)
 }
 
-/// Writes all of the bytes, or, if a write fails or takes none, a prefix of them. A write that
-/// is interrupted is tried again.
+/// Writes all of the bytes, or, if a write fails or takes none, a prefix of them. A write that is
+/// interrupted is tried again.
 ///
 /// # Errors
 ///

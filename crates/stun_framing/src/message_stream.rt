@@ -83,8 +83,8 @@ impl<'b> MessageStream<'b> {
     ghost use Rattle.stun_framing.specs.Framing.{room_of, IsMessage};
     ghost use Rattle.stun_framing.specs.Streams.{begun, resumed, can_resume, answer, left};
 
-    /// A stream of STUN messages. `buffer` may hold anything. A message that is longer than it ends
-    /// the stream.
+    /// Returns a stream of STUN messages, which gathers them in `buffer`. `buffer` may hold
+    /// anything. A message that is longer than it ends the stream.
     ///
     /// # Requires
     ///
@@ -96,8 +96,9 @@ impl<'b> MessageStream<'b> {
         Self::carrying(Carries::Messages, buffer)
     }
 
-    /// A stream of what `carries` says. A message of [`MessageStream::message`] is ChannelData, with
-    /// its padding, if its first byte is 0x40 to 0x4F; `ChannelData::from_bytes` of `turn_attrs` reads it.
+    /// Returns a stream of the messages that `carries` names, which gathers them in `buffer`. A
+    /// message of [`MessageStream::message`] is ChannelData, with its padding, if its first byte is
+    /// 0x40 to 0x4F; `ChannelData::from_bytes` of `turn_attrs` reads it.
     ///
     /// # Requires
     ///
@@ -195,9 +196,9 @@ impl<'b> MessageStream<'b> {
         }
     }
 
-    /// The bytes of the message that the last call of [`MessageStream::push`] completed: a header
-    /// and as many bytes as it states, and the padding of a ChannelData message. The rest of a
-    /// message is for `Message::from_bytes` to judge.
+    /// Returns the bytes of the message that the last call of [`MessageStream::push`] completed: a
+    /// header and as many bytes as it states, and the padding of a ChannelData message. The rest of
+    /// a message is for `Message::from_bytes` to judge.
     ///
     /// `None` if that call left a message pending or was refused, and before the first one.
     pub fn message(&self) -> Option<&[u8]>
@@ -211,8 +212,8 @@ impl<'b> MessageStream<'b> {
         Some(&self.buffer[..self.gathered.held])
     }
 
-    /// The bytes that have come of a message that isn't whole. If there are none, the stream may
-    /// end here; else it was cut within a message.
+    /// Returns the bytes that have come of a message that isn't complete. If there are none, the
+    /// stream may end here; otherwise it was cut within a message.
     ///
     /// Once the stream has ended by an error, these are the bytes before the refused piece.
     pub fn pending(&self) -> &[u8]
@@ -221,15 +222,17 @@ impl<'b> MessageStream<'b> {
         &self.buffer[..pending_of(self.gathered).held]
     }
 
-    /// The offset in the stream at which the pending bytes begin, or the next byte if there are
-    /// none: the lengths of all messages that were yielded. `u64::MAX` if they are more.
+    /// Returns the offset in the stream, in bytes, at which the pending bytes begin, or the next
+    /// byte if there are none: the lengths of all messages that were yielded. `u64::MAX` if they
+    /// are more.
     pub fn offset(&self) -> u64
         ensures { result ≡ self.now.offset }
     {
         self.offset
     }
 
-    /// How the stream ended, if it did: the error that [`MessageStream::push`] answers.
+    /// Returns the error by which the stream ended, if it did: the one that [`MessageStream::push`]
+    /// returns.
     pub fn error(&self) -> Option<StreamError>
         ensures { result ≡ self.now.error }
     {

@@ -12,13 +12,13 @@ use std::io::ErrorKind;
 pub enum RunError {
     /// The arguments are wrong, or couldn't be read.
     Usage,
-    /// The input is longer than may be read.
+    /// The input has more bytes than may be read.
     TooLong,
-    /// A read failed.
+    /// A read of the input failed.
     ReadFailed,
-    /// A write failed, or took no bytes.
+    /// A write of the output failed, or took no bytes.
     WriteFailed,
-    /// An allocation failed.
+    /// An allocation of the run failed.
     NoMemory,
 }
 

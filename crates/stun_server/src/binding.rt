@@ -205,9 +205,13 @@ pub(crate) fn request_in(datagram: &[u8]) -> Option<Message<'_>>
     Some(request)
 }
 
-/// The reply to a datagram that came from `source`, if it deserves one: a binding request does, and
-/// whatever else is silently discarded (RFC 8489, section 6.3). The error says that an allocation
-/// failed: no reply is refused for its length, since 65555 bytes show at most 16383 types.
+/// Returns the reply to a datagram that came from `source`, if it deserves one: a binding request
+/// does, and whatever else is silently discarded (RFC 8489, section 6.3).
+///
+/// # Errors
+///
+/// Only if an allocation failed: no reply is refused for its length, since 65555 bytes show at most
+/// 16383 types.
 pub fn reply(
     alloc: Global,
     source: SocketAddr,

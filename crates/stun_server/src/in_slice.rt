@@ -206,8 +206,8 @@ fn write_reply(
     Ok(Some(whole))
 }
 
-/// The reply to a datagram as [`reply`](crate::reply) makes it, written at the start of a slice.
-/// Returns how many bytes it has, at most 32840, or `None` if none is owed: the slice is as it
+/// Writes the reply to a datagram, as [`reply`](crate::reply) makes it, at the start of a slice,
+/// and returns its length in bytes, at most 32840; `None` if no reply is owed: the slice is as it
 /// was then. The bytes after the reply stay. It takes no memory.
 ///
 /// # Errors

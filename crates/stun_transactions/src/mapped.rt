@@ -9,8 +9,8 @@ use stun_types::attribute::XorMappedAddress;
 use stun_types::found_has_its_type;
 use stun_types::message::{Message, MessageClass, StunParseError};
 
-/// The address in the first XOR-MAPPED-ADDRESS that a response shows: the one from which the server
-/// saw the request come (RFC 8489, section 14.2). It takes no memory.
+/// Returns the address in the first XOR-MAPPED-ADDRESS that a response shows: the one from which
+/// the server saw the request come (RFC 8489, section 14.2). It takes no memory.
 ///
 /// # Errors
 ///
@@ -24,8 +24,8 @@ pub fn response_address(alloc: Global, response: &Message<'_>) -> Result<SocketA
     Ok(mapped.addr(response.transaction_id()))
 }
 
-/// The address from which the server saw a request come, if the received bytes are the success
-/// response to it; `None` if they are another message. Nothing is validated:
+/// Returns the address from which the server saw a request come, if the received bytes are the
+/// success response to it; `None` if they are another message. Nothing is validated:
 /// [`Transaction::receive`](crate::Transaction::receive) does that. It takes no memory.
 ///
 /// # Errors

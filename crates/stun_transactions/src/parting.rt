@@ -70,7 +70,7 @@ impl TransactionParts {
         }
     }
 
-    /// Tests that these can be the parts of a transaction, as [`Transaction::from_parts`] does
+    /// Tests that these parts can be those of a transaction, as [`Transaction::from_parts`] does
     /// before it looks at the key.
     ///
     /// [`Transaction::from_parts`]: crate::Transaction::from_parts
@@ -94,7 +94,7 @@ impl TransactionParts {
         Ok(())
     }
 
-    /// The moment from which on a poll does something, as
+    /// Returns the moment from which on a poll does something, as
     /// [`Transaction::next_wake`](crate::Transaction::next_wake) has it.
     pub fn next_wake(&self) -> Option<Duration>
         ensures { MatchOption result (is_some self.now.end ≡ true)
@@ -107,8 +107,8 @@ impl TransactionParts {
         }
     }
 
-    /// What is to be done now, as [`Transaction::poll`](crate::Transaction::poll) answers; it needs
-    /// no key.
+    /// Returns what the caller has to do now, as [`Transaction::poll`](crate::Transaction::poll)
+    /// does; it needs no key.
     pub fn poll(&mut self, now: Duration) -> Action
         ensures polls { Polls (plan_in self.old) (state_in self.old) now result
             (state_in self.new) }
@@ -120,7 +120,7 @@ impl TransactionParts {
         action
     }
 
-    /// Sends the request no more, as
+    /// Stops sending the request, as
     /// [`Transaction::stop_sending`](crate::Transaction::stop_sending) does.
     pub fn stop_sending(&mut self)
         ensures { self.new ≡ at_state self.old (stopped_by (state_in self.old)) }
@@ -130,8 +130,8 @@ impl TransactionParts {
         self.go_on(state);
     }
 
-    /// How long the response took, as
-    /// [`Transaction::round_trip`](crate::Transaction::round_trip) returns.
+    /// Returns how long the response took, as
+    /// [`Transaction::round_trip`](crate::Transaction::round_trip) does.
     pub fn round_trip(&self, now: Duration) -> Option<Duration>
         ensures { TellsTime (state_in self.now) now result }
     {
@@ -147,7 +147,7 @@ impl TransactionParts {
         self.go_on(state);
     }
 
-    /// Ends the transaction, unless it has ended, as
+    /// Ends the transaction as cancelled, unless it has ended, as
     /// [`Transaction::cancel`](crate::Transaction::cancel) does.
     pub fn cancel(&mut self)
         ensures { self.new ≡ at_state self.old (ended_by TransactionEnd.Cancelled
@@ -156,7 +156,7 @@ impl TransactionParts {
         self.end_by(TransactionEnd::Cancelled);
     }
 
-    /// Ends the transaction, unless it has ended, as
+    /// Ends the transaction as failed by its transport, unless it has ended, as
     /// [`Transaction::fail`](crate::Transaction::fail) does.
     pub fn fail(&mut self)
         ensures { self.new

@@ -12,10 +12,10 @@ use crate::usage::Usage;
 use stun_types::message::{Message, MessageClass, Method, TransactionId};
 use thiserror::Error;
 
-/// Why no transaction begins.
+/// Why a transaction doesn't begin.
 #[derive(Clone, Copy, Debug, PartialEq, Eq, Error)]
 pub enum BeginError {
-    /// The message is no request.
+    /// The message that is to be sent is no request.
     #[error("the message is no request")]
     NotARequest,
     /// A credential is to protect the request, but it shows no integrity attribute.
@@ -26,7 +26,7 @@ pub enum BeginError {
     Signed,
 }
 
-/// What a transaction is begun with: how long it waits, and what its request is.
+/// The terms on which a transaction is begun: how long it waits, and what its request is.
 #[derive(Debug, Drop)]
 pub struct Terms {
     pub(crate) plan: Plan,

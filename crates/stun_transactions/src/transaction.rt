@@ -39,8 +39,8 @@ impl Transaction {
     ghost use Rattle.stun_transactions.specs.Transactions.{terms_of, state_of, Begins, Wakes};
     ghost use Rattle.stun_transactions.specs.Parts.{parts_of, key_of, whole_fault};
 
-    /// A transaction of a request, which is to be sent over a transport, by a schedule. Its first
-    /// poll answers `Send`. `usage` is what the STUN usage specifies of responses:
+    /// Begins a transaction of a request, which is to be sent over a transport, by a schedule. Its
+    /// first poll answers `Send`. `usage` is what the STUN usage specifies of responses:
     /// `Usage::default()` if it specifies nothing.
     ///
     /// # Errors
@@ -85,8 +85,9 @@ impl Transaction {
         self.terms.protection.prepare(alloc)
     }
 
-    /// Takes the transaction apart: its numbers, and the key with which its request is protected, if
-    /// it is. The key of a long-term credential is the one that works with both algorithms.
+    /// Takes a transaction apart: into its numbers, and the key with which its request is
+    /// protected, if it is. The key of a long-term credential is the one that works with both
+    /// algorithms.
     ///
     /// ```
     /// let (mut parts, key) = transaction.into_parts();
@@ -126,7 +127,8 @@ impl Transaction {
         (parts, key)
     }
 
-    /// The transaction of these parts and this key, which continues where it was taken apart.
+    /// Returns the transaction of these parts and this key, which continues where it was taken
+    /// apart.
     ///
     /// Parts that no transaction has are refused, and so is a key that doesn't belong to them. The
     /// key of a long-term credential is one for both algorithms, as `IntegrityKey::for_both` makes
@@ -162,15 +164,15 @@ impl Transaction {
         Ok(Transaction { terms, state })
     }
 
-    /// The transaction ID of the request and of its response.
+    /// Returns the transaction ID of the request and of its response.
     pub fn id(&self) -> TransactionId
         ensures { result ≡ (terms_of self.now).id }
     {
         self.terms.id
     }
 
-    /// The moment from which on a poll answers `Send`, or `Ended` since time is up, unless a
-    /// message is received before. `None` if the transaction has ended.
+    /// Returns the moment from which on a poll answers `Send`, or `Ended` since time is up, unless
+    /// a message is received before. `None` if the transaction has ended.
     pub fn next_wake(&self) -> Option<Duration>
         ensures { Wakes self.now result }
     {
@@ -180,14 +182,14 @@ impl Transaction {
         }
     }
 
-    /// Whether a poll now answers something else than `WaitUntil`.
+    /// Returns `true` if a poll now answers something else than `WaitUntil`.
     pub fn is_ready(&self, now: Duration) -> bool
         ensures { result ≡ is_ready (terms_of self.now).plan (state_of self.now) now }
     {
         self.state.is_ready(&self.terms.plan, now)
     }
 
-    /// What is to be done now.
+    /// Returns what the caller has to do now: send the request, wait, or forget the transaction.
     ///
     /// - `Send`: send the request, now. Each interval runs from the poll that answers this, so a
     ///   late poll moves the later ones and shortens none.
@@ -202,7 +204,7 @@ impl Transaction {
         self.state.poll(&self.terms.plan, now)
     }
 
-    /// What the bytes of a received message are for the transaction.
+    /// Takes the bytes of a received message, and returns what it is for the transaction.
     ///
     /// `understood` are the types of the attributes that must be understood (below 0x8000) and that
     /// the caller understands; those that RFC 8489 defines (section 18.3) need not be among them.
@@ -227,7 +229,8 @@ impl Transaction {
         }
     }
 
-    /// As [`Transaction::receive`], for a message that is parsed already.
+    /// Takes a received message that is parsed already, and returns what [`Transaction::receive`]
+    /// returns for its bytes.
     pub fn receive_message<'m>(
         &mut self,
         message: Message<'m>,
@@ -250,20 +253,20 @@ impl Transaction {
         with_message(outcome, message)
     }
 
-    /// How long the response took, if it was received at this moment: the time since the poll that
-    /// answered `Send`, or 0 if `now` is before that. `None` if no response was taken, or if the
-    /// request was sent more than once, since then it isn't known which request was answered (RFC
-    /// 8489, section 6.2.1).
+    /// Returns how long the response took, if it was received at this moment: the time since the
+    /// poll that answered `Send`, or 0 if `now` is before that. `None` if no response was taken, or
+    /// if the request was sent more than once, since then it isn't known which request was answered
+    /// (RFC 8489, section 6.2.1).
     pub fn round_trip(&self, now: Duration) -> Option<Duration>
         ensures { TellsTime (state_of self.now) now result }
     {
         self.state.round_trip(now)
     }
 
-    /// Sends the request no more, unless the transaction has ended. A response is still taken, until
-    /// the moment at which the transaction would have ended; then it ends as cancelled, since that no
-    /// response came is no failure. It is how ICE cancels a check (RFC 8445, section 7.3.1.4). A
-    /// transaction whose request was not sent ends at the next poll.
+    /// Stops sending the request, unless the transaction has ended. A response is still taken,
+    /// until the moment at which the transaction would have ended; then it ends as cancelled, since
+    /// that no response came is no failure. It is how ICE cancels a check (RFC 8445, section
+    /// 7.3.1.4). A transaction whose request was not sent ends at the next poll.
     pub fn stop_sending(&mut self)
         ensures state { state_of self.new ≡ stopped_by (state_of self.old) }
         ensures terms { terms_of self.new ≡ terms_of self.old }
@@ -279,8 +282,8 @@ impl Transaction {
         self.state.end_by(end);
     }
 
-    /// Ends the transaction, unless it has ended: the caller wants no response any more. One that
-    /// still wants it, and only sends no more, calls [`Transaction::stop_sending`].
+    /// Ends the transaction as cancelled, unless it has ended: the caller wants no response any
+    /// more. One that still wants it, and only sends no more, calls [`Transaction::stop_sending`].
     pub fn cancel(&mut self)
         ensures state { state_of self.new ≡ ended_by TransactionEnd.Cancelled (state_of self.old) }
         ensures terms { terms_of self.new ≡ terms_of self.old }
@@ -288,8 +291,8 @@ impl Transaction {
         self.end_by(TransactionEnd::Cancelled);
     }
 
-    /// Ends the transaction, unless it has ended: the transport failed, as by a hard ICMP error or
-    /// a connection that was closed (RFC 8489, sections 6.2.1 and 6.2.2).
+    /// Ends the transaction as failed by its transport, unless it has ended: by a hard ICMP error,
+    /// say, or a connection that was closed (RFC 8489, sections 6.2.1 and 6.2.2).
     pub fn fail(&mut self)
         ensures state { state_of self.new ≡ ended_by TransactionEnd.TransportFailed
             (state_of self.old) }

@@ -46,7 +46,7 @@ impl<const N: usize> Transactions<N> {
     ghost use Rattle.stun_types.specs.Message.{message_bytes};
     ghost use Rattle.stun_transactions.specs.Slots.{HasDistinctIds, place_of, held, changed, add_fault, Adds, soonest, PollsSlots, after_receiving, ending, stopping, addressee, Tells};
 
-    /// No transactions.
+    /// Returns a set with no transactions, and room for `N`.
     pub fn new() -> Transactions<N>
         ensures free { All (λ slot. slot ≡ None) result }
         ensures slots { length result ≡ N }
@@ -56,7 +56,8 @@ impl<const N: usize> Transactions<N> {
         }
     }
 
-    /// Begins a transaction, as [`Transaction::new`] does: its request is due at once.
+    /// Begins a transaction among the others, as [`Transaction::new`] does alone: its request is
+    /// due at once.
     ///
     /// # Errors
     ///
@@ -88,8 +89,8 @@ impl<const N: usize> Transactions<N> {
         }
     }
 
-    /// The transaction with this ID. Once it has ended, it is there until [`Transactions::poll`]
-    /// has returned its end.
+    /// Returns the transaction with this ID, if there is one. Once it has ended, it is there until
+    /// [`Transactions::poll`] has returned its end.
     pub fn get(&self, id: TransactionId) -> Option<&Transaction>
         ensures distinct { HasDistinctIds self.now }
         ensures found { option_copied result ≡ held self.now (place_of id self.now) }
@@ -97,17 +98,17 @@ impl<const N: usize> Transactions<N> {
         slots::held(&self.slots, id)
     }
 
-    /// The moment from which on a poll answers `Send` or `Ended`, unless a message is received
-    /// before: 0 if a transaction has ended and no poll has returned its end yet. `None` if there
-    /// is no transaction.
+    /// Returns the moment from which on a poll answers `Send` or `Ended`, unless a message is
+    /// received before: 0 if a transaction has ended and no poll has returned its end yet. `None`
+    /// if there is no transaction.
     pub fn next_wake(&self) -> Option<Duration>
         ensures { option_map as_nanos result ≡ soonest self.now }
     {
         slots::soonest(&self.slots)
     }
 
-    /// What is to be done now, for the first transaction that has something to do. Call it until it
-    /// answers `WaitUntil` or `Idle`.
+    /// Returns what the caller has to do now, for the first transaction that has something to do.
+    /// Call it until it answers `WaitUntil` or `Idle`.
     ///
     /// - `Send(id)`: send the request with this ID, as for `Send` of [`Transaction::poll`].
     /// - `Ended(id, end)`: this transaction has ended, or ends now since its time is up. Each end is
@@ -121,8 +122,8 @@ impl<const N: usize> Transactions<N> {
         slots::poll(&mut self.slots, now)
     }
 
-    /// What the bytes of a received message are: the transaction ID of the message, and what
-    /// [`Transaction::receive`] of the transaction with this ID answers (RFC 8489, section 6.3).
+    /// Takes the bytes of a received message, and returns its transaction ID, and what
+    /// [`Transaction::receive`] of the transaction with this ID returns (RFC 8489, section 6.3).
     /// `None` if they are no message, or there is no such transaction; nothing is changed then.
     ///
     /// The bytes are parsed once. `understood` is as for [`Transaction::receive`].
@@ -140,8 +141,8 @@ impl<const N: usize> Transactions<N> {
         slots::receive(&mut self.slots, bytes, understood)
     }
 
-    /// Sends the request with this ID no more, as [`Transaction::stop_sending`] does, and
-    /// returns whether there is such a transaction.
+    /// Stops sending the request with this ID, as [`Transaction::stop_sending`] does, and returns
+    /// whether there is such a transaction.
     pub fn stop_sending(&mut self, id: TransactionId) -> bool
         ensures found { result ≡ is_some (place_of id self.old) }
         ensures slots { self.new ≡ changed stopping (place_of id self.old) self.old }
@@ -149,8 +150,8 @@ impl<const N: usize> Transactions<N> {
         slots::stop_sending(&mut self.slots, id)
     }
 
-    /// Ends the transaction with this ID, as [`Transaction::cancel`] does, and returns whether
-    /// there is one.
+    /// Ends the transaction with this ID as cancelled, as [`Transaction::cancel`] does, and returns
+    /// whether there is one.
     pub fn cancel(&mut self, id: TransactionId) -> bool
         ensures found { result ≡ is_some (place_of id self.old) }
         ensures slots { self.new ≡ changed (ending TransactionEnd.Cancelled)
@@ -159,8 +160,8 @@ impl<const N: usize> Transactions<N> {
         slots::end_by(&mut self.slots, id, TransactionEnd::Cancelled)
     }
 
-    /// Ends the transaction with this ID, as [`Transaction::fail`] does, and returns whether there
-    /// is one.
+    /// Ends the transaction with this ID as failed by its transport, as [`Transaction::fail`] does,
+    /// and returns whether there is one.
     pub fn fail(&mut self, id: TransactionId) -> bool
         ensures found { result ≡ is_some (place_of id self.old) }
         ensures slots { self.new

@@ -19,7 +19,7 @@ impl AddressErrorCode {
     ghost use Rattle.std.specs.Prelude.{◌≡◌};
     ghost use Rattle.turn_attrs.specs.Turn.{failed_error, failed_family};
 
-    /// The attribute of this family, code and reason.
+    /// Makes the attribute of this family, code and reason.
     pub fn new(family: AddressFamily, error: ErrorCode) -> Self
         ensures family { failed_family result ≡ family }
         ensures error { failed_error result ≡ error }
@@ -27,14 +27,14 @@ impl AddressErrorCode {
         AddressErrorCode { family, error }
     }
 
-    /// The family.
+    /// Returns the family of which no address was allocated.
     pub fn family(&self) -> AddressFamily
         ensures { result ≡ failed_family self.now }
     {
         self.family
     }
 
-    /// The code and the reason.
+    /// Returns the error code, with its reason.
     pub fn error(&self) -> &ErrorCode
         ensures { result.now ≡ failed_error self.now }
     {

@@ -51,8 +51,9 @@ impl AttributeKind for XorRelayedAddressKind {
     }
 }
 
-/// REQUESTED-ADDRESS-FAMILY: of which family the relayed address is to be (RFC 8656, section 18.6).
-/// The value is a byte, 1 for IPv4 and 2 for IPv6, and three bytes that are written 0 and ignored.
+/// REQUESTED-ADDRESS-FAMILY: the family of which the relayed address is to be (RFC 8656, section
+/// 18.6). The value is a byte, 1 for IPv4 and 2 for IPv6, and three bytes that are written 0 and
+/// ignored.
 ///
 /// Reading refuses another family as `InvalidAttributeData`, and a malformed length by other
 /// errors: a server answers the first with 440, Address Family not Supported (RFC 8656, section
@@ -77,9 +78,9 @@ impl AttributeKind for RequestedAddressFamilyKind {
     }
 }
 
-/// EVEN-PORT: the relayed port is to be even (RFC 8656, section 18.7), and if the value is true
-/// the next-higher port is to be reserved too. It is one byte, whose highest bit is read; the
-/// others are written 0 and ignored.
+/// EVEN-PORT: the relayed port is to be even (RFC 8656, section 18.7), and if the value is true the
+/// next-higher port is to be reserved too. It is one byte, whose highest bit is read; the others
+/// are written 0 and ignored.
 pub type EvenPort = FieldsAttribute<EvenPortKind, bool>;
 
 /// The kind of [`EvenPort`].
@@ -256,8 +257,8 @@ impl AttributeKind for IcmpKind {
     }
 }
 
-/// MOBILITY-TICKET: by which a client keeps its allocation if its address changes (RFC 8016,
-/// section 3.3). The value is any bytes, at most 65535, which are borrowed or owned.
+/// MOBILITY-TICKET: the ticket by which a client keeps its allocation if its address changes (RFC
+/// 8016, section 3.3). The value is any bytes, at most 65535, which are borrowed or owned.
 pub type MobilityTicket<'a> = BytesAttribute<MobilityTicketKind, ShortBytes<'a>>;
 
 /// The kind of [`MobilityTicket`].

@@ -16,7 +16,7 @@ impl ThirdPartyAuthorization {
     ghost use Rattle.std.specs.Prelude.{◌≡◌, ◌≤◌, ◌<◌, Err, IfOk, IfErr, length};
     ghost use Rattle.turn_attrs.specs.Turn.{server_name};
 
-    /// The attribute of this name, which is copied into memory from `alloc`.
+    /// Makes the attribute of this name, which is copied into memory from `alloc`.
     ///
     /// # Errors
     ///
@@ -32,7 +32,7 @@ impl ThirdPartyAuthorization {
         Ok(ThirdPartyAuthorization { name })
     }
 
-    /// The name of the server.
+    /// Returns the name of the server, as the server that issues tokens knows it.
     pub fn server(&self) -> &str
         ensures { result.now ≡ server_name self.now }
     {

@@ -25,8 +25,8 @@ impl AttributeKind for XorPeerAddressKind {
     }
 }
 
-/// DATA: what a peer is sent, or has sent (RFC 8656, section 18.4). The value is any bytes, at most
-/// 65535, which are borrowed or owned.
+/// DATA: the data that a peer is sent, or has sent (RFC 8656, section 18.4). The value is any
+/// bytes, at most 65535, which are borrowed or owned.
 pub type PeerData<'a> = BytesAttribute<DataKind, ShortBytes<'a>>;
 
 /// The kind of [`PeerData`].

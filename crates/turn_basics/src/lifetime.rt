@@ -17,14 +17,14 @@ impl Lifetime {
     ghost use Rattle.std.specs.Prelude.{◌≡◌};
     ghost use Rattle.turn_basics.specs.TurnBasics.{seconds_of};
 
-    /// The attribute of so many seconds.
+    /// Makes the attribute of so many seconds.
     pub fn new(seconds: u32) -> Self
         ensures { seconds_of result ≡ seconds }
     {
         Lifetime { seconds }
     }
 
-    /// How many seconds.
+    /// Returns the lifetime in seconds.
     pub fn seconds(&self) -> u32
         ensures { result ≡ seconds_of self.now }
     {
