@@ -261,8 +261,8 @@ static const verb *verb_of(const char *name) {
 /* Which allocations are refused. */
 typedef void refusal(long number);
 
-/* How many bytes an allocation has at most: a call's octets are two digits each. */
-static size_t greatest_block(const char *call) { return strlen(call) + 1024; }
+/* How many bytes an allocation has at most, as c/stun_types.h says. */
+static size_t greatest_block(void) { return 2 * row_bytes() + 1024; }
 
 /* Makes the call once; how many allocations it asked for. */
 static long make(const char *call, guarded_side side, refusal *refuse, long refused) {
@@ -285,7 +285,7 @@ static long make(const char *call, guarded_side side, refusal *refuse, long refu
     else asked_for->answer();
     asked = heap_asked();
     if (is_out_of_memory && heap_refused() == 0) fail("out of memory, and no block was refused");
-    if (heap_most() > greatest_block(call)) fail("a block of %zu bytes", heap_most());
+    if (heap_most() > greatest_block()) fail("a block of %zu bytes", heap_most());
     heap_refuse(0);
     /* (a refusal may come before the last word) */
     if (call_word() != NULL && strchr(answer, '!') == NULL && !is_out_of_memory) answer_unknown();
