@@ -5,7 +5,6 @@ ghost use Rattle.stun_base.specs.Data.{data_bytes};
 
 use crate::AttributeKind;
 use std::alloc::Global;
-use std::boxed::BoxedSlice;
 use std::fmt;
 use std::marker::PhantomData;
 use stun_attrs::{
@@ -162,10 +161,11 @@ impl<'a, K: AttributeKind> AttributeFromRaw<'a> for BytesAttribute<K, ShortBytes
         ensures owned { IfOk result (λ read. bytes_are_borrowed read ≡ false) }
     {
         check_type(raw, AttributeType(K::NUMBER))?;
-        let copy = BoxedSlice::from_slice(alloc, raw.value().as_bytes())?;
+        let mut copy = Vec::with_capacity(alloc, raw.length() as usize)?;
+        copy.extend_from_slice(raw.value().as_bytes())?;
         Ok(BytesAttribute {
             value: ShortBytes {
-                bytes: Data::from(copy),
+                bytes: Data::from(copy.into_boxed_slice()),
             },
             kind: PhantomData,
         })

@@ -18,6 +18,19 @@ use stun_base::{StunParseError, ValidateError};
 use stun_grammar::IntegrityAlgorithm;
 use stun_keys::keys::{IntegrityKey, MessageIntegrityCredentials, key_of_credentials};
 
+/// Makes the key that the credentials give for an algorithm; the error says that an allocation
+/// failed.
+fn key_for(
+    alloc: Global,
+    credentials: &MessageIntegrityCredentials,
+    algorithm: IntegrityAlgorithm,
+) -> Result<IntegrityKey, ValidateError>
+    ensures ok { IfOk result (λ key. key_bytes key ≡ credentials_key credentials.now algorithm) }
+    ensures err { IfErr result (λ e. e ≡ ValidateError.Parse StunParseError.OutOfMemory) }
+{
+    Ok(key_of_credentials(alloc, credentials, algorithm)?)
+}
+
 /// Checks the last integrity attribute that is shown, with the key that the credentials give for
 /// its algorithm, and returns that algorithm. `offsets` are those that
 /// [`check_message`](crate::check_message) returns of `bytes`: the attribute is read at its offset,
@@ -42,7 +55,7 @@ pub fn validate_bytes(
     ensures bytes { IsBytes bytes.now }
 {
     let found = find_checked(bytes, offsets, None)?;
-    let key = key_of_credentials(alloc, credentials, found.algorithm)?;
+    let key = key_for(alloc, credentials, found.algorithm)?;
     compare_hmac(bytes, found, &key)
 }
 
