@@ -6,12 +6,22 @@ use thiserror::Error;
 /// `expected` and `actual` count bytes: `expected` is how many are needed (`Truncated`) or allowed
 /// (`TooLarge`), and `actual` is how many there are. If the header of an attribute in a message
 /// is cut off, both are 4 more than that.
+///
+/// # Examples
+///
+/// ```
+/// use stun_types::message::{Message, StunParseError};
+///
+/// assert_eq!(rt; Message::from_bytes(b"GET / HTTP/1.1").err(), Some(StunParseError::NotStun));
+/// let short = Message::from_bytes(&[0, 1, 0, 0]).err();
+/// assert_eq!(rt; short, Some(StunParseError::Truncated { expected: 20, actual: 4 }));
+/// ```
 #[derive(Clone, Copy, Debug, PartialEq, Eq, Error)]
 pub enum StunParseError {
     /// The bytes do not begin a STUN message, whatever bytes may follow them.
     #[error("The provided data is not a STUN message")]
     NotStun,
-    /// Bytes are missing.
+    /// Bytes are missing: there are fewer than are needed.
     #[error("Not enough data available to parse the packet, expected {expected}, actual {actual}")]
     Truncated {
         /// How many bytes are needed.
@@ -48,7 +58,7 @@ pub enum StunParseError {
     /// The attribute is not of the type that was to be read.
     #[error("Cannot parse with this attribute")]
     WrongAttributeImplementation,
-    /// An allocation failed.
+    /// An allocation failed: no memory was left for the value.
     #[error("Out of memory")]
     OutOfMemory,
 }
@@ -92,7 +102,7 @@ pub enum StunWriteError {
     /// counterpart here is converted to this one.
     #[error("Failed to compute integrity")]
     IntegrityFailed,
-    /// A number is out of its range.
+    /// A number is below the least one allowed, or above the greatest.
     #[error("Out of range input provided")]
     OutOfRange {
         /// The number.
@@ -102,7 +112,7 @@ pub enum StunWriteError {
         /// The greatest number allowed.
         max: usize,
     },
-    /// An allocation failed.
+    /// An allocation failed: no memory was left for the value or the message.
     #[error("Out of memory")]
     OutOfMemory,
 }
@@ -113,6 +123,16 @@ pub enum StunWriteError {
 /// the same fields. `AttributeAfterIntegrity` becomes `MessageIntegrityExists`, and
 /// `AttributeAfterFingerprint` becomes `FingerprintExists`. The others say that the bytes are not
 /// valid, and become `IntegrityFailed`.
+///
+/// # Examples
+///
+/// ```
+/// use stun_types::message::{StunParseError, StunWriteError};
+///
+/// let cut_off = StunParseError::Truncated { expected: 20, actual: 4 };
+/// let too_small = StunWriteError::TooSmall { expected: 20, actual: 4 };
+/// assert_eq!(rt; StunWriteError::from(cut_off), too_small);
+/// ```
 impl From<StunParseError> for StunWriteError {
     ghost use Rattle.std.specs.Prelude.{◌≡◌};
     ghost use Rattle.stun_grammar.specs.WriteErrors.{write_error};

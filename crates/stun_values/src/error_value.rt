@@ -84,6 +84,15 @@ fn read_code(value: &[u8]) -> Option<u16>
 /// `TooLarge { expected: 767, actual }` if there are more than 767. Otherwise
 /// `InvalidAttributeData` if the class isn't 3 to 6, the number is above 99, or the reason isn't
 /// UTF-8.
+///
+/// # Examples
+///
+/// ```
+/// use stun_types::attribute::read_error;
+///
+/// assert_eq!(rt; read_error(b"\x00\x00\x04\x26Stale Nonce"), Ok((438, "Stale Nonce")));
+/// assert!(rt; read_error(b"\x00\x00\x07\x00").is_err()); // the code 700
+/// ```
 #[tactic(auto, using(crate::proofs::ErrorValuesLemmas::wrong_length, crate::proofs::ErrorValuesLemmas::no_code, crate::proofs::ErrorValuesLemmas::no_text, crate::proofs::ErrorValuesLemmas::is_error))]
 pub fn read_error(value: &[u8]) -> Result<(u16, &str), StunParseError>
     ensures { MatchResult result

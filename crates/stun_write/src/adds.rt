@@ -33,24 +33,52 @@ use stun_values::hmac_length;
 /// `Message::builder` and after every add that follows it: adding attributes changes neither the
 /// message type nor the transaction ID.
 ///
+/// # Examples
+///
 /// ```
-/// let mut message = Message::builder(mtype, id, MessageWriteVec::new(alloc))?;
+/// use stun_types::attribute::Software;
+/// use stun_types::message::{
+///     BINDING, IntegrityAlgorithm, IntegrityKey, Message, MessageClass, MessageType,
+///     MessageWriteVec, TransactionId,
+/// };
+/// use stun_types::prelude::*;
+///
+/// let key = IntegrityKey::new(alloc, b"secret", None)?;
+/// let mtype = MessageType::from_class_method(MessageClass::Request, BINDING);
+/// let write = MessageWriteVec::new(alloc);
+/// let mut message = Message::builder(mtype, TransactionId::from(1000), write)?;
 /// message.add_attribute(&Software::new(alloc, "my client")?)?;
 /// message.add_message_integrity_with_key(&key, IntegrityAlgorithm::Sha256)?;
 /// message.add_fingerprint()?;
-/// let bytes = message.finish();
+/// assert_eq!(rt; message.finish().len(), 20 + 16 + 36 + 8);
 /// ```
 pub trait MessageWriteExt: MessageWrite {
-    /// The message type: class and method.
+    /// The type of the message that is being written: class and method.
     ///
     /// # Requires
     ///
     /// The bytes written begin with a header: `MessageHeader::from_bytes(message.data())` is `Ok`.
+    ///
+    /// # Examples
+    ///
+    /// ```
+    /// use stun_types::message::{
+    ///     BINDING, Message, MessageClass, MessageType, MessageWriteVec, TransactionId,
+    /// };
+    /// use stun_types::prelude::*;
+    ///
+    /// let mtype = MessageType::from_class_method(MessageClass::Indication, BINDING);
+    /// let id = TransactionId::from(1000);
+    /// let message = Message::builder(mtype, id, MessageWriteVec::new(alloc))?;
+    /// assert!(rt; message.get_type() == mtype && message.transaction_id() == id);
+    /// assert!(rt; message.class() == MessageClass::Indication && message.method() == BINDING);
+    /// assert!(rt; !message.is_response());
+    /// ```
     fn get_type(&self) -> MessageType
         requires { is_header (Self.state self.now).bytes ≡ true }
         ensures { result ≡ type_field (Self.state self.now).bytes };
 
-    /// The class.
+    /// The class of the message that is being written.
     ///
     /// # Requires
     ///
@@ -59,7 +87,7 @@ pub trait MessageWriteExt: MessageWrite {
         requires { is_header (Self.state self.now).bytes ≡ true }
         ensures { result ≡ class_of (type_field (Self.state self.now).bytes) };
 
-    /// Whether the class is `cls`.
+    /// Whether the class of the message that is being written is `cls`.
     ///
     /// # Requires
     ///
@@ -68,7 +96,7 @@ pub trait MessageWriteExt: MessageWrite {
         requires { is_header (Self.state self.now).bytes ≡ true }
         ensures { IsTrue result ↔ (class_of (type_field (Self.state self.now).bytes) ≡ cls) };
 
-    /// Whether the class is success or error.
+    /// Whether the message that is being written is a response: its class is success or error.
     ///
     /// # Requires
     ///
@@ -77,7 +105,7 @@ pub trait MessageWriteExt: MessageWrite {
         requires { is_header (Self.state self.now).bytes ≡ true }
         ensures { result ≡ responds (class_of (type_field (Self.state self.now).bytes)) };
 
-    /// The method.
+    /// The method of the message that is being written.
     ///
     /// # Requires
     ///
@@ -86,7 +114,7 @@ pub trait MessageWriteExt: MessageWrite {
         requires { is_header (Self.state self.now).bytes ≡ true }
         ensures { result ≡ method_of (type_field (Self.state self.now).bytes) };
 
-    /// Whether the method is `method`.
+    /// Whether the method of the message that is being written is `method`.
     ///
     /// # Requires
     ///
@@ -95,7 +123,7 @@ pub trait MessageWriteExt: MessageWrite {
         requires { is_header (Self.state self.now).bytes ≡ true }
         ensures { IsTrue result ↔ (method_of (type_field (Self.state self.now).bytes) ≡ method) };
 
-    /// The transaction ID.
+    /// The transaction ID of the message that is being written.
     ///
     /// # Requires
     ///
@@ -131,6 +159,26 @@ pub trait MessageWriteExt: MessageWrite {
     /// - `TooLarge { expected: 65555, actual }` if it would be longer than a message may be;
     /// - `OutOfMemory`, only if the attribute needs more than the writer's ready room: the bytes
     ///   and the attributes that it surely takes, of which [`MessageWrite`] says more.
+    ///
+    /// # Examples
+    ///
+    /// ```
+    /// use stun_types::attribute::{Software, Username};
+    /// use stun_types::message::{
+    ///     BINDING, Message, MessageClass, MessageType, MessageWriteVec, StunWriteError,
+    ///     TransactionId,
+    /// };
+    /// use stun_types::prelude::*;
+    ///
+    /// let mtype = MessageType::from_class_method(MessageClass::Request, BINDING);
+    /// let write = MessageWriteVec::new(alloc);
+    /// let mut message = Message::builder(mtype, TransactionId::from(1000), write)?;
+    /// message.add_attribute(&Software::new(alloc, "STUN")?)?;
+    /// assert_eq!(rt; &message.data()[20..], b"\x80\x22\x00\x04STUN".as_slice());
+    /// message.add_fingerprint()?;
+    /// let late = message.add_attribute(&Username::new(alloc, "bob")?);
+    /// assert_eq!(rt; late, Err(StunWriteError::FingerprintExists));
+    /// ```
     fn add_attribute(&mut self, attribute: &dyn AttributeWrite) -> Result<(), StunWriteError>
         requires ordinary { IsOrdinary (atype attribute.now) }
         ensures answer { IsAddAnswer
@@ -143,16 +191,26 @@ pub trait MessageWriteExt: MessageWrite {
         ensures type_fits { atype attribute.now < 2 ^ 16 }
         ensures value_fits { length (value attribute.now) < 2 ^ 16 };
 
-    /// As [`MessageWriteExt::add_attribute`], for an attribute whose type is known only at run time:
-    /// one of an ending type is refused. A proxy adds the attributes of a message that it received
-    /// so:
+    /// Adds an attribute whose type is known only at run time, as [`MessageWriteExt::add_attribute`]
+    /// does: one of an ending type is refused. A proxy adds the attributes of a message that it
+    /// received so.
+    ///
+    /// # Examples
     ///
     /// ```
+    /// use stun_types::message::{Message, MessageWriteVec};
+    /// use stun_types::prelude::*;
+    ///
+    /// let bytes = b"\x00\x01\x00\x08\x21\x12\xA4\x42abcdefghijkl\x80\x22\x00\x04STUN";
+    /// let received = Message::from_bytes(bytes)?;
+    /// let (mtype, id) = (received.get_type(), received.transaction_id());
+    /// let mut message = Message::builder(mtype, id, MessageWriteVec::new(alloc))?;
     /// for (_offset, attribute) in received.iter_attributes() {
     ///     if !attribute.get_type().is_ending() {
     ///         message.add_any_attribute(&attribute)?;
     ///     }
     /// }
+    /// assert_eq!(rt; message.finish().as_slice(), bytes.as_slice());
     /// ```
     ///
     /// # Errors
@@ -169,11 +227,23 @@ pub trait MessageWriteExt: MessageWrite {
         ensures adds { Adds result (Self.state self.old) (Self.state self.new)
             (atype attribute.now) (value attribute.now) };
 
-    /// As [`MessageWriteExt::add_any_attribute`], of a type and the bytes of a value, for a caller
-    /// that has no attribute but these:
+    /// Adds an attribute, of which a type and the bytes of a value are given, as
+    /// [`MessageWriteExt::add_any_attribute`] does.
+    ///
+    /// # Examples
     ///
     /// ```
-    /// message.add_value(AttributeType(0x8022), b"my client".as_slice())?;
+    /// use stun_types::attribute::AttributeType;
+    /// use stun_types::message::{
+    ///     BINDING, Message, MessageClass, MessageType, MessageWriteVec, TransactionId,
+    /// };
+    /// use stun_types::prelude::*;
+    ///
+    /// let mtype = MessageType::from_class_method(MessageClass::Request, BINDING);
+    /// let write = MessageWriteVec::new(alloc);
+    /// let mut message = Message::builder(mtype, TransactionId::from(1000), write)?;
+    /// message.add_value(AttributeType(0x8022), b"my client")?;
+    /// assert!(rt; message.add_value(AttributeType(0x8028), &[0; 4]).is_err());
     /// ```
     ///
     /// # Requires
@@ -208,6 +278,24 @@ pub trait MessageWriteExt: MessageWrite {
     /// - `TooSmall` and `TooLarge` as for [`MessageWriteExt::add_attribute`];
     /// - `OutOfMemory`, if the key couldn't be made, or the attribute needs more than the ready
     ///   room.
+    ///
+    /// # Examples
+    ///
+    /// ```
+    /// use stun_types::message::{
+    ///     BINDING, IntegrityAlgorithm, Message, MessageClass, MessageIntegrityCredentials,
+    ///     MessageType, MessageWriteVec, ShortTermCredentials, TransactionId,
+    /// };
+    /// use stun_types::prelude::*;
+    ///
+    /// let password = ShortTermCredentials::new(String::from_str(alloc, "secret")?);
+    /// let credentials = MessageIntegrityCredentials::from(password);
+    /// let mtype = MessageType::from_class_method(MessageClass::Request, BINDING);
+    /// let write = MessageWriteVec::new(alloc);
+    /// let mut message = Message::builder(mtype, TransactionId::from(1000), write)?;
+    /// message.add_message_integrity(alloc, &credentials, IntegrityAlgorithm::Sha1)?;
+    /// assert_eq!(rt; &message.data()[20..24], [0, 8, 0, 20].as_slice());
+    /// ```
     fn add_message_integrity(
         &mut self,
         alloc: Global,
@@ -224,8 +312,8 @@ pub trait MessageWriteExt: MessageWrite {
             (integrity_value (Self.state self.old).bytes
             (credentials_key credentials.now algorithm) algorithm) };
 
-    /// As [`MessageWriteExt::add_message_integrity`], with a key, whichever algorithm the key was
-    /// made for.
+    /// Adds the integrity attribute of an algorithm, with a key, whichever algorithm the key was
+    /// made for, as [`MessageWriteExt::add_message_integrity`] does with credentials.
     ///
     /// # Errors
     ///
@@ -245,7 +333,8 @@ pub trait MessageWriteExt: MessageWrite {
             (type_of_algorithm algorithm)
             (integrity_value (Self.state self.old).bytes (key_bytes key.now) algorithm) };
 
-    /// As [`MessageWriteExt::add_message_integrity_with_key`], without its checks.
+    /// Adds the integrity attribute of an algorithm, with a key, without the checks of
+    /// [`MessageWriteExt::add_message_integrity_with_key`].
     ///
     /// # Requires
     ///
@@ -288,6 +377,23 @@ pub trait MessageWriteExt: MessageWrite {
     /// - `AttributeExists(0x8028)` if a FINGERPRINT is written;
     /// - `TooSmall` and `TooLarge` as for [`MessageWriteExt::add_attribute`];
     /// - `OutOfMemory`, only if the attribute needs more than the ready room.
+    ///
+    /// # Examples
+    ///
+    /// ```
+    /// use stun_types::message::{
+    ///     BINDING, Message, MessageClass, MessageType, MessageWriteVec, TransactionId,
+    /// };
+    /// use stun_types::prelude::*;
+    ///
+    /// let mtype = MessageType::from_class_method(MessageClass::Request, BINDING);
+    /// let write = MessageWriteVec::new(alloc);
+    /// let mut message = Message::builder(mtype, TransactionId::from(1), write)?;
+    /// message.add_fingerprint()?;
+    /// // the CRC-32 of the header, with a length of 8, XORed with 0x5354554E
+    /// assert_eq!(rt; &message.data()[24..], [0xC5, 0xAD, 0xC9, 0x60].as_slice());
+    /// assert!(rt; message.add_fingerprint().is_err());
+    /// ```
     fn add_fingerprint(&mut self) -> Result<(), StunWriteError>
         ensures answer { IsAddAnswer
             (add_refusal (finger)
@@ -298,7 +404,7 @@ pub trait MessageWriteExt: MessageWrite {
             (fingerprint_value (Self.state self.old).bytes
             (length (Self.state self.old).bytes)) };
 
-    /// As [`MessageWriteExt::add_fingerprint`], without its checks.
+    /// Adds a FINGERPRINT without the checks of [`MessageWriteExt::add_fingerprint`].
     ///
     /// # Requires
     ///

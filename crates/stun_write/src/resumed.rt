@@ -119,9 +119,9 @@ impl ResumePoint {
         Ok(self.written + added)
     }
 
-    /// Signs the message at this point, and returns how many bytes it has then: the same as
-    /// [`MessageWriteExt::add_message_integrity_with_key`] by a writer that goes on here, without
-    /// memory. What follows the message in `slice` stays as it was.
+    /// Signs the message at the point, and returns the number of bytes that the message has then:
+    /// the same as [`MessageWriteExt::add_message_integrity_with_key`] by a writer that goes on
+    /// here, without memory. What follows the message in `slice` stays as it was.
     ///
     /// # Requires
     ///
@@ -163,10 +163,10 @@ impl ResumePoint {
         Ok(len + added)
     }
 
-    /// Ends the message at this point by a FINGERPRINT, and returns how many bytes it has then: the
-    /// same as [`MessageWriteExt::add_fingerprint`](crate::MessageWriteExt::add_fingerprint) by a
-    /// writer that goes on here, without memory. What follows the message in `slice` stays as it
-    /// was.
+    /// Ends the message at the point by a FINGERPRINT, and returns the number of bytes that the
+    /// message has then: the same as
+    /// [`MessageWriteExt::add_fingerprint`](crate::MessageWriteExt::add_fingerprint) by a writer
+    /// that goes on here, without memory. What follows the message in `slice` stays as it was.
     ///
     /// # Requires
     ///
@@ -176,6 +176,18 @@ impl ResumePoint {
     ///
     /// As for [`MessageWriteExt::add_fingerprint`](crate::MessageWriteExt::add_fingerprint), but
     /// never `OutOfMemory`. `slice` then stays as it was.
+    ///
+    /// # Examples
+    ///
+    /// ```
+    /// use stun_types::message::{Message, ResumePoint};
+    ///
+    /// let mut slice = [0; 40];
+    /// slice[..20].copy_from_slice(b"\x00\x01\x00\x00\x21\x12\xA4\x42abcdefghijkl");
+    /// let written = ResumePoint::check(&slice, 20)?.add_fingerprint(&mut slice)?;
+    /// assert_eq!(rt; written, 28);
+    /// assert!(rt; Message::from_bytes(&slice[..written]).is_ok());
+    /// ```
     pub fn add_fingerprint(self, slice: &mut [u8]) -> Result<usize, StunWriteError>
         requires { IsPointOf self slice.old }
         ensures { AppendsIn

@@ -10,10 +10,16 @@ use stun_values::is_typed;
 /// Names of attribute types and of methods, and functions that print attributes, for numbers that
 /// the library has none for. Of what is registered for one number, the last counts.
 ///
+/// # Examples
+///
 /// ```
+/// use stun_types::attribute::AttributeType;
+/// use stun_types::show::Registry;
+///
 /// let mut registry = Registry::new(alloc);
 /// registry.add_name(AttributeType(0x8851), "MY-ATTRIBUTE")?;
-/// assert_eq!(registry.name(AttributeType(0x8851)), "MY-ATTRIBUTE");
+/// assert_eq!(rt; registry.name(AttributeType(0x8851)), "MY-ATTRIBUTE");
+/// assert_eq!(rt; registry.name(AttributeType(0x8022)), "SOFTWARE");
 /// ```
 #[derive(Drop)]
 pub struct Registry {
@@ -72,6 +78,17 @@ impl Registry {
     ///
     /// `OutOfMemory` alone, and only for a method that no name was registered for. The registry is
     /// then as before.
+    ///
+    /// # Examples
+    ///
+    /// ```
+    /// use stun_types::message::Method;
+    /// use stun_types::show::Registry;
+    ///
+    /// let mut registry = Registry::new(alloc);
+    /// registry.add_method_name(Method::new(0x003), "ALLOCATE")?;
+    /// assert_eq!(rt; registry.method_name(Method::new(0x003)), "ALLOCATE");
+    /// ```
     pub fn add_method_name(
         &mut self,
         method: Method,
