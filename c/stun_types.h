@@ -4,9 +4,10 @@
  *   is valid and not NULL, but for that of stun_types_key_free. What a call writes overlaps no other
  *   argument of it. Messages are uint8_t; a text or a value that is passed in may be char or uint8_t
  *   (const void *).
- * - No call keeps a pointer, prints, blocks or aborts. Only the calls whose comments say so allocate
- *   (by malloc). All may run in several threads at once. One key may be used by any number of calls
- *   at once that take it as const stun_types_key *; a call that takes it as stun_types_key * makes or
+ * - No call keeps a pointer, prints, blocks or aborts. Only the calls whose comments say so
+ *   allocate (by malloc), and at most twice the bytes of their arguments and 1,024 more at once.
+ *   All may run in several threads at once. One key may be used by any number of calls at once
+ *   that take it as const stun_types_key *; a call that takes it as stun_types_key * makes or
  *   frees it, and has it alone.
  * - Numbers in messages are big-endian; numbers in these structs are the machine's.
  * - Most calls return a stun_types_answer. If its code isn't STUN_TYPES_OK, the call writes nothing

@@ -1,5 +1,7 @@
-/* Looks at each block of memory that the program takes and gives back. .ci/hostile links it with
- * the program, which `rt try` builds with AddressSanitizer: that calls the two hooks below.
+/* The memory of the program: it refuses requests, and looks at each block that is taken and given back.
+ * .ci/hostile links it with the program, which `rt try` builds with AddressSanitizer. That calls the two
+ * hooks below, and lets a program have interceptors of its own, which call those with one more
+ * underscore.
  *
  * A block is filled when it is taken, so that when it is given back, the last byte that differs
  * shows how much of it was used. At the end it prints three lines in the form of the program's. */
@@ -9,6 +11,10 @@
 #include <unistd.h>
 
 size_t __sanitizer_get_allocated_size(const volatile void *block);
+void *___interceptor_malloc(size_t size);
+void *___interceptor_realloc(void *block, size_t size);
+void *__interceptor_malloc(size_t size);
+void *__interceptor_realloc(void *block, size_t size);
 
 /* (a vector asks for at least four elements, and none of the library's has more than 24 bytes) */
 enum { FILL = 0xA5, LEAST = 4 * 24, SECRETS = 10 };
@@ -22,6 +28,32 @@ static struct {
 
 static int count;
 static long taken, unused, told;
+static size_t asked, refused, is_refused_on;
+
+/* From now on the request with this number is refused, 1 the next and 0 none, and if `on` isn't 0, every
+ * later one. */
+void memory_refuse(size_t number, size_t on) {
+    asked = 0;
+    refused = number;
+    is_refused_on = on;
+}
+
+/* How many requests were made since then, refused ones too. */
+size_t memory_asked(void) { return asked; }
+
+/* How many blocks are taken and not given back. */
+size_t memory_held(void) { return (size_t)taken; }
+
+static int is_refused(void) {
+    asked++;
+    return refused != 0 && (is_refused_on ? asked >= refused : asked == refused);
+}
+
+void *__interceptor_malloc(size_t size) { return is_refused() ? NULL : ___interceptor_malloc(size); }
+
+void *__interceptor_realloc(void *block, size_t size) {
+    return is_refused() ? NULL : ___interceptor_realloc(block, size);
+}
 
 static void add(const char *name, const void *bytes, size_t length) {
     secrets[count].name = name;

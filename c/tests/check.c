@@ -17,6 +17,7 @@ static guarded_side side;
 static const char *row_group, *row_name;
 static bool row_failed;
 static long passed, failed;
+static size_t given_bytes;
 
 /* Regions of this row, and from first_free on those of earlier rows, to be used again. */
 static struct {
@@ -77,10 +78,13 @@ void row(const char *group, const char *name) {
     row_group = group;
     row_name = name;
     row_failed = false;
+    given_bytes = 0;
     heap_allow(false);
 }
 
 void check_end(void) { end_row(); }
+
+size_t row_bytes(void) { return given_bytes; }
 
 long rows_passed(void) { return passed; }
 
@@ -166,6 +170,7 @@ uint8_t *copy(const void *bytes, size_t length) {
 slice given(const void *bytes, size_t length) {
     size_t i = take_region(length);
     slice made;
+    given_bytes += length;
     made.bytes = guarded_place(regions[i].region, side, length);
     made.length = length;
     if (length != 0) memcpy(guarded_place(regions[i].region, side, length), bytes, length);

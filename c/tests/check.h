@@ -31,6 +31,9 @@ void row(const char *group, const char *name);
 /* Ends the last row. */
 void check_end(void);
 
+/* The bytes of all slices that were made in this row to be read. */
+size_t row_bytes(void);
+
 long rows_passed(void);
 long rows_failed(void);
 

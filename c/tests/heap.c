@@ -23,21 +23,32 @@ static struct {
     size_t length;
 } secrets[SECRETS];
 
-static bool is_allowed;
-static long asked, refused, held, faults;
-static size_t secret_count;
+static bool is_allowed, are_all_refused;
+static long asked, refused, refusals, held, faults;
+static size_t secret_count, most;
 
 void heap_allow(bool allowed) {
     is_allowed = allowed;
-    asked = refused = 0;
+    asked = refused = refusals = 0;
+    most = 0;
 }
 
 void heap_refuse(long number) {
     asked = 0;
     refused = number;
+    are_all_refused = false;
+}
+
+void heap_refuse_from(long number) {
+    heap_refuse(number);
+    are_all_refused = true;
 }
 
 long heap_asked(void) { return asked; }
+
+long heap_refused(void) { return refusals; }
+
+size_t heap_most(void) { return most; }
 
 long heap_held(void) { return held; }
 
@@ -64,6 +75,11 @@ static bool holds(const uint8_t *bytes, size_t length, const uint8_t *secret,
     return false;
 }
 
+/* Whether the block that is asked for now is refused. */
+static bool is_refused(void) {
+    return refused != 0 && (are_all_refused ? asked >= refused : asked == refused);
+}
+
 static size_t place_of(const void *block) {
     size_t place = 0;
     while (place < BLOCKS && blocks[place].start != block) place++;
@@ -75,7 +91,11 @@ void *__wrap_malloc(size_t size) {
     void *block;
     asked++;
     if (!is_allowed) faults++;
-    if (asked == refused) return NULL;
+    if (size > most) most = size;
+    if (is_refused()) {
+        refusals++;
+        return NULL;
+    }
     block = __real_malloc(size);
     place = place_of(NULL);
     if (block == NULL || place == BLOCKS) abort();

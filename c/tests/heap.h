@@ -1,5 +1,5 @@
 /* The allocator of the test program, by the linker's --wrap=malloc, calloc, realloc and free. It
- * counts blocks, refuses one that is asked for, and looks at each that is given back. */
+ * counts blocks, refuses those that it is told to, and looks at each that is given back. */
 #ifndef HEAP_H
 #define HEAP_H
 
@@ -13,8 +13,15 @@ void heap_allow(bool allowed);
 /* The allocation with this number from now on is refused: 1 the next, 0 none. */
 void heap_refuse(long number);
 
-/* How many blocks were asked for since heap_allow, refused ones too. */
+/* The same, and every later one. */
+void heap_refuse_from(long number);
+
+/* How many blocks were asked for since heap_allow, refused ones too, and how many were refused. */
 long heap_asked(void);
+long heap_refused(void);
+
+/* The bytes of the largest block that was asked for since heap_allow. */
+size_t heap_most(void);
 
 /* How many blocks are taken and not given back. */
 long heap_held(void);

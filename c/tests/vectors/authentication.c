@@ -6,14 +6,16 @@
 #include <stdlib.h>
 #include <string.h>
 
-enum { ROOM = 2000, ALGORITHMS = 20 };
+/* (carol's password is a letter, so many times) */
+enum { ALGORITHMS = 20, LONG = 70000, ROOM = ANY_ROOM };
 
 static const char realm[] = "example.org";
 
-/* The users of the server. */
+/* The users of the server, and carol's password. */
+static char long_password[LONG + 1];
 static const struct {
     const char *name, *password;
-} users[] = {{"alice", "wonderland"}, {"bob", "builder"}};
+} users[] = {{"alice", "wonderland"}, {"bob", "builder"}, {"carol", long_password}};
 
 /* The password algorithms that the server sends. */
 static const uint16_t offered[] = {STUN_TYPES_PASSWORD_SHA256, STUN_TYPES_PASSWORD_MD5};
@@ -44,6 +46,7 @@ static size_t user_of(slice message) {
     size_t at;
     bool is_named = find_value(message, STUN_TYPES_ATTRIBUTE_USERNAME, &name);
     bool is_hashed = !is_named && find_value(message, STUN_TYPES_ATTRIBUTE_USERHASH, &name);
+    memset(long_password, 'c', LONG);
     for (at = 0; at < COUNT(users) && (is_named || is_hashed); at++) {
         size_t length = strlen(users[at].name);
         if (is_named && is_text(name, users[at].name)) return at;
@@ -282,27 +285,28 @@ static void retry(void) {
 
 /* Writes the answer to a challenge in a room of this size. */
 static stun_types_answer answer_with(draft *to, size_t size, slice response,
-                                     const uint16_t *supported, size_t count,
+                                     const uint16_t *supported, size_t count, slice user,
                                      const stun_types_key *key) {
     stun_types_header header = header_of(response);
     ANSWERS(draft_begin(to, size, STUN_TYPES_CLASS_REQUEST, STUN_TYPES_METHOD_BINDING, &header.id),
             OK_ANSWER);
     return stun_types_answer_challenge(to->room, size, &to->written, response.bytes, response.length,
-                                       supported, count, "user", 4, key, true);
+                                       supported, count, user.bytes, user.length, key, true);
 }
 
-static void answer_challenge(void) {
+/* The request of this user that answers a challenge. */
+static void answer_by(slice user, slice password) {
     uint16_t supported[ALGORITHMS];
     size_t count = algorithms_of(call_word(), supported);
     slice response = call_octets();
     stun_types_key key = STUN_TYPES_NO_KEY_YET;
     draft to, small;
-    keep_secret(text("pass"));
-    if (is_taken(stun_types_key_for(&key, response.bytes, response.length, supported, count, "user", 4,
-                                    "pass", 4))) {
-        ANSWERS(answer_with(&to, ROOM, response, supported, count, &key), OK_ANSWER);
+    keep_secret(password);
+    if (is_taken(stun_types_key_for(&key, response.bytes, response.length, supported, count,
+                                    user.bytes, user.length, password.bytes, password.length))) {
+        ANSWERS(answer_with(&to, ROOM, response, supported, count, user, &key), OK_ANSWER);
         /* what has no room is left out, and the message is whole without it */
-        ANSWERS(answer_with(&small, to.written - 1, response, supported, count, &key),
+        ANSWERS(answer_with(&small, to.written - 1, response, supported, count, user, &key),
                 LENGTHS(STUN_TYPES_TOO_SMALL, to.written, to.written - 1));
         CHECK(small.written == to.written - 8);
         CHECK(memcmp(small.room + 4, to.room + 4, small.written - 4) == 0);
@@ -310,6 +314,13 @@ static void answer_challenge(void) {
         answer_draft(&to);
     }
     stun_types_key_free(&key);
+}
+
+static void answer_challenge(void) { answer_by(text("user"), text("pass")); }
+
+static void answer_as(void) {
+    slice user = call_octets(), password = call_octets();
+    answer_by(user, password);
 }
 
 static void error_response(void) {
@@ -371,8 +382,9 @@ static void nonce_cookie(void) {
 /* Whether the algorithms are sent with the nonce, by a 401 that does so. */
 static void demand(void) {
     slice nonce = call_octets(), request = octets_of("000100002112a442000000000000000000000001");
+    slice in_realm = text(realm);
     uint16_t algorithms[ALGORITHMS];
-    char *list = call_word();
+    char *list = call_word(), *other = call_word();
     size_t count, written = 0;
     stun_types_answer answer;
     if (list == NULL) {
@@ -380,9 +392,10 @@ static void demand(void) {
         return;
     }
     count = strcmp(list, "none") == 0 ? 0 : algorithms_of(list, algorithms);
-    answer = stun_types_refuse_long_term(request.bytes, request.length, 401, realm, strlen(realm),
-                                         nonce.bytes, nonce.length, algorithms, count, room(ROOM),
-                                         ROOM, &written);
+    if (other != NULL) in_realm = octets_of(other);
+    answer = stun_types_refuse_long_term(request.bytes, request.length, 401, in_realm.bytes,
+                                         in_realm.length, nonce.bytes, nonce.length, algorithms,
+                                         count, room(ROOM), ROOM, &written);
     if (answer.code == STUN_TYPES_BAD_ARGUMENT) answer_text(count == 0 ? "!NoList" : "!NotPromised");
     else if (is_taken(answer)) answer_text("ok");
 }
@@ -454,6 +467,7 @@ const verb verbs_of_authentication[] = {
     {"challenge", challenge, false},
     {"retry", retry, false},
     {"answer-challenge", answer_challenge, true},
+    {"answer-as", answer_as, true},
     {"error-response", error_response, false},
     {"security-features", security_features, false},
     {"nonce-cookie", nonce_cookie, false},

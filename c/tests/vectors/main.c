@@ -2,9 +2,10 @@
  * and its answer in a line of standard output.
  *
  * Each call is made with the guarded page after each slice, and with it before. Then each
- * allocation that the call asks for is refused in turn: the answer has to be `!OutOfMemory`, or the
- * same if the library does without (a key that isn't prepared). If any of these has another answer
- * than it should have, the answer is `!!` and what happened. */
+ * allocation that the call asks for is refused in turn, alone and with all that follow: the answer has
+ * to be `!OutOfMemory`, or the same if the library does without (a key that isn't prepared). If any of
+ * these has another answer than it should have, the answer is `!!` and what happened. So it is if a
+ * call is out of memory and no allocation was refused, or asks for more than c/stun_types.h says. */
 #include <ctype.h>
 #include <stdarg.h>
 #include <stdio.h>
@@ -257,8 +258,14 @@ static const verb *verb_of(const char *name) {
     return NULL;
 }
 
+/* Which allocations are refused. */
+typedef void refusal(long number);
+
+/* How many bytes an allocation has at most, as c/stun_types.h says. */
+static size_t greatest_block(void) { return 2 * row_bytes() + 1024; }
+
 /* Makes the call once; how many allocations it asked for. */
-static long make(const char *call, guarded_side side, long refused) {
+static long make(const char *call, guarded_side side, refusal *refuse, long refused) {
     static char copy[ANSWER_MOST];
     const verb *asked_for;
     long asked, before = rows_failed();
@@ -273,10 +280,12 @@ static long make(const char *call, guarded_side side, long refused) {
     row("call", call);
     heap_allow(asked_for != NULL && asked_for->allocates);
     heap_forget_secrets();
-    heap_refuse(refused);
+    refuse(refused);
     if (asked_for == NULL) answer_unknown();
     else asked_for->answer();
     asked = heap_asked();
+    if (is_out_of_memory && heap_refused() == 0) fail("out of memory, and no block was refused");
+    if (heap_most() > greatest_block()) fail("a block of %zu bytes", heap_most());
     heap_refuse(0);
     /* (a refusal may come before the last word) */
     if (call_word() != NULL && strchr(answer, '!') == NULL && !is_out_of_memory) answer_unknown();
@@ -287,27 +296,41 @@ static long make(const char *call, guarded_side side, long refused) {
     return asked;
 }
 
+/* Makes the call with each of so many allocations refused in turn. Whether it was out of memory in
+   one of them; if it answers anything else than the first time, that is printed, and *is_same false. */
+static bool is_refused_by(const char *call, refusal *refuse, long asked, bool *is_same) {
+    bool is_refused = false;
+    long number;
+    for (number = 1; number <= asked && *is_same; number++) {
+        make(call, GUARD_BEHIND, refuse, number);
+        if (strcmp(answer, "!OutOfMemory") == 0) is_refused = true;
+        else if (strcmp(answer, first) != 0) {
+            printf("!!with allocation %ld%s refused, the answer is %s\n", number,
+                   refuse == heap_refuse ? "" : " and later ones", answer);
+            *is_same = false;
+        }
+    }
+    return is_refused;
+}
+
 /* Makes the call in all the ways, and prints its answer. */
 static void print_answer(const char *call) {
-    long asked = make(call, GUARD_BEHIND, 0), number;
-    bool is_refused = asked == 0;
+    long asked = make(call, GUARD_BEHIND, heap_refuse, 0);
+    bool is_same = true, is_refused;
     strcpy(first, answer);
-    make(call, GUARD_BEFORE, 0);
+    make(call, GUARD_BEFORE, heap_refuse, 0);
     if (strcmp(first, answer) != 0) {
         printf("!!guarded before, the answer is %s\n", answer);
         return;
     }
-    for (number = 1; number <= asked && strcmp(first, "?") != 0; number++) {
-        make(call, GUARD_BEHIND, number);
-        if (strcmp(answer, "!OutOfMemory") == 0) is_refused = true;
-        else if (strcmp(answer, first) != 0) {
-            printf("!!with allocation %ld refused, the answer is %s\n", number, answer);
+    if (strcmp(first, "?") != 0 && asked != 0) {
+        is_refused = is_refused_by(call, heap_refuse, asked, &is_same);
+        if (is_same) is_refused = is_refused_by(call, heap_refuse_from, asked, &is_same) && is_refused;
+        if (!is_same) return;
+        if (!is_refused) {
+            printf("!!%ld allocations were refused for nothing\n", asked);
             return;
         }
-    }
-    if (!is_refused && strcmp(first, "?") != 0) {
-        printf("!!%ld allocations were refused for nothing\n", asked);
-        return;
     }
     if (heap_held() != 0) {
         printf("!!%ld blocks are still held\n", heap_held());

@@ -27,9 +27,10 @@ static struct {
     size_t count;
 } script;
 
-/* What was received last, and the time of the last poll. */
+/* What was received last, and the time of the last poll; the latest time of all polls, and that at
+   which the request was sent last. */
 static stun_types_received last_received;
-static uint64_t last_time;
+static uint64_t last_time, latest, sent_at;
 
 /* The schedule of four numbers. */
 static stun_types_schedule schedule_of(char *word) {
@@ -160,6 +161,9 @@ static bool take(const event *it, stun_types_transaction *transaction, const stu
     if (strcmp(it->name, "at") == 0) {
         ANSWERS(stun_types_transaction_poll(transaction, it->time, &action), OK_ANSWER);
         last_time = it->time;
+        if (latest < it->time) latest = it->time;
+        if (action.kind == STUN_TYPES_SEND_NOW) sent_at = latest;
+        CHECK(transaction->clock == latest && transaction->last == sent_at);
         answer_action(&action);
     } else if (strcmp(it->name, "got") == 0) {
         stun_types_transaction before = *transaction;
@@ -196,6 +200,7 @@ static void run(void) {
     bool goes_on;
     bool is_protected = script.protection == STUN_TYPES_SHORT_TERM ||
                         script.protection == STUN_TYPES_LONG_TERM;
+    latest = sent_at = 0;
     if (is_protected && !make_key(&key, script.key, STUN_TYPES_INTEGRITY_ANY)) return;
     result = stun_types_transaction_begin(&transaction, script.request.bytes, script.request.length,
                                         &script.schedule, script.transport, script.protection,

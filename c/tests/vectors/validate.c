@@ -82,10 +82,14 @@ static void key(void) {
     stun_types_integrity made_for = algorithm_of(word == NULL ? "" : word);
     stun_types_validated *validated = NEW(stun_types_validated);
     slice bytes = call_octets(), octets = call_octets();
-    stun_types_key made = STUN_TYPES_NO_KEY_YET;
-    if (make_key(&made, bytes, made_for))
-        answer_verdict(by_key(octets, &made, validated), validated);
+    stun_types_key made = STUN_TYPES_NO_KEY_YET, copy = STUN_TYPES_NO_KEY_YET;
+    if (make_key(&made, bytes, made_for) && is_taken(stun_types_key_copy(&copy, &made))) {
+        stun_types_answer result = by_key(octets, &made, validated);
+        answer_verdict(result, validated);
+        CHECK(is_same_answer(result, by_key(octets, &copy, validated)));
+    }
     stun_types_key_free(&made);
+    stun_types_key_free(&copy);
 }
 
 const verb verbs_of_validate[] = {

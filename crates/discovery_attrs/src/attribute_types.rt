@@ -26,6 +26,21 @@ pub const RESPONSE_ORIGIN: u16 = 0x802B;
 pub const OTHER_ADDRESS: u16 = 0x802C;
 
 /// The types of the attributes of NAT discovery, for `Message::check_attribute_types`.
+///
+/// # Examples
+///
+/// ```
+/// use discovery_attrs::KNOWN;
+/// use stun_types::message::{Message, MessageWriteVec};
+///
+/// // A request for a response from another IP address and another port.
+/// let request = Message::from_bytes(
+///     b"\x00\x01\x00\x08\x21\x12\xA4\x42\xB7\xE7\xA7\x01\xBC\x34\xD6\x86\xFA\x87\xDF\xAE\
+///       \x00\x03\x00\x04\x00\x00\x00\x06",
+/// )?;
+/// let reply = MessageWriteVec::new(alloc);
+/// assert!(rt; Message::check_attribute_types(alloc, &request, &KNOWN, &[], reply)?.is_none());
+/// ```
 pub const KNOWN: [AttributeType; 7] = [
     AttributeType(MAPPED_ADDRESS),
     AttributeType(CHANGE_REQUEST),
@@ -41,9 +56,16 @@ pub const KNOWN: [AttributeType; 7] = [
 /// that makes the registry itself and returns a `Result`; it returns from it with `OutOfMemory` if
 /// an allocation fails.
 ///
+/// # Examples
+///
 /// ```
+/// use discovery_attrs::ResponseOrigin;
+/// use stun_types::prelude::*;
+/// use stun_types::show::Registry;
+///
 /// let mut registry = Registry::new(alloc);
 /// discovery_attrs::register!(registry);
+/// assert_eq!(rt; registry.name(ResponseOrigin::TYPE), "RESPONSE-ORIGIN");
 /// ```
 #[macro_export]
 macro_rules! register {

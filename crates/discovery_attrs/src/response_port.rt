@@ -18,6 +18,17 @@ impl ResponsePort {
     ghost use Rattle.discovery_attrs.specs.Discovery.{port_of};
 
     /// Makes the attribute of this port.
+    ///
+    /// # Examples
+    ///
+    /// ```
+    /// use discovery_attrs::ResponsePort;
+    /// use stun_types::prelude::*;
+    ///
+    /// let mut bytes = [0; 8];
+    /// assert_eq!(rt; ResponsePort::new(3478).write_into(&mut bytes), Ok(8));
+    /// assert_eq!(rt; bytes, [0x00, 0x27, 0x00, 0x04, 0x0D, 0x96, 0x00, 0x00]);
+    /// ```
     pub fn new(port: u16) -> Self
         ensures { port_of result ≡ port }
     {

@@ -16,6 +16,24 @@ pub const ICE_CONTROLLED: u16 = 0x8029;
 pub const ICE_CONTROLLING: u16 = 0x802A;
 
 /// The types of the attributes of ICE, for `Message::check_attribute_types`.
+///
+/// # Examples
+///
+/// ```
+/// use ice_attrs::KNOWN;
+/// use stun_types::message::{Message, MessageWriteVec};
+///
+/// // A check with a PRIORITY.
+/// let check = Message::from_bytes(
+///     b"\x00\x01\x00\x08\x21\x12\xA4\x42\xB7\xE7\xA7\x01\xBC\x34\xD6\x86\xFA\x87\xDF\xAE\
+///       \x00\x24\x00\x04\x6E\x00\x01\xFF",
+/// )?;
+/// let reply = MessageWriteVec::new(alloc);
+/// assert!(rt; Message::check_attribute_types(alloc, &check, &KNOWN, &[], reply)?.is_none());
+/// // An agent that didn't understand PRIORITY would answer with error 420.
+/// let reply = MessageWriteVec::new(alloc);
+/// assert!(rt; Message::check_attribute_types(alloc, &check, &[], &[], reply)?.is_some());
+/// ```
 pub const KNOWN: [AttributeType; 4] = [
     AttributeType(PRIORITY),
     AttributeType(USE_CANDIDATE),
@@ -28,9 +46,16 @@ pub const KNOWN: [AttributeType; 4] = [
 /// makes the registry itself and returns a `Result`; it returns from it with `OutOfMemory` if an
 /// allocation fails.
 ///
+/// # Examples
+///
 /// ```
+/// use ice_attrs::Priority;
+/// use stun_types::prelude::*;
+/// use stun_types::show::Registry;
+///
 /// let mut registry = Registry::new(alloc);
 /// ice_attrs::register!(registry);
+/// assert_eq!(rt; registry.name(Priority::TYPE), "PRIORITY");
 /// ```
 #[macro_export]
 macro_rules! register {

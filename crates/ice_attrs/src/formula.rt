@@ -15,6 +15,18 @@ use stun_types::message::StunWriteError;
 /// - `OutOfRange { value: component, min: 1, max: 256 }`;
 /// - `OutOfRange { value: 0, min: 1, max: 2147483647 }` for 0, 0 and 256, of which the formula
 ///   makes 0: a priority is 1 to 2^31 - 1 (section 5.1.2).
+///
+/// # Examples
+///
+/// ```
+/// use ice_attrs::priority;
+///
+/// // The first component of a host candidate, and of a server-reflexive one, whose types have the
+/// // recommended preferences (RFC 8445, section 5.1.2.2).
+/// assert_eq!(rt; priority(126, 65535, 1), Ok(2130706431));
+/// assert_eq!(rt; priority(100, 65535, 1), Ok(1694498815));
+/// assert!(rt; priority(127, 65535, 1).is_err());
+/// ```
 pub fn priority(
     type_preference: u8,
     local_preference: u16,
@@ -47,6 +59,18 @@ const GREATEST_PRIORITY: u32 = 0x7FFF_FFFF;
 ///
 /// `OutOfRange { value, min: 1, max: 2147483647 }` for the first of the two that is no priority of
 /// a candidate (section 5.1.2).
+///
+/// # Examples
+///
+/// ```
+/// use ice_attrs::pair_priority;
+///
+/// // The host candidate of the one agent, and the server-reflexive one of the other.
+/// let (host, reflexive) = (2130706431, 1694498815);
+/// assert_eq!(rt; pair_priority(host, reflexive), Ok(7277816997797167103));
+/// assert_eq!(rt; pair_priority(reflexive, host), Ok(7277816997797167102));
+/// assert!(rt; pair_priority(host, 0).is_err());
+/// ```
 pub fn pair_priority(controlling: u32, controlled: u32) -> Result<u64, StunWriteError>
     ensures { MatchResult result
         (λ priority. (pair_fault controlling controlled ≡ None)

@@ -35,8 +35,8 @@ impl Role {
 pub enum RoleDecision {
     /// The agent keeps its role and answers the check, since there is no conflict.
     Keep,
-    /// The agent switches to the other role and answers the check. It computes the priorities of its
-    /// pairs again.
+    /// The agent switches to the other role and answers the check. It computes the priorities of
+    /// its pairs again.
     Switch,
     /// The agent keeps its role and answers with error 487 (Role Conflict).
     Refuse,
@@ -48,6 +48,15 @@ impl RoleDecision {
 
     /// Returns the code of the error response: 487 (Role Conflict) for `Refuse`, and `None` for a
     /// success response.
+    ///
+    /// # Examples
+    ///
+    /// ```
+    /// use ice_attrs::{ROLE_CONFLICT, RoleDecision};
+    ///
+    /// assert_eq!(rt; RoleDecision::Refuse.error_code(), Some(ROLE_CONFLICT));
+    /// assert_eq!(rt; RoleDecision::Switch.error_code(), None);
+    /// ```
     pub fn error_code(self) -> Option<u16>
         ensures { result ≡ refusal_code self }
     {
@@ -66,11 +75,17 @@ impl RoleDecision {
 /// that have one role the one with the greater tiebreaker ends as the controlling one, whichever
 /// sends the first check ([`greater_tiebreaker_controls`](crate::greater_tiebreaker_controls)).
 ///
+/// # Examples
+///
 /// ```
-/// let decision = decide_role(role, tiebreaker, Role::Controlling, check.value());
-/// if decision == RoleDecision::Switch {
-///     role = role.other();
-/// }
+/// use ice_attrs::{Role, RoleDecision, decide_role};
+///
+/// // Two controlling agents: the one with the greater tiebreaker keeps its role.
+/// let controlling = Role::Controlling;
+/// assert_eq!(rt; decide_role(controlling, 9, controlling, 5), RoleDecision::Refuse);
+/// assert_eq!(rt; decide_role(controlling, 5, controlling, 9), RoleDecision::Switch);
+/// // The agents agree.
+/// assert_eq!(rt; decide_role(controlling, 5, Role::Controlled, 9), RoleDecision::Keep);
 /// ```
 pub fn decide_role(role: Role, tiebreaker: u64, shown: Role, contents: u64) -> RoleDecision
     ensures { result ≡ role_decision role tiebreaker shown contents }

@@ -113,9 +113,10 @@ fn add_credentials<B: MessageWrite>(
 }
 
 /// Answers a challenge (RFC 8489, section 9.2.5): after the attributes that a request has already,
-/// adds USERNAME, or USERHASH if the challenge asks for it, REALM and NONCE, and PASSWORD-ALGORITHMS
-/// and PASSWORD-ALGORITHM if it has a list; signs all of it; and adds a FINGERPRINT if `fingerprint`
-/// is `true`. Returns the key, which protects the transaction of the request.
+/// adds USERNAME, or USERHASH if the challenge asks for it, REALM and NONCE, and
+/// PASSWORD-ALGORITHMS and PASSWORD-ALGORITHM if it has a list; signs all of it; and adds a
+/// FINGERPRINT if `fingerprint` is `true`. Returns the key, which protects the transaction of the
+/// request.
 ///
 /// The request has a new transaction ID. Later requests to the server carry the same, until it asks
 /// for other credentials or another nonce (section 9.2.3.2), so this call writes them too.

@@ -19,8 +19,8 @@ use stun_values::{address_length, write_address};
 const LENGTH: usize = 93;
 
 /// Makes nonces that the server doesn't store, and recognizes them: a nonce contains the time at
-/// which it was made, and an HMAC-SHA256, under the server's secret, of its nonce cookie, that time,
-/// and the client's address and port.
+/// which it was made, and an HMAC-SHA256, under the server's secret, of its nonce cookie, that
+/// time, and the client's address and port.
 ///
 /// A nonce is 93 characters: the cookie, 13; the time in seconds, 16 hexadecimal digits; and the
 /// HMAC, 64. It is valid for its client alone, until its window is over, and for any number of

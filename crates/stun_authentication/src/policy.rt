@@ -22,8 +22,9 @@ pub struct Policy {
     /// The least length of the HMAC in a MESSAGE-INTEGRITY-SHA256, in bytes. A usage may say 16,
     /// 20, 24 or 28; otherwise it is 32 (RFC 8489, section 14.6).
     pub shortest: usize,
-    /// Whether the usage uses FINGERPRINT, as ICE does: a message without one is then discarded (RFC
-    /// 8489, sections 6.3 and 7). A message with a wrong one is no message for `Message::from_bytes`.
+    /// Whether the usage uses FINGERPRINT, as ICE does: a message without one is then discarded
+    /// (RFC 8489, sections 6.3 and 7). A message with a wrong one is no message for
+    /// `Message::from_bytes`.
     pub fingerprint: bool,
 }
 

@@ -28,6 +28,17 @@ pub struct WriteFailed;
 /// # Errors
 ///
 /// `TooLong` if there are more bytes, otherwise `ReadFailed` or `NoMemory`.
+///
+/// # Examples
+///
+/// ```
+/// use stun_framing::{InputError, read_all};
+///
+/// let mut input = b"0001 0000".as_slice();
+/// assert_eq!(rt; read_all(alloc, 1000, &mut input)?.as_slice(), b"0001 0000".as_slice());
+/// let mut input = b"0001 0000".as_slice();
+/// assert_eq!(rt; read_all(alloc, 8, &mut input).err(), Some(InputError::TooLong));
+/// ```
 pub fn read_all<R: Read>(alloc: Global, most: usize, reader: &mut R) -> Result<Vec<u8>, InputError>
     ensures { MatchResult result
         (λ input. ReadsAll most (R.remaining reader.old) (R.remaining reader.new) input.items)
@@ -62,6 +73,19 @@ pub fn read_all<R: Read>(alloc: Global, most: usize, reader: &mut R) -> Result<V
 /// # Errors
 ///
 /// `WriteFailed` if not all was written.
+///
+/// # Examples
+///
+/// ```
+/// use stun_framing::{WriteFailed, write_all};
+///
+/// let mut output = Vec::new(alloc);
+/// assert_eq!(rt; write_all(b"one message", &mut output), Ok(()));
+/// assert_eq!(rt; output.as_slice(), b"one message".as_slice());
+/// // A slice of four bytes takes no more.
+/// let mut output = [0; 4];
+/// assert_eq!(rt; write_all(b"one message", &mut output.as_mut_slice()), Err(WriteFailed));
+/// ```
 pub fn write_all<W: Write>(bytes: &[u8], writer: &mut W) -> Result<(), WriteFailed>
     ensures { MatchResult result
         (λ _. Appends (W.contents writer.old) (W.contents writer.new) bytes.now)

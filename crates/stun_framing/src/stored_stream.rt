@@ -47,20 +47,36 @@ fn whole_length(gathered: Gathered) -> Option<usize>
 /// `None` if `held` isn't what a stream leaves, as for [`MessageStream::resume`]. `buffer` then
 /// stays as it was.
 ///
-/// ```
-/// let pushed = push_stored(Carries::Messages, &mut buffer, held, offset, piece)
-///     .ok_or(Error::BadArgument)??;
-/// (held, offset) = (pushed.pending, pushed.offset);
-/// rest = &piece[pushed.taken..];
-/// if let Some(length) = pushed.message {
-///     let message = Message::from_bytes(&buffer[..length])?;
-/// }
-/// ```
-///
 /// # Errors
 ///
 /// As for [`MessageStream::push`]. The bytes that were pending stay at the start of `buffer`. That
 /// the stream has ended is for the caller to keep: a further call looks at its own piece.
+///
+/// # Examples
+///
+/// ```
+/// use stun_framing::{Carries, push_stored};
+///
+/// // A binding request, whose bytes come in two pieces.
+/// let request = b"\x00\x01\x00\x00\x21\x12\xA4\x42\
+///                 \xB7\xE7\xA7\x01\xBC\x34\xD6\x86\xFA\x87\xDF\xAE";
+/// let mut buffer = [0; 1500];
+/// let (mut held, mut offset, mut messages) = (0, 0, 0);
+/// for piece in [&request[..7], &request[7..]] {
+///     let mut rest = piece;
+///     while !rest.is_empty() {
+///         let result = push_stored(Carries::Messages, &mut buffer, held, offset, rest);
+///         let pushed = result.ok_or("no stream left these numbers")??;
+///         (held, offset) = (pushed.pending, pushed.offset);
+///         rest = &rest[pushed.taken..];
+///         if let Some(length) = pushed.message {
+///             assert_eq!(rt; &buffer[..length], request.as_slice());
+///             messages += 1;
+///         }
+///     }
+/// }
+/// assert!(rt; messages == 1 && held == 0 && offset == 20);
+/// ```
 ///
 /// [`MessageStream::push`]: crate::MessageStream::push
 /// [`MessageStream::resume`]: crate::MessageStream::resume

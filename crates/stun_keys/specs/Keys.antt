@@ -77,11 +77,15 @@ serves (Some Sha1) Sha256 = false
 serves (Some Sha256) Sha1 = false
 serves (Some Sha256) Sha256 = true
 
+-- whether a key keeps hashers by each algorithm that one made for this works with
+abbrev pub is_prepared_for : Option IntegrityAlgorithm → IntegrityKey → Bool
+is_prepared_for algorithm key =
+    keeps key.prepared.both (serves algorithm Sha1) (serves algorithm Sha256)
+
 -- whether a key keeps hashers by each algorithm that it works with, so that its HMACs take none of
 -- its blocks again
 abbrev pub is_prepared : IntegrityKey → Bool
-is_prepared key =
-    keeps key.prepared.both (serves (key_algorithm key) Sha1) (serves (key_algorithm key) Sha256)
+is_prepared key = is_prepared_for (key_algorithm key) key
 
 -- username, realm and password, separated by colons
 abbrev pub long_term_text : (username realm password : List ℕ) → List ℕ

@@ -195,6 +195,17 @@ impl Protection {
     /// # Errors
     ///
     /// `OutOfMemory` alone. The protection works as before.
+    ///
+    /// # Examples
+    ///
+    /// ```
+    /// use stun_transactions::Protection;
+    /// use stun_types::message::IntegrityKey;
+    ///
+    /// let key = IntegrityKey::new(alloc, b"VOkJxbRl1RmTxUk/WvJxBt", None)?;
+    /// let mut protection = Protection::ShortTerm(key);
+    /// assert_eq!(rt; protection.prepare(alloc), Ok(()));
+    /// ```
     pub fn prepare(&mut self, alloc: Global) -> Result<(), StunWriteError>
         ensures same { HasSameKey self.old self.new }
         ensures prepared { OnOk result (has_prepared_key self.new ≡ true) }

@@ -78,6 +78,27 @@ impl TransactionParts {
     /// # Errors
     ///
     /// The first of these that applies: `SignedOtherwise`, `SentTooOften`, `SentTooLate`.
+    ///
+    /// # Examples
+    ///
+    /// ```
+    /// use std::time::Duration;
+    /// use stun_transactions::{PartsError, Protection, Schedule, Transaction, Usage};
+    /// use stun_types::TransportType;
+    /// use stun_types::message::Message;
+    ///
+    /// let request = Message::from_bytes(
+    ///     b"\x00\x01\x00\x00\x21\x12\xA4\x42\xB7\xE7\xA7\x01\xBC\x34\xD6\x86\xFA\x87\xDF\xAE",
+    /// )?;
+    /// let (schedule, usage) = (Schedule::new_default(), Usage::default());
+    /// let (udp, open, start) = (TransportType::Udp, Protection::Unprotected, Duration::ZERO);
+    /// let transaction = Transaction::new(&request, schedule, udp, open, usage, start)?;
+    /// let (mut parts, _key) = transaction.into_parts();
+    /// assert_eq!(rt; parts.check(), Ok(()));
+    /// // The schedule has seven requests.
+    /// parts.sent = 8;
+    /// assert_eq!(rt; parts.check(), Err(PartsError::SentTooOften));
+    /// ```
     pub fn check(&self) -> Result<(), PartsError>
         ensures { MatchResult result (λ _. parts_fault self.now ≡ None)
             (λ e. parts_fault self.now ≡ Some e) }
@@ -109,6 +130,27 @@ impl TransactionParts {
 
     /// Returns what the caller has to do now, as [`Transaction::poll`](crate::Transaction::poll)
     /// does; it needs no key.
+    ///
+    /// # Examples
+    ///
+    /// ```
+    /// use std::time::Duration;
+    /// use stun_transactions::{Action, Protection, Schedule, Transaction, Usage};
+    /// use stun_types::TransportType;
+    /// use stun_types::message::Message;
+    ///
+    /// let request = Message::from_bytes(
+    ///     b"\x00\x01\x00\x00\x21\x12\xA4\x42\xB7\xE7\xA7\x01\xBC\x34\xD6\x86\xFA\x87\xDF\xAE",
+    /// )?;
+    /// let (schedule, usage) = (Schedule::new_default(), Usage::default());
+    /// let (udp, open, start) = (TransportType::Udp, Protection::Unprotected, Duration::ZERO);
+    /// let transaction = Transaction::new(&request, schedule, udp, open, usage, start)?;
+    /// let (mut parts, key) = transaction.into_parts();
+    /// assert_eq!(rt; parts.poll(start), Action::Send);
+    /// // The transaction continues where its parts are.
+    /// let mut transaction = Transaction::from_parts(parts, key)?;
+    /// assert_eq!(rt; transaction.poll(start), Action::WaitUntil(Duration::from_millis(500)));
+    /// ```
     pub fn poll(&mut self, now: Duration) -> Action
         ensures polls { Polls (plan_in self.old) (state_in self.old) now result
             (state_in self.new) }

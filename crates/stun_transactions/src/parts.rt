@@ -45,8 +45,8 @@ pub enum PartsError {
     KeyForOneAlgorithm,
 }
 
-/// A transaction without its key: what it was begun with, and how far it has come, for a caller that
-/// stores it in its own representation.
+/// A transaction without its key: what it was begun with, and how far it has come, for a caller
+/// that stores it in its own representation.
 #[derive(Clone, Copy, Debug, PartialEq, Eq)]
 pub struct TransactionParts {
     /// The schedule by which the request is sent.

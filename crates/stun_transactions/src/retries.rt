@@ -4,11 +4,15 @@
 /// the server asks for credentials. A server or an attacker may answer 438 without end, and RFC
 /// 8489, section 9.2.5, has the client retry each time.
 ///
+/// # Examples
+///
 /// ```
+/// use stun_transactions::Retries;
+///
 /// let mut retries = Retries::default();
-/// if !retries.take() {
-///     return Err(Error::TooManyChallenges);
-/// }
+/// assert!(rt; retries.take() && retries.take() && retries.take());
+/// // The fourth challenge isn't answered.
+/// assert!(rt; !retries.take());
 /// ```
 #[derive(Clone, Copy, Debug, PartialEq, Eq)]
 pub struct Retries {

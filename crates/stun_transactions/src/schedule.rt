@@ -83,9 +83,22 @@ impl Schedule {
     ///
     /// # Errors
     ///
-    /// `Zero` if one of the numbers is 0, `TooLong` if the end of the transaction needs more
-    /// than 64 bits: it is `rto * (2 ^ (max_requests - 1) - 1 + last_wait_factor)` milliseconds after
+    /// `Zero` if one of the numbers is 0, `TooLong` if the end of the transaction needs more than
+    /// 64 bits: it is `rto * (2 ^ (max_requests - 1) - 1 + last_wait_factor)` milliseconds after
     /// the first request.
+    ///
+    /// # Examples
+    ///
+    /// ```
+    /// use stun_transactions::{Schedule, ScheduleError};
+    ///
+    /// // RTO, Rc and Rm as RFC 8489 recommends them.
+    /// assert_eq!(rt; Schedule::new(500, 7, 16), Ok(Schedule::new_default()));
+    /// // Half a second for the first response, and a second for the second one.
+    /// let schedule = Schedule::new(500, 2, 2)?;
+    /// assert_eq!(rt; schedule.end(), 1500);
+    /// assert_eq!(rt; Schedule::new(500, 0, 16), Err(ScheduleError::Zero));
+    /// ```
     pub fn new(
         rto: u64,
         max_requests: u32,
@@ -112,6 +125,17 @@ impl Schedule {
 
     /// Returns this schedule with another timeout over a reliable transport, in milliseconds (Ti of
     /// RFC 8489, section 6.2.2).
+    ///
+    /// # Examples
+    ///
+    /// ```
+    /// use stun_transactions::Schedule;
+    ///
+    /// let schedule = Schedule::new_default().with_reliable_timeout(10000);
+    /// assert_eq!(rt; schedule.reliable_timeout(), 10000);
+    /// // Over UDP nothing changes.
+    /// assert_eq!(rt; schedule.end(), 39500);
+    /// ```
     pub fn with_reliable_timeout(self, reliable_timeout: u64) -> Schedule
         ensures { IsSchedule self.rto self.max_requests self.last_wait_factor reliable_timeout result }
     {
@@ -163,6 +187,20 @@ impl Schedule {
     /// Returns when request number `n`, counted from 0, is sent over an unreliable transport if
     /// every poll is in time: in milliseconds from the first request. `None` if there is no such
     /// request.
+    ///
+    /// # Examples
+    ///
+    /// ```
+    /// use stun_transactions::Schedule;
+    ///
+    /// // The times of the example in section 6.2.1 of RFC 8489.
+    /// let schedule = Schedule::new_default();
+    /// assert_eq!(rt; schedule.moment(0), Some(0));
+    /// assert_eq!(rt; schedule.moment(1), Some(500));
+    /// assert_eq!(rt; schedule.moment(2), Some(1500));
+    /// assert_eq!(rt; schedule.moment(6), Some(31500));
+    /// assert_eq!(rt; schedule.moment(7), None);
+    /// ```
     #[tactic(auto, using(crate::proofs::RowsLemmas::moment_fits, crate::proofs::RowsLemmas::pow_fits, crate::proofs::RowsLemmas::moment_at))]
     pub fn moment(&self, n: u32) -> Option<u64>
         ensures { MatchOption result
@@ -190,6 +228,14 @@ impl Schedule {
 
     /// Returns when the transaction ends over an unreliable transport if every poll is in time: in
     /// milliseconds from the first request.
+    ///
+    /// # Examples
+    ///
+    /// ```
+    /// use stun_transactions::Schedule;
+    ///
+    /// assert_eq!(rt; Schedule::new_default().end(), 39500);
+    /// ```
     #[tactic(auto, using(crate::proofs::RowsLemmas::pow_fits))]
     pub fn end(&self) -> u64
         ensures { result ≡ row_end self.now.rto self.now.max_requests self.now.last_wait_factor }
@@ -199,6 +245,17 @@ impl Schedule {
     }
 
     /// Returns the greatest number of requests that are sent over a transport.
+    ///
+    /// # Examples
+    ///
+    /// ```
+    /// use stun_transactions::Schedule;
+    /// use stun_types::TransportType;
+    ///
+    /// let schedule = Schedule::new_default();
+    /// assert_eq!(rt; schedule.requests_over(TransportType::Udp), 7);
+    /// assert_eq!(rt; schedule.requests_over(TransportType::Tcp), 1);
+    /// ```
     pub fn requests_over(&self, transport: TransportType) -> u32
         ensures { result ≡ requests_over self.now transport }
     {
@@ -210,6 +267,19 @@ impl Schedule {
 
     /// Returns for how many milliseconds nothing is done over a transport once `sent` requests were
     /// sent: 0 before the first.
+    ///
+    /// # Examples
+    ///
+    /// ```
+    /// use stun_transactions::Schedule;
+    /// use stun_types::TransportType;
+    ///
+    /// let schedule = Schedule::new_default();
+    /// assert_eq!(rt; schedule.wait_over(TransportType::Udp, 1), 500);
+    /// assert_eq!(rt; schedule.wait_over(TransportType::Udp, 2), 1000);
+    /// // After the last request: 16 times RTO.
+    /// assert_eq!(rt; schedule.wait_over(TransportType::Udp, 7), 8000);
+    /// ```
     #[tactic(auto, using(crate::proofs::RowsLemmas::wait_fits, crate::proofs::RowsLemmas::pow_fits))]
     pub fn wait_over(&self, transport: TransportType, sent: u32) -> u64
         ensures { result ≡ wait_over self.now transport sent }
@@ -227,6 +297,18 @@ impl Schedule {
     /// Returns for how many milliseconds a response is still waited for once `sent` requests were
     /// sent, and no further one is: as long as the transaction would have gone on, and 0 before the
     /// first.
+    ///
+    /// # Examples
+    ///
+    /// ```
+    /// use stun_transactions::Schedule;
+    /// use stun_types::TransportType;
+    ///
+    /// // The transaction would end after 39500 ms. The second request was sent at 500 ms.
+    /// let schedule = Schedule::new_default();
+    /// assert_eq!(rt; schedule.rest_over(TransportType::Udp, 1), 39500);
+    /// assert_eq!(rt; schedule.rest_over(TransportType::Udp, 2), 39000);
+    /// ```
     pub fn rest_over(&self, transport: TransportType, sent: u32) -> u64
         ensures { result ≡ rest_over self.now transport sent }
     {

@@ -22,6 +22,35 @@ use stun_types::message::{Message, TransactionId};
 /// bytes of the requests, and sends the one whose ID [`Transactions::poll`] returns. A transaction
 /// keeps its slot and its ID until `poll` has returned its end. Each call looks at up to `N` slots:
 /// this is meant for an `N` of at most 64.
+///
+/// # Examples
+///
+/// ```
+/// use std::time::Duration;
+/// use stun_transactions::{
+///     Protection, Received, Schedule, Task, TransactionEnd, Transactions, Usage,
+/// };
+/// use stun_types::TransportType;
+/// use stun_types::message::Message;
+///
+/// let request = Message::from_bytes(
+///     b"\x00\x01\x00\x00\x21\x12\xA4\x42\xB7\xE7\xA7\x01\xBC\x34\xD6\x86\xFA\x87\xDF\xAE",
+/// )?;
+/// let (schedule, usage) = (Schedule::new_default(), Usage::default());
+/// let (udp, open, start) = (TransportType::Udp, Protection::Unprotected, Duration::ZERO);
+/// let mut transactions = Transactions::<16>::new();
+/// transactions.begin(&request, schedule, udp, open, usage, start)?;
+/// let id = request.transaction_id();
+/// assert_eq!(rt; transactions.poll(start), Task::Send(id));
+/// assert_eq!(rt; transactions.poll(start), Task::WaitUntil(Duration::from_millis(500)));
+/// let response = b"\x01\x01\x00\x0C\x21\x12\xA4\x42\
+///                  \xB7\xE7\xA7\x01\xBC\x34\xD6\x86\xFA\x87\xDF\xAE\
+///                  \x00\x20\x00\x08\x00\x01\xA1\x47\xE1\x12\xA6\x43";
+/// let received = transactions.receive(response, &[]);
+/// assert!(rt; matches!(received, Some((found, Received::Success(_, None))) if found == id));
+/// assert_eq!(rt; transactions.poll(start), Task::Ended(id, TransactionEnd::Answered));
+/// assert_eq!(rt; transactions.poll(start), Task::Idle);
+/// ```
 #[derive(Debug, Drop)]
 pub struct Transactions<const N: usize> {
     slots: [Option<Transaction>; N],
@@ -67,6 +96,27 @@ impl<const N: usize> Transactions<N> {
     /// - `InUse` if there is a transaction with the request's ID, also one that has ended and whose
     ///   end no poll has returned yet;
     /// - `Full` if there are `N` transactions.
+    ///
+    /// # Examples
+    ///
+    /// ```
+    /// use std::time::Duration;
+    /// use stun_transactions::Protection::Unprotected;
+    /// use stun_transactions::{AddError, Schedule, Transactions, Usage};
+    /// use stun_types::TransportType::Udp;
+    /// use stun_types::message::Message;
+    ///
+    /// let request = Message::from_bytes(
+    ///     b"\x00\x01\x00\x00\x21\x12\xA4\x42\xB7\xE7\xA7\x01\xBC\x34\xD6\x86\xFA\x87\xDF\xAE",
+    /// )?;
+    /// let (schedule, usage, start) = (Schedule::new_default(), Usage::default(), Duration::ZERO);
+    /// let mut transactions = Transactions::<16>::new();
+    /// let begun = transactions.begin(&request, schedule, Udp, Unprotected, usage, start);
+    /// assert_eq!(rt; begun, Ok(()));
+    /// // Another request needs another transaction ID.
+    /// let begun = transactions.begin(&request, schedule, Udp, Unprotected, usage, start);
+    /// assert_eq!(rt; begun, Err(AddError::InUse));
+    /// ```
     pub fn begin(
         &mut self,
         request: &Message<'_>,
@@ -111,8 +161,8 @@ impl<const N: usize> Transactions<N> {
     /// Call it until it answers `WaitUntil` or `Idle`.
     ///
     /// - `Send(id)`: send the request with this ID, as for `Send` of [`Transaction::poll`].
-    /// - `Ended(id, end)`: this transaction has ended, or ends now since its time is up. Each end is
-    ///   returned once: the transaction is gone, and its slot and its ID are free.
+    /// - `Ended(id, end)`: this transaction has ended, or ends now since its time is up. Each end
+    ///   is returned once: the transaction is gone, and its slot and its ID are free.
     /// - `WaitUntil(time)`: nothing before `time`, which is the soonest moment at which one of them
     ///   has something to do, unless a message is received.
     /// - `Idle`: there is no transaction.

@@ -10,11 +10,16 @@ use stun_types::message::Message;
 /// The requirements of a STUN usage on the responses that a client takes: those of ICE's checks, of
 /// TURN, or of NAT discovery.
 ///
-/// `Usage::default()` is for a usage that specifies nothing: a MESSAGE-INTEGRITY-SHA256 must have 32
-/// bytes, and FINGERPRINT isn't required.
+/// `Usage::default()` is for a usage that specifies nothing: a MESSAGE-INTEGRITY-SHA256 must have
+/// 32 bytes, and FINGERPRINT isn't required.
+///
+/// # Examples
 ///
 /// ```
+/// use stun_transactions::Usage;
+///
 /// let ice = Usage { fingerprint: true, ..Usage::default() };
+/// assert_eq!(rt; ice.shortest, 32);
 /// ```
 #[derive(Clone, Copy, Debug, PartialEq, Eq)]
 pub struct Usage {

@@ -48,6 +48,21 @@ pub const THIRD_PARTY_AUTHORIZATION: u16 = 0x802E;
 pub const MOBILITY_TICKET: u16 = 0x8030;
 
 /// The types of the attributes of TURN, for `Message::check_attribute_types`.
+///
+/// # Examples
+///
+/// ```
+/// use stun_types::message::{Message, MessageWriteVec};
+/// use turn_attrs::KNOWN;
+///
+/// // An Allocate request with REQUESTED-TRANSPORT (UDP) and DONT-FRAGMENT.
+/// let request = Message::from_bytes(
+///     b"\x00\x03\x00\x0C\x21\x12\xA4\x42\xA5\x62\x50\xD3\xF1\x7A\xBE\x67\x94\x22\xDE\x85\
+///       \x00\x19\x00\x04\x11\x00\x00\x00\x00\x1A\x00\x00",
+/// )?;
+/// let reply = MessageWriteVec::new(alloc);
+/// assert!(rt; Message::check_attribute_types(alloc, &request, &KNOWN, &[], reply)?.is_none());
+/// ```
 pub const KNOWN: [AttributeType; 17] = [
     AttributeType(CHANNEL_NUMBER),
     AttributeType(LIFETIME),
@@ -73,9 +88,17 @@ pub const KNOWN: [AttributeType; 17] = [
 /// function that makes the registry itself and returns a `Result`; it returns from it with
 /// `OutOfMemory` if an allocation fails.
 ///
+/// # Examples
+///
 /// ```
+/// use stun_types::prelude::*;
+/// use stun_types::show::Registry;
+/// use turn_attrs::{ChannelNumber, methods};
+///
 /// let mut registry = Registry::new(alloc);
 /// turn_attrs::register!(registry);
+/// assert_eq!(rt; registry.name(ChannelNumber::TYPE), "CHANNEL-NUMBER");
+/// assert_eq!(rt; registry.method_name(methods::ALLOCATE), "ALLOCATE");
 /// ```
 #[macro_export]
 macro_rules! register {

@@ -76,6 +76,18 @@ fn read_channel(bytes: &[u8]) -> Result<Channel, ChannelDataError>
 /// # Errors
 ///
 /// `NotChannelData` if the first byte is none of 0x40 to 0x4F.
+///
+/// # Examples
+///
+/// ```
+/// use turn_attrs::{ChannelDataError, channel_data_length};
+///
+/// // Five bytes of data on the channel 0x4001: four bytes, the data, and three of padding.
+/// assert_eq!(rt; channel_data_length(b"\x40\x01\x00\x05he"), Ok(Some(12)));
+/// assert_eq!(rt; channel_data_length(b"\x40\x01"), Ok(None));
+/// // A STUN message begins with 0 to 3.
+/// assert_eq!(rt; channel_data_length(b"\x00"), Err(ChannelDataError::NotChannelData));
+/// ```
 pub fn channel_data_length(prefix: &[u8]) -> Result<Option<usize>, ChannelDataError>
     ensures { MatchResult result
         (λ told. MatchOption told
@@ -105,6 +117,17 @@ impl<'a> ChannelData<'a> {
     /// # Errors
     ///
     /// `TooLarge { expected: 65535, actual }` if there are more than 65535 bytes.
+    ///
+    /// # Examples
+    ///
+    /// ```
+    /// use turn_attrs::{Channel, ChannelData};
+    ///
+    /// let channel = Channel::new(0x4001).ok_or("no channel")?;
+    /// let message = ChannelData::new(channel, b"hello")?;
+    /// assert!(rt; message.length() == 9 && message.padded_len() == 12);
+    /// assert!(rt; ChannelData::new(channel, &[0; 65536]).is_err());
+    /// ```
     pub fn new(channel: Channel, bytes: &'a [u8]) -> Result<Self, StunWriteError>
         ensures ok { length bytes.now ≤ 65535 → IsOkAnd result (IsData channel bytes.now) }
         ensures large { 65535 < length bytes.now
@@ -131,6 +154,17 @@ impl<'a> ChannelData<'a> {
     /// - `Truncated { expected: 4, actual }` if there are fewer than four bytes;
     /// - `Truncated { expected, actual }` if there are fewer than four bytes and the data;
     /// - `TooLarge { expected, actual }` if there are more than that, padded to a multiple of 4.
+    ///
+    /// # Examples
+    ///
+    /// ```
+    /// use turn_attrs::{ChannelData, ChannelDataError};
+    ///
+    /// let message = ChannelData::from_bytes(b"\x40\x01\x00\x05hello")?;
+    /// assert!(rt; message.channel().number() == 0x4001 && message.data() == b"hello".as_slice());
+    /// let cut = ChannelDataError::Truncated { expected: 9, actual: 7 };
+    /// assert_eq!(rt; ChannelData::from_bytes(b"\x40\x01\x00\x05hel").err(), Some(cut));
+    /// ```
     pub fn from_bytes(bytes: &'a [u8]) -> Result<Self, ChannelDataError>
         ensures { MatchResult result
             (λ read. (channel_fault bytes.now ≡ None) × IsIn bytes.now read)
@@ -192,6 +226,17 @@ impl<'a> ChannelData<'a> {
     ///
     /// `TooSmall { expected, actual }` if `dest` has fewer bytes than that; they are unchanged
     /// then.
+    ///
+    /// # Examples
+    ///
+    /// ```
+    /// use turn_attrs::{Channel, ChannelData};
+    ///
+    /// let channel = Channel::new(0x4001).ok_or("no channel")?;
+    /// let mut datagram = [0; 1500];
+    /// let length = ChannelData::new(channel, b"hello")?.write_into(&mut datagram)?;
+    /// assert_eq!(rt; &datagram[..length], b"\x40\x01\x00\x05hello".as_slice());
+    /// ```
     pub fn write_into(&self, dest: &mut [u8]) -> Result<usize, StunWriteError>
         ensures short { length dest.old < 4 + length (data_of self.now)
             → (result ≡ Err (StunWriteError.TooSmall (4 + length (data_of self.now))
@@ -214,6 +259,17 @@ impl<'a> ChannelData<'a> {
     ///
     /// `TooSmall { expected, actual }` if `dest` has fewer bytes than that; they are unchanged
     /// then.
+    ///
+    /// # Examples
+    ///
+    /// ```
+    /// use turn_attrs::{Channel, ChannelData};
+    ///
+    /// let channel = Channel::new(0x4001).ok_or("no channel")?;
+    /// let mut bytes = [0xFF; 16];
+    /// let length = ChannelData::new(channel, b"hello")?.write_padded_into(&mut bytes)?;
+    /// assert_eq!(rt; &bytes[..length], b"\x40\x01\x00\x05hello\x00\x00\x00".as_slice());
+    /// ```
     pub fn write_padded_into(&self, dest: &mut [u8]) -> Result<usize, StunWriteError>
         ensures short { length dest.old < padded_length (4 + length (data_of self.now))
             → (result ≡ Err (StunWriteError.TooSmall (padded_length (4 + length (data_of self.now)))

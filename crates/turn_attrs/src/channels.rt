@@ -27,6 +27,15 @@ impl Channel {
     ghost use Rattle.turn_attrs.specs.Channels.{channel_of};
 
     /// Returns the channel of this number; `None` if it is below 0x4000 or above 0x4FFF.
+    ///
+    /// # Examples
+    ///
+    /// ```
+    /// use turn_attrs::Channel;
+    ///
+    /// assert!(rt; Channel::new(0x4FFF).is_some_and(|channel| channel.number() == 0x4FFF));
+    /// assert!(rt; Channel::new(0x3FFF).is_none() && Channel::new(0x5000).is_none());
+    /// ```
     pub fn new(number: u16) -> Option<Channel>
         ensures { result ≡ channel_of number }
     {

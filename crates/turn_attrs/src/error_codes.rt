@@ -30,6 +30,16 @@ pub const INSUFFICIENT_CAPACITY: u16 = 508;
 
 /// Returns the reason that the RFCs give with a code of TURN, to the letter; `None` for another
 /// code.
+///
+/// # Examples
+///
+/// ```
+/// use turn_attrs::error_codes;
+///
+/// assert_eq!(rt; error_codes::reason(437), Some("Allocation Mismatch"));
+/// // 401 is a code of STUN, and not of TURN.
+/// assert_eq!(rt; error_codes::reason(401), None);
+/// ```
 pub fn reason(code: u16) -> Option<&'static str>
     ensures { option_map (λ reason. reason.now) result ≡ reason_of code }
 {

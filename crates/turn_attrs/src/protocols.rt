@@ -30,6 +30,19 @@ pub enum Protocol {
 ///
 /// 64 to 79 is a TURN channel in what comes from a TURN server that the agent uses, and QUIC in
 /// what comes from another host (RFC 9443, section 3).
+///
+/// # Examples
+///
+/// ```
+/// use turn_attrs::{Protocol, protocol_of};
+///
+/// // A binding request begins with 0, a DTLS handshake with 22, and an RTP packet with 128.
+/// assert_eq!(rt; protocol_of(0), Some(Protocol::Stun));
+/// assert_eq!(rt; protocol_of(22), Some(Protocol::Dtls));
+/// assert_eq!(rt; protocol_of(128), Some(Protocol::Rtp));
+/// assert_eq!(rt; protocol_of(0x40), Some(Protocol::TurnChannel));
+/// assert_eq!(rt; protocol_of(4), None);
+/// ```
 pub const fn protocol_of(first_byte: u8) -> Option<Protocol>
     ensures { result ≡ protocol first_byte }
 {

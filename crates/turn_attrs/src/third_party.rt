@@ -22,6 +22,18 @@ impl ThirdPartyAuthorization {
     ///
     /// `TooLarge { expected: 65535, actual }` if the name has more than 65535 bytes, and
     /// `OutOfMemory` if an allocation failed.
+    ///
+    /// # Examples
+    ///
+    /// ```
+    /// use stun_types::prelude::*;
+    /// use turn_attrs::ThirdPartyAuthorization;
+    ///
+    /// let attribute = ThirdPartyAuthorization::new(alloc, "turn.example")?;
+    /// let mut bytes = [0; 16];
+    /// assert_eq!(rt; attribute.write_into(&mut bytes), Ok(16));
+    /// assert_eq!(rt; &bytes, b"\x80\x2E\x00\x0Cturn.example");
+    /// ```
     pub fn new(alloc: Global, name: &str) -> Result<Self, StunWriteError>
         ensures ok { IfOk result (λ made. server_name made ≡ name.now) }
         ensures large { 65535 < length name.now

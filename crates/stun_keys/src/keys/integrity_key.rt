@@ -66,7 +66,7 @@ impl IntegrityKey {
     ghost use Rattle.stun_grammar.specs.Hmac.{hmac};
     ghost use Rattle.stun_keys.specs.Blocks.{blocks_over, ready_blocks};
     ghost use Rattle.stun_keys.specs.Prepared.{ArePrepared, are_there};
-    ghost use Rattle.stun_keys.specs.Keys.{key_bytes, key_algorithm, serves, is_prepared, IsKey};
+    ghost use Rattle.stun_keys.specs.Keys.{key_bytes, key_algorithm, serves, is_prepared, is_prepared_for, IsKey};
 
     /// A key with the bytes `bytes`, made for an algorithm or with none. The bytes are copied, and
     /// the blocks of its HMACs are made, in one allocation by `alloc`. For a key that makes more
@@ -181,7 +181,8 @@ impl IntegrityKey {
 
     /// Converts the key into one with no algorithm, which works with both. RFC 8489 ties a
     /// long-term key to a password algorithm and not to an HMAC (section 18.5.1): the MD5 of
-    /// `username:realm:password` may be the key of an HMAC-SHA256 too. Nothing is copied.
+    /// `username:realm:password` may be the key of an HMAC-SHA256 too. Nothing is
+    /// copied, and what was prepared stays so.
     ///
     /// # Examples
     ///
@@ -193,13 +194,15 @@ impl IntegrityKey {
     /// assert!(rt; key.serves(IntegrityAlgorithm::Sha256));
     /// ```
     pub fn for_both(self) -> Self
-        ensures { IsKey None (key_bytes self) result }
+        ensures key { IsKey None (key_bytes self) result }
+        ensures prepared { is_prepared result ≡ is_prepared_for None self }
     {
         self.made_for(None)
     }
 
     /// Converts the key into one made for the algorithm `algorithm`, or with none: so a validation
-    /// with it looks at the integrity attribute of that algorithm alone. Nothing is copied.
+    /// with it looks at the integrity attribute of that algorithm alone. Nothing is
+    /// copied, and a key that is prepared for what it then works with stays prepared.
     ///
     /// # Examples
     ///
@@ -211,7 +214,8 @@ impl IntegrityKey {
     /// assert_eq!(rt; key.algorithm(), Some(IntegrityAlgorithm::Sha256));
     /// ```
     pub fn made_for(self, algorithm: Option<IntegrityAlgorithm>) -> Self
-        ensures { IsKey algorithm (key_bytes self) result }
+        ensures key { IsKey algorithm (key_bytes self) result }
+        ensures prepared { is_prepared result ≡ is_prepared_for algorithm self }
     {
         IntegrityKey {
             algorithm,
