@@ -1,7 +1,7 @@
 use crate::AttributeType;
 use thiserror::Error;
 
-/// Why bytes are not a STUN message, or not the expected attribute.
+/// The error of bytes that are not a STUN message, or not the expected attribute.
 ///
 /// `expected` and `actual` count bytes: `expected` is how many are needed (`Truncated`) or allowed
 /// (`TooLarge`), and `actual` is how many there are. If the header of an attribute in a message
@@ -37,7 +37,7 @@ pub enum StunParseError {
         /// How many there are.
         actual: usize,
     },
-    /// The message shows no attribute of this type.
+    /// The message shows no attribute of the type that was looked up.
     #[error("Missing attribute {0}")]
     MissingAttribute(AttributeType),
     /// An attribute follows an integrity attribute. No function of this library returns it.
@@ -63,13 +63,14 @@ pub enum StunParseError {
     OutOfMemory,
 }
 
-/// Why an attribute or a message is not made or not written.
+/// The error of an attribute or a message that is not made or not written.
 ///
 /// `expected` and `actual` count bytes. For an UNKNOWN-ATTRIBUTES and a PASSWORD-ALGORITHMS, which
 /// are made of a list, they count its entries.
 #[derive(Clone, Copy, Debug, PartialEq, Eq, Error)]
 pub enum StunWriteError {
-    /// The message already has an attribute of this type, which the new one may not follow.
+    /// The message already has an attribute of the type that is given, which the new one may not
+    /// follow.
     #[error("The attribute already exists in the message")]
     AttributeExists(AttributeType),
     /// The message already has a FINGERPRINT, which no attribute may follow.
@@ -156,7 +157,7 @@ impl From<StunParseError> for StunWriteError {
     }
 }
 
-/// Why an attribute whose type is known only at run time is not added.
+/// The error of an add whose attribute type is known only at run time.
 ///
 /// A call that takes an attribute of an ordinary type alone returns a [`StunWriteError`].
 #[derive(Clone, Copy, Debug, PartialEq, Eq, Error)]
@@ -181,7 +182,7 @@ impl From<StunWriteError> for AddError {
     }
 }
 
-/// Why a message does not validate.
+/// The error of a message that does not validate.
 #[derive(Clone, Copy, Debug, PartialEq, Eq, Error)]
 pub enum ValidateError {
     /// The message has no integrity attribute to check, its value has a wrong length, or an

@@ -72,6 +72,7 @@ pub trait MessageWriteExt: MessageWrite {
     /// let message = Message::builder(mtype, id, MessageWriteVec::new(alloc))?;
     /// assert!(rt; message.get_type() == mtype && message.transaction_id() == id);
     /// assert!(rt; message.class() == MessageClass::Indication && message.method() == BINDING);
+    /// assert!(rt; message.has_class(MessageClass::Indication) && message.has_method(BINDING));
     /// assert!(rt; !message.is_response());
     /// ```
     fn get_type(&self) -> MessageType
@@ -342,6 +343,25 @@ pub trait MessageWriteExt: MessageWrite {
     ///
     /// As for [`MessageWriteExt::add_message_integrity`], but `OutOfMemory` only if the
     /// attribute needs more than the ready room.
+    ///
+    /// # Examples
+    ///
+    /// ```
+    /// use stun_types::message::{
+    ///     BINDING, IntegrityAlgorithm, IntegrityKey, Message, MessageClass, MessageType,
+    ///     MessageWriteVec, TransactionId,
+    /// };
+    /// use stun_types::prelude::*;
+    ///
+    /// let key = IntegrityKey::new(alloc, b"secret", None)?;
+    /// let mtype = MessageType::from_class_method(MessageClass::Request, BINDING);
+    /// let write = MessageWriteVec::new(alloc);
+    /// let mut message = Message::builder(mtype, TransactionId::from(1000), write)?;
+    /// message.add_message_integrity_with_key(&key, IntegrityAlgorithm::Sha256)?;
+    /// assert_eq!(rt; &message.data()[20..24], [0, 0x1C, 0, 32].as_slice());
+    /// let again = message.add_message_integrity_with_key(&key, IntegrityAlgorithm::Sha256);
+    /// assert!(rt; again.is_err());
+    /// ```
     fn add_message_integrity_with_key(
         &mut self,
         key: &IntegrityKey,

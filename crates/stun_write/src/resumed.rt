@@ -51,8 +51,8 @@ impl ResumePoint {
         check_room(self.written, Some(slice.len()), added)
     }
 
-    /// Adds an attribute by its type and value to the message at this point, and returns how many
-    /// bytes it has then: the same as
+    /// Adds an attribute by its type and value to the message at the point, and returns the number
+    /// of bytes that the message has then: the same as
     /// [`MessageWriteExt::add_value`](crate::MessageWriteExt::add_value) by a writer that goes on
     /// here, without memory. What follows the message in `slice` stays as it was.
     ///
@@ -88,7 +88,8 @@ impl ResumePoint {
         Ok(self.written + added)
     }
 
-    /// As [`ResumePoint::add_value`], with a value that is encoded straight into the message.
+    /// Adds an attribute by its type and value to the message at the point, as
+    /// [`ResumePoint::add_value`] does; the value is encoded straight into the message.
     ///
     /// # Requires
     ///
@@ -131,6 +132,21 @@ impl ResumePoint {
     ///
     /// As for [`MessageWriteExt::add_message_integrity_with_key`], but never `OutOfMemory`. `slice`
     /// then stays as it was.
+    ///
+    /// # Examples
+    ///
+    /// ```
+    /// use stun_types::message::{IntegrityAlgorithm, IntegrityKey, Message, ResumePoint};
+    ///
+    /// let key = IntegrityKey::new(alloc, b"secret", None)?;
+    /// let mut slice = [0; 64];
+    /// slice[..20].copy_from_slice(b"\x00\x01\x00\x00\x21\x12\xA4\x42abcdefghijkl");
+    /// let (point, sha1) = (ResumePoint::check(&slice, 20)?, IntegrityAlgorithm::Sha1);
+    /// let written = point.add_message_integrity_with_key(&mut slice, &key, sha1)?;
+    /// assert_eq!(rt; written, 44);
+    /// let message = Message::from_bytes(&slice[..written])?;
+    /// assert_eq!(rt; message.validate_integrity_with_key(&key), Ok(sha1));
+    /// ```
     ///
     /// [`MessageWriteExt::add_message_integrity_with_key`]: crate::MessageWriteExt::add_message_integrity_with_key
     #[tactic(auto, using(stun_grammar::proofs::AddingRefusedLemmas::signing_barred, stun_grammar::proofs::AddingLemmas::hmac_padded))]
