@@ -210,7 +210,7 @@ impl ErrorCode {
         self.reason.as_str()
     }
 
-    /// The default reason of a code: of those with a constant
+    /// The default reason of a code: that of this table, and `Unknown` for every other number.
     ///
     /// | Code | Reason |
     /// |---|---|
@@ -231,8 +231,6 @@ impl ErrorCode {
     /// | 487 | `Role Conflict` |
     /// | 500 | `Server Error` |
     /// | 508 | `Insufficient Capacity` |
-    ///
-    /// and of every other number `Unknown`.
     ///
     /// # Examples
     ///
