@@ -4,28 +4,43 @@
 use stun_grammar::attribute_types;
 use stun_types::attribute::AttributeType;
 
-/// MAPPED-ADDRESS.
+/// The type of MAPPED-ADDRESS (RFC 8489, section 14.1).
 pub const MAPPED_ADDRESS: u16 = attribute_types::MAPPED_ADDRESS;
 
-/// CHANGE-REQUEST.
+/// The type of CHANGE-REQUEST (RFC 5780, section 7.2).
 pub const CHANGE_REQUEST: u16 = 0x0003;
 
-/// PADDING.
+/// The type of PADDING (RFC 5780, section 7.6).
 pub const PADDING: u16 = 0x0026;
 
-/// RESPONSE-PORT.
+/// The type of RESPONSE-PORT (RFC 5780, section 7.5).
 pub const RESPONSE_PORT: u16 = 0x0027;
 
-/// TRANSACTION_TRANSMIT_COUNTER.
+/// The type of TRANSACTION_TRANSMIT_COUNTER (RFC 7982, section 3.1).
 pub const TRANSACTION_TRANSMIT_COUNTER: u16 = 0x8025;
 
-/// RESPONSE-ORIGIN.
+/// The type of RESPONSE-ORIGIN (RFC 5780, section 7.3).
 pub const RESPONSE_ORIGIN: u16 = 0x802B;
 
-/// OTHER-ADDRESS.
+/// The type of OTHER-ADDRESS (RFC 5780, section 7.4).
 pub const OTHER_ADDRESS: u16 = 0x802C;
 
-/// The types of this crate, for `Message::check_attribute_types`.
+/// The types of the attributes of NAT discovery, for `Message::check_attribute_types`.
+///
+/// # Examples
+///
+/// ```
+/// use discovery_attrs::KNOWN;
+/// use stun_types::message::{Message, MessageWriteVec};
+///
+/// // A request for a response from another IP address and another port.
+/// let request = Message::from_bytes(
+///     b"\x00\x01\x00\x08\x21\x12\xA4\x42\xB7\xE7\xA7\x01\xBC\x34\xD6\x86\xFA\x87\xDF\xAE\
+///       \x00\x03\x00\x04\x00\x00\x00\x06",
+/// )?;
+/// let reply = MessageWriteVec::new(alloc);
+/// assert!(rt; Message::check_attribute_types(alloc, &request, &KNOWN, &[], reply)?.is_none());
+/// ```
 pub const KNOWN: [AttributeType; 7] = [
     AttributeType(MAPPED_ADDRESS),
     AttributeType(CHANGE_REQUEST),
@@ -36,13 +51,21 @@ pub const KNOWN: [AttributeType; 7] = [
     AttributeType(OTHER_ADDRESS),
 ];
 
-/// Registers the names and the functions that print of this crate, so that a message shows its
-/// attributes as what they are. Call it in the body of a function that makes the registry itself
-/// and returns a `Result`; it returns from it with `OutOfMemory` if an allocation fails.
+/// Registers the attributes of NAT discovery in a `Registry`, by their names and the functions that
+/// print them, so that a message shows them as what they are. Call it in the body of a function
+/// that makes the registry itself and returns a `Result`; it returns from it with `OutOfMemory` if
+/// an allocation fails.
+///
+/// # Examples
 ///
 /// ```
+/// use discovery_attrs::ResponseOrigin;
+/// use stun_types::prelude::*;
+/// use stun_types::show::Registry;
+///
 /// let mut registry = Registry::new(alloc);
 /// discovery_attrs::register!(registry);
+/// assert_eq!(rt; registry.name(ResponseOrigin::TYPE), "RESPONSE-ORIGIN");
 /// ```
 #[macro_export]
 macro_rules! register {

@@ -3,12 +3,13 @@ use std::fmt;
 use stun_types::attribute::FieldsKind;
 use stun_types::{PrintText, TextSink};
 
-/// What is to differ where the server answers.
+/// The parts of its address that a server is to change before it answers: the IP address, the port,
+/// or both.
 #[derive(Clone, Copy, Debug, PartialEq, Eq)]
 pub struct Change {
-    /// The IP address.
+    /// Whether the response is to come from another IP address.
     pub ip: bool,
-    /// The port.
+    /// Whether the response is to come from another port.
     pub port: bool,
 }
 

@@ -8,7 +8,7 @@ ghost use Rattle.discovery_attrs.specs.declared.response_port.ResponsePort.{Resp
 ghost use Rattle.discovery_attrs.specs.declared.transmissions.Transmissions.{Transmissions};
 ghost use Rattle.discovery_attrs.specs.Discovery.{change_number, change_of, counts_number, counts_of, port_of, response_port_value, ReadsResponsePort};
 
-/// The number of two flags, and of two counts, holds them, so that they are read back
+/// The number that encodes two flags, or two counts, holds them, so that they are read back
 /// (`stun_kinds::fields_are_read_back`).
 pub fn fields_are_held()
     ensures change { (change : Change) → change_of (change_number change) ≡ Some change }
@@ -16,7 +16,7 @@ pub fn fields_are_held()
         → counts_of (counts_number counts) ≡ Some counts }
 {}
 
-/// A RESPONSE-PORT is read back.
+/// A RESPONSE-PORT that is written is read back as the same value.
 pub fn response_port_is_read_back()
     ensures { (attribute : ResponsePort) (result : Result ResponsePort StunParseError)
         → port_of attribute < 2 ^ 16

@@ -17,14 +17,25 @@ impl ResponsePort {
     ghost use Rattle.std.specs.Prelude.{◌≡◌};
     ghost use Rattle.discovery_attrs.specs.Discovery.{port_of};
 
-    /// The attribute of this port.
+    /// Makes the attribute of this port.
+    ///
+    /// # Examples
+    ///
+    /// ```
+    /// use discovery_attrs::ResponsePort;
+    /// use stun_types::prelude::*;
+    ///
+    /// let mut bytes = [0; 8];
+    /// assert_eq!(rt; ResponsePort::new(3478).write_into(&mut bytes), Ok(8));
+    /// assert_eq!(rt; bytes, [0x00, 0x27, 0x00, 0x04, 0x0D, 0x96, 0x00, 0x00]);
+    /// ```
     pub fn new(port: u16) -> Self
         ensures { port_of result ≡ port }
     {
         ResponsePort { port }
     }
 
-    /// The port.
+    /// Returns the port that the response is to be sent to.
     pub fn port(&self) -> u16
         ensures { result ≡ port_of self.now }
     {

@@ -3,12 +3,12 @@ use std::fmt;
 use stun_types::attribute::FieldsKind;
 use stun_types::{PrintText, TextSink};
 
-/// How often a request and its response were sent.
+/// The numbers of times that a request and its response were sent.
 #[derive(Clone, Copy, Debug, PartialEq, Eq)]
 pub struct Transmissions {
-    /// How often the request was sent with this transaction ID, this time included.
+    /// The number of times that the request was sent with this transaction ID, this time included.
     pub requests: u8,
-    /// How often a response was sent; 0 in a request.
+    /// The number of times that a response was sent; 0 in a request.
     pub responses: u8,
 }
 

@@ -3,19 +3,37 @@
 
 use stun_types::attribute::AttributeType;
 
-/// PRIORITY.
+/// The type of PRIORITY (RFC 8445, section 16.1).
 pub const PRIORITY: u16 = 0x0024;
 
-/// USE-CANDIDATE.
+/// The type of USE-CANDIDATE (RFC 8445, section 16.1).
 pub const USE_CANDIDATE: u16 = 0x0025;
 
-/// ICE-CONTROLLED.
+/// The type of ICE-CONTROLLED (RFC 8445, section 16.1).
 pub const ICE_CONTROLLED: u16 = 0x8029;
 
-/// ICE-CONTROLLING.
+/// The type of ICE-CONTROLLING (RFC 8445, section 16.1).
 pub const ICE_CONTROLLING: u16 = 0x802A;
 
-/// The types of this crate, for `Message::check_attribute_types`.
+/// The types of the attributes of ICE, for `Message::check_attribute_types`.
+///
+/// # Examples
+///
+/// ```
+/// use ice_attrs::KNOWN;
+/// use stun_types::message::{Message, MessageWriteVec};
+///
+/// // A check with a PRIORITY.
+/// let check = Message::from_bytes(
+///     b"\x00\x01\x00\x08\x21\x12\xA4\x42\xB7\xE7\xA7\x01\xBC\x34\xD6\x86\xFA\x87\xDF\xAE\
+///       \x00\x24\x00\x04\x6E\x00\x01\xFF",
+/// )?;
+/// let reply = MessageWriteVec::new(alloc);
+/// assert!(rt; Message::check_attribute_types(alloc, &check, &KNOWN, &[], reply)?.is_none());
+/// // An agent that didn't understand PRIORITY would answer with error 420.
+/// let reply = MessageWriteVec::new(alloc);
+/// assert!(rt; Message::check_attribute_types(alloc, &check, &[], &[], reply)?.is_some());
+/// ```
 pub const KNOWN: [AttributeType; 4] = [
     AttributeType(PRIORITY),
     AttributeType(USE_CANDIDATE),
@@ -23,13 +41,21 @@ pub const KNOWN: [AttributeType; 4] = [
     AttributeType(ICE_CONTROLLING),
 ];
 
-/// Registers the names and the functions that print of this crate, so that a message shows its
-/// attributes as what they are. Call it in the body of a function that makes the registry itself
-/// and returns a `Result`; it returns from it with `OutOfMemory` if an allocation fails.
+/// Registers the attributes of ICE in a `Registry`, by their names and the functions that print
+/// them, so that a message shows them as what they are. Call it in the body of a function that
+/// makes the registry itself and returns a `Result`; it returns from it with `OutOfMemory` if an
+/// allocation fails.
+///
+/// # Examples
 ///
 /// ```
+/// use ice_attrs::Priority;
+/// use stun_types::prelude::*;
+/// use stun_types::show::Registry;
+///
 /// let mut registry = Registry::new(alloc);
 /// ice_attrs::register!(registry);
+/// assert_eq!(rt; registry.name(Priority::TYPE), "PRIORITY");
 /// ```
 #[macro_export]
 macro_rules! register {

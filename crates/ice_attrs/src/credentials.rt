@@ -24,8 +24,19 @@ fn are_ice_chars(bytes: &[u8]) -> bool
     bytes.iter().all(|byte| is_ice_char(*byte))
 }
 
-/// Whether a text is a password: 22 to 256 letters, digits, `+` and `/` (RFC 8839, section 5.4), so
-/// that it has room for 128 bits of random numbers (RFC 8445, section 5.3).
+/// Returns `true` if a text may be the password of an agent: 22 to 256 letters, digits, `+` and `/`
+/// (RFC 8839, section 5.4), so that it has room for 128 bits of random numbers (RFC 8445, section
+/// 5.3).
+///
+/// # Examples
+///
+/// ```
+/// use ice_attrs::is_password;
+///
+/// // The password of the messages of RFC 5769.
+/// assert!(rt; is_password("VOkJxbRl1RmTxUk/WvJxBt"));
+/// assert!(rt; !is_password("secret") && !is_password("VOkJxbRl1RmTxUk.WvJxBt"));
+/// ```
 pub fn is_password(text: &str) -> bool
     ensures { result ≡ is_password text.now }
 {
@@ -40,7 +51,8 @@ fn is_ufrag(text: &str) -> bool
 }
 
 /// A username fragment: 4 to 256 letters, digits, `+` and `/` (RFC 8839, section 5.4), so that it
-/// has room for 24 bits of random numbers (RFC 8445, section 5.3). An agent must send at most 32 characters.
+/// has room for 24 bits of random numbers (RFC 8445, section 5.3). An agent must send at most 32
+/// characters.
 #[derive(Clone, Copy, Debug, PartialEq, Eq)]
 pub struct Ufrag<'a> {
     text: &'a str,
@@ -52,7 +64,18 @@ impl<'a> Ufrag<'a> {
     ghost use Rattle.ice_attrs.specs.Credentials.{is_ufrag};
     ghost use Rattle.ice_attrs.specs.CheckUsernames.{ufrag_text};
 
-    /// The fragment, which borrows the text; `None` if it has another length or another character.
+    /// Returns the fragment of this text, which it borrows; `None` if the text has another length
+    /// or another character.
+    ///
+    /// # Examples
+    ///
+    /// ```
+    /// use ice_attrs::Ufrag;
+    ///
+    /// assert!(rt; Ufrag::new("evtj").is_some_and(|fragment| fragment.text() == "evtj"));
+    /// // Three characters are too few, and a colon separates two fragments.
+    /// assert!(rt; Ufrag::new("evt").is_none() && Ufrag::new("evtj:h6vY").is_none());
+    /// ```
     pub fn new(text: &'a str) -> Option<Self>
         ensures { MatchOption result (is_ufrag text.now ≡ false)
             (λ ufrag. IsTrue (is_ufrag text.now) × (ufrag_text ufrag ≡ text.now)) }
@@ -64,7 +87,7 @@ impl<'a> Ufrag<'a> {
         }
     }
 
-    /// The text, for as long as it is borrowed.
+    /// Returns the text of the fragment, for as long as it is borrowed.
     pub fn text(&self) -> &'a str
         ensures text { result.now ≡ ufrag_text self.now }
         ensures sound { IsTrue (is_ufrag result.now) }
@@ -93,10 +116,16 @@ impl<'a> CheckUsername<'a> {
     /// Splits the text of a USERNAME at the colon, and borrows it. `None` if it isn't two username
     /// fragments separated by a colon.
     ///
+    /// # Examples
+    ///
     /// ```
-    /// let username = message.attribute::<Username>(alloc)?;
-    /// let check = CheckUsername::from_text(username.username())?;
-    /// let is_ours = check.receiver.text() == own;
+    /// use ice_attrs::CheckUsername;
+    ///
+    /// // The USERNAME of the request in section 2.1 of RFC 5769.
+    /// let check = CheckUsername::from_text("evtj:h6vY").ok_or("no username of a check")?;
+    /// assert_eq!(rt; check.receiver.text(), "evtj");
+    /// assert_eq!(rt; check.sender.text(), "h6vY");
+    /// assert!(rt; CheckUsername::from_text("evtj").is_none());
     /// ```
     pub fn from_text(text: &'a str) -> Option<Self>
         ensures { MatchOption result
@@ -110,11 +139,22 @@ impl<'a> CheckUsername<'a> {
         })
     }
 
-    /// The USERNAME of the check, at most 513 bytes in memory from `alloc`.
+    /// Makes the USERNAME of the check, at most 513 bytes in memory from `alloc`.
     ///
     /// # Errors
     ///
     /// `OutOfMemory` if an allocation failed.
+    ///
+    /// # Examples
+    ///
+    /// ```
+    /// use ice_attrs::{CheckUsername, Ufrag};
+    ///
+    /// let receiver = Ufrag::new("evtj").ok_or("no fragment")?;
+    /// let sender = Ufrag::new("h6vY").ok_or("no fragment")?;
+    /// let username = CheckUsername { receiver, sender }.to_attribute(alloc)?;
+    /// assert_eq!(rt; username.username(), "evtj:h6vY");
+    /// ```
     pub fn to_attribute(&self, alloc: Global) -> Result<Username, StunWriteError>
         ensures ok { IfOk result (λ username.
             IsCheckUsername (text_bytes username) (receiver_text self.now) (sender_text self.now)) }

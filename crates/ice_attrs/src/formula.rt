@@ -3,8 +3,9 @@ ghost use Rattle.ice_attrs.specs.Ice.{candidate_priority, priority_fault, candid
 
 use stun_types::message::StunWriteError;
 
-/// The priority of a candidate by the recommended formula (RFC 8445, section 5.1.2.1): 2^24 times
-/// the preference of its type, 2^8 times its local preference, and 256 less its component.
+/// Computes the priority of a candidate by the recommended formula (RFC 8445, section 5.1.2.1):
+/// 2^24 times the preference of its type, 2^8 times its local preference, and 256 less its
+/// component.
 ///
 /// # Errors
 ///
@@ -14,6 +15,18 @@ use stun_types::message::StunWriteError;
 /// - `OutOfRange { value: component, min: 1, max: 256 }`;
 /// - `OutOfRange { value: 0, min: 1, max: 2147483647 }` for 0, 0 and 256, of which the formula
 ///   makes 0: a priority is 1 to 2^31 - 1 (section 5.1.2).
+///
+/// # Examples
+///
+/// ```
+/// use ice_attrs::priority;
+///
+/// // The first component of a host candidate, and of a server-reflexive one, whose types have the
+/// // recommended preferences (RFC 8445, section 5.1.2.2).
+/// assert_eq!(rt; priority(126, 65535, 1), Ok(2130706431));
+/// assert_eq!(rt; priority(100, 65535, 1), Ok(1694498815));
+/// assert!(rt; priority(127, 65535, 1).is_err());
+/// ```
 pub fn priority(
     type_preference: u8,
     local_preference: u16,
@@ -37,7 +50,7 @@ pub fn priority(
 /// The greatest priority of a candidate (RFC 8445, section 5.1.2).
 const GREATEST_PRIORITY: u32 = 0x7FFF_FFFF;
 
-/// The priority of a candidate pair (RFC 8445, section 6.1.2.3), of the priorities of the
+/// Computes the priority of a candidate pair (RFC 8445, section 6.1.2.3) from the priorities of the
 /// candidates of the controlling and of the controlled agent: 2^32 times the smaller one, twice the
 /// greater one, and 1 if that of the controlling agent is the greater one. Pairs are checked in
 /// decreasing order of it, and both agents compute the same.
@@ -46,6 +59,18 @@ const GREATEST_PRIORITY: u32 = 0x7FFF_FFFF;
 ///
 /// `OutOfRange { value, min: 1, max: 2147483647 }` for the first of the two that is no priority of
 /// a candidate (section 5.1.2).
+///
+/// # Examples
+///
+/// ```
+/// use ice_attrs::pair_priority;
+///
+/// // The host candidate of the one agent, and the server-reflexive one of the other.
+/// let (host, reflexive) = (2130706431, 1694498815);
+/// assert_eq!(rt; pair_priority(host, reflexive), Ok(7277816997797167103));
+/// assert_eq!(rt; pair_priority(reflexive, host), Ok(7277816997797167102));
+/// assert!(rt; pair_priority(host, 0).is_err());
+/// ```
 pub fn pair_priority(controlling: u32, controlled: u32) -> Result<u64, StunWriteError>
     ensures { MatchResult result
         (λ priority. (pair_fault controlling controlled ≡ None)

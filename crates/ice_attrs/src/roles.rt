@@ -8,9 +8,10 @@ use stun_types::attribute::ErrorCode;
 /// The role of an agent (RFC 8445, section 6.1.1).
 #[derive(Clone, Copy, Debug, PartialEq, Eq)]
 pub enum Role {
-    /// It decides which candidate pairs are used. Its checks have ICE-CONTROLLING.
+    /// The controlling agent decides which candidate pairs are used. Its checks have
+    /// ICE-CONTROLLING.
     Controlling,
-    /// Its checks have ICE-CONTROLLED.
+    /// The controlled agent leaves the decision to its peer, and its checks have ICE-CONTROLLED.
     Controlled,
 }
 
@@ -18,7 +19,7 @@ impl Role {
     ghost use Rattle.std.specs.Prelude.{◌≡◌};
     ghost use Rattle.ice_attrs.specs.Roles.{other_role};
 
-    /// The other role: the one that an agent switches to.
+    /// Returns the other role: the one that an agent switches to.
     pub fn other(self) -> Role
         ensures { result ≡ other_role self }
     {
@@ -29,13 +30,13 @@ impl Role {
     }
 }
 
-/// What an agent does about the role that a check shows (RFC 8445, section 7.3.1.1).
+/// The reaction of an agent to the role that a check shows (RFC 8445, section 7.3.1.1).
 #[derive(Clone, Copy, Debug, PartialEq, Eq)]
 pub enum RoleDecision {
-    /// There is no conflict: the agent keeps its role and answers the check.
+    /// The agent keeps its role and answers the check, since there is no conflict.
     Keep,
-    /// The agent switches to the other role and answers the check. It computes the priorities of its
-    /// pairs again.
+    /// The agent switches to the other role and answers the check. It computes the priorities of
+    /// its pairs again.
     Switch,
     /// The agent keeps its role and answers with error 487 (Role Conflict).
     Refuse,
@@ -45,8 +46,17 @@ impl RoleDecision {
     ghost use Rattle.std.specs.Prelude.{◌≡◌};
     ghost use Rattle.ice_attrs.specs.Roles.{refusal_code};
 
-    /// The code of the error response: 487 (Role Conflict) for `Refuse`, and `None` for a success
-    /// response.
+    /// Returns the code of the error response: 487 (Role Conflict) for `Refuse`, and `None` for a
+    /// success response.
+    ///
+    /// # Examples
+    ///
+    /// ```
+    /// use ice_attrs::{ROLE_CONFLICT, RoleDecision};
+    ///
+    /// assert_eq!(rt; RoleDecision::Refuse.error_code(), Some(ROLE_CONFLICT));
+    /// assert_eq!(rt; RoleDecision::Switch.error_code(), None);
+    /// ```
     pub fn error_code(self) -> Option<u16>
         ensures { result ≡ refusal_code self }
     {
@@ -57,7 +67,7 @@ impl RoleDecision {
     }
 }
 
-/// What an agent of a role and a tiebreaker does about a check whose ICE-CONTROLLING or
+/// Decides what an agent of a role and a tiebreaker does about a check whose ICE-CONTROLLING or
 /// ICE-CONTROLLED, which is `shown`, has the value `contents` (RFC 8445, section 7.3.1.1).
 ///
 /// The agent that sent the check and receives error 487 switches to the other role than its request
@@ -65,11 +75,17 @@ impl RoleDecision {
 /// that have one role the one with the greater tiebreaker ends as the controlling one, whichever
 /// sends the first check ([`greater_tiebreaker_controls`](crate::greater_tiebreaker_controls)).
 ///
+/// # Examples
+///
 /// ```
-/// let decision = decide_role(role, tiebreaker, Role::Controlling, check.value());
-/// if decision == RoleDecision::Switch {
-///     role = role.other();
-/// }
+/// use ice_attrs::{Role, RoleDecision, decide_role};
+///
+/// // Two controlling agents: the one with the greater tiebreaker keeps its role.
+/// let controlling = Role::Controlling;
+/// assert_eq!(rt; decide_role(controlling, 9, controlling, 5), RoleDecision::Refuse);
+/// assert_eq!(rt; decide_role(controlling, 5, controlling, 9), RoleDecision::Switch);
+/// // The agents agree.
+/// assert_eq!(rt; decide_role(controlling, 5, Role::Controlled, 9), RoleDecision::Keep);
 /// ```
 pub fn decide_role(role: Role, tiebreaker: u64, shown: Role, contents: u64) -> RoleDecision
     ensures { result ≡ role_decision role tiebreaker shown contents }

@@ -17,14 +17,28 @@ use stun_values::print_address;
 /// Its value has 8 bytes for IPv4 and 20 for IPv6: a zero, the family in a byte (1 for IPv4, 2 for
 /// IPv6), the port in two bytes and the address in four or sixteen, big-endian, as
 /// [`MappedSocketAddr`] holds it.
+///
+/// # Examples
+///
+/// ```
+/// use std::net::{IpAddr, Ipv4Addr, SocketAddr};
+/// use stun_types::attribute::AlternateServer;
+/// use stun_types::prelude::*;
+///
+/// let addr = SocketAddr::new(IpAddr::V4(Ipv4Addr::new(192, 0, 2, 7)), 3478);
+/// let attribute = AlternateServer::new(addr);
+/// assert_eq!(rt; attribute.server(), addr);
+/// let raw = attribute.to_raw(alloc)?;
+/// assert_eq!(rt; raw.value().as_bytes(), [0, 1, 0x0D, 0x96, 192, 0, 2, 7].as_slice());
+/// ```
 #[derive(Debug, Clone, PartialEq, Eq, Drop)]
 pub struct AlternateServer {
     addr: MappedSocketAddr,
 }
 
 impl AlternateServer {
-    /// The attribute of this address. Flow info and scope ID of an IPv6 address are kept, but not
-    /// written.
+    /// An ALTERNATE-SERVER with the address `addr`. Flow info and scope ID of an IPv6 address are
+    /// kept, but not written.
     pub fn new(addr: SocketAddr) -> Self
         ensures { server_addr result ≡ addr }
     {
@@ -33,7 +47,7 @@ impl AlternateServer {
         }
     }
 
-    /// The address of the server.
+    /// The address of the other server.
     pub fn server(&self) -> SocketAddr
         ensures { result ≡ server_addr self.now }
     {

@@ -24,7 +24,7 @@ pub struct ErrorCode {
     ghost short: { length (string_bytes reason) ≤ text_max },
 }
 
-/// The code and the reason that an [`ErrorCode`] is to be made of.
+/// The code and the reason of an [`ErrorCode`] that is to be made.
 #[derive(Debug, Drop)]
 pub struct ErrorCodeBuilder<'reason> {
     code: u16,
@@ -34,7 +34,7 @@ pub struct ErrorCodeBuilder<'reason> {
 impl<'reason> ErrorCodeBuilder<'reason> {
     ghost use Rattle.stun_attributes.specs.ErrorCodes.{builder_code, builder_reason, MakesError};
 
-    /// Sets the reason.
+    /// Sets the reason of the ERROR-CODE.
     pub fn reason(self, reason: &'reason str) -> Self
         ensures code { builder_code result ≡ builder_code self.entry }
         ensures reason { builder_reason result ≡ reason.now }
@@ -45,12 +45,23 @@ impl<'reason> ErrorCodeBuilder<'reason> {
         }
     }
 
-    /// The attribute; if no reason was given, with the default reason of the code. The reason is
-    /// copied into memory from `alloc`.
+    /// Makes the ERROR-CODE, with the default reason of the code if no reason was set. The reason
+    /// is copied into memory from `alloc`.
     ///
     /// # Errors
     ///
     /// As [`ErrorCode::new`].
+    ///
+    /// # Examples
+    ///
+    /// ```
+    /// use stun_types::attribute::ErrorCode;
+    ///
+    /// let error = ErrorCode::builder(ErrorCode::STALE_NONCE).build(alloc)?;
+    /// assert_eq!(rt; error.reason(), "Stale Nonce");
+    /// let error = ErrorCode::builder(ErrorCode::STALE_NONCE).reason("too old").build(alloc)?;
+    /// assert_eq!(rt; error.reason(), "too old");
+    /// ```
     pub fn build(self, alloc: Global) -> Result<ErrorCode, StunWriteError>
         ensures { MakesError (builder_code self.entry) (builder_reason self.entry) result }
     {
@@ -79,32 +90,42 @@ impl ErrorCode {
     pub const FORBIDDEN: u16 = 403;
     /// The request has a comprehension-required attribute that the server did not understand.
     pub const UNKNOWN_ATTRIBUTE: u16 = 420;
-    /// There is an allocation already, or none (RFC 8656).
+    /// The five-tuple has an allocation already, or has none (RFC 8656).
     pub const ALLOCATION_MISMATCH: u16 = 437;
     /// The nonce is no longer valid.
     pub const STALE_NONCE: u16 = 438;
     /// The address family is not served (RFC 8656).
     pub const ADDRESS_FAMILY_NOT_SUPPORTED: u16 = 440;
-    /// The credentials are not those of the allocation (RFC 8656).
+    /// The credentials differ from those with which the allocation was made (RFC 8656).
     pub const WRONG_CREDENTIALS: u16 = 441;
     /// The transport is not served (RFC 8656).
     pub const UNSUPPORTED_TRANSPORT_PROTOCOL: u16 = 442;
     /// The peer's address has another family (RFC 8656).
     pub const PEER_ADDRESS_FAMILY_MISMATCH: u16 = 443;
-    /// There is a connection to this peer already (RFC 6062).
+    /// A connection to the peer exists already (RFC 6062).
     pub const CONNECTION_ALREADY_EXISTS: u16 = 446;
     /// A connection to the peer failed (RFC 6062).
     pub const CONNECTION_TIMEOUT_OR_FAILURE: u16 = 447;
     /// The user has no allocations left (RFC 8656).
     pub const ALLOCATION_QUOTA_REACHED: u16 = 486;
-    /// Both agents have the same role (RFC 8445).
+    /// Both agents are controlling, or both are controlled (RFC 8445).
     pub const ROLE_CONFLICT: u16 = 487;
     /// The server failed for a while.
     pub const SERVER_ERROR: u16 = 500;
     /// The server has no capacity left (RFC 8656).
     pub const INSUFFICIENT_CAPACITY: u16 = 508;
 
-    /// A builder of an attribute with this code, so far without a reason.
+    /// A builder of an ERROR-CODE with the code `code`, so far without a reason.
+    ///
+    /// # Examples
+    ///
+    /// ```
+    /// use stun_types::attribute::ErrorCode;
+    ///
+    /// let error = ErrorCode::builder(400).reason("No realm").build(alloc)?;
+    /// assert_eq!(rt; error.code(), 400);
+    /// assert_eq!(rt; error.reason(), "No realm");
+    /// ```
     pub fn builder<'reason>(code: u16) -> ErrorCodeBuilder<'reason>
         ensures code { builder_code result ≡ code }
         ensures reason { builder_reason result ≡ default_reason code }
@@ -112,13 +133,26 @@ impl ErrorCode {
         ErrorCodeBuilder { code, reason: None }
     }
 
-    /// The attribute of this code and reason, which is copied into memory from `alloc`.
+    /// An ERROR-CODE with the code `code` and the reason `reason`, which is copied into memory from
+    /// `alloc`.
     ///
     /// # Errors
     ///
     /// `OutOfRange { value, min: 300, max: 699 }` if the code is below 300 or above 699, then
     /// `TooLarge { expected: 763, actual }` if the reason has more than 763 bytes, and
     /// `OutOfMemory` if an allocation failed.
+    ///
+    /// # Examples
+    ///
+    /// ```
+    /// use stun_types::attribute::ErrorCode;
+    /// use stun_types::message::StunWriteError;
+    ///
+    /// let error = ErrorCode::new(alloc, 486, "Allocation Quota Reached")?;
+    /// assert_eq!(rt; error.code(), 486);
+    /// let refused = StunWriteError::OutOfRange { value: 700, min: 300, max: 699 };
+    /// assert_eq!(rt; ErrorCode::new(alloc, 700, "").err(), Some(refused));
+    /// ```
     pub fn new(alloc: Global, code: u16, reason: &str) -> Result<Self, StunWriteError>
         ensures { MakesError code reason.now result }
     {
@@ -127,7 +161,7 @@ impl ErrorCode {
         Ok(ErrorCode { code, reason })
     }
 
-    /// The same attribute, its reason copied into memory from `alloc`.
+    /// Copies the ERROR-CODE: the reason of the copy is in memory from `alloc`.
     ///
     /// # Errors
     ///
@@ -145,7 +179,15 @@ impl ErrorCode {
         })
     }
 
-    /// The code.
+    /// The code of the error, 300 to 699.
+    ///
+    /// # Examples
+    ///
+    /// ```
+    /// use stun_types::attribute::ErrorCode;
+    ///
+    /// assert_eq!(rt; ErrorCode::new(alloc, 401, "Unauthorized")?.code(), 401);
+    /// ```
     pub fn code(&self) -> u16
         ensures code { result ≡ error_code self.now }
         ensures least { 300 ≤ result }
@@ -154,7 +196,15 @@ impl ErrorCode {
         self.code
     }
 
-    /// The reason.
+    /// The reason of the error: a text for people.
+    ///
+    /// # Examples
+    ///
+    /// ```
+    /// use stun_types::attribute::ErrorCode;
+    ///
+    /// assert_eq!(rt; ErrorCode::new(alloc, 401, "Who is it?")?.reason(), "Who is it?");
+    /// ```
     pub fn reason(&self) -> &str
         ensures reason { result.now ≡ error_reason self.now }
         ensures short { length result.now ≤ text_max }
@@ -162,7 +212,7 @@ impl ErrorCode {
         self.reason.as_str()
     }
 
-    /// The default reason of a code: of those with a constant
+    /// The default reason of a code: that of this table, and `Unknown` for every other number.
     ///
     /// | Code | Reason |
     /// |---|---|
@@ -184,7 +234,14 @@ impl ErrorCode {
     /// | 500 | `Server Error` |
     /// | 508 | `Insufficient Capacity` |
     ///
-    /// and of every other number `Unknown`.
+    /// # Examples
+    ///
+    /// ```
+    /// use stun_types::attribute::ErrorCode;
+    ///
+    /// assert_eq!(rt; ErrorCode::default_reason_for_code(487), "Role Conflict");
+    /// assert_eq!(rt; ErrorCode::default_reason_for_code(699), "Unknown");
+    /// ```
     pub fn default_reason_for_code(code: u16) -> &'static str
         ensures { result.now ≡ default_reason code }
     {

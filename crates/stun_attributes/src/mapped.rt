@@ -21,21 +21,21 @@ pub struct MappedSocketAddr {
 }
 
 impl MappedSocketAddr {
-    /// The value of this address.
+    /// The address `addr` as a value.
     pub fn new(addr: SocketAddr) -> Self
         ensures { mapped_addr result ≡ addr }
     {
         MappedSocketAddr { addr }
     }
 
-    /// The address.
+    /// The address that the value holds.
     pub fn addr(&self) -> SocketAddr
         ensures { result ≡ mapped_addr self.now }
     {
         self.addr
     }
 
-    /// The length of the value: 8 bytes for IPv4, 20 for IPv6.
+    /// The number of bytes of the value: 8 for IPv4, 20 for IPv6.
     pub fn length(&self) -> u16
         ensures { result ≡ length (address_value (mapped_addr self.now)) }
     {
@@ -56,12 +56,25 @@ impl MappedSocketAddr {
         write_address(&self.addr, dest);
     }
 
-    /// The raw attribute of this type with the address as its value, which it owns in memory from
-    /// `alloc`.
+    /// A raw attribute of the type `atype` with the address as its value, which it owns in memory
+    /// from `alloc`.
     ///
     /// # Errors
     ///
     /// `OutOfMemory` if an allocation failed.
+    ///
+    /// # Examples
+    ///
+    /// ```
+    /// use std::net::{IpAddr, Ipv4Addr, SocketAddr};
+    /// use stun_types::attribute::{AttributeType, MappedSocketAddr};
+    ///
+    /// let addr = SocketAddr::new(IpAddr::V4(Ipv4Addr::new(192, 0, 2, 7)), 3478);
+    /// let mapped = MappedSocketAddr::new(addr);
+    /// let raw = mapped.to_raw(alloc, AttributeType(0x0001))?;
+    /// assert_eq!(rt; raw.value().as_bytes(), [0, 1, 0x0D, 0x96, 192, 0, 2, 7].as_slice());
+    /// assert_eq!(rt; MappedSocketAddr::from_raw(&raw)?.addr(), addr);
+    /// ```
     pub fn to_raw(
         &self,
         alloc: Global,
@@ -74,8 +87,8 @@ impl MappedSocketAddr {
         to_owned_raw(alloc, atype, self)
     }
 
-    /// Reads the value of a raw attribute, whatever its type. The first byte is ignored, and an
-    /// IPv6 address has flow info and scope ID 0. No memory is allocated.
+    /// Reads an address from the value of a raw attribute, whatever its type. The first byte is
+    /// ignored, and an IPv6 address has flow info and scope ID 0. No memory is allocated.
     ///
     /// # Errors
     ///
@@ -91,11 +104,20 @@ impl MappedSocketAddr {
         Self::read(raw.value().as_bytes())
     }
 
-    /// As [`MappedSocketAddr::from_raw`], from the bytes of a value.
+    /// Reads an address from the bytes of a value, as [`MappedSocketAddr::from_raw`] does.
     ///
     /// # Errors
     ///
     /// As [`MappedSocketAddr::from_raw`].
+    ///
+    /// # Examples
+    ///
+    /// ```
+    /// use stun_types::attribute::MappedSocketAddr;
+    ///
+    /// let mapped = MappedSocketAddr::read(&[0, 1, 0x0D, 0x96, 192, 0, 2, 7])?;
+    /// assert_eq!(rt; mapped.addr().port(), 3478);
+    /// ```
     #[inline(always)]
     pub fn read(value: &[u8]) -> Result<Self, StunParseError>
         ensures { ReadsAddress mapped_addr value.now result }

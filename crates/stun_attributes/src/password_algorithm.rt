@@ -13,20 +13,31 @@ use stun_values::{PasswordAlgorithmValue, print_algorithm, read_one, write_algor
 /// 14.12).
 ///
 /// Its value is the number of the algorithm in two bytes, big-endian, and two zeros.
+///
+/// # Examples
+///
+/// ```
+/// use stun_types::attribute::{PasswordAlgorithm, PasswordAlgorithmValue};
+/// use stun_types::prelude::*;
+///
+/// let attribute = PasswordAlgorithm::new(PasswordAlgorithmValue::SHA256);
+/// assert_eq!(rt; attribute.algorithm(), PasswordAlgorithmValue::SHA256);
+/// assert_eq!(rt; attribute.to_raw(alloc)?.value().as_bytes(), [0, 2, 0, 0].as_slice());
+/// ```
 #[derive(Debug, Clone, PartialEq, Eq, Drop)]
 pub struct PasswordAlgorithm {
     algorithm: PasswordAlgorithmValue,
 }
 
 impl PasswordAlgorithm {
-    /// The attribute of this algorithm.
+    /// A PASSWORD-ALGORITHM with the algorithm `algorithm`.
     pub fn new(algorithm: PasswordAlgorithmValue) -> Self
         ensures { held_algorithm result ≡ algorithm }
     {
         PasswordAlgorithm { algorithm }
     }
 
-    /// The algorithm.
+    /// The algorithm that the client chose.
     pub fn algorithm(&self) -> PasswordAlgorithmValue
         ensures { result ≡ held_algorithm self.now }
     {

@@ -15,6 +15,18 @@ use stun_values::{
 /// first (RFC 8489, section 14.11).
 ///
 /// Its value has four bytes for each, in order: the number in two bytes, big-endian, and two zeros.
+///
+/// # Examples
+///
+/// ```
+/// use stun_types::attribute::{PasswordAlgorithmValue, PasswordAlgorithms};
+///
+/// let both = [PasswordAlgorithmValue::SHA256, PasswordAlgorithmValue::MD5];
+/// let attribute = PasswordAlgorithms::new(alloc, &both)?;
+/// assert_eq!(rt; attribute.algorithms(), both.as_slice());
+/// let text = format!(in alloc; "{attribute}")?;
+/// assert_eq!(rt; text.as_str(), "32770(0x8002: PASSWORD_ALGORITHMS): [SHA256, MD5]");
+/// ```
 #[derive(Debug, PartialEq, Eq, Drop)]
 pub struct PasswordAlgorithms {
     algorithms: Vec<PasswordAlgorithmValue>,
@@ -25,8 +37,8 @@ impl PasswordAlgorithms {
     ghost use Rattle.std.specs.Prelude.{◌<◌, ◌*◌, ◌%◌, Err, IfOk, IfErr, MatchResult};
     ghost use Rattle.stun_attributes.specs.PasswordAlgorithms.{held_algorithms};
 
-    /// The attribute of these algorithms, copied into memory from `alloc`. An empty list is
-    /// accepted, though reading refuses its value.
+    /// A PASSWORD-ALGORITHMS with the list `algorithms`, which is copied into memory from `alloc`.
+    /// An empty list is accepted, though reading refuses its value.
     ///
     /// # Errors
     ///
@@ -51,7 +63,7 @@ impl PasswordAlgorithms {
         Ok(PasswordAlgorithms { algorithms })
     }
 
-    /// The same attribute, its list copied into memory from `alloc`.
+    /// Copies the PASSWORD-ALGORITHMS: the list of the copy is in memory from `alloc`.
     ///
     /// # Errors
     ///
@@ -63,7 +75,7 @@ impl PasswordAlgorithms {
         Self::new(alloc, self.algorithms())
     }
 
-    /// The algorithms, in order.
+    /// The algorithms that the server supports, in order.
     pub fn algorithms(&self) -> &[PasswordAlgorithmValue]
         ensures algorithms { result.now ≡ held_algorithms self.now }
         ensures few { length result.now ≤ 16383 }

@@ -20,6 +20,18 @@ use stun_values::{print_plain, print_quoted, read_text};
 /// `MAX` bytes as `TooLarge { expected: MAX, actual }`; bytes that aren't UTF-8 as
 /// `InvalidAttributeData`; and a failed allocation as `OutOfMemory`, since the text is kept in
 /// memory from `alloc`.
+///
+/// # Examples
+///
+/// ```
+/// use stun_types::attribute::TextAttribute;
+/// use stun_types::prelude::*;
+///
+/// type Motto = TextAttribute<0xC000, 100>;
+/// let motto = Motto::new(alloc, "less is more")?;
+/// assert_eq!(rt; motto.get_type().value(), 0xC000);
+/// assert_eq!(rt; motto.text(), "less is more");
+/// ```
 #[derive(Debug, PartialEq, Eq, Drop)]
 pub struct TextAttribute<const TYPE: u16, const MAX: u16> {
     text: String,
@@ -30,12 +42,24 @@ impl<const TYPE: u16, const MAX: u16> TextAttribute<TYPE, MAX> {
     ghost use Rattle.std.specs.Prelude.{◌≡◌, ◌≤◌, ◌<◌, Err, IfOk, IfErr, length};
     ghost use Rattle.stun_attributes.specs.Texts.{text_bytes};
 
-    /// The attribute of this text, which is copied into memory from `alloc`.
+    /// An attribute with the text `text`, which is copied into memory from `alloc`.
     ///
     /// # Errors
     ///
     /// `TooLarge { expected: MAX, actual }` if the text has more than `MAX` bytes, and
     /// `OutOfMemory` if an allocation failed.
+    ///
+    /// # Examples
+    ///
+    /// ```
+    /// use stun_types::attribute::Realm;
+    /// use stun_types::message::StunWriteError;
+    ///
+    /// assert_eq!(rt; Realm::new(alloc, "example.org")?.text(), "example.org");
+    /// let long = format!(in alloc; "{:764}", "a")?;
+    /// let refused = StunWriteError::TooLarge { expected: 763, actual: 764 };
+    /// assert_eq!(rt; Realm::new(alloc, &long), Err(refused));
+    /// ```
     pub fn new(alloc: Global, text: &str) -> Result<Self, StunWriteError>
         ensures ok { IfOk result (λ made. text_bytes made ≡ text.now) }
         ensures large { MAX < length text.now
@@ -53,7 +77,7 @@ impl<const TYPE: u16, const MAX: u16> TextAttribute<TYPE, MAX> {
         Ok(TextAttribute { text })
     }
 
-    /// The same attribute, its text copied into memory from `alloc`.
+    /// Copies the attribute: the text of the copy is in memory from `alloc`.
     ///
     /// # Errors
     ///
@@ -65,8 +89,8 @@ impl<const TYPE: u16, const MAX: u16> TextAttribute<TYPE, MAX> {
         Self::new(alloc, self.text())
     }
 
-    /// The text, whatever the type: [`crate::Software`] and the other names have a method of their
-    /// own that returns it too.
+    /// The text of the attribute, whatever its type: [`crate::Software`] and the other names have a
+    /// method of their own that returns it too.
     pub fn text(&self) -> &str
         ensures text { result.now ≡ text_bytes self.now }
         ensures short { length result.now ≤ MAX }

@@ -33,12 +33,24 @@ impl UnknownAttributes {
     ghost use Rattle.std.specs.Prelude.{◌<◌, ◌↔◌, [], ◌∷◌, ◌%◌, Err, Ok, IfOk, IfErr, OnOk, OnErr, IsTrue, Contains, MatchResult};
     ghost use Rattle.stun_attributes.specs.Unknown.{listed};
 
-    /// The attribute of these types, in order and with repeats, copied into memory from `alloc`.
+    /// An UNKNOWN-ATTRIBUTES with the types `attrs`, in order and with repeats, copied into memory
+    /// from `alloc`.
     ///
     /// # Errors
     ///
     /// `TooLarge { expected: 32767, actual }`, which counts types and not bytes, if there are more
     /// than 32767 types, and `OutOfMemory` if an allocation failed.
+    ///
+    /// # Examples
+    ///
+    /// ```
+    /// use stun_types::attribute::{AttributeType, UnknownAttributes};
+    /// use stun_types::prelude::*;
+    ///
+    /// let types = [AttributeType(0x0014), AttributeType(0x0015)];
+    /// let unknown = UnknownAttributes::new(alloc, &types)?;
+    /// assert_eq!(rt; unknown.to_raw(alloc)?.value().as_bytes(), [0, 0x14, 0, 0x15].as_slice());
+    /// ```
     pub fn new(alloc: Global, attrs: &[AttributeType]) -> Result<Self, StunWriteError>
         ensures ok { IfOk result (λ made. listed made ≡ attrs.now) }
         ensures large { 32767 < length attrs.now
@@ -51,7 +63,7 @@ impl UnknownAttributes {
         Ok(UnknownAttributes { types })
     }
 
-    /// The same attribute, its list copied into memory from `alloc`.
+    /// Copies the UNKNOWN-ATTRIBUTES: the list of the copy is in memory from `alloc`.
     ///
     /// # Errors
     ///
@@ -63,7 +75,7 @@ impl UnknownAttributes {
         Self::new(alloc, self.attributes())
     }
 
-    /// The types, in order and with repeats.
+    /// The types that the server did not understand, in order and with repeats.
     pub fn attributes(&self) -> &[AttributeType]
         ensures types { result.now ≡ listed self.now }
         ensures few { length result.now ≤ 32767 }
@@ -71,7 +83,18 @@ impl UnknownAttributes {
         &self.types
     }
 
-    /// Whether the list, of at most 32767 types, has this one.
+    /// Whether the list, of at most 32767 types, has the type `attr`.
+    ///
+    /// # Examples
+    ///
+    /// ```
+    /// use stun_types::attribute::{AttributeType, Realm, UnknownAttributes};
+    /// use stun_types::prelude::*;
+    ///
+    /// let unknown = UnknownAttributes::new(alloc, &[Realm::TYPE])?;
+    /// assert!(rt; unknown.has_attribute(AttributeType(0x0014)));
+    /// assert!(rt; !unknown.has_attribute(AttributeType(0x0015)));
+    /// ```
     pub fn has_attribute(&self, attr: AttributeType) -> bool
         ensures has { IsTrue result ↔ Contains (listed self.now) attr }
         ensures few { length (listed self.now) ≤ 32767 }
@@ -79,14 +102,26 @@ impl UnknownAttributes {
         self.attributes().contains(&attr)
     }
 
-    /// Adds a type at the end of the list, unless the list has it already. The list grows by the
-    /// allocator that it was made with.
+    /// Adds a type at the end of the list, unless the list has the type already. The list grows by
+    /// the allocator that it was made with.
     ///
     /// # Errors
     ///
     /// `TooLarge { expected: 32767, actual: 32768 }`, which counts types and not bytes, for a new
     /// type if there are 32767 already, and `OutOfMemory` if an allocation failed. The list is then
     /// unchanged.
+    ///
+    /// # Examples
+    ///
+    /// ```
+    /// use stun_types::attribute::{AttributeType, UnknownAttributes};
+    ///
+    /// let mut unknown = UnknownAttributes::new(alloc, &[])?;
+    /// unknown.add_attribute(AttributeType(0x0014))?;
+    /// unknown.add_attribute(AttributeType(0x0015))?;
+    /// unknown.add_attribute(AttributeType(0x0014))?;
+    /// assert_eq!(rt; unknown.attributes().len(), 2);
+    /// ```
     pub fn add_attribute(&mut self, attr: AttributeType) -> Result<(), StunWriteError>
         ensures few { length (listed self.old) ≤ 32767 × length (listed self.new) ≤ 32767 }
         ensures there { Contains (listed self.old) attr

@@ -26,8 +26,25 @@ impl XorMappedAddress {
     ghost use Rattle.stun_values.specs.Addresses.{IsXored};
     ghost use Rattle.stun_attributes.specs.AddressAttributes.{written_mapped_addr};
 
-    /// The attribute of this address in a message with this transaction ID. Flow info and scope ID
-    /// of an IPv6 address are dropped.
+    /// An XOR-MAPPED-ADDRESS with the address `addr`, for a message with the transaction ID
+    /// `transaction`. Flow info and scope ID of an IPv6 address are dropped.
+    ///
+    /// # Examples
+    ///
+    /// ```
+    /// use std::net::{IpAddr, Ipv4Addr, SocketAddr};
+    /// use stun_types::attribute::XorMappedAddress;
+    /// use stun_types::message::TransactionId;
+    /// use stun_types::prelude::*;
+    ///
+    /// // the address in the sample response of RFC 5769, section 2.2
+    /// let addr = SocketAddr::new(IpAddr::V4(Ipv4Addr::new(192, 0, 2, 1)), 32853);
+    /// let id = TransactionId::from(0xB7E7_A701_BC34_D686_FA87_DFAE);
+    /// let attribute = XorMappedAddress::new(addr, id);
+    /// let raw = attribute.to_raw(alloc)?;
+    /// let value = [0x00, 0x01, 0xA1, 0x47, 0xE1, 0x12, 0xA6, 0x43];
+    /// assert_eq!(rt; raw.value().as_bytes(), value.as_slice());
+    /// ```
     pub fn new(addr: SocketAddr, transaction: TransactionId) -> Self
         ensures { IsXored transaction addr (written_mapped_addr result) }
     {
@@ -36,7 +53,21 @@ impl XorMappedAddress {
         }
     }
 
-    /// The address, if the message has this transaction ID.
+    /// The address, for a message with the transaction ID `transaction`.
+    ///
+    /// # Examples
+    ///
+    /// ```
+    /// use std::net::{IpAddr, Ipv6Addr, SocketAddr};
+    /// use stun_types::attribute::XorMappedAddress;
+    /// use stun_types::message::TransactionId;
+    ///
+    /// let ip = Ipv6Addr::new(0x2001, 0xDB8, 0, 0, 0, 0, 0, 1);
+    /// let addr = SocketAddr::new(IpAddr::V6(ip), 3478);
+    /// let attribute = XorMappedAddress::new(addr, TransactionId::from(1000));
+    /// assert_eq!(rt; attribute.addr(TransactionId::from(1000)), addr);
+    /// assert_ne!(rt; attribute.addr(TransactionId::from(1001)), addr);
+    /// ```
     pub fn addr(&self, transaction: TransactionId) -> SocketAddr
         ensures { IsXored transaction (written_mapped_addr self.now) result }
     {

@@ -26,8 +26,8 @@ pub struct XorSocketAddr {
 }
 
 impl XorSocketAddr {
-    /// The value of this address in a message with this transaction ID. Flow info and scope ID of
-    /// an IPv6 address are dropped.
+    /// The address `addr` as a value in a message with the transaction ID `transaction`. Flow info
+    /// and scope ID of an IPv6 address are dropped.
     pub fn new(addr: SocketAddr, transaction: TransactionId) -> Self
         ensures { IsXored transaction addr (written_addr result) }
     {
@@ -36,17 +36,31 @@ impl XorSocketAddr {
         }
     }
 
-    /// The address, if the message has this transaction ID.
+    /// The address, for a message with the transaction ID `transaction`.
     pub fn addr(&self, transaction: TransactionId) -> SocketAddr
         ensures { IsXored transaction (written_addr self.now) result }
     {
         Self::xor_addr(self.addr.addr(), transaction)
     }
 
-    /// This address XORed with the cookie and this transaction ID: the port with the high half of
-    /// the cookie, an IPv4 address with the cookie, and an IPv6 address with the cookie followed by
-    /// the transaction ID. Flow info and scope ID of the result are 0. XORing twice gives the
-    /// address back.
+    /// The address `addr` XORed with the cookie and the transaction ID `transaction`: the port with
+    /// the high half of the cookie, an IPv4 address with the cookie, and an IPv6 address with the
+    /// cookie followed by the transaction ID. Flow info and scope ID of the result are 0. XORing
+    /// twice gives the address back.
+    ///
+    /// # Examples
+    ///
+    /// ```
+    /// use std::net::{IpAddr, Ipv4Addr, SocketAddr};
+    /// use stun_types::attribute::XorSocketAddr;
+    /// use stun_types::message::TransactionId;
+    ///
+    /// let addr = SocketAddr::new(IpAddr::V4(Ipv4Addr::new(192, 0, 2, 1)), 32853);
+    /// let id = TransactionId::from(1000);
+    /// let xored = XorSocketAddr::xor_addr(addr, id);
+    /// assert_eq!(rt; xored, SocketAddr::new(IpAddr::V4(Ipv4Addr::new(225, 18, 166, 67)), 41287));
+    /// assert_eq!(rt; XorSocketAddr::xor_addr(xored, id), addr);
+    /// ```
     #[inline(always)]
     pub fn xor_addr(addr: SocketAddr, transaction: TransactionId) -> SocketAddr
         ensures xored { IsXored transaction addr result }
@@ -55,7 +69,7 @@ impl XorSocketAddr {
         xor_addr(addr, transaction)
     }
 
-    /// The length of the value: 8 bytes for IPv4, 20 for IPv6.
+    /// The number of bytes of the value: 8 for IPv4, 20 for IPv6.
     pub fn length(&self) -> u16
         ensures { result ≡ length (address_value (written_addr self.now)) }
     {
@@ -76,8 +90,8 @@ impl XorSocketAddr {
         self.addr.write_into_unchecked(dest);
     }
 
-    /// The raw attribute of this type with the XORed address as its value, which it owns in memory
-    /// from `alloc`.
+    /// A raw attribute of the type `atype` with the XORed address as its value, which it owns in
+    /// memory from `alloc`.
     ///
     /// # Errors
     ///
@@ -94,8 +108,8 @@ impl XorSocketAddr {
         self.addr.to_raw(alloc, atype)
     }
 
-    /// Reads the value of a raw attribute, whatever its type: the address as it is written, after
-    /// the XOR. No memory is allocated.
+    /// Reads an XORed address from the value of a raw attribute, whatever its type: the address as
+    /// it is written, after the XOR. No memory is allocated.
     ///
     /// # Errors
     ///
@@ -106,7 +120,7 @@ impl XorSocketAddr {
         Self::read(raw.value().as_bytes())
     }
 
-    /// As [`XorSocketAddr::from_raw`], from the bytes of a value.
+    /// Reads an XORed address from the bytes of a value, as [`XorSocketAddr::from_raw`] does.
     ///
     /// # Errors
     ///

@@ -16,21 +16,33 @@ use stun_base::{
 /// An attribute of a message: a type, and a value of at most 65535 bytes (RFC 8489, section 14).
 ///
 /// In contracts `atype` and `value` are the type and the value of the object's current state.
+///
+/// # Examples
+///
+/// ```
+/// use stun_types::attribute::Software;
+/// use stun_types::prelude::*;
+///
+/// let software = Software::new(alloc, "my client")?;
+/// assert_eq!(rt; software.get_type().value(), 0x8022);
+/// assert_eq!(rt; software.length(), 9);
+/// assert_eq!(rt; software.padded_len(), 16); // four bytes of header, nine and three of padding
+/// ```
 pub trait Attribute {
     ghost atype: { Self → ℕ };
 
     ghost value: { Self → List ℕ };
 
-    /// The type.
+    /// The type of the attribute.
     fn get_type(&self) -> AttributeType
         ensures { result.0 ≡ atype self.now };
 
-    /// How many bytes the value has, without its padding.
+    /// The number of bytes of the value, without its padding.
     fn length(&self) -> u16
         ensures { result ≡ length (value self.now) };
 
-    /// How many bytes the attribute takes in a message: four of header, and the value with its
-    /// padding. This is a multiple of 4, at most 65540.
+    /// The number of bytes that the attribute takes in a message: four of header, and the value
+    /// with its padding. This is a multiple of 4, at most 65540.
     fn padded_len(&self) -> usize
         ensures value { result ≡ attribute_length (length (value self.now)) }
         ensures bound { result ≤ 65540 }
@@ -47,7 +59,7 @@ pub trait AttributeStaticType: Attribute {
 
     ghost has_that_type: { (attribute : Self) → Self.atype attribute ≡ TYPE.0 };
 
-    /// The type of every attribute of this Rust type, which is what [`Attribute::get_type`] returns
+    /// The type of every attribute of the Rust type, which is what [`Attribute::get_type`] returns
     /// of each.
     const TYPE: AttributeType;
 }
@@ -73,6 +85,19 @@ pub trait AttributeFromRaw<'a>: Attribute {
     ///
     /// Each implementation lists its own: `WrongAttributeImplementation` if the type is another
     /// one, errors of the value, and `OutOfMemory` if an allocation failed.
+    ///
+    /// # Examples
+    ///
+    /// ```
+    /// use stun_types::attribute::{RawAttribute, Realm, Software};
+    /// use stun_types::message::StunParseError;
+    /// use stun_types::prelude::*;
+    ///
+    /// let raw = RawAttribute::new(Software::TYPE, b"my client")?;
+    /// assert_eq!(rt; Software::from_raw_ref(alloc, &raw)?.software(), "my client");
+    /// let other = StunParseError::WrongAttributeImplementation;
+    /// assert_eq!(rt; Realm::from_raw_ref(alloc, &raw), Err(other));
+    /// ```
     fn from_raw_ref(alloc: Global, raw: &RawAttribute<'_>) -> Result<Self, StunParseError>
     where
         Self: Sized,
@@ -83,6 +108,16 @@ pub trait AttributeFromRaw<'a>: Attribute {
     /// # Errors
     ///
     /// As [`AttributeFromRaw::from_raw_ref`].
+    ///
+    /// # Examples
+    ///
+    /// ```
+    /// use stun_types::attribute::{RawAttribute, Software};
+    /// use stun_types::prelude::*;
+    ///
+    /// let raw = RawAttribute::new(Software::TYPE, b"my client")?;
+    /// assert_eq!(rt; Software::from_raw(alloc, raw)?.software(), "my client");
+    /// ```
     fn from_raw(alloc: Global, raw: RawAttribute<'a>) -> Result<Self, StunParseError>
     where
         Self: Sized,
@@ -114,13 +149,25 @@ pub trait AttributeWrite: Attribute {
         ensures { dest.new ≡ attribute_encoding (Self.atype self.now) (Self.value self.now)
             ++ drop (attribute_length (length (Self.value self.now))) dest.old };
 
-    /// The raw attribute of the same type and value. Each implementation says whether the result
-    /// borrows the value, which takes no memory, or owns a copy of it in memory that `alloc` gives;
-    /// [`RawAttribute::into_owned`] of a result that owns it takes no more.
+    /// The raw attribute with the type and the value of the attribute. Each implementation says
+    /// whether the result borrows the value, which takes no memory, or owns a copy of it in memory
+    /// that `alloc` gives; [`RawAttribute::into_owned`] of a result that owns it takes no more.
     ///
     /// # Errors
     ///
     /// `OutOfMemory` alone, and no error if the value is borrowed.
+    ///
+    /// # Examples
+    ///
+    /// ```
+    /// use stun_types::attribute::Software;
+    /// use stun_types::prelude::*;
+    ///
+    /// let software = Software::new(alloc, "my client")?;
+    /// let raw = software.to_raw(alloc)?;
+    /// assert_eq!(rt; raw.get_type(), Software::TYPE);
+    /// assert_eq!(rt; raw.value().as_bytes(), b"my client".as_slice());
+    /// ```
     fn to_raw(&self, alloc: Global) -> Result<RawAttribute<'_>, StunWriteError>
         ensures ok { IfOk result (IsRawOf (Self.atype self.now) (Self.value self.now)) }
         ensures err { IfErr result (λ e. e ≡ StunWriteError.OutOfMemory) }
@@ -128,8 +175,8 @@ pub trait AttributeWrite: Attribute {
             (λ raw. is_borrowed (raw_data raw) ≡ to_raw_borrows self.now) }
         ensures free { to_raw_borrows self.now ≡ true → IsOk result };
 
-    /// Writes the header, four bytes, at the start of `dest`, and returns 4. What follows is
-    /// unchanged.
+    /// Writes the header of the attribute, four bytes, at the start of `dest`, and returns 4. What
+    /// follows is unchanged.
     ///
     /// # Requires
     ///
@@ -149,7 +196,7 @@ pub trait AttributeWrite: Attribute {
         4
     }
 
-    /// Writes the header, four bytes, at the start of `dest`, and returns 4.
+    /// Writes the header of the attribute, four bytes, at the start of `dest`, and returns 4.
     ///
     /// # Errors
     ///
@@ -173,12 +220,26 @@ pub trait AttributeWrite: Attribute {
     }
 
     /// Writes the attribute at the start of `dest`, as [`AttributeWrite::write_into_unchecked`]
-    /// does, and returns how many bytes it takes: [`Attribute::padded_len`].
+    /// does, and returns the number of bytes that it takes: [`Attribute::padded_len`].
     ///
     /// # Errors
     ///
     /// `TooSmall { expected, actual }` if `dest` has fewer bytes than that; they are unchanged
     /// then. `expected` is [`Attribute::padded_len`], and `actual` the length of `dest`.
+    ///
+    /// # Examples
+    ///
+    /// ```
+    /// use stun_types::attribute::Software;
+    /// use stun_types::message::StunWriteError;
+    /// use stun_types::prelude::*;
+    ///
+    /// let mut bytes = [0xFF; 12];
+    /// assert_eq!(rt; Software::new(alloc, "ab")?.write_into(&mut bytes), Ok(8));
+    /// assert_eq!(rt; bytes, *b"\x80\x22\x00\x02ab\x00\x00\xFF\xFF\xFF\xFF");
+    /// let refused = StunWriteError::TooSmall { expected: 8, actual: 7 };
+    /// assert_eq!(rt; Software::new(alloc, "ab")?.write_into(&mut bytes[..7]), Err(refused));
+    /// ```
     fn write_into(&self, dest: &mut [u8]) -> Result<usize, StunWriteError>
         ensures short { length dest.old < attribute_length (length (Self.value self.now))
             → (result ≡ Err (StunWriteError.TooSmall

@@ -19,10 +19,20 @@ pub fn borrowed_attribute<'a>(atype: AttributeType, value: &'a [u8]) -> RawAttri
     RawAttribute::borrowed(AttributeHeader { atype, length }, value)
 }
 
-/// An attribute that holds its value as it is encoded, so that a raw attribute can borrow it:
+/// An attribute that holds the encoding of its value, so that a raw attribute can borrow the value:
 /// `RawAttribute::from(&attribute)` takes no memory.
+///
+/// # Examples
+///
+/// ```
+/// use stun_types::attribute::{RawAttribute, Software};
+///
+/// let software = Software::new(alloc, "my client")?;
+/// let raw = RawAttribute::from(&software);
+/// assert_eq!(rt; raw.value().as_bytes(), b"my client".as_slice());
+/// ```
 pub trait BorrowValue: Attribute {
-    /// The encoding of the value.
+    /// The encoding of the value, borrowed from the attribute.
     fn value_bytes(&self) -> &[u8]
         ensures { result.now ≡ Self.value self.now };
 }

@@ -81,8 +81,8 @@ fn check_end(length: usize, end: Bound<usize>) -> Result<(), StunParseError>
 }
 
 impl RawAttribute<'_> {
-    /// Tests that the attribute has this type, and that the length of its value is within the
-    /// bounds. The reading of an attribute begins with this test.
+    /// Tests that the attribute has the type `atype`, and that the length of its value is within
+    /// the bounds. The reading of an attribute begins with this test.
     ///
     /// # Errors
     ///
@@ -95,6 +95,21 @@ impl RawAttribute<'_> {
     /// - `TooLarge { expected, actual }` if the length is greater than `end` allows. `expected`
     ///   is the greatest length allowed: the bound, or one less if it is excluded, but at least
     ///   0. An excluded end of 0 allows no length.
+    ///
+    /// # Examples
+    ///
+    /// ```
+    /// use std::ops::Bound;
+    /// use stun_types::attribute::{AttributeType, RawAttribute};
+    /// use stun_types::message::StunParseError;
+    ///
+    /// let (atype, four) = (AttributeType(0x8851), Bound::Included(4));
+    /// let raw = RawAttribute::new(atype, &[0, 1, 2, 3])?;
+    /// assert_eq!(rt; raw.check_type_and_len(atype, four, four), Ok(()));
+    /// let eight = Bound::Included(8);
+    /// let refused = StunParseError::Truncated { expected: 8, actual: 4 };
+    /// assert_eq!(rt; raw.check_type_and_len(atype, eight, Bound::Unbounded), Err(refused));
+    /// ```
     pub fn check_type_and_len(
         &self,
         atype: AttributeType,

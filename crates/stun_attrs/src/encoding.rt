@@ -11,8 +11,7 @@ use byteorder::{BigEndian, ByteOrder};
 use std::alloc::Global;
 use stun_base::{AttributeHeader, AttributeType, StunWriteError, pad_attribute_len};
 
-/// A value that an attribute may have, and how it is encoded: as at most 65535 bytes (RFC 8489,
-/// section 14).
+/// A value of an attribute, and its encoding: at most 65535 bytes (RFC 8489, section 14).
 ///
 /// In contracts `bytes` is the encoding, and `is_held` says whether the value holds it, so that it
 /// can be borrowed.
@@ -21,11 +20,11 @@ pub trait EncodeValue {
 
     ghost is_held: { Self → Bool } = { λ _. false };
 
-    /// How many bytes the encoding has.
+    /// The number of bytes of the encoding.
     fn value_length(&self) -> u16
         ensures { result ≡ length (bytes self.now) };
 
-    /// Writes the value at the start of `dest`. What follows is unchanged.
+    /// Writes the encoding of the value at the start of `dest`. What follows is unchanged.
     ///
     /// # Requires
     ///
@@ -34,7 +33,7 @@ pub trait EncodeValue {
         requires { length (bytes self.now) ≤ length dest.old }
         ensures { dest.new ≡ bytes self.now ++ drop (length (bytes self.now)) dest.old };
 
-    /// The encoding, if the value holds it as it is.
+    /// The encoding, if the value holds it, and `None` if it has to be computed.
     fn held_bytes(&self) -> Option<&[u8]>
         ensures { MatchOption result (is_held self.now ≡ false)
             (λ held. (is_held self.now ≡ true) × (held.now ≡ bytes self.now)) };

@@ -131,15 +131,27 @@ impl RawAttribute<'_> {
     ghost use Rattle.stun_attrs.specs.PrintedAttributes.{attribute_text};
     ghost use Rattle.stun_text.specs.Slices.{laid_over, text_answer};
 
-    /// Writes what the attribute prints as, in UTF-8, at the start of `to`, and returns how many
-    /// bytes that is. The bytes of `to` after the text stay as they were. It takes no memory, and
-    /// if `to` has room it succeeds.
+    /// Writes the text that the attribute prints, in UTF-8, at the start of `to`, and returns the
+    /// number of its bytes. The bytes of `to` after the text stay as they were. It takes no memory,
+    /// and if `to` has room it succeeds.
     ///
     /// # Errors
     ///
     /// [`TextTooLong`] if the text has more bytes than `to`, with the length of the text: a
     /// slice of that length has room. `to` then holds the first bytes of the text, as many as it
     /// has room for, and a character may be cut at its end.
+    ///
+    /// # Examples
+    ///
+    /// ```
+    /// use stun_types::attribute::{RawAttribute, Software};
+    /// use stun_types::prelude::*;
+    ///
+    /// let raw = RawAttribute::new(Software::TYPE, b"my client")?;
+    /// let mut text = [0; 64];
+    /// let length = raw.write_text(&mut text)?;
+    /// assert_eq!(rt; &text[..length], b"32802(0x8022: SOFTWARE): 'my client'".as_slice());
+    /// ```
     pub fn write_text(&self, to: &mut [u8]) -> Result<usize, TextTooLong>
         ensures answer { result ≡ text_answer (length (attribute_text (raw_type self.now)
             (raw_value self.now) (is_borrowed (raw_data self.now)))) (length to.old) }

@@ -7,8 +7,8 @@ use std::alloc::Global;
 use std::boxed::BoxedSlice;
 use stun_base::{AttributeHeader, AttributeType, Data, StunParseError, StunWriteError};
 
-/// An attribute as its type and the bytes of its value, at most 65535, which it borrows or owns
-/// (RFC 8489, section 14).
+/// An attribute as its type and the bytes of its value, at most 65535, borrowed or owned (RFC 8489,
+/// section 14).
 #[derive(Debug, PartialEq, Eq, Drop)]
 pub struct RawAttribute<'a> {
     header: AttributeHeader,
@@ -48,12 +48,23 @@ impl<'a> RawAttribute<'a> {
         }
     }
 
-    /// An attribute of this type that borrows its value.
+    /// An attribute of the type `atype` that borrows the value `value`.
     ///
     /// # Errors
     ///
     /// `TooLarge { expected: 65535, actual }` if the value is longer than its length field can
     /// state.
+    ///
+    /// # Examples
+    ///
+    /// ```
+    /// use stun_types::attribute::{AttributeType, RawAttribute};
+    /// use stun_types::prelude::*;
+    ///
+    /// let raw = RawAttribute::new(AttributeType(0x8851), &[4, 0])?;
+    /// assert_eq!(rt; raw.length(), 2);
+    /// assert_eq!(rt; raw.to_bytes(alloc)?.as_slice(), [0x88, 0x51, 0, 2, 4, 0, 0, 0].as_slice());
+    /// ```
     pub fn new(atype: AttributeType, value: &'a [u8]) -> Result<Self, StunParseError>
         ensures ok { length value.now ≤ 65535 → IfOk result (Borrows atype.0 value.now) }
         ensures atype { (raw : _) → result ≡ Ok raw → raw_type raw ≡ atype.0 }
@@ -65,12 +76,23 @@ impl<'a> RawAttribute<'a> {
         Ok(borrowed_attribute(atype, value))
     }
 
-    /// An attribute of this type that owns its value.
+    /// An attribute of the type `atype` that owns the value `value`.
     ///
     /// # Errors
     ///
     /// `TooLarge { expected: 65535, actual }` if the value is longer than its length field can
     /// state. The value is dropped then.
+    ///
+    /// # Examples
+    ///
+    /// ```
+    /// use stun_types::attribute::{AttributeType, RawAttribute};
+    /// use stun_types::data::Data;
+    ///
+    /// let value = [4, 0].to_vec(alloc)?.into_boxed_slice();
+    /// let raw = RawAttribute::new_owned(AttributeType(0x8851), value)?;
+    /// assert!(rt; matches!(raw.value(), Data::Owned(_)));
+    /// ```
     pub fn new_owned(atype: AttributeType, value: BoxedSlice<u8>) -> Result<Self, StunParseError>
         ensures ok { IfOk result (IsRawOf atype.0 (boxed_slice_items value)) }
         ensures atype { (raw : _) → result ≡ Ok raw → raw_type raw ≡ atype.0 }
@@ -86,8 +108,8 @@ impl<'a> RawAttribute<'a> {
         })
     }
 
-    /// Reads the attribute at the start of `bytes`: a header of four bytes, and a value of as many
-    /// bytes as the header states, which is borrowed. What follows is not looked at, so the padding
+    /// Reads the attribute at the start of `bytes`: a header of four bytes, and the value whose
+    /// length the header states, which is borrowed. What follows is not looked at, so the padding
     /// may be missing.
     ///
     /// # Errors
@@ -95,6 +117,20 @@ impl<'a> RawAttribute<'a> {
     /// `Truncated { expected: 4, actual }` if there are fewer than four bytes. Otherwise
     /// `Truncated { expected, actual }` if the header states more bytes than follow it:
     /// `expected` is how many it states, and `actual` how many follow.
+    ///
+    /// # Examples
+    ///
+    /// ```
+    /// use stun_types::attribute::{AttributeType, RawAttribute};
+    /// use stun_types::message::StunParseError;
+    /// use stun_types::prelude::*;
+    ///
+    /// let raw = RawAttribute::from_bytes(&[0x88, 0x51, 0, 2, 4, 0, 0, 0])?;
+    /// assert_eq!(rt; raw.get_type(), AttributeType(0x8851));
+    /// assert_eq!(rt; raw.value().as_bytes(), [4, 0].as_slice());
+    /// let cut_off = RawAttribute::from_bytes(&[0x88, 0x51, 0, 2, 4]).err();
+    /// assert_eq!(rt; cut_off, Some(StunParseError::Truncated { expected: 2, actual: 1 }));
+    /// ```
     pub fn from_bytes(bytes: &'a [u8]) -> Result<Self, StunParseError>
         ensures { MatchResult result
             (λ raw. (raw_fault bytes.now ≡ None) × Borrows (number (slice_range bytes.now 0 2))
@@ -112,7 +148,7 @@ impl<'a> RawAttribute<'a> {
         Ok(Self::borrowed(header, &bytes[4..4 + length]))
     }
 
-    /// The header: the type, and the length of the value.
+    /// The header of the attribute: the type, and the length of the value.
     pub fn header(&self) -> AttributeHeader
         ensures atype { result.atype.0 ≡ raw_type self.now }
         ensures length { result.length ≡ length (raw_value self.now) }
@@ -121,14 +157,26 @@ impl<'a> RawAttribute<'a> {
         *header
     }
 
-    /// The value, borrowed or owned.
+    /// The value of the attribute, borrowed or owned.
     pub fn value(&self) -> &Data<'a>
         ensures { result.now ≡ raw_data self.now }
     {
         &self.value
     }
 
-    /// The value. A value that is borrowed stays borrowed for `'a`, and so outlives the attribute.
+    /// Converts the attribute into its value. A value that is borrowed stays borrowed for `'a`, and
+    /// so outlives the attribute.
+    ///
+    /// # Examples
+    ///
+    /// ```
+    /// use stun_types::attribute::RawAttribute;
+    /// use stun_types::data::Data;
+    ///
+    /// let bytes = [0x88, 0x51, 0, 2, 4, 0];
+    /// let value = RawAttribute::from_bytes(&bytes)?.into_value();
+    /// assert!(rt; matches!(value, Data::Borrowed(slice) if slice.take() == &bytes[4..]));
+    /// ```
     pub fn into_value(self) -> Data<'a>
         ensures { result ≡ raw_data self.entry }
     {
@@ -136,12 +184,24 @@ impl<'a> RawAttribute<'a> {
         value
     }
 
-    /// The same attribute, owning its value. A borrowed value is copied into memory that `alloc`
-    /// gives; an owned value is kept, which takes no memory.
+    /// Converts the attribute into one that owns its value. A borrowed value is copied into memory
+    /// that `alloc` gives; an owned value is kept, which takes no memory.
     ///
     /// # Errors
     ///
     /// `OutOfMemory` alone, and only for a borrowed value.
+    ///
+    /// # Examples
+    ///
+    /// ```
+    /// use stun_types::attribute::{AttributeType, RawAttribute};
+    /// use stun_types::data::Data;
+    ///
+    /// let bytes = [0x88, 0x51, 0, 2, 4, 0];
+    /// let owned = RawAttribute::from_bytes(&bytes)?.into_owned(alloc)?;
+    /// assert!(rt; matches!(owned.value(), Data::Owned(_)));
+    /// assert_eq!(rt; owned.value().as_bytes(), [4, 0].as_slice());
+    /// ```
     pub fn into_owned(self, alloc: Global) -> Result<RawAttribute<'static>, StunWriteError>
         ensures same { IfOk result (IsRawOf (raw_type self.entry) (raw_value self.entry)) }
         ensures owned { IfOk result (λ raw. is_borrowed (raw_data raw) ≡ false) }
@@ -159,6 +219,16 @@ impl<'a> RawAttribute<'a> {
     /// # Errors
     ///
     /// `OutOfMemory` alone.
+    ///
+    /// # Examples
+    ///
+    /// ```
+    /// use stun_types::attribute::{AttributeType, RawAttribute};
+    ///
+    /// let raw = RawAttribute::new(AttributeType(0x8851), b"abcde")?;
+    /// let bytes = raw.to_bytes(alloc)?;
+    /// assert_eq!(rt; bytes.as_slice(), b"\x88\x51\x00\x05abcde\x00\x00\x00".as_slice());
+    /// ```
     pub fn to_bytes(&self, alloc: Global) -> Result<Vec<u8>, StunWriteError>
         ensures text { IfOk result
             (λ bytes. bytes.items ≡ attribute_encoding (raw_type self.now) (raw_value self.now)) }
@@ -172,7 +242,7 @@ impl<'a> RawAttribute<'a> {
         Ok(bytes)
     }
 
-    /// The same attribute. A borrowed value stays borrowed, which takes no memory; an owned value
+    /// Clones the attribute. A borrowed value stays borrowed, which takes no memory; an owned value
     /// is copied into memory that `alloc` gives.
     ///
     /// # Errors

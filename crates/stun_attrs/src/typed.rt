@@ -20,7 +20,7 @@ use stun_base::{AttributeType, StunParseError, StunWriteError};
 pub trait TypedAttribute: EncodeValue {
     ghost NUMBER: { ℕ };
 
-    /// The number of the type.
+    /// The number of the attribute type.
     const NUMBER: u16;
 }
 
@@ -30,7 +30,8 @@ pub trait TypedAttribute: EncodeValue {
 pub trait ReadValue: EncodeValue {
     ghost reads_value: { List ℕ → Result Self StunParseError → Type 0 };
 
-    /// Reads a value. `alloc` gives the memory that it needs, if it needs any.
+    /// Reads a value from the bytes of an attribute. `alloc` gives the memory that it needs, if it
+    /// needs any.
     ///
     /// # Requires
     ///

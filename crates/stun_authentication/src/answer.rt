@@ -9,7 +9,8 @@ ghost use Rattle.stun_authentication.specs.Answers.{Tells, rejected, refusal_cod
 use stun_types::attribute::ErrorCode;
 use stun_types::message::{IntegrityAlgorithm, IntegrityKey, Message, MessageClass};
 
-/// A message that is accepted, and by what its reply is signed.
+/// A message that was authenticated: the key of its user, and the algorithm by which its reply is
+/// signed.
 #[derive(Debug, Drop)]
 pub struct Accepted {
     /// The key of the user, which works with both algorithms: the reply is signed with it.
@@ -20,15 +21,25 @@ pub struct Accepted {
     pub reply_algorithm: IntegrityAlgorithm,
 }
 
-/// Why a request is refused: the code of the error response.
+/// Why a request is refused, as the code of the error response.
+///
+/// # Examples
+///
+/// ```
+/// use stun_authentication::Refusal;
+///
+/// assert_eq!(rt; Refusal::StaleNonce.code(), 438);
+/// assert_eq!(rt; Refusal::StaleNonce.reason(), "Stale Nonce");
+/// ```
 #[derive(Clone, Copy, Debug, PartialEq, Eq)]
 pub enum Refusal {
-    /// 400: an attribute is missing, USERNAME and USERHASH are both there, or the password algorithm
-    /// isn't one that was offered.
+    /// 400 (Bad Request): an attribute is missing, USERNAME and USERHASH are both there, or the
+    /// password algorithm isn't one that was offered.
     BadRequest,
-    /// 401: the request isn't signed, or its user is unknown, or its HMAC is wrong.
+    /// 401 (Unauthenticated): the request isn't signed, or its user is unknown, or its HMAC is
+    /// wrong.
     Unauthenticated,
-    /// 438: the nonce isn't valid.
+    /// 438 (Stale Nonce): the nonce isn't valid.
     StaleNonce,
 }
 
@@ -36,7 +47,7 @@ impl Refusal {
     ghost use Rattle.std.specs.Prelude.{◌≡◌};
     ghost use Rattle.stun_authentication.specs.Answers.{refusal_code, refusal_reason};
 
-    /// The code of the error response.
+    /// Returns the code of the error response: 400, 401 or 438.
     pub fn code(self) -> u16
         ensures { result ≡ refusal_code self }
     {
@@ -47,7 +58,7 @@ impl Refusal {
         }
     }
 
-    /// The reason phrase of RFC 8489, section 14.8. That of 401 isn't
+    /// Returns the reason phrase of RFC 8489, section 14.8. That of 401 isn't
     /// `ErrorCode::default_reason_for_code(401)`, which is the one of RFC 5389.
     pub fn reason(self) -> &'static str
         ensures { result.now ≡ refusal_reason self }
@@ -60,18 +71,19 @@ impl Refusal {
     }
 }
 
-/// What becomes of a message that a server authenticates.
+/// The result of authenticating a message at a server.
 #[derive(Debug, Drop)]
 pub enum Authentication {
-    /// It is from this user.
+    /// The message is authentic, and comes from the user of this key.
     Accepted(Accepted),
-    /// It is refused by an error response, which isn't signed.
+    /// The request is refused by an error response, which isn't signed.
     Refused(Refusal),
-    /// It is dropped, and nothing is answered.
+    /// The message is dropped, and nothing is answered.
     Discarded,
-    /// The mechanism doesn't authenticate such a message at a server: a response, and under long-term
-    /// credentials an indication (RFC 8489, section 9.2). The usage decides about it: a TURN server checks a Send indication by the
-    /// allocation of its source (RFC 8656, section 11.2).
+    /// The message is one that the mechanism doesn't authenticate at a server: a response, and
+    /// under long-term credentials an indication (RFC 8489, section 9.2). The usage decides about
+    /// it: a TURN server checks a Send indication by the allocation of its source (RFC 8656,
+    /// section 11.2).
     NotARequest,
 }
 

@@ -8,6 +8,30 @@ use stun_types::attribute::PasswordAlgorithmValue;
 use stun_types::message::IntegrityAlgorithm;
 
 /// What a server asks a client's next request to carry.
+///
+/// # Examples
+///
+/// ```
+/// use stun_authentication::challenge_of;
+/// use stun_types::attribute::PasswordAlgorithmValue;
+/// use stun_types::message::{IntegrityAlgorithm, Message};
+///
+/// // The 401 of section 20 of RFC 8656.
+/// let response = Message::from_bytes(
+///     b"\x01\x13\x00\x54\x21\x12\xA4\x42\xA5\x62\x50\xD3\xF1\x7A\xBE\x67\x94\x22\xDE\x85\
+///       \x00\x09\x00\x10\x00\x00\x04\x01Unauthorized\x00\x14\x00\x0Bexample.com\x00\
+///       \x00\x15\x00\x20obMatJos2gAAAadl7W7PeDU4hKE72jda\
+///       \x80\x02\x00\x08\x00\x01\x00\x00\x00\x02\x00\x00",
+/// )?;
+/// let supported = [PasswordAlgorithmValue::SHA256];
+/// let challenge = challenge_of(&response, &supported, None, None)?;
+/// // MD5 and SHA-256, in the order of the server.
+/// let list = b"\x00\x01\x00\x00\x00\x02\x00\x00".as_slice();
+/// assert_eq!(rt; challenge.password_algorithms(), Some(list));
+/// assert_eq!(rt; challenge.integrity_algorithm(), IntegrityAlgorithm::Sha256);
+/// // The nonce doesn't promise that the server knows its users by USERHASH.
+/// assert!(rt; !challenge.is_anonymous());
+/// ```
 #[derive(Clone, Copy, Debug)]
 pub struct Challenge<'a> {
     realm: &'a str,
@@ -23,17 +47,18 @@ pub struct Challenge<'a> {
 /// Why a request isn't sent again with credentials.
 #[derive(Clone, Copy, Debug, PartialEq, Eq)]
 pub enum NoRetry {
-    /// The response is no error response with the code 401 or 438.
+    /// The message is no error response with the code 401 or 438.
     NotAChallenge,
     /// The response shows no PASSWORD-ALGORITHMS, and its nonce promises one, or the server sent
     /// one before. An attacker may have removed it, so that the client falls back to a weaker
     /// algorithm.
     BidDown,
-    /// REALM or NONCE is missing, or is no text.
+    /// The response shows no REALM or no NONCE, or one that is no text.
     Incomplete,
-    /// None of the algorithms on the list is supported; or there is no list, and MD5 isn't.
+    /// The client supports none of the algorithms on the list; or there is no list, and it doesn't
+    /// support MD5.
     NoAlgorithm,
-    /// The request had these credentials already, in this realm, and they were refused.
+    /// The request that this 401 refuses had the same credentials, in the same realm.
     SameCredentials,
 }
 
@@ -67,8 +92,8 @@ impl<'a> Challenge<'a> {
         }
     }
 
-    /// The realm, which the REALM of the request copies. It shows the user which name and password
-    /// are asked for.
+    /// Returns the realm, which the REALM of the request copies. It shows the user which name and
+    /// password are asked for.
     pub fn realm(&self) -> &'a str
         ensures realm { result.now ≡ (asked_by self.now).realm }
         ensures short { length result.now ≤ text_max }
@@ -76,7 +101,7 @@ impl<'a> Challenge<'a> {
         self.realm
     }
 
-    /// The nonce, which the NONCE of the request copies.
+    /// Returns the nonce, which the NONCE of the request copies.
     pub fn nonce(&self) -> &'a str
         ensures nonce { result.now ≡ (asked_by self.now).nonce }
         ensures short { length result.now ≤ text_max }
@@ -84,8 +109,8 @@ impl<'a> Challenge<'a> {
         self.nonce
     }
 
-    /// The value of PASSWORD-ALGORITHMS, which the request copies if there is one: it then has a
-    /// PASSWORD-ALGORITHM too.
+    /// Returns the value of PASSWORD-ALGORITHMS, which the request copies if there is one: it then
+    /// has a PASSWORD-ALGORITHM too.
     pub fn password_algorithms(&self) -> Option<&'a [u8]>
         ensures list { option_map (λ value. value.now) result ≡ (asked_by self.now).list }
         ensures short { option_map_or (λ value. length value.now) result 0 < 2 ^ 16 }
@@ -93,8 +118,8 @@ impl<'a> Challenge<'a> {
         self.list
     }
 
-    /// The password algorithm of the key, which the PASSWORD-ALGORITHM of the request names if
-    /// there is a PASSWORD-ALGORITHMS: the first one on the list that is supported, and MD5 if
+    /// Returns the password algorithm of the key, which the PASSWORD-ALGORITHM of the request names
+    /// if there is a PASSWORD-ALGORITHMS: the first one on the list that is supported, and MD5 if
     /// there is no list.
     pub fn password_algorithm(&self) -> PasswordAlgorithmValue
         ensures { result ≡ (asked_by self.now).algorithm }
@@ -102,15 +127,15 @@ impl<'a> Challenge<'a> {
         self.algorithm
     }
 
-    /// Whether the request names its user by USERHASH, and not by USERNAME.
+    /// Returns `true` if the request names its user by USERHASH, and not by USERNAME.
     pub fn is_anonymous(&self) -> bool
         ensures { result ≡ (asked_by self.now).anonymous }
     {
         self.anonymous
     }
 
-    /// The algorithm by which the request is signed: MESSAGE-INTEGRITY-SHA256 alone if there is
-    /// a PASSWORD-ALGORITHMS, otherwise MESSAGE-INTEGRITY alone, for a server of RFC 5389.
+    /// Returns the algorithm by which the request is signed: MESSAGE-INTEGRITY-SHA256 alone if
+    /// there is a PASSWORD-ALGORITHMS, otherwise MESSAGE-INTEGRITY alone, for a server of RFC 5389.
     pub fn integrity_algorithm(&self) -> IntegrityAlgorithm
         ensures { result ≡ signing_algorithm (asked_by self.now) }
     {

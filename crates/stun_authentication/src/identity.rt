@@ -9,7 +9,7 @@ use stun_types::attribute::{AttributeStaticType, AttributeType, Userhash, Userna
 use stun_types::data::Data;
 use stun_types::message::Message;
 
-/// Who a request says that it comes from: the value of its USERNAME or of its USERHASH.
+/// The user that a request names: the value of its USERNAME or of its USERHASH.
 #[derive(Clone, Copy, Debug)]
 pub enum Identity<'a> {
     /// The value of a USERNAME: UTF-8, unless the client is broken.

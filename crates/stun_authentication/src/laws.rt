@@ -20,7 +20,7 @@ ghost use Rattle.stun_authentication.specs.Lookups.{Known};
 ghost use Rattle.stun_authentication.specs.LongTerm.{long_term};
 ghost use Rattle.stun_authentication.specs.ShortTerm.{short_term};
 
-/// A nonce that begins with a nonce cookie has its features, whatever follows.
+/// A nonce that begins with a nonce cookie has the features of that cookie, whatever follows.
 pub fn cookie_is_read()
     ensures { (features : SecurityFeatures) (more : List ℕ)
         → security_features (cookie features ++ more) ≡ Some features }

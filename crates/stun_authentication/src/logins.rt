@@ -12,11 +12,26 @@ use std::alloc::{AllocError, Global};
 use stun_types::attribute::{PasswordAlgorithmValue, Userhash};
 use stun_types::message::{IntegrityKey, LongTermCredentials};
 
-/// Users by their names and passwords, which are looked through one by one. It serves a few users;
-/// a server with many implements [`ShortTermKeys`] or [`LongTermKeys`] over its own store.
+/// A list of users with their names and passwords, which is searched from its beginning. It serves
+/// a few users; a server with many implements [`ShortTermKeys`] or [`LongTermKeys`] over its own
+/// store.
 ///
 /// Names and passwords are compared and digested as they are: no function applies the OpaqueString
 /// profile (RFC 8265) to them.
+///
+/// # Examples
+///
+/// ```
+/// use stun_authentication::{Logins, ShortTermKeys};
+/// use stun_types::message::LongTermCredentials;
+///
+/// let name = String::from_str(alloc, "evtj:h6vY")?;
+/// let password = String::from_str(alloc, "VOkJxbRl1RmTxUk/WvJxBt")?;
+/// let users = [LongTermCredentials::new(name, password)];
+/// let logins = Logins::new(&users);
+/// assert!(rt; logins.key(alloc, b"evtj:h6vY")?.is_some());
+/// assert!(rt; logins.key(alloc, b"h6vY:evtj")?.is_none());
+/// ```
 #[derive(Clone, Copy)]
 pub struct Logins<'a> {
     users: &'a [LongTermCredentials],
@@ -28,7 +43,7 @@ impl<'a> Logins<'a> {
     ghost use Rattle.stun_authentication.specs.Identities.{who};
     ghost use Rattle.stun_authentication.specs.Logins.{is_login, users_of};
 
-    /// These users. Of two with one name the first counts.
+    /// Returns the look-up of these users. If two have the same name, the first counts.
     pub fn new(users: &'a [LongTermCredentials]) -> Self
         ensures { users_of result ≡ users.now }
     {

@@ -11,7 +11,7 @@ use std::alloc::{AllocError, Global};
 use stun_types::attribute::PasswordAlgorithmValue;
 use stun_types::message::IntegrityKey;
 
-/// The keys of short-term credentials, by user name.
+/// A look-up of the keys of short-term credentials by user name.
 pub trait ShortTermKeys {
     ghost key_of: { Self → List ℕ → Option (List ℕ) };
 
@@ -22,15 +22,28 @@ pub trait ShortTermKeys {
     /// # Errors
     ///
     /// Only if an allocation failed.
+    ///
+    /// # Examples
+    ///
+    /// ```
+    /// use stun_authentication::{Logins, ShortTermKeys};
+    /// use stun_types::message::LongTermCredentials;
+    ///
+    /// let name = String::from_str(alloc, "evtj:h6vY")?;
+    /// let password = String::from_str(alloc, "VOkJxbRl1RmTxUk/WvJxBt")?;
+    /// let users = [LongTermCredentials::new(name, password)];
+    /// let key = Logins::new(&users).key(alloc, b"evtj:h6vY")?.ok_or("no such user")?;
+    /// assert_eq!(rt; key.as_bytes(), b"VOkJxbRl1RmTxUk/WvJxBt".as_slice());
+    /// ```
     fn key(&self, alloc: Global, username: &[u8]) -> Result<Option<IntegrityKey>, AllocError>
         ensures { IfOk result (IsKeyOf (key_of self.now username.now)) };
 }
 
-/// The keys of long-term credentials, by user, realm and password algorithm.
+/// A look-up of the keys of long-term credentials by user, realm and password algorithm.
 pub trait LongTermKeys {
     ghost key_of: { Self → Who → List ℕ → PasswordAlgorithmValue → Option (List ℕ) };
 
-    /// The key of a user in a realm, by an algorithm: the MD5 or the SHA-256 of
+    /// Returns the key of a user in a realm, by an algorithm: the MD5 or the SHA-256 of
     /// `username:realm:password` (RFC 8489, sections 9.2.2 and 18.5.1); or `None` if there is no
     /// such user, or the server knows no users by USERHASH. The algorithm that the key was made for
     /// doesn't matter.
@@ -38,6 +51,22 @@ pub trait LongTermKeys {
     /// # Errors
     ///
     /// Only if an allocation failed.
+    ///
+    /// # Examples
+    ///
+    /// ```
+    /// use stun_authentication::{Identity, Logins, LongTermKeys};
+    /// use stun_types::attribute::PasswordAlgorithmValue;
+    /// use stun_types::message::LongTermCredentials;
+    ///
+    /// // The example in section 9.2.2 of RFC 8489: the MD5 of `user:realm:pass`.
+    /// let (name, password) = (String::from_str(alloc, "user")?, String::from_str(alloc, "pass")?);
+    /// let users = [LongTermCredentials::new(name, password)];
+    /// let (user, algorithm) = (Identity::Name(b"user"), PasswordAlgorithmValue::MD5);
+    /// let key = Logins::new(&users).key(alloc, user, "realm", algorithm)?.ok_or("no such user")?;
+    /// let md5 = 0x8493_FBC5_3BA5_82FB_4C04_4C45_6BDC_40EB_u128;
+    /// assert_eq!(rt; key.as_bytes(), md5.to_be_bytes().as_slice());
+    /// ```
     fn key(
         &self,
         alloc: Global,
@@ -48,24 +77,25 @@ pub trait LongTermKeys {
         ensures { IfOk result (IsKeyOf (key_of self.now (who user.entry) realm.now algorithm)) };
 }
 
-/// What a server knows of a nonce.
+/// Whether a nonce is valid, and which password algorithms were sent with it.
 #[derive(Clone, Copy, Debug)]
 pub enum KnownNonce<'a> {
-    /// It is valid, and was sent with these algorithms in a PASSWORD-ALGORITHMS, in this order. No
-    /// algorithms: it was sent without one.
+    /// The nonce is valid, and was sent with these algorithms in a PASSWORD-ALGORITHMS, in this
+    /// order. No algorithms: it was sent without one.
     Valid(&'a [PasswordAlgorithmValue]),
-    /// It was valid once.
+    /// The nonce was valid once.
     Stale,
-    /// The server didn't send it, or doesn't know any more.
+    /// The server didn't send the nonce, or doesn't know it any more.
     Unknown,
 }
 
-/// The nonces of a server.
+/// A look-up of the nonces of a server.
 pub trait Nonces {
     ghost state_of: { Self → List ℕ → Known };
 
-    /// What the server knows of a nonce, the value of a NONCE. A nonce is bound to the address and
-    /// port that it was sent to (RFC 8489, section 9.2.4): one that came from elsewhere is unknown.
+    /// Returns what the server knows of a nonce, the value of a NONCE. A nonce is bound to the
+    /// address and port that it was sent to (RFC 8489, section 9.2.4): one that came from elsewhere
+    /// is unknown.
     fn nonce(&self, nonce: &[u8]) -> KnownNonce<'_>
         ensures { known result ≡ state_of self.now nonce.now };
 }

@@ -19,13 +19,37 @@ use stun_values::{address_length, write_address};
 const LENGTH: usize = 93;
 
 /// Makes nonces that the server doesn't store, and recognizes them: a nonce contains the time at
-/// which it was made, and an HMAC-SHA256, under the server's secret, of its nonce cookie, that time,
-/// and the client's address and port.
+/// which it was made, and an HMAC-SHA256, under the server's secret, of its nonce cookie, that
+/// time, and the client's address and port.
 ///
 /// A nonce is 93 characters: the cookie, 13; the time in seconds, 16 hexadecimal digits; and the
 /// HMAC, 64. It is valid for its client alone, until its window is over, and for any number of
 /// requests. A server that changes its secret keeps the maker of the old one for as long as a
 /// window, and asks both.
+///
+/// # Examples
+///
+/// ```
+/// use rand::rngs::StdRng;
+/// use rand::{Rng, make_rng};
+/// use std::net::SocketAddr;
+/// use stun_authentication::{Freshness, NonceMaker, SecurityFeatures};
+/// use stun_types::message::IntegrityKey;
+///
+/// let mut secret = [0; 32];
+/// let mut rng: StdRng = make_rng(&rt)?;
+/// rng.fill_bytes(&mut secret);
+/// let secret = IntegrityKey::new(alloc, &secret, None)?;
+/// let maker = NonceMaker::new(secret, SecurityFeatures::default(), 600);
+/// let client: SocketAddr = "192.0.2.1:32853".parse()?;
+/// let nonce = maker.make(alloc, 1000, &client)?;
+/// let bytes = nonce.nonce().as_bytes();
+/// // Valid for ten minutes, and for this client.
+/// assert_eq!(rt; maker.freshness(1500, &client, bytes), Freshness::Fresh);
+/// assert_eq!(rt; maker.freshness(1700, &client, bytes), Freshness::Stale);
+/// let other: SocketAddr = "192.0.2.2:32853".parse()?;
+/// assert_eq!(rt; maker.freshness(1500, &other, bytes), Freshness::Unknown);
+/// ```
 #[derive(Debug, Drop)]
 pub struct NonceMaker {
     secret: IntegrityKey,
@@ -36,12 +60,13 @@ pub struct NonceMaker {
 /// What a server knows of a nonce that it may have made.
 #[derive(Clone, Copy, Debug, PartialEq, Eq)]
 pub enum Freshness {
-    /// It is valid.
+    /// The nonce is valid.
     Fresh,
-    /// This server made it for this client, and its window is over or its time is still to come.
+    /// The server made the nonce for this client, and its window is over or its time is still to
+    /// come.
     Stale,
-    /// The server didn't make it, or made it for another client, under another secret, or with
-    /// other features.
+    /// The server didn't make the nonce, or made it for another client, under another secret, or
+    /// with other features.
     Unknown,
 }
 
@@ -164,8 +189,8 @@ impl NonceMaker {
         text
     }
 
-    /// The nonce for a client at a time, `now`, in seconds since any moment that stays the same.
-    /// `client` is the address and port that the request came from: two clients get different
+    /// Makes the nonce for a client at a time, `now`, in seconds since any moment that stays the
+    /// same. `client` is the address and port that the request came from: two clients get different
     /// nonces (RFC 8489, section 9.2.4). It is copied into memory from `alloc`.
     ///
     /// # Errors
@@ -188,9 +213,9 @@ impl NonceMaker {
         }
     }
 
-    /// What is known at a time, `now`, of a nonce that came from a client. It takes at most one HMAC,
-    /// none if the nonce hasn't 93 bytes, and no memory; every byte is compared, even after a
-    /// difference; constant time is not claimed.
+    /// Returns whether a nonce that came from a client is valid at a time, `now`. It computes at
+    /// most one HMAC, none if the nonce hasn't 93 bytes, and allocates nothing; every byte is
+    /// compared, even after a difference; constant time is not claimed.
     pub fn freshness(&self, now: u64, client: &SocketAddr, nonce: &[u8]) -> Freshness
         ensures { result
             ≡ freshness (minting_of self.now) now (address_value client.now) nonce.now }
@@ -218,8 +243,32 @@ impl NonceMaker {
         }
     }
 
-    /// The nonces at a time, `now`, for one client, to authenticate its requests. With each nonce
-    /// the server sends these algorithms; none, if it sends no list.
+    /// Returns the nonces at a time, `now`, for one client, to authenticate its requests. With each
+    /// nonce the server sends these algorithms; none, if it sends no list.
+    ///
+    /// # Examples
+    ///
+    /// ```
+    /// use rand::rngs::StdRng;
+    /// use rand::{Rng, make_rng};
+    /// use std::net::SocketAddr;
+    /// use stun_authentication::{KnownNonce, NonceMaker, Nonces, SecurityFeatures};
+    /// use stun_types::attribute::PasswordAlgorithmValue;
+    /// use stun_types::message::IntegrityKey;
+    ///
+    /// let mut secret = [0; 32];
+    /// let mut rng: StdRng = make_rng(&rt)?;
+    /// rng.fill_bytes(&mut secret);
+    /// let secret = IntegrityKey::new(alloc, &secret, None)?;
+    /// let features = SecurityFeatures { password_algorithms: true, username_anonymity: false };
+    /// let maker = NonceMaker::new(secret, features, 600);
+    /// let client: SocketAddr = "192.0.2.1:32853".parse()?;
+    /// let nonce = maker.make(alloc, 1000, &client)?;
+    /// let both = [PasswordAlgorithmValue::MD5, PasswordAlgorithmValue::SHA256];
+    /// let nonces = maker.nonces(1500, client, &both);
+    /// let known = nonces.nonce(nonce.nonce().as_bytes());
+    /// assert!(rt; matches!(known, KnownNonce::Valid(algorithms) if algorithms.len() == 2));
+    /// ```
     pub fn nonces<'a>(
         &'a self,
         now: u64,

@@ -10,26 +10,52 @@ use stun_types::attribute::{
 };
 use stun_types::message::{IntegrityAlgorithm, IntegrityKey, Message};
 
-/// Which messages a server takes, and which integrity attributes count for it.
+/// The messages that a server takes, and the integrity attributes that count for it.
 ///
 /// `Policy::default()` takes both algorithms, a MESSAGE-INTEGRITY-SHA256 of 32 bytes alone, and
 /// messages without a FINGERPRINT.
+///
+/// # Examples
+///
+/// ```
+/// use stun_authentication::Policy;
+///
+/// // The checks of ICE have a FINGERPRINT.
+/// let ice = Policy { fingerprint: true, ..Policy::default() };
+/// assert!(rt; ice.algorithm.is_none() && ice.shortest == 32);
+/// ```
 #[derive(Clone, Copy, Debug, PartialEq, Eq)]
 pub struct Policy {
     /// The one algorithm that serves, or `None` if both do. The integrity attribute of an
     /// algorithm that doesn't serve counts as absent.
     pub algorithm: Option<IntegrityAlgorithm>,
-    /// How many bytes a MESSAGE-INTEGRITY-SHA256 has at least. A usage may say 16, 20, 24 or 28;
-    /// otherwise it is 32 (RFC 8489, section 14.6).
+    /// The least length of the HMAC in a MESSAGE-INTEGRITY-SHA256, in bytes. A usage may say 16,
+    /// 20, 24 or 28; otherwise it is 32 (RFC 8489, section 14.6).
     pub shortest: usize,
-    /// Whether the usage uses FINGERPRINT, as ICE does: a message without one is then discarded (RFC
-    /// 8489, sections 6.3 and 7). A message with a wrong one is no message for `Message::from_bytes`.
+    /// Whether the usage uses FINGERPRINT, as ICE does: a message without one is then discarded
+    /// (RFC 8489, sections 6.3 and 7). A message with a wrong one is no message for
+    /// `Message::from_bytes`.
     pub fingerprint: bool,
 }
 
-/// Whether the HMAC of an algorithm has at least `shortest` bytes in a message. That of a
+/// Returns `true` if the HMAC of an algorithm has at least `shortest` bytes in a message. That of a
 /// MESSAGE-INTEGRITY has 20 always, and only that of a MESSAGE-INTEGRITY-SHA256 may be cut, if the
 /// usage says so (RFC 8489, section 14.6).
+///
+/// # Examples
+///
+/// ```
+/// use stun_authentication::has_least_length;
+/// use stun_types::message::{IntegrityAlgorithm, Message};
+///
+/// // A MESSAGE-INTEGRITY-SHA256 of 16 bytes.
+/// let message = Message::from_bytes(
+///     b"\x00\x01\x00\x14\x21\x12\xA4\x42\xB7\xE7\xA7\x01\xBC\x34\xD6\x86\xFA\x87\xDF\xAE\
+///       \x00\x1C\x00\x10................",
+/// )?;
+/// assert!(rt; has_least_length(16, IntegrityAlgorithm::Sha256, &message));
+/// assert!(rt; !has_least_length(32, IntegrityAlgorithm::Sha256, &message));
+/// ```
 pub fn has_least_length(
     shortest: usize,
     algorithm: IntegrityAlgorithm,

@@ -25,7 +25,7 @@ fn write_variant<T: fmt::Debug, W: fmt::Write>(
     write!(f, "{name}({value:?})")
 }
 
-/// Borrowed bytes.
+/// Bytes that are borrowed.
 ///
 /// `{:?}` prints the bytes in decimal: `DataSlice([4, 0])`.
 #[derive(Clone, Copy, PartialEq, Eq)]
@@ -34,25 +34,44 @@ pub struct DataSlice<'a> {
 }
 
 impl<'a> DataSlice<'a> {
-    /// The bytes.
+    /// The bytes that the value borrows.
     pub fn as_bytes(&self) -> &[u8]
         ensures { result.now ≡ slice_bytes self.now }
     {
         self.take()
     }
 
-    /// The bytes, for as long as they are borrowed.
+    /// Returns the bytes, for as long as they are borrowed.
+    ///
+    /// # Examples
+    ///
+    /// ```
+    /// use stun_types::data::DataSlice;
+    ///
+    /// let bytes = [4, 0];
+    /// let taken = DataSlice::from(bytes.as_slice()).take();
+    /// assert_eq!(rt; taken, bytes.as_slice());
+    /// ```
     pub fn take(self) -> &'a [u8]
         ensures { result.now ≡ slice_bytes self.entry }
     {
         self.bytes
     }
 
-    /// A copy of the bytes, in memory that `alloc` gives.
+    /// Copies the bytes into memory that `alloc` gives.
     ///
     /// # Errors
     ///
     /// `OutOfMemory` alone.
+    ///
+    /// # Examples
+    ///
+    /// ```
+    /// use stun_types::data::DataSlice;
+    ///
+    /// let owned = DataSlice::from([4, 0].as_slice()).to_owned(alloc)?;
+    /// assert_eq!(rt; owned.as_bytes(), [4, 0].as_slice());
+    /// ```
     pub fn to_owned(&self, alloc: Global) -> Result<DataOwned, StunWriteError>
         ensures bytes { IfOk result (λ copy. owned_bytes copy ≡ slice_bytes self.now) }
         ensures err { IfErr result (λ e. e ≡ StunWriteError.OutOfMemory) }
@@ -88,7 +107,7 @@ impl fmt::Debug for DataSlice<'_> {
     }
 }
 
-/// Owned bytes.
+/// Bytes that the value owns.
 ///
 /// `{:?}` prints the bytes in decimal: `DataOwned([4, 0])`.
 #[derive(PartialEq, Eq, Drop)]
@@ -97,14 +116,14 @@ pub struct DataOwned {
 }
 
 impl DataOwned {
-    /// The bytes.
+    /// The bytes that the value owns.
     pub fn as_bytes(&self) -> &[u8]
         ensures { result.now ≡ owned_bytes self.now }
     {
         &self.bytes
     }
 
-    /// The box that holds the bytes.
+    /// Returns the box that holds the bytes.
     pub fn take(self) -> BoxedSlice<u8>
         ensures { boxed_slice_items result ≡ owned_bytes self }
     {
@@ -112,7 +131,7 @@ impl DataOwned {
         bytes
     }
 
-    /// A copy of the bytes, in memory that `alloc` gives.
+    /// Copies the bytes into memory that `alloc` gives.
     ///
     /// # Errors
     ///
@@ -149,12 +168,25 @@ impl fmt::Debug for DataOwned {
     }
 }
 
-/// Borrowed or owned bytes.
+/// Bytes that are borrowed or owned.
 ///
 /// `{:?}` prints which they are, and the bytes in decimal: `Borrowed(DataSlice([4, 0]))`,
 /// `Owned(DataOwned([4, 0]))`.
 ///
 /// Two values are equal if both are borrowed or both are owned, and their bytes are equal.
+///
+/// # Examples
+///
+/// ```
+/// use stun_types::data::Data;
+///
+/// let borrowed = Data::from([4, 0].as_slice());
+/// assert_eq!(rt; borrowed.as_bytes(), [4, 0].as_slice());
+/// let owned = borrowed.into_owned(alloc)?;
+/// assert_eq!(rt; owned.as_bytes(), [4, 0].as_slice());
+/// let text = format!(in alloc; "{owned:?}")?;
+/// assert_eq!(rt; text.as_str(), "Owned(DataOwned([4, 0]))");
+/// ```
 #[derive(PartialEq, Eq, Drop)]
 pub enum Data<'a> {
     /// Bytes that are borrowed for `'a`.
@@ -164,7 +196,7 @@ pub enum Data<'a> {
 }
 
 impl<'a> Data<'a> {
-    /// The bytes.
+    /// The bytes, whether they are borrowed or owned.
     pub fn as_bytes(&self) -> &[u8]
         ensures { result.now ≡ data_bytes self.now }
     {
@@ -174,8 +206,8 @@ impl<'a> Data<'a> {
         }
     }
 
-    /// The same bytes, owned. Borrowed bytes are copied into memory that `alloc` gives; owned bytes
-    /// are kept, which takes no memory.
+    /// Converts the bytes into owned ones. Borrowed bytes are copied into memory that `alloc`
+    /// gives; owned bytes are kept, which takes no memory.
     ///
     /// # Errors
     ///
@@ -192,8 +224,8 @@ impl<'a> Data<'a> {
         }
     }
 
-    /// The same bytes. Borrowed bytes stay borrowed, which takes no memory; owned bytes are copied
-    /// into memory that `alloc` gives.
+    /// Clones the bytes. Borrowed bytes stay borrowed, which takes no memory; owned bytes are
+    /// copied into memory that `alloc` gives.
     ///
     /// # Errors
     ///

@@ -12,6 +12,20 @@ use stun_grammar::StunParseError;
 /// The header of a message: twenty bytes. These are the type in two bytes, the number of bytes that
 /// follow in two, the magic cookie in four and the transaction ID in twelve, all of them big-endian
 /// (RFC 8489, section 5).
+///
+/// # Examples
+///
+/// ```
+/// use stun_types::message::{BINDING, MessageHeader};
+///
+/// let mut bytes = [0; 20];
+/// bytes[..8].copy_from_slice(&[0x00, 0x01, 0x00, 0x08, 0x21, 0x12, 0xA4, 0x42]);
+/// bytes[19] = 7;
+/// let header = MessageHeader::from_bytes(&bytes)?;
+/// assert!(rt; header.get_type().has_method(BINDING));
+/// assert_eq!(rt; header.data_length(), 8);
+/// assert_eq!(rt; header.transaction_id().value(), 7);
+/// ```
 #[derive(Debug, Drop)]
 pub struct MessageHeader {
     mtype: MessageType,
@@ -142,10 +156,10 @@ pub fn check_header(bytes: &[u8]) -> Result<(), StunParseError>
 }
 
 impl MessageHeader {
-    /// How many bytes a header has: 20.
+    /// The number of bytes of a header: 20.
     pub const LENGTH: usize = 20;
 
-    /// Reads the header at the start of `bytes`. What follows it is not looked at.
+    /// Reads the header of a message at the start of `bytes`. What follows it is not looked at.
     ///
     /// If a message comes in pieces, as over TCP, another protocol is noticed as soon as a byte
     /// differs.
@@ -156,6 +170,17 @@ impl MessageHeader {
     /// or more, or the bytes from offset 4 to 8, as far as there are any, are not those of the
     /// magic cookie. Otherwise `Truncated { expected: 20, actual }` if there are fewer than
     /// twenty bytes.
+    ///
+    /// # Examples
+    ///
+    /// ```
+    /// use stun_types::message::{MessageHeader, StunParseError};
+    ///
+    /// let incomplete = StunParseError::Truncated { expected: 20, actual: 5 };
+    /// assert_eq!(rt; MessageHeader::from_bytes(&[0, 1, 0, 0, 0x21]).err(), Some(incomplete));
+    /// let other = MessageHeader::from_bytes(&[0, 1, 0, 0, 0x22]).err();
+    /// assert_eq!(rt; other, Some(StunParseError::NotStun));
+    /// ```
     pub fn from_bytes(bytes: &[u8]) -> Result<Self, StunParseError>
         ensures { MatchResult result
             (λ header. (header_fault bytes.now ≡ None) × (header ≡ header_of bytes.now))
@@ -165,21 +190,21 @@ impl MessageHeader {
         Ok(read_header(bytes))
     }
 
-    /// How many bytes follow the header, as it states.
+    /// The number of bytes that follow the header, as its length field states it.
     pub fn data_length(&self) -> u16
         ensures { result ≡ self.now.length }
     {
         self.length
     }
 
-    /// The transaction ID.
+    /// The transaction ID of the message.
     pub fn transaction_id(&self) -> TransactionId
         ensures { result ≡ self.now.id }
     {
         self.transaction_id
     }
 
-    /// The type.
+    /// The type of the message: class and method.
     pub fn get_type(&self) -> MessageType
         ensures { result ≡ self.now.type }
     {

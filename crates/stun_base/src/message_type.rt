@@ -35,11 +35,19 @@ impl Model for Method {
 pub const BINDING: Method = Method(0x0001);
 
 impl Method {
-    /// The method with this number.
+    /// The method with the number `val`.
     ///
     /// # Requires
     ///
     /// `val` is below 0xf000, as [`Method::is_valid`] tests.
+    ///
+    /// # Examples
+    ///
+    /// ```
+    /// use stun_types::message::{BINDING, Method};
+    ///
+    /// assert_eq!(rt; Method::new(0x001), BINDING);
+    /// ```
     pub fn new(val: u16) -> Self
         requires { val < 0xf000 }
         ensures { result ≡ val }
@@ -47,14 +55,31 @@ impl Method {
         Method(val)
     }
 
-    /// Whether a method can have this number: it is below 0xf000.
+    /// Whether a method can have the number `val`: it is below 0xf000.
+    ///
+    /// # Examples
+    ///
+    /// ```
+    /// use stun_types::message::Method;
+    ///
+    /// assert!(rt; Method::is_valid(0xEFFF));
+    /// assert!(rt; !Method::is_valid(0xF000));
+    /// ```
     pub fn is_valid(val: u16) -> bool
         ensures { IsTrue result ↔ (val < 0xf000) }
     {
         val < 0xf000
     }
 
-    /// The number.
+    /// The number of the method.
+    ///
+    /// # Examples
+    ///
+    /// ```
+    /// use stun_types::message::Method;
+    ///
+    /// assert_eq!(rt; Method::new(0x003).value(), 3);
+    /// ```
     pub fn value(&self) -> u16
         ensures number { result ≡ self.now }
         ensures valid { result < 0xf000 }
@@ -62,7 +87,17 @@ impl Method {
         self.0
     }
 
-    /// The name of this method: `BINDING`, and `unknown` for every other (RFC 8489, section 18.2).
+    /// The name of the method: `BINDING`, or `unknown` for every other method than that of a
+    /// binding (RFC 8489, section 18.2).
+    ///
+    /// # Examples
+    ///
+    /// ```
+    /// use stun_types::message::{BINDING, Method};
+    ///
+    /// assert_eq!(rt; BINDING.name(), "BINDING");
+    /// assert_eq!(rt; Method::new(0x003).name(), "unknown");
+    /// ```
     pub fn name(self) -> &'static str
         ensures { result.now ≡ method_name self }
     {
@@ -101,7 +136,7 @@ impl fmt::Display for Method {
 pub enum MessageClass {
     /// A request, which expects a response.
     Request,
-    /// An indication, which expects none.
+    /// An indication, which expects no response.
     Indication,
     /// The response to a request that succeeded.
     Success,
@@ -182,7 +217,17 @@ impl MessageType {
         MessageType(number)
     }
 
-    /// The type of a class and a method. Of the method only the low twelve bits are kept.
+    /// The type of the messages of a class and a method. Of the method only the low twelve bits are
+    /// kept.
+    ///
+    /// # Examples
+    ///
+    /// ```
+    /// use stun_types::message::{BINDING, MessageClass, MessageType};
+    ///
+    /// let mtype = MessageType::from_class_method(MessageClass::Success, BINDING);
+    /// assert_eq!(rt; mtype.to_bytes(alloc)?.as_slice(), [0x01, 0x01].as_slice());
+    /// ```
     pub fn from_class_method(class: MessageClass, method: Method) -> Self
         ensures { result ≡ type_of class method }
     {
@@ -192,7 +237,16 @@ impl MessageType {
         )
     }
 
-    /// The class.
+    /// The class of the messages of the type.
+    ///
+    /// # Examples
+    ///
+    /// ```
+    /// use stun_types::message::{MessageClass, MessageType};
+    ///
+    /// let mtype = MessageType::from_bytes(&[0x01, 0x11])?;
+    /// assert_eq!(rt; mtype.class(), MessageClass::Error);
+    /// ```
     pub fn class(self) -> MessageClass
         ensures { result ≡ class_of self }
     {
@@ -204,39 +258,87 @@ impl MessageType {
         }
     }
 
-    /// Whether the class is this one.
+    /// Whether the class is `cls`.
+    ///
+    /// # Examples
+    ///
+    /// ```
+    /// use stun_types::message::{BINDING, MessageClass, MessageType};
+    ///
+    /// let mtype = MessageType::from_class_method(MessageClass::Indication, BINDING);
+    /// assert!(rt; mtype.has_class(MessageClass::Indication));
+    /// ```
     pub fn has_class(self, cls: MessageClass) -> bool
         ensures { IsTrue result ↔ (class_of self ≡ cls) }
     {
         self.class() == cls
     }
 
-    /// Whether the class is that of a response: success or error.
+    /// Whether messages of the type are responses: of the class success or error.
+    ///
+    /// # Examples
+    ///
+    /// ```
+    /// use stun_types::message::{BINDING, MessageClass, MessageType};
+    ///
+    /// assert!(rt; MessageType::from_class_method(MessageClass::Error, BINDING).is_response());
+    /// assert!(rt; !MessageType::from_class_method(MessageClass::Request, BINDING).is_response());
+    /// ```
     pub fn is_response(self) -> bool
         ensures { result ≡ responds (class_of self) }
     {
         self.class().is_response()
     }
 
-    /// The method, below 0x1000.
+    /// The method of the messages of the type, below 0x1000.
+    ///
+    /// # Examples
+    ///
+    /// ```
+    /// use stun_types::message::{MessageClass, MessageType, Method};
+    ///
+    /// let mtype = MessageType::from_class_method(MessageClass::Request, Method::new(0x003));
+    /// assert_eq!(rt; mtype.method().value(), 3);
+    /// ```
     pub fn method(self) -> Method
         ensures { result ≡ method_of self }
     {
         Method(self.0 % 16 + self.0 / 0x20 % 8 * 16 + self.0 / 0x200 % 32 * 128)
     }
 
-    /// Whether the method is this one.
+    /// Whether the method is `method`.
+    ///
+    /// # Examples
+    ///
+    /// ```
+    /// use stun_types::message::{BINDING, MessageType, Method};
+    ///
+    /// let mtype = MessageType::from_bytes(&[0x00, 0x01])?;
+    /// assert!(rt; mtype.has_method(BINDING));
+    /// assert!(rt; !mtype.has_method(Method::new(0x003)));
+    /// ```
     pub fn has_method(self, method: Method) -> bool
         ensures { IsTrue result ↔ (method_of self ≡ method) }
     {
         self.method() == method
     }
 
-    /// Writes the two bytes at the start of `dest`. The others keep their values.
+    /// Writes the two bytes of the message type at the start of `dest`. The others keep their
+    /// values.
     ///
     /// # Requires
     ///
     /// `dest.len()` is at least 2.
+    ///
+    /// # Examples
+    ///
+    /// ```
+    /// use stun_types::message::{BINDING, MessageClass, MessageType};
+    ///
+    /// let mut bytes = [0xFF; 3];
+    /// MessageType::from_class_method(MessageClass::Error, BINDING).write_into(&mut bytes);
+    /// assert_eq!(rt; bytes, [0x01, 0x11, 0xFF]);
+    /// ```
     pub fn write_into(&self, dest: &mut [u8])
         requires { 2 ≤ length dest.old }
         ensures written { dest.new ≡ be16 self.now ++ drop 2 dest.old }
@@ -245,7 +347,7 @@ impl MessageType {
         BigEndian::write_u16(dest, self.0);
     }
 
-    /// The two bytes, in memory that `alloc` gives.
+    /// The message type as its two bytes, in memory that `alloc` gives.
     ///
     /// # Errors
     ///
@@ -258,12 +360,21 @@ impl MessageType {
         Vec::from_slice(alloc, &bytes).map_err(|_| StunWriteError::OutOfMemory)
     }
 
-    /// Reads the type from the first two bytes. What follows them is not looked at.
+    /// Reads a message type from its first two bytes. What follows them is not looked at.
     ///
     /// # Errors
     ///
     /// `Truncated { expected: 2, actual }` if there are fewer than two bytes. Otherwise
     /// `NotStun` if one of the two highest bits is not zero.
+    ///
+    /// # Examples
+    ///
+    /// ```
+    /// use stun_types::message::{MessageClass, MessageType, StunParseError};
+    ///
+    /// assert_eq!(rt; MessageType::from_bytes(&[0x00, 0x11])?.class(), MessageClass::Indication);
+    /// assert_eq!(rt; MessageType::from_bytes(&[0x40, 0x01]).err(), Some(StunParseError::NotStun));
+    /// ```
     pub fn from_bytes(bytes: &[u8]) -> Result<Self, StunParseError>
         ensures short { length bytes.now < 2
             → result ≡ Err (StunParseError.Truncated 2 (length bytes.now)) }

@@ -43,6 +43,17 @@ impl TransactionId {
     ///
     /// An ID that others can't guess needs a generator that is cryptographically secure (RFC 8489,
     /// section 5).
+    ///
+    /// # Examples
+    ///
+    /// ```
+    /// use rand::{make_rng, rngs::StdRng};
+    /// use stun_types::message::TransactionId;
+    ///
+    /// let mut rng: StdRng = make_rng(&rt)?;
+    /// let id = TransactionId::generate(&mut rng);
+    /// assert!(rt; id.value() < 1 << 96);
+    /// ```
     pub fn generate<R: Rng>(rng: &mut R) -> TransactionId
         ensures id { result ≡ (drawn_id (R.stream rng.old)).0 }
         ensures left { R.stream rng.new ≡ (drawn_id (R.stream rng.old)).1 }
@@ -52,8 +63,17 @@ impl TransactionId {
         TransactionId::from((high << 64) + low)
     }
 
-    /// The transaction ID that these bytes encode, the most significant first: network byte order,
+    /// The transaction ID that twelve bytes encode, the most significant first: network byte order,
     /// as in the header of a message (RFC 8489, section 5).
+    ///
+    /// # Examples
+    ///
+    /// ```
+    /// use stun_types::message::TransactionId;
+    ///
+    /// let id = TransactionId::from_bytes(&[0, 0, 0, 0, 0, 0, 0, 0, 0, 0, 0x03, 0xE8]);
+    /// assert_eq!(rt; id, TransactionId::from(1000));
+    /// ```
     pub fn from_bytes(bytes: &[u8; 12]) -> TransactionId
         ensures { result ≡ number bytes.now }
     {
@@ -63,6 +83,15 @@ impl TransactionId {
 
     /// The bytes of the transaction ID, the most significant first: network byte order, as in the
     /// header of a message (RFC 8489, section 5).
+    ///
+    /// # Examples
+    ///
+    /// ```
+    /// use stun_types::message::TransactionId;
+    ///
+    /// let id = TransactionId::from(0x0102);
+    /// assert_eq!(rt; id.to_bytes(), [0, 0, 0, 0, 0, 0, 0, 0, 0, 0, 0x01, 0x02]);
+    /// ```
     pub fn to_bytes(&self) -> [u8; 12]
         ensures { result ≡ be96 self.now }
     {
@@ -71,7 +100,7 @@ impl TransactionId {
         bytes
     }
 
-    /// The number, of 96 bits.
+    /// The transaction ID as a number of 96 bits.
     pub fn value(&self) -> u128
         ensures number { result ≡ self.now }
         ensures bits { result < 2 ^ 96 }
@@ -86,6 +115,15 @@ impl From<u128> for TransactionId {
     ghost from_gives = { λ number transaction. transaction ≡ number % 2 ^ 96 };
 
     /// The transaction ID of the low 96 bits.
+    ///
+    /// # Examples
+    ///
+    /// ```
+    /// use stun_types::message::TransactionId;
+    ///
+    /// assert_eq!(rt; TransactionId::from(1000).value(), 1000);
+    /// assert_eq!(rt; TransactionId::from((1 << 96) + 1000).value(), 1000);
+    /// ```
     fn from(id: u128) -> Self {
         TransactionId { id: id % (1 << 96) }
     }

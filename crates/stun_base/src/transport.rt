@@ -12,9 +12,9 @@ use thiserror::Error;
 /// The transport that carries a message.
 #[derive(Clone, Copy, Debug, PartialEq, Eq)]
 pub enum TransportType {
-    /// UDP.
+    /// The transport UDP.
     Udp,
-    /// TCP.
+    /// The transport TCP.
     Tcp,
 }
 
@@ -57,7 +57,7 @@ impl fmt::Display for TransportType {
     }
 }
 
-/// Why a text is not the name of a transport.
+/// The error of a text that is not the name of a transport.
 #[derive(Debug, Drop, Error)]
 pub enum ParseTransportTypeError {
     /// The text is neither `udp` nor `tcp`, in any case of its letters.
@@ -70,6 +70,16 @@ pub enum ParseTransportTypeError {
 /// # Errors
 ///
 /// `UnknownTransport` for every other text.
+///
+/// # Examples
+///
+/// ```
+/// use std::str::FromStr;
+/// use stun_types::TransportType;
+///
+/// assert_eq!(rt; TransportType::from_str("Tcp").ok(), Some(TransportType::Tcp));
+/// assert!(rt; TransportType::from_str("sctp").is_err());
+/// ```
 impl FromStr for TransportType {
     ghost use Rattle.stun_base.specs.Transports.{NamesTransport};
 
@@ -88,12 +98,22 @@ impl FromStr for TransportType {
     }
 }
 
-/// The family of an address.
+/// The family of an address: IPv4 or IPv6.
+///
+/// # Examples
+///
+/// ```
+/// use std::net::{IpAddr, Ipv6Addr};
+/// use stun_types::AddressFamily;
+///
+/// let ip = IpAddr::V6(Ipv6Addr::new(0, 0, 0, 0, 0, 0, 0, 1));
+/// assert_eq!(rt; AddressFamily::from(&ip), AddressFamily::IPV6);
+/// ```
 #[derive(Clone, Copy, Debug, PartialEq, Eq)]
 pub enum AddressFamily {
-    /// IPv4.
+    /// The family of IPv4 addresses.
     IPV4,
-    /// IPv6.
+    /// The family of IPv6 addresses.
     IPV6,
 }
 

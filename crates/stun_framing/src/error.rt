@@ -13,18 +13,19 @@ pub enum StreamFault {
     /// The length field has this value, which is no multiple of 4 (RFC 8489, section 5).
     #[error("Length field {0} is not a multiple of 4")]
     NotPadded(u16),
-    /// The header states so many bytes in all, its own among them, and the buffer has fewer.
+    /// The header states a message of this length in bytes, its own among them, and the buffer has
+    /// fewer.
     #[error("Message of {0} bytes is longer than the buffer")]
     TooLong(usize),
 }
 
-/// How a stream ended: no message begins after the last one.
+/// The error that ends a stream: after its last message no message begins.
 #[derive(Clone, Copy, Debug, PartialEq, Eq, Error)]
 #[error("{fault}, at offset {offset} of the stream")]
 pub struct StreamError {
-    /// How many bytes of the stream come before: the lengths of all messages that were yielded.
-    /// `u64::MAX` if they are more.
+    /// The offset in the stream at which no message begins, in bytes: the lengths of all messages
+    /// that were yielded. `u64::MAX` if they are more.
     pub offset: u64,
-    /// Why no message begins there.
+    /// The reason why no message begins at this offset.
     pub fault: StreamFault,
 }

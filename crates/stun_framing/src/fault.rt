@@ -9,8 +9,8 @@ use crate::carries::Carries;
 use crate::error::StreamFault;
 use stun_base::{MessageHeader, StunParseError, check_header, number_at, pad_attribute_len};
 
-/// How many bytes state the length of a message: its type, or the number of a channel, and its length
-/// field.
+/// How many bytes state the length of a message: its type, or the number of a channel, and its
+/// length field.
 pub(crate) const START: usize = 4;
 
 /// Whether a header can begin with these bytes.

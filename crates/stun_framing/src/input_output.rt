@@ -10,24 +10,35 @@ use std::io::{ErrorKind, Read, Write};
 /// Why an input wasn't read to its end.
 #[derive(Debug, Clone, Copy, PartialEq, Eq)]
 pub enum InputError {
-    /// There are more bytes than may be read.
+    /// The input has more bytes than may be read.
     TooLong,
-    /// A read failed.
+    /// The reader failed with an error.
     ReadFailed,
-    /// An allocation failed.
+    /// An allocation for the bytes failed.
     NoMemory,
 }
 
-/// A write failed, or took no bytes.
+/// The error of a write that failed, or that took no bytes.
 #[derive(Debug, Clone, Copy, PartialEq, Eq)]
 pub struct WriteFailed;
 
-/// Reads to the end of `reader`, at most `most` bytes, into memory that `alloc` gives. A read that
-/// is interrupted is tried again.
+/// Reads to the end of `reader`, at most `most` bytes, into memory from `alloc`. A read that is
+/// interrupted is tried again.
 ///
 /// # Errors
 ///
 /// `TooLong` if there are more bytes, otherwise `ReadFailed` or `NoMemory`.
+///
+/// # Examples
+///
+/// ```
+/// use stun_framing::{InputError, read_all};
+///
+/// let mut input = b"0001 0000".as_slice();
+/// assert_eq!(rt; read_all(alloc, 1000, &mut input)?.as_slice(), b"0001 0000".as_slice());
+/// let mut input = b"0001 0000".as_slice();
+/// assert_eq!(rt; read_all(alloc, 8, &mut input).err(), Some(InputError::TooLong));
+/// ```
 pub fn read_all<R: Read>(alloc: Global, most: usize, reader: &mut R) -> Result<Vec<u8>, InputError>
     ensures { MatchResult result
         (λ input. ReadsAll most (R.remaining reader.old) (R.remaining reader.new) input.items)
@@ -56,12 +67,25 @@ pub fn read_all<R: Read>(alloc: Global, most: usize, reader: &mut R) -> Result<V
     Err(InputError::ReadFailed)
 }
 
-/// Writes all of the bytes, or, if a write fails or takes none, a prefix of them. A write that
-/// is interrupted is tried again.
+/// Writes all of the bytes, or, if a write fails or takes none, a prefix of them. A write that is
+/// interrupted is tried again.
 ///
 /// # Errors
 ///
 /// `WriteFailed` if not all was written.
+///
+/// # Examples
+///
+/// ```
+/// use stun_framing::{WriteFailed, write_all};
+///
+/// let mut output = Vec::new(alloc);
+/// assert_eq!(rt; write_all(b"one message", &mut output), Ok(()));
+/// assert_eq!(rt; output.as_slice(), b"one message".as_slice());
+/// // A slice of four bytes takes no more.
+/// let mut output = [0; 4];
+/// assert_eq!(rt; write_all(b"one message", &mut output.as_mut_slice()), Err(WriteFailed));
+/// ```
 pub fn write_all<W: Write>(bytes: &[u8], writer: &mut W) -> Result<(), WriteFailed>
     ensures { MatchResult result
         (λ _. Appends (W.contents writer.old) (W.contents writer.new) bytes.now)

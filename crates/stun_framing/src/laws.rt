@@ -11,8 +11,8 @@ ghost use Rattle.stun_framing.specs.Runs.{message_in, IsHandedOver, left_by, yie
 
 use crate::message_stream::GREATEST_MESSAGE;
 
-/// However the bytes of a stream are cut into pieces: the messages that the calls yield, and where
-/// and why they stop, are those that the bytes say.
+/// The messages that the calls yield, and where and why they stop, are those that the bytes of the
+/// stream say, however these are cut into pieces.
 #[tactic(auto, using(crate::proofs::RunsLemmas::said))]
 pub fn cuts_change_nothing()
     ensures { (room : Room) (bytes : List ℕ) (pieces : List (List ℕ))
@@ -27,10 +27,10 @@ pub fn one_cut()
         → (messages ≡ others) × (rest ≡ other) }
 {}
 
-/// A STUN message of a stream is a header and as many bytes as it states, so that none is refused for
-/// its length; all such bytes are one if their length is a multiple of 4 and the buffer takes them;
-/// no message is longer than [`GREATEST_MESSAGE`](crate::GREATEST_MESSAGE); and no bytes are both
-/// a STUN message and a ChannelData message.
+/// A STUN message of a stream is a header and as many bytes as it states, so that none is refused
+/// for its length; all such bytes are one if their length is a multiple of 4 and the buffer takes
+/// them; no message is longer than [`GREATEST_MESSAGE`](crate::GREATEST_MESSAGE); and no bytes are
+/// both a STUN message and a ChannelData message.
 pub fn messages_are_framed()
     ensures framed { (size : ℕ) (m : List ℕ) → IsStunMessage size m → frame_fault m ≡ None }
     ensures taken { (size : ℕ) (m : List ℕ) → frame_fault m ≡ None → length m % 4 ≡ 0
@@ -65,10 +65,9 @@ pub fn calls_go_on()
         → answer stream piece ≡ Err error → Says room (bytes ++ piece) messages (Some error) }
 {}
 
-/// If a stream hasn't ended, whoever keeps the bytes that are pending, at the start of a buffer
-/// as long as before, and the offset may go on from there: the stream is resumed, as much of it has
-/// come, and each further call returns and leaves what it would have. Only a complete message
-/// that the last call yielded is gone.
+/// A stream that hasn't ended is resumed from its pending bytes, at the start of a buffer as long
+/// as before, and its offset: as much of it has come, and each further call returns and leaves what
+/// it would have. Only a complete message that the last call yielded is gone.
 pub fn resuming_changes_nothing()
     ensures resumes { (room : Room) (bytes : List ℕ) (messages : List (List ℕ)) (stream : Stream)
         (buffer : List ℕ) → HasCome room bytes messages stream → 20 ≤ room.size → length buffer ≡ room.size

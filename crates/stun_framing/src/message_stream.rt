@@ -36,26 +36,36 @@ pub(crate) fn offset_behind(offset: u64, gathered: Gathered) -> u64
 
 /// The messages of a stream of bytes that comes in pieces of any size, as over TCP and TLS: one
 /// after the other, with nothing between them (RFC 8489, section 6.2.2). A stream between a TURN
-/// client and its server has ChannelData messages among them (RFC 8656, section 12.5); it is made by
-/// [`MessageStream::carrying`].
+/// client and its server has ChannelData messages among them (RFC 8656, section 12.5); it is made
+/// by [`MessageStream::carrying`].
 ///
 /// It gathers the bytes of one message at a time in a buffer of the caller's, where each is copied
 /// once, and allocates nothing. What it yields doesn't depend on how the stream was cut.
 ///
+/// # Examples
+///
 /// ```
+/// use stun_framing::{GREATEST_MESSAGE, MessageStream};
+///
+/// // A binding request, whose bytes come in two pieces.
+/// let request = b"\x00\x01\x00\x00\x21\x12\xA4\x42\
+///                 \xB7\xE7\xA7\x01\xBC\x34\xD6\x86\xFA\x87\xDF\xAE";
 /// let mut buffer = [0; GREATEST_MESSAGE];
 /// let mut stream = MessageStream::new(&mut buffer);
-/// // with each piece that is received
-/// let mut rest = piece;
-/// while !rest.is_empty() {
-///     let taken = stream.push(rest)?;
-///     rest = &rest[taken..];
-///     if let Some(message) = stream.message() {
-///         let message = Message::from_bytes(message)?;
+/// let mut messages = 0;
+/// for piece in [&request[..7], &request[7..]] {
+///     let mut rest = piece;
+///     while !rest.is_empty() {
+///         let taken = stream.push(rest)?;
+///         rest = &rest[taken..];
+///         if let Some(message) = stream.message() {
+///             assert_eq!(rt; message, request.as_slice());
+///             messages += 1;
+///         }
 ///     }
 /// }
-/// // when the connection has ended
-/// let cut = !stream.pending().is_empty();
+/// // The connection may end here: no message is cut.
+/// assert!(rt; messages == 1 && stream.pending().is_empty());
 /// ```
 #[derive(Debug, Drop)]
 pub struct MessageStream<'b> {
@@ -83,8 +93,8 @@ impl<'b> MessageStream<'b> {
     ghost use Rattle.stun_framing.specs.Framing.{room_of, IsMessage};
     ghost use Rattle.stun_framing.specs.Streams.{begun, resumed, can_resume, answer, left};
 
-    /// A stream of STUN messages. `buffer` may hold anything. A message that is longer than it ends
-    /// the stream.
+    /// Returns a stream of STUN messages, which gathers them in `buffer`. `buffer` may hold
+    /// anything. A message that is longer than it ends the stream.
     ///
     /// # Requires
     ///
@@ -96,12 +106,25 @@ impl<'b> MessageStream<'b> {
         Self::carrying(Carries::Messages, buffer)
     }
 
-    /// A stream of what `carries` says. A message of [`MessageStream::message`] is ChannelData, with
-    /// its padding, if its first byte is 0x40 to 0x4F; `ChannelData::from_bytes` of `turn_attrs` reads it.
+    /// Returns a stream of the messages that `carries` names, which gathers them in `buffer`. A
+    /// message of [`MessageStream::message`] is ChannelData, with its padding, if its first byte is
+    /// 0x40 to 0x4F; `ChannelData::from_bytes` of `turn_attrs` reads it.
     ///
     /// # Requires
     ///
     /// `buffer` has at least twenty bytes, those of a header.
+    ///
+    /// # Examples
+    ///
+    /// ```
+    /// use stun_framing::{Carries, MessageStream};
+    ///
+    /// // Three bytes of data on the channel 0x4000, and one of padding (RFC 8656, section 12.5).
+    /// let mut buffer = [0; 1500];
+    /// let mut stream = MessageStream::carrying(Carries::ChannelDataToo, &mut buffer);
+    /// assert_eq!(rt; stream.push(b"\x40\x00\x00\x03abc\x00"), Ok(8));
+    /// assert_eq!(rt; stream.message(), Some(b"\x40\x00\x00\x03abc\x00".as_slice()));
+    /// ```
     pub fn carrying(carries: Carries, buffer: &'b mut [u8]) -> MessageStream<'b>
         requires { 20 ≤ length buffer.old }
         ensures { result ≡ begun (room_of carries (length buffer.old)) }
@@ -123,10 +146,20 @@ impl<'b> MessageStream<'b> {
     /// than twenty bytes, or fewer than `held`; no message begins with those, or none for which
     /// there is room, as [`MessageStream::push`] would answer; or they are a complete message.
     ///
+    /// # Examples
+    ///
     /// ```
-    /// let mut stream = MessageStream::resume(Carries::Messages, &mut buffer, held, offset)?;
-    /// let taken = stream.push(piece)?;
-    /// (held, offset) = (stream.pending().len(), stream.offset());
+    /// use stun_framing::{Carries, MessageStream};
+    ///
+    /// let mut buffer = [0; 1500];
+    /// let mut stream = MessageStream::new(&mut buffer);
+    /// stream.push(b"\x00\x01\x00\x00\x21\x12\xA4\x42")?;
+    /// let (held, offset) = (stream.pending().len(), stream.offset());
+    /// // Later, with the same buffer:
+    /// let resumed = MessageStream::resume(Carries::Messages, &mut buffer, held, offset);
+    /// let mut stream = resumed.ok_or("no stream left these numbers")?;
+    /// assert_eq!(rt; stream.push(b"\xB7\xE7\xA7\x01\xBC\x34\xD6\x86\xFA\x87\xDF\xAE"), Ok(12));
+    /// assert!(rt; stream.message().is_some_and(|message| message.len() == 20));
     /// ```
     pub fn resume(
         carries: Carries,
@@ -164,9 +197,26 @@ impl<'b> MessageStream<'b> {
     /// this error, and changes nothing. It is returned with the first byte that shows it, whatever
     /// follows:
     ///
-    /// - `NotStun` with the first byte, or with one of the magic cookie, the fifth to the eighth of a
-    ///   STUN message;
+    /// - `NotStun` with the first byte, or with one of the magic cookie, the fifth to the eighth of
+    ///   a STUN message;
     /// - `NotPadded`, otherwise `TooLong`, with the fourth byte, the last of the length field.
+    ///
+    /// # Examples
+    ///
+    /// ```
+    /// use stun_framing::{MessageStream, StreamError, StreamFault};
+    ///
+    /// let mut buffer = [0; 1500];
+    /// let mut stream = MessageStream::new(&mut buffer);
+    /// // A message of 20 bytes, and the first three of the next one.
+    /// let piece = b"\x00\x01\x00\x00\x21\x12\xA4\x42\
+    ///               \xB7\xE7\xA7\x01\xBC\x34\xD6\x86\xFA\x87\xDF\xAE\x00\x01\x00";
+    /// assert_eq!(rt; stream.push(piece), Ok(20));
+    /// assert_eq!(rt; stream.push(&piece[20..]), Ok(3));
+    /// // With its fourth byte the length field is 1, which is no multiple of 4.
+    /// let error = StreamError { offset: 20, fault: StreamFault::NotPadded(1) };
+    /// assert_eq!(rt; stream.push(b"\x01"), Err(error));
+    /// ```
     pub fn push(&mut self, piece: &[u8]) -> Result<usize, StreamError>
         ensures answer { result ≡ answer self.old piece.now }
         ensures left { self.new ≡ left self.old piece.now }
@@ -195,9 +245,9 @@ impl<'b> MessageStream<'b> {
         }
     }
 
-    /// The bytes of the message that the last call of [`MessageStream::push`] completed: a header
-    /// and as many bytes as it states, and the padding of a ChannelData message. The rest of a
-    /// message is for `Message::from_bytes` to judge.
+    /// Returns the bytes of the message that the last call of [`MessageStream::push`] completed: a
+    /// header and as many bytes as it states, and the padding of a ChannelData message. The rest of
+    /// a message is for `Message::from_bytes` to judge.
     ///
     /// `None` if that call left a message pending or was refused, and before the first one.
     pub fn message(&self) -> Option<&[u8]>
@@ -211,25 +261,67 @@ impl<'b> MessageStream<'b> {
         Some(&self.buffer[..self.gathered.held])
     }
 
-    /// The bytes that have come of a message that isn't whole. If there are none, the stream may
-    /// end here; else it was cut within a message.
+    /// Returns the bytes that have come of a message that isn't complete. If there are none, the
+    /// stream may end here; otherwise it was cut within a message.
     ///
     /// Once the stream has ended by an error, these are the bytes before the refused piece.
+    ///
+    /// # Examples
+    ///
+    /// ```
+    /// use stun_framing::MessageStream;
+    ///
+    /// let mut buffer = [0; 1500];
+    /// let mut stream = MessageStream::new(&mut buffer);
+    /// stream.push(b"\x00\x01\x00\x00\x21\x12")?;
+    /// // If the connection ends now, a message is cut after six bytes.
+    /// assert_eq!(rt; stream.pending(), b"\x00\x01\x00\x00\x21\x12".as_slice());
+    /// assert_eq!(rt; stream.message(), None);
+    /// ```
     pub fn pending(&self) -> &[u8]
         ensures { result.now ≡ self.now.pending }
     {
         &self.buffer[..pending_of(self.gathered).held]
     }
 
-    /// The offset in the stream at which the pending bytes begin, or the next byte if there are
-    /// none: the lengths of all messages that were yielded. `u64::MAX` if they are more.
+    /// Returns the offset in the stream, in bytes, at which the pending bytes begin, or the next
+    /// byte if there are none: the lengths of all messages that were yielded. `u64::MAX` if they
+    /// are more.
+    ///
+    /// # Examples
+    ///
+    /// ```
+    /// use stun_framing::MessageStream;
+    ///
+    /// let request = b"\x00\x01\x00\x00\x21\x12\xA4\x42\
+    ///                 \xB7\xE7\xA7\x01\xBC\x34\xD6\x86\xFA\x87\xDF\xAE";
+    /// let mut buffer = [0; 1500];
+    /// let mut stream = MessageStream::new(&mut buffer);
+    /// stream.push(request)?;
+    /// stream.push(&request[..6])?;
+    /// // One message of 20 bytes was yielded, and the pending bytes follow it.
+    /// assert!(rt; stream.offset() == 20 && stream.pending().len() == 6);
+    /// ```
     pub fn offset(&self) -> u64
         ensures { result ≡ self.now.offset }
     {
         self.offset
     }
 
-    /// How the stream ended, if it did: the error that [`MessageStream::push`] answers.
+    /// Returns the error by which the stream ended, if it did: the one that [`MessageStream::push`]
+    /// returns.
+    ///
+    /// # Examples
+    ///
+    /// ```
+    /// use stun_framing::{MessageStream, StreamError, StreamFault};
+    ///
+    /// let mut buffer = [0; 1500];
+    /// let mut stream = MessageStream::new(&mut buffer);
+    /// assert!(rt; stream.push(b"GET / HTTP/1.1").is_err());
+    /// let error = StreamError { offset: 0, fault: StreamFault::NotStun };
+    /// assert_eq!(rt; stream.error(), Some(error));
+    /// ```
     pub fn error(&self) -> Option<StreamError>
         ensures { result ≡ self.now.error }
     {

@@ -12,13 +12,13 @@ use std::io::ErrorKind;
 pub enum RunError {
     /// The arguments are wrong, or couldn't be read.
     Usage,
-    /// The input is longer than may be read.
+    /// The input has more bytes than may be read.
     TooLong,
-    /// A read failed.
+    /// A read of the input failed.
     ReadFailed,
-    /// A write failed, or took no bytes.
+    /// A write of the output failed, or took no bytes.
     WriteFailed,
-    /// An allocation failed.
+    /// An allocation of the run failed.
     NoMemory,
 }
 
@@ -58,6 +58,17 @@ impl From<AllocError> for RunError {
 }
 
 /// Returns how a run fails when its arguments can't be read, by the kind of the error.
+///
+/// # Examples
+///
+/// ```
+/// use std::io::ErrorKind;
+/// use stun_framing::{RunError, arguments_error};
+///
+/// // An argument that isn't UTF-8.
+/// assert_eq!(rt; arguments_error(ErrorKind::InvalidData), RunError::Usage);
+/// assert_eq!(rt; arguments_error(ErrorKind::OutOfMemory), RunError::NoMemory);
+/// ```
 pub fn arguments_error(kind: ErrorKind) -> RunError
     ensures memory { kind ≡ ErrorKind.OutOfMemory → result ≡ RunError.NoMemory }
     ensures other { kind ≢ ErrorKind.OutOfMemory → result ≡ RunError.Usage }
@@ -71,6 +82,16 @@ pub fn arguments_error(kind: ErrorKind) -> RunError
 impl RunError {
     /// Returns the line that a program prints last: `usage` if its arguments are wrong, and nothing
     /// if a write failed.
+    ///
+    /// # Examples
+    ///
+    /// ```
+    /// use stun_framing::RunError;
+    ///
+    /// let usage = "usage: stun_show < MESSAGE\n";
+    /// assert_eq!(rt; RunError::Usage.line(usage), usage);
+    /// assert_eq!(rt; RunError::TooLong.line(usage), "input too long\n");
+    /// ```
     pub fn line<'a>(self, usage: &'a str) -> &'a str
         ensures { result.now ≡ line_of self usage.now }
     {

@@ -10,19 +10,19 @@ use crate::error::StreamError;
 use crate::gather::{Gathered, gather, held_part};
 use crate::message_stream::{offset_behind, pending_of};
 
-/// What a piece made of a stream of which the caller keeps the buffer.
+/// The result of pushing a piece to a stream of which the caller keeps the buffer.
 #[derive(Clone, Copy, Debug, PartialEq, Eq)]
 pub struct Pushed {
-    /// How many bytes at the start of the piece were taken.
+    /// The length of the start of the piece that was taken, in bytes.
     pub taken: usize,
-    /// The offset in the stream of what is pending, as [`MessageStream::offset`] returns it.
+    /// The offset in the stream of the pending bytes, as [`MessageStream::offset`] returns it.
     ///
     /// [`MessageStream::offset`]: crate::MessageStream::offset
     pub offset: u64,
-    /// How many bytes at the start of the buffer belong to a message that isn't complete.
+    /// The length of the start of the buffer that belongs to a message that isn't complete, in
+    /// bytes.
     pub pending: usize,
-    /// How many bytes at the start of the buffer are the message that the piece completed, if it
-    /// did.
+    /// The length in bytes of the message at the start of the buffer, if the piece completed one.
     pub message: Option<usize>,
 }
 
@@ -36,10 +36,10 @@ fn whole_length(gathered: Gathered) -> Option<usize>
     None
 }
 
-/// Takes the bytes at the start of `piece` that belong to the message that is coming, as
-/// [`MessageStream::push`] does if [`MessageStream::resume`] resumed `held` and `offset`:
-/// for a caller that keeps the buffer and two numbers, and no stream. Both are 0 at first, and then
-/// the `pending` and the `offset` of [`Pushed`].
+/// Takes the bytes at the start of `piece` that belong to the message that is coming, for a caller
+/// that keeps the buffer and two numbers, and no stream: as [`MessageStream::push`] does if
+/// [`MessageStream::resume`] resumed `held` and `offset`. Both are 0 at first, and then the
+/// `pending` and the `offset` of [`Pushed`].
 ///
 /// A complete message is at the start of `buffer` until the next call; otherwise the bytes that
 /// are pending are there.
@@ -47,20 +47,36 @@ fn whole_length(gathered: Gathered) -> Option<usize>
 /// `None` if `held` isn't what a stream leaves, as for [`MessageStream::resume`]. `buffer` then
 /// stays as it was.
 ///
-/// ```
-/// let pushed = push_stored(Carries::Messages, &mut buffer, held, offset, piece)
-///     .ok_or(Error::BadArgument)??;
-/// (held, offset) = (pushed.pending, pushed.offset);
-/// rest = &piece[pushed.taken..];
-/// if let Some(length) = pushed.message {
-///     let message = Message::from_bytes(&buffer[..length])?;
-/// }
-/// ```
-///
 /// # Errors
 ///
 /// As for [`MessageStream::push`]. The bytes that were pending stay at the start of `buffer`. That
 /// the stream has ended is for the caller to keep: a further call looks at its own piece.
+///
+/// # Examples
+///
+/// ```
+/// use stun_framing::{Carries, push_stored};
+///
+/// // A binding request, whose bytes come in two pieces.
+/// let request = b"\x00\x01\x00\x00\x21\x12\xA4\x42\
+///                 \xB7\xE7\xA7\x01\xBC\x34\xD6\x86\xFA\x87\xDF\xAE";
+/// let mut buffer = [0; 1500];
+/// let (mut held, mut offset, mut messages) = (0, 0, 0);
+/// for piece in [&request[..7], &request[7..]] {
+///     let mut rest = piece;
+///     while !rest.is_empty() {
+///         let result = push_stored(Carries::Messages, &mut buffer, held, offset, rest);
+///         let pushed = result.ok_or("no stream left these numbers")??;
+///         (held, offset) = (pushed.pending, pushed.offset);
+///         rest = &rest[pushed.taken..];
+///         if let Some(length) = pushed.message {
+///             assert_eq!(rt; &buffer[..length], request.as_slice());
+///             messages += 1;
+///         }
+///     }
+/// }
+/// assert!(rt; messages == 1 && held == 0 && offset == 20);
+/// ```
 ///
 /// [`MessageStream::push`]: crate::MessageStream::push
 /// [`MessageStream::resume`]: crate::MessageStream::resume

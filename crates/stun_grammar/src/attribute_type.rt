@@ -15,22 +15,48 @@ use stun_text::{PrintText, TextSink, put_decimal};
 pub struct AttributeType(pub u16);
 
 impl AttributeType {
-    /// The attribute type with this number.
+    /// The attribute type with the number `val`.
+    ///
+    /// # Examples
+    ///
+    /// ```
+    /// use stun_types::attribute::AttributeType;
+    ///
+    /// assert_eq!(rt; AttributeType::new(0x8022), AttributeType(0x8022));
+    /// ```
     pub fn new(val: u16) -> Self
         ensures { result.0 ≡ val }
     {
         AttributeType(val)
     }
 
-    /// The number.
+    /// The number of the attribute type.
+    ///
+    /// # Examples
+    ///
+    /// ```
+    /// use stun_types::attribute::Software;
+    /// use stun_types::prelude::*;
+    ///
+    /// assert_eq!(rt; Software::TYPE.value(), 0x8022);
+    /// ```
     pub fn value(&self) -> u16
         ensures { result ≡ self.now.0 }
     {
         self.0
     }
 
-    /// The name of this type (RFC 8489, section 18.3), and `unknown` for a type that has none
-    /// there. The name of 0x8002 is spelled `PASSWORD_ALGORITHMS`.
+    /// The name of the attribute type (RFC 8489, section 18.3), and `unknown` for a type that has
+    /// none there. The name of 0x8002 is spelled `PASSWORD_ALGORITHMS`.
+    ///
+    /// # Examples
+    ///
+    /// ```
+    /// use stun_types::attribute::AttributeType;
+    ///
+    /// assert_eq!(rt; AttributeType(0x0020).name(), "XOR-MAPPED-ADDRESS");
+    /// assert_eq!(rt; AttributeType(0x7777).name(), "unknown");
+    /// ```
     pub fn name(self) -> &'static str
         ensures { result.now ≡ attribute_name self.0 }
     {
@@ -55,8 +81,17 @@ impl AttributeType {
         }
     }
 
-    /// Whether attributes of this type are comprehension-required: the number is below 0x8000
-    /// (RFC 8489, section 14).
+    /// Whether attributes of the type are comprehension-required: the number is below 0x8000 (RFC
+    /// 8489, section 14).
+    ///
+    /// # Examples
+    ///
+    /// ```
+    /// use stun_types::attribute::AttributeType;
+    ///
+    /// assert!(rt; AttributeType(0x0006).comprehension_required()); // USERNAME
+    /// assert!(rt; !AttributeType(0x8022).comprehension_required()); // SOFTWARE
+    /// ```
     pub fn comprehension_required(self) -> bool
         ensures { IsTrue result ↔ (self.0 < 0x8000) }
     {
@@ -66,6 +101,16 @@ impl AttributeType {
     /// Whether the type is one of the three that end a message: MESSAGE-INTEGRITY (0x0008),
     /// MESSAGE-INTEGRITY-SHA256 (0x001C) and FINGERPRINT (0x8028). An attribute of another type is
     /// ordinary (RFC 8489, sections 14.5 to 14.7).
+    ///
+    /// # Examples
+    ///
+    /// ```
+    /// use stun_types::attribute::{AttributeType, Fingerprint};
+    /// use stun_types::prelude::*;
+    ///
+    /// assert!(rt; Fingerprint::TYPE.is_ending());
+    /// assert!(rt; !AttributeType(0x0006).is_ending()); // USERNAME
+    /// ```
     pub fn is_ending(self) -> bool
         ensures answer { result ≡ is_ending self.0 }
         ensures ordinary { result ≡ false → IsOrdinary self.0 }

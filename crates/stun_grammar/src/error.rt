@@ -1,17 +1,27 @@
 use crate::AttributeType;
 use thiserror::Error;
 
-/// Why bytes are not a STUN message, or not the expected attribute.
+/// The error of bytes that are not a STUN message, or not the expected attribute.
 ///
 /// `expected` and `actual` count bytes: `expected` is how many are needed (`Truncated`) or allowed
 /// (`TooLarge`), and `actual` is how many there are. If the header of an attribute in a message
 /// is cut off, both are 4 more than that.
+///
+/// # Examples
+///
+/// ```
+/// use stun_types::message::{Message, StunParseError};
+///
+/// assert_eq!(rt; Message::from_bytes(b"GET / HTTP/1.1").err(), Some(StunParseError::NotStun));
+/// let short = Message::from_bytes(&[0, 1, 0, 0]).err();
+/// assert_eq!(rt; short, Some(StunParseError::Truncated { expected: 20, actual: 4 }));
+/// ```
 #[derive(Clone, Copy, Debug, PartialEq, Eq, Error)]
 pub enum StunParseError {
     /// The bytes do not begin a STUN message, whatever bytes may follow them.
     #[error("The provided data is not a STUN message")]
     NotStun,
-    /// Bytes are missing.
+    /// Bytes are missing: there are fewer than are needed.
     #[error("Not enough data available to parse the packet, expected {expected}, actual {actual}")]
     Truncated {
         /// How many bytes are needed.
@@ -27,7 +37,7 @@ pub enum StunParseError {
         /// How many there are.
         actual: usize,
     },
-    /// The message shows no attribute of this type.
+    /// The message shows no attribute of the type that was looked up.
     #[error("Missing attribute {0}")]
     MissingAttribute(AttributeType),
     /// An attribute follows an integrity attribute. No function of this library returns it.
@@ -48,18 +58,19 @@ pub enum StunParseError {
     /// The attribute is not of the type that was to be read.
     #[error("Cannot parse with this attribute")]
     WrongAttributeImplementation,
-    /// An allocation failed.
+    /// An allocation failed: no memory was left for the value.
     #[error("Out of memory")]
     OutOfMemory,
 }
 
-/// Why an attribute or a message is not made or not written.
+/// The error of an attribute or a message that is not made or not written.
 ///
 /// `expected` and `actual` count bytes. For an UNKNOWN-ATTRIBUTES and a PASSWORD-ALGORITHMS, which
 /// are made of a list, they count its entries.
 #[derive(Clone, Copy, Debug, PartialEq, Eq, Error)]
 pub enum StunWriteError {
-    /// The message already has an attribute of this type, which the new one may not follow.
+    /// The message already has an attribute of the type that is given, which the new one may not
+    /// follow.
     #[error("The attribute already exists in the message")]
     AttributeExists(AttributeType),
     /// The message already has a FINGERPRINT, which no attribute may follow.
@@ -84,15 +95,11 @@ pub enum StunWriteError {
         /// How many there are.
         actual: usize,
     },
-    /// The attribute is of a type that has an add of its own: MESSAGE-INTEGRITY (0x0008),
-    /// MESSAGE-INTEGRITY-SHA256 (0x001C) or FINGERPRINT (0x8028).
-    #[error("An attribute of this type is added by a method of its own")]
-    EndingType(AttributeType),
     /// The bytes cannot be the value of an integrity attribute. An error of reading that has no
     /// counterpart here is converted to this one.
     #[error("Failed to compute integrity")]
     IntegrityFailed,
-    /// A number is out of its range.
+    /// A number is below the least one allowed, or above the greatest.
     #[error("Out of range input provided")]
     OutOfRange {
         /// The number.
@@ -102,7 +109,7 @@ pub enum StunWriteError {
         /// The greatest number allowed.
         max: usize,
     },
-    /// An allocation failed.
+    /// An allocation failed: no memory was left for the value or the message.
     #[error("Out of memory")]
     OutOfMemory,
 }
@@ -113,6 +120,16 @@ pub enum StunWriteError {
 /// the same fields. `AttributeAfterIntegrity` becomes `MessageIntegrityExists`, and
 /// `AttributeAfterFingerprint` becomes `FingerprintExists`. The others say that the bytes are not
 /// valid, and become `IntegrityFailed`.
+///
+/// # Examples
+///
+/// ```
+/// use stun_types::message::{StunParseError, StunWriteError};
+///
+/// let cut_off = StunParseError::Truncated { expected: 20, actual: 4 };
+/// let too_small = StunWriteError::TooSmall { expected: 20, actual: 4 };
+/// assert_eq!(rt; StunWriteError::from(cut_off), too_small);
+/// ```
 impl From<StunParseError> for StunWriteError {
     ghost use Rattle.std.specs.Prelude.{◌≡◌};
     ghost use Rattle.stun_grammar.specs.WriteErrors.{write_error};
@@ -140,7 +157,32 @@ impl From<StunParseError> for StunWriteError {
     }
 }
 
-/// Why a message does not validate.
+/// The error of an add whose attribute type is known only at run time.
+///
+/// A call that takes an attribute of an ordinary type alone returns a [`StunWriteError`].
+#[derive(Clone, Copy, Debug, PartialEq, Eq, Error)]
+pub enum AddError {
+    /// An attribute of this type is added by a method of its own: MESSAGE-INTEGRITY (0x0008),
+    /// MESSAGE-INTEGRITY-SHA256 (0x001C) or FINGERPRINT (0x8028).
+    #[error("An attribute of this type is added by a method of its own")]
+    EndingType(AttributeType),
+    /// The type is an ordinary one, and the attribute is not added for this reason.
+    #[error(transparent)]
+    Write(StunWriteError),
+}
+
+impl From<StunWriteError> for AddError {
+    ghost use Rattle.std.specs.Prelude.{◌≡◌};
+    ghost use Rattle.stun_grammar.specs.declared.error.AddError.TheVariants.{Write};
+
+    ghost from_gives = { λ told error. error ≡ Write told };
+
+    fn from(told: StunWriteError) -> Self {
+        AddError::Write(told)
+    }
+}
+
+/// The error of a message that does not validate.
 #[derive(Clone, Copy, Debug, PartialEq, Eq, Error)]
 pub enum ValidateError {
     /// The message has no integrity attribute to check, its value has a wrong length, or an

@@ -21,14 +21,34 @@ impl Fingerprint {
     ghost use Rattle.stun_grammar.specs.Checksums.{crc};
     ghost use Rattle.stun_integrity.specs.Integrity.{checksum_bytes};
 
-    /// The attribute of this checksum, not XORed.
+    /// A FINGERPRINT with the checksum `fingerprint`, not XORed.
+    ///
+    /// # Examples
+    ///
+    /// ```
+    /// use stun_types::attribute::Fingerprint;
+    /// use stun_types::prelude::*;
+    ///
+    /// let attribute = Fingerprint::new([0, 0, 0, 1]);
+    /// assert_eq!(rt; attribute.to_raw(alloc)?.value().as_bytes(), b"STUO".as_slice());
+    /// ```
     pub fn new(fingerprint: [u8; 4]) -> Self
         ensures { checksum_bytes result ≡ fingerprint }
     {
         Fingerprint { fingerprint }
     }
 
-    /// The checksum, not XORed.
+    /// The checksum that the FINGERPRINT holds, not XORed.
+    ///
+    /// # Examples
+    ///
+    /// ```
+    /// use stun_types::attribute::{Fingerprint, RawAttribute};
+    /// use stun_types::prelude::*;
+    ///
+    /// let raw = RawAttribute::new(Fingerprint::TYPE, b"STUO")?;
+    /// assert_eq!(rt; Fingerprint::from_raw_ref(alloc, &raw)?.fingerprint(), &[0, 0, 0, 1]);
+    /// ```
     pub fn fingerprint(&self) -> &[u8; 4]
         ensures { result.now ≡ checksum_bytes self.now }
     {
@@ -38,6 +58,15 @@ impl Fingerprint {
     /// The CRC-32 of the pieces, joined, in four bytes, big-endian: what `new` takes, not XORed.
     ///
     /// It takes no memory. Only the joined bytes matter, not how they are cut.
+    ///
+    /// # Examples
+    ///
+    /// ```
+    /// use stun_types::attribute::Fingerprint;
+    ///
+    /// let checksum = Fingerprint::compute(&[b"1234".as_slice(), b"56789"]);
+    /// assert_eq!(rt; checksum, [0xCB, 0xF4, 0x39, 0x26]);
+    /// ```
     pub fn compute(pieces: &[&[u8]]) -> [u8; 4]
         ensures { result ≡ be32 (crc (concat (map (λ piece. piece.now) pieces.now))) }
     {

@@ -29,14 +29,23 @@ impl MessageIntegrity {
     ghost use Rattle.stun_keys.specs.Keys.{key_bytes, key_algorithm, serves};
     ghost use Rattle.stun_integrity.specs.Integrity.{sha1_hmac};
 
-    /// The attribute of this HMAC.
+    /// A MESSAGE-INTEGRITY with the HMAC `hmac`.
+    ///
+    /// # Examples
+    ///
+    /// ```
+    /// use stun_types::attribute::MessageIntegrity;
+    ///
+    /// let attribute = MessageIntegrity::new([0x5A; 20]);
+    /// assert_eq!(rt; attribute.hmac(), &[0x5A; 20]);
+    /// ```
     pub fn new(hmac: [u8; 20]) -> Self
         ensures { sha1_hmac result ≡ hmac }
     {
         MessageIntegrity { hmac }
     }
 
-    /// The HMAC.
+    /// The HMAC that the MESSAGE-INTEGRITY holds.
     pub fn hmac(&self) -> &[u8; 20]
         ensures { result.now ≡ sha1_hmac self.now }
     {
@@ -47,6 +56,19 @@ impl MessageIntegrity {
     /// not matter.
     ///
     /// It takes no memory, and always returns `Ok`.
+    ///
+    /// # Examples
+    ///
+    /// ```
+    /// use stun_types::attribute::MessageIntegrity;
+    /// use stun_types::message::IntegrityKey;
+    ///
+    /// // the second test case of RFC 2202
+    /// let key = IntegrityKey::new(alloc, b"Jefe", None)?;
+    /// let text = [b"what do ya want ".as_slice(), b"for nothing?"];
+    /// let hmac = MessageIntegrity::compute(&text, &key)?;
+    /// assert_eq!(rt; &hmac[..4], [0xEF, 0xFC, 0xDF, 0x6A].as_slice());
+    /// ```
     pub fn compute(pieces: &[&[u8]], key: &IntegrityKey) -> Result<[u8; 20], StunWriteError>
         ensures { result ≡ Ok (hmac IntegrityAlgorithm.Sha1 (key_bytes key.now)
             (concat (map (λ piece. piece.now) pieces.now))) }
@@ -59,6 +81,20 @@ impl MessageIntegrity {
     ///
     /// It takes no memory. All 20 bytes are compared, even after a difference; constant time is not
     /// claimed.
+    ///
+    /// # Examples
+    ///
+    /// ```
+    /// use stun_types::attribute::MessageIntegrity;
+    /// use stun_types::message::IntegrityKey;
+    ///
+    /// let key = IntegrityKey::new(alloc, b"secret", None)?;
+    /// let other = IntegrityKey::new(alloc, b"another", None)?;
+    /// let text = [b"some bytes".as_slice()];
+    /// let hmac = MessageIntegrity::compute(&text, &key)?;
+    /// assert!(rt; MessageIntegrity::verify(&text, &key, &hmac));
+    /// assert!(rt; !MessageIntegrity::verify(&text, &other, &hmac));
+    /// ```
     pub fn verify(pieces: &[&[u8]], key: &IntegrityKey, expected: &[u8; 20]) -> bool
         ensures { IsTrue result
             ↔ (serves (key_algorithm key.now) IntegrityAlgorithm.Sha1 ≡ true)

@@ -58,13 +58,24 @@ impl MessageIntegritySha256 {
         MessageIntegritySha256 { bytes, count }
     }
 
-    /// The attribute of an HMAC, or of a prefix of one. It takes no memory.
+    /// A MESSAGE-INTEGRITY-SHA256 with an HMAC, or a prefix of one. It takes no memory.
     ///
     /// # Errors
     ///
     /// `TooSmall { expected: 16, actual }` for fewer than 16 bytes, and
     /// `TooLarge { expected: 32, actual }` for more than 32. Otherwise `IntegrityFailed` if the
     /// number of bytes is not a multiple of 4.
+    ///
+    /// # Examples
+    ///
+    /// ```
+    /// use stun_types::attribute::MessageIntegritySha256;
+    /// use stun_types::message::StunWriteError;
+    ///
+    /// assert_eq!(rt; MessageIntegritySha256::new(&[0x5A; 16])?.hmac(), [0x5A; 16].as_slice());
+    /// let refused = StunWriteError::TooSmall { expected: 16, actual: 12 };
+    /// assert_eq!(rt; MessageIntegritySha256::new(&[0x5A; 12]), Err(refused));
+    /// ```
     pub fn new(hmac: &[u8]) -> Result<Self, StunWriteError>
         ensures { MakesSha256 hmac.now result }
     {
@@ -72,7 +83,7 @@ impl MessageIntegritySha256 {
         Ok(Self::from_checked(hmac))
     }
 
-    /// The HMAC, or the prefix of it that the attribute holds.
+    /// The HMAC, or the prefix of one, that the MESSAGE-INTEGRITY-SHA256 holds.
     pub fn hmac(&self) -> &[u8]
         ensures bytes { result.now ≡ sha256_hmac self.now }
         ensures least { 16 ≤ length result.now }
@@ -86,6 +97,19 @@ impl MessageIntegritySha256 {
     /// key was made for does not matter.
     ///
     /// It takes no memory, and always returns `Ok`.
+    ///
+    /// # Examples
+    ///
+    /// ```
+    /// use stun_types::attribute::MessageIntegritySha256;
+    /// use stun_types::message::IntegrityKey;
+    ///
+    /// // the second test case of RFC 4231
+    /// let key = IntegrityKey::new(alloc, b"Jefe", None)?;
+    /// let text = [b"what do ya want for nothing?".as_slice()];
+    /// let hmac = MessageIntegritySha256::compute(&text, &key)?;
+    /// assert_eq!(rt; &hmac[..4], [0x5B, 0xDC, 0xC1, 0x46].as_slice());
+    /// ```
     pub fn compute(pieces: &[&[u8]], key: &IntegrityKey) -> Result<[u8; 32], StunWriteError>
         ensures { result ≡ Ok (hmac IntegrityAlgorithm.Sha256 (key_bytes key.now)
             (concat (map (λ piece. piece.now) pieces.now))) }
@@ -100,6 +124,20 @@ impl MessageIntegritySha256 {
     /// A prefix of any length will do, even a single byte: the lengths that the attribute may have
     /// are tested by [`MessageIntegritySha256::new`] and by reading. It takes no memory. All bytes
     /// of the prefix are compared, even after a difference; constant time is not claimed.
+    ///
+    /// # Examples
+    ///
+    /// ```
+    /// use stun_types::attribute::MessageIntegritySha256;
+    /// use stun_types::message::{IntegrityAlgorithm, IntegrityKey};
+    ///
+    /// let key = IntegrityKey::new(alloc, b"secret", None)?;
+    /// let text = [b"some bytes".as_slice()];
+    /// let hmac = MessageIntegritySha256::compute(&text, &key)?;
+    /// assert!(rt; MessageIntegritySha256::verify(&text, &key, &hmac[..16]));
+    /// let for_sha1 = key.made_for(Some(IntegrityAlgorithm::Sha1));
+    /// assert!(rt; !MessageIntegritySha256::verify(&text, &for_sha1, &hmac));
+    /// ```
     pub fn verify(pieces: &[&[u8]], key: &IntegrityKey, expected: &[u8]) -> bool
         ensures { IsTrue result
             ↔ (serves (key_algorithm key.now) IntegrityAlgorithm.Sha256 ≡ true)

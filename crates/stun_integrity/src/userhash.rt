@@ -20,14 +20,23 @@ pub struct Userhash {
 impl Userhash {
     ghost use Rattle.stun_integrity.specs.Userhash.{user_hash};
 
-    /// The attribute of this hash.
+    /// A USERHASH with the hash `hash`.
+    ///
+    /// # Examples
+    ///
+    /// ```
+    /// use stun_types::attribute::Userhash;
+    ///
+    /// let userhash = Userhash::new(Userhash::compute("alice", "example.org"));
+    /// assert_eq!(rt; &userhash.hash()[..4], [0x43, 0x5B, 0x79, 0x33].as_slice());
+    /// ```
     pub fn new(hash: [u8; 32]) -> Self
         ensures { hash_bytes result ≡ hash }
     {
         Userhash { hash }
     }
 
-    /// The hash.
+    /// The hash that the USERHASH holds.
     pub fn hash(&self) -> &[u8; 32]
         ensures { result.now ≡ hash_bytes self.now }
     {
@@ -36,6 +45,16 @@ impl Userhash {
 
     /// The hash of a username and a realm: the SHA-256 of the username, a colon and the realm,
     /// which are used as they are (no SASLprep, no OpaqueString). It takes no memory.
+    ///
+    /// # Examples
+    ///
+    /// ```
+    /// use stun_types::attribute::Userhash;
+    ///
+    /// // the SHA-256 of `alice:example.org`
+    /// let hash = Userhash::compute("alice", "example.org");
+    /// assert_eq!(rt; &hash[..4], [0x43, 0x5B, 0x79, 0x33].as_slice());
+    /// ```
     pub fn compute(user: &str, realm: &str) -> [u8; 32]
         ensures { result ≡ user_hash user.now realm.now }
     {

@@ -13,6 +13,21 @@ use stun_text::{PrintText, TextSink};
 /// for IPv4 and 20 for IPv6.
 ///
 /// Reading reports what [`MappedSocketAddr::from_raw`] refuses. It takes no memory.
+///
+/// # Examples
+///
+/// ```
+/// use discovery_attrs::MappedAddress;
+/// use std::net::{IpAddr, Ipv4Addr, SocketAddr};
+/// use stun_types::prelude::*;
+///
+/// // `MappedAddress` is an `AddressAttribute<MappedAddressKind>`
+/// let addr = SocketAddr::new(IpAddr::V4(Ipv4Addr::new(192, 0, 2, 7)), 3478);
+/// let mapped = MappedAddress::new(addr);
+/// assert_eq!(rt; mapped.addr(), addr);
+/// let raw = mapped.to_raw(alloc)?;
+/// assert_eq!(rt; raw.value().as_bytes(), [0, 1, 0x0D, 0x96, 192, 0, 2, 7].as_slice());
+/// ```
 #[derive(Drop)]
 #[derive_where(Clone, Debug, PartialEq, Eq)]
 pub struct AddressAttribute<K> {
@@ -25,8 +40,8 @@ impl<K> AddressAttribute<K> {
     ghost use Rattle.std.specs.Prelude.{◌≡◌};
     ghost use Rattle.stun_kinds.specs.Kinds.{addr_of};
 
-    /// The attribute of this address. Flow info and scope ID of an IPv6 address are kept, but not
-    /// written.
+    /// An attribute with the address `addr`. Flow info and scope ID of an IPv6 address are kept,
+    /// but not written.
     pub fn new(addr: SocketAddr) -> Self
         ensures { addr_of result ≡ addr }
     {
@@ -36,7 +51,7 @@ impl<K> AddressAttribute<K> {
         }
     }
 
-    /// The address.
+    /// The address that the attribute holds.
     pub fn addr(&self) -> SocketAddr
         ensures { result ≡ addr_of self.now }
     {

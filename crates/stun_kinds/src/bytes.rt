@@ -14,7 +14,7 @@ use stun_attrs::{
 use stun_base::{AttributeType, Data, Hex, StunParseError, StunWriteError};
 use stun_text::{PrintText, TextSink};
 
-/// At most 65535 bytes, which are borrowed or owned.
+/// At most 65535 bytes, borrowed or owned: the value of a [`BytesAttribute`].
 #[derive(Debug, Drop)]
 pub struct ShortBytes<'a> {
     bytes: Data<'a>,
@@ -24,6 +24,18 @@ pub struct ShortBytes<'a> {
 /// An attribute whose value is any bytes, at most 65535 of them, which are borrowed or owned. `B`
 /// is [`ShortBytes`]: it is a type parameter, since the prover takes no associated constant, as
 /// `TYPE` is, of a type with a lifetime.
+///
+/// # Examples
+///
+/// ```
+/// use discovery_attrs::Padding;
+/// use stun_types::prelude::*;
+///
+/// // `Padding<'a>` is a `BytesAttribute<PaddingKind, ShortBytes<'a>>`
+/// let padding = Padding::new(&[0; 1400])?;
+/// assert_eq!(rt; padding.length(), 1400);
+/// assert_eq!(rt; padding.data(), [0; 1400].as_slice());
+/// ```
 #[derive(Drop)]
 #[derive_where(Debug; B)]
 pub struct BytesAttribute<K, B> {
@@ -43,7 +55,7 @@ impl<'a, K: AttributeKind> BytesAttribute<K, ShortBytes<'a>> {
     ghost use Rattle.std.specs.Prelude.{◌≡◌, ◌<◌, ◌≤◌, true, Err, IfOk, IsOkAnd, length};
     ghost use Rattle.stun_kinds.specs.Kinds.{bytes_of, bytes_are_borrowed};
 
-    /// The attribute of these bytes, which it borrows.
+    /// An attribute with the bytes `bytes`, which are borrowed.
     ///
     /// # Errors
     ///
@@ -64,7 +76,7 @@ impl<'a, K: AttributeKind> BytesAttribute<K, ShortBytes<'a>> {
         })
     }
 
-    /// The bytes.
+    /// The bytes that the attribute holds.
     pub fn data(&self) -> &[u8]
         ensures bytes { result.now ≡ bytes_of self.now }
         ensures short { length result.now ≤ 65535 }

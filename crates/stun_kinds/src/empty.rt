@@ -11,6 +11,18 @@ use stun_values::check_length;
 ///
 /// Reading refuses a value of any as `TooLarge { expected: 0, actual }`. It takes no memory, and
 /// neither does `to_raw`.
+///
+/// # Examples
+///
+/// ```
+/// use ice_attrs::UseCandidate;
+/// use stun_types::prelude::*;
+///
+/// // `UseCandidate` is an `EmptyAttribute<UseCandidateKind>`
+/// let nominates = UseCandidate::new();
+/// assert_eq!(rt; nominates.length(), 0);
+/// assert_eq!(rt; format!(in alloc; "{nominates}")?.as_str(), "USE-CANDIDATE");
+/// ```
 #[derive_where(Clone, Copy, Debug, PartialEq, Eq)]
 pub struct EmptyAttribute<K> {
     #[derive_where(skip)]
@@ -18,7 +30,7 @@ pub struct EmptyAttribute<K> {
 }
 
 impl<K> EmptyAttribute<K> {
-    /// The attribute.
+    /// An attribute of the kind `K`, whose value has no bytes.
     pub fn new() -> Self {
         EmptyAttribute { kind: PhantomData }
     }

@@ -15,17 +15,18 @@ use stun_text::{PrintText, TextSink};
 /// In contracts `number_of` is the number that a `V` is written as, and `fields_of` the `V` that a
 /// number holds, if it holds one.
 pub trait FieldsKind<V>: AttributeKind {
+    /// The Rust type of the number that a value is written as.
     type Number;
 
     ghost number_of: { V → Self.Number };
 
     ghost fields_of: { Self.Number → Option V };
 
-    /// The number that the value is written as.
+    /// The number that a value is written as.
     fn to_number(value: &V) -> Self::Number
         ensures { result ≡ number_of value.now };
 
-    /// The value that a number holds, if it holds one.
+    /// The value that a number holds, or `None` if the number holds none.
     fn from_number(number: Self::Number) -> Option<V>
         ensures { result ≡ fields_of number };
 }
@@ -36,6 +37,18 @@ pub trait FieldsKind<V>: AttributeKind {
 /// Reading refuses a value of another length than `wanted`, that of the number, as
 /// `Truncated { expected: wanted, actual }` or `TooLarge { expected: wanted, actual }`, and fields
 /// that the kind has no value for as `InvalidAttributeData`. It takes no memory.
+///
+/// # Examples
+///
+/// ```
+/// use discovery_attrs::{Change, ChangeRequest};
+/// use stun_types::prelude::*;
+///
+/// // `ChangeRequest` is a `FieldsAttribute<ChangeRequestKind, Change>`
+/// let request = ChangeRequest::new(Change { ip: true, port: false });
+/// assert!(rt; request.value().ip);
+/// assert_eq!(rt; request.to_raw(alloc)?.value().as_bytes(), [0, 0, 0, 4].as_slice());
+/// ```
 #[derive_where(Clone, Copy, Debug, PartialEq, Eq; V)]
 pub struct FieldsAttribute<K, V> {
     value: V,
@@ -46,7 +59,7 @@ pub struct FieldsAttribute<K, V> {
 impl<K, V> FieldsAttribute<K, V> {
     ghost use Rattle.stun_kinds.specs.Kinds.{fields_held};
 
-    /// The attribute of this value.
+    /// An attribute with the value `value`.
     pub fn new(value: V) -> Self
         ensures { fields_held result ≡ value }
     {
@@ -60,7 +73,7 @@ impl<K, V> FieldsAttribute<K, V> {
 impl<K, V: Copy> FieldsAttribute<K, V> {
     ghost use Rattle.stun_kinds.specs.Kinds.{fields_held};
 
-    /// The value.
+    /// The value that the attribute holds.
     pub fn value(&self) -> V
         ensures { result ≡ fields_held self.now }
     {

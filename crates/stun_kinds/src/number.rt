@@ -15,6 +15,18 @@ use stun_text::{PrintText, TextSink};
 /// Reading refuses a value of another length than `wanted`, that of the number, as
 /// `Truncated { expected: wanted, actual }` or `TooLarge { expected: wanted, actual }`. It takes no
 /// memory.
+///
+/// # Examples
+///
+/// ```
+/// use ice_attrs::Priority;
+/// use stun_types::prelude::*;
+///
+/// // `Priority` is a `NumberAttribute<PriorityKind, u32>`
+/// let priority = Priority::new(1_862_270_975);
+/// assert_eq!(rt; priority.value(), 1_862_270_975);
+/// assert_eq!(rt; priority.to_raw(alloc)?.value().as_bytes(), [0x6E, 0xFF, 0xFF, 0xFF].as_slice());
+/// ```
 #[derive_where(Clone, Copy, Debug, PartialEq, Eq; N)]
 pub struct NumberAttribute<K, N> {
     number: N,
@@ -25,7 +37,7 @@ pub struct NumberAttribute<K, N> {
 impl<K, N> NumberAttribute<K, N> {
     ghost use Rattle.stun_kinds.specs.Kinds.{number_of};
 
-    /// The attribute of this number.
+    /// An attribute with the number `number`.
     pub fn new(number: N) -> Self
         ensures { number_of result ≡ number }
     {
@@ -39,7 +51,7 @@ impl<K, N> NumberAttribute<K, N> {
 impl<K, N: Copy> NumberAttribute<K, N> {
     ghost use Rattle.stun_kinds.specs.Kinds.{number_of};
 
-    /// The number.
+    /// The number that the attribute holds.
     pub fn value(&self) -> N
         ensures { result ≡ number_of self.now }
     {

@@ -13,6 +13,19 @@ use stun_text::{PrintText, TextSink};
 /// bytes for IPv4 and 20 for IPv6.
 ///
 /// Reading reports what [`XorSocketAddr::from_raw`] refuses. It takes no memory.
+///
+/// # Examples
+///
+/// ```
+/// use std::net::{IpAddr, Ipv4Addr, SocketAddr};
+/// use stun_types::message::TransactionId;
+/// use turn_attrs::XorPeerAddress;
+///
+/// // `XorPeerAddress` is an `XorAddressAttribute<XorPeerAddressKind>`
+/// let addr = SocketAddr::new(IpAddr::V4(Ipv4Addr::new(192, 0, 2, 7)), 3478);
+/// let peer = XorPeerAddress::new(addr, TransactionId::from(1000));
+/// assert_eq!(rt; peer.addr(TransactionId::from(1000)), addr);
+/// ```
 #[derive(Drop)]
 #[derive_where(Clone, Debug, PartialEq, Eq)]
 pub struct XorAddressAttribute<K> {
@@ -25,8 +38,8 @@ impl<K> XorAddressAttribute<K> {
     ghost use Rattle.stun_values.specs.Addresses.{IsXored};
     ghost use Rattle.stun_kinds.specs.Kinds.{xored_of};
 
-    /// The attribute of this address in a message with this transaction ID. Flow info and scope ID
-    /// of an IPv6 address are dropped.
+    /// An attribute with the address `addr`, for a message with the transaction ID `transaction`.
+    /// Flow info and scope ID of an IPv6 address are dropped.
     pub fn new(addr: SocketAddr, transaction: TransactionId) -> Self
         ensures { IsXored transaction addr (xored_of result) }
     {
@@ -36,7 +49,7 @@ impl<K> XorAddressAttribute<K> {
         }
     }
 
-    /// The address, if the message has this transaction ID.
+    /// The address, for a message with the transaction ID `transaction`.
     pub fn addr(&self, transaction: TransactionId) -> SocketAddr
         ensures { IsXored transaction (xored_of self.now) result }
     {

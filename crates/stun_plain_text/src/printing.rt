@@ -91,17 +91,34 @@ fn print_escaped(bytes: &[u8], slice: &mut TextSlice<'_>) -> Result<(), Infallib
     print_message(bytes, &mut escaper)
 }
 
-/// Writes the text of a message at the start of `to`, in printable ASCII, and returns how many bytes
-/// it has: the class, the method, the transaction ID, and the attributes that the message shows, with
-/// the names of STUN, ICE, TURN and NAT discovery. What is no printable character of ASCII, in the
-/// texts of a message, is escaped: `\\x`, and two hexadecimal digits for each byte, and so is the
-/// backslash. So the text has one line, and can't steer a terminal. The bytes of `to` after the text
-/// stay as they were. It takes no memory.
+/// Writes the text of a message at the start of `to`, in printable ASCII, and returns its length in
+/// bytes. The text has the class, the method, the transaction ID, and the attributes that the
+/// message shows, with the names of STUN, ICE, TURN and NAT discovery. What is no printable
+/// character of ASCII, in the texts of a message, is escaped: `\\x`, and two hexadecimal digits for
+/// each byte, and so is the backslash. So the text has one line, and can't steer a terminal. The
+/// bytes of `to` after the text stay as they were. It takes no memory.
 ///
 /// # Errors
 ///
-/// [`TextTooLong`], with the length of the text, if it is longer than `to`. `to` then holds the first
-/// bytes of the text, as many as fit.
+/// [`TextTooLong`], with the length of the text, if it is longer than `to`. `to` then holds the
+/// first bytes of the text, as many as fit.
+///
+/// # Examples
+///
+/// ```
+/// use stun_plain_text::write_plain_text;
+/// use stun_types::message::Message;
+///
+/// // A request whose SOFTWARE has an escape, which would change the colour of a terminal.
+/// let message = Message::from_bytes(
+///     b"\x00\x01\x00\x0C\x21\x12\xA4\x42\x00\x00\x00\x00\x00\x00\x00\x00\x00\x00\x03\xE8\
+///       \x80\x22\x00\x07a\x1B[31mb\x00",
+/// )?;
+/// let mut bytes = [0; 200];
+/// let length = write_plain_text(&message, &mut bytes)?;
+/// let text = std::str::from_utf8(&bytes[..length])?;
+/// assert!(rt; text.ends_with("attributes: [32802(0x8022: SOFTWARE): 'a\\x1b[31mb'])"));
+/// ```
 #[tactic(auto, using(stun_grammar::proofs::ParsingLemmas::parsed_frame, crate::proofs::EscapingLemmas::text_lies, crate::proofs::EscapingLemmas::text_counts))]
 pub fn write_plain_text(message: &Message<'_>, to: &mut [u8]) -> Result<usize, TextTooLong>
     ensures answer { result

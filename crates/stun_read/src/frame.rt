@@ -34,23 +34,29 @@ pub fn check_frame(bytes: &[u8]) -> Result<(), StunParseError>
     check_length(bytes, stated_length(bytes))
 }
 
-/// The length of the message whose first bytes are `prefix`: its header, and as many bytes as that
-/// states, 20 to 65555 in all. `None` if there are fewer than twenty bytes, and a header may
-/// begin with them. It takes no memory, and looks at the first twenty bytes alone.
+/// The length of the message whose first bytes are `prefix`: its header and as many bytes as the
+/// header states, 20 to 65555 in all, or `None` if `prefix` has fewer than twenty bytes that a
+/// header may begin with. It takes no memory, and looks at the first twenty bytes alone.
 ///
 /// A message is read from exactly that many bytes. If a buffer may hold more, as one that
 /// collects the bytes of a stream (RFC 8489, section 6.2.2) or one that is longer than the datagram
 /// in it, cut it to this length first: bytes of this length are never refused for their length.
 ///
-/// ```
-/// let Some(length) = message_length(buffer)? else {
-///     return Ok(None);
-/// };
-/// ```
-///
 /// # Errors
 ///
 /// `NotStun` if no header begins with these bytes, whatever follows them.
+///
+/// # Examples
+///
+/// ```
+/// use stun_types::message::message_length;
+///
+/// // a request without attributes, and the first two bytes of another message
+/// let bytes = b"\x00\x01\x00\x00\x21\x12\xA4\x42abcdefghijkl\x00\x01";
+/// assert_eq!(rt; message_length(bytes), Ok(Some(20)));
+/// assert_eq!(rt; message_length(&bytes[20..]), Ok(None));
+/// assert!(rt; message_length(b"GET / HTTP/1.1").is_err());
+/// ```
 pub fn message_length(prefix: &[u8]) -> Result<Option<usize>, StunParseError>
     ensures told { MatchResult result
         (λ told. Begins prefix.now × MatchOption told (length prefix.now < 20)

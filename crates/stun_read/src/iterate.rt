@@ -10,7 +10,7 @@ use stun_attrs::RawAttribute;
 use stun_grammar::attribute_types::FINGERPRINT;
 
 /// An iterator over the attributes that a message shows, in order, each with the offset of its
-/// header from the start of the message.
+/// header in bytes from the start of the message.
 ///
 /// A message shows the longest prefix of its attributes that consists of ordinary ones, followed by
 /// at most one MESSAGE-INTEGRITY, one MESSAGE-INTEGRITY-SHA256 and one FINGERPRINT, in that order
@@ -28,9 +28,19 @@ impl<'a> MessageAttributesIter<'a> {
     ghost use Rattle.std.specs.Prelude.{◌≡◌, ◌^◌, ◌<◌};
     ghost use Rattle.stun_read.specs.Iterating.{items_left, borrowed};
 
-    /// Iterates over the attributes that `bytes` show, whatever they are. They show none if they
-    /// don't begin with a header, or if fewer or more bytes follow it than its length field
-    /// states. A FINGERPRINT is shown whether or not its value is right.
+    /// An iterator over the attributes that `bytes` show, whatever they are. They show none if they
+    /// don't begin with a header, or if fewer or more bytes follow it than its length field states.
+    /// A FINGERPRINT is shown whether or not its value is right.
+    ///
+    /// # Examples
+    ///
+    /// ```
+    /// use stun_types::message::MessageAttributesIter;
+    ///
+    /// let bytes = b"\x00\x01\x00\x08\x21\x12\xA4\x42abcdefghijkl\x80\x22\x00\x04STUN";
+    /// assert_eq!(rt; MessageAttributesIter::new(bytes).count(), 1);
+    /// assert_eq!(rt; MessageAttributesIter::new(&bytes[..24]).count(), 0);
+    /// ```
     pub fn new(bytes: &'a [u8]) -> MessageAttributesIter<'a>
         ensures items { items_left result ≡ borrowed (shown bytes.now) }
         ensures bound { length (items_left result) < 2 ^ 64 }

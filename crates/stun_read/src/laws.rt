@@ -13,8 +13,8 @@ ghost use Rattle.stun_grammar.specs.Verdicts.{is_checked_type, last_shown};
 ghost use Rattle.stun_grammar.specs.Writing.{message_encoding, IsWritable};
 ghost use Rattle.stun_read.specs.LookingUp.{nth};
 
-/// If k attributes of the same type are shown before an attribute that is shown, `nth d type k` is
-/// it, with its value and the offset of its header.
+/// An attribute that is shown after k others with its type is `nth d type k`, with its value and
+/// the offset of its header in bytes.
 pub fn shown_is_found()
     ensures found { (d : List ℕ) (before behind : List Attribute) (a : Attribute)
         → shown d ≡ placed 20 (before ++ a ∷ behind)
@@ -50,7 +50,7 @@ pub fn shown_is_found()
         × (nth (message_encoding type id (before ++ a ∷ behind)) a.type 1 ≡ None) }
 {}
 
-/// What is found has the type that was asked for; and a first one is found exactly if an
+/// A look-up by a type finds an attribute with that type; and the first is found exactly if an
 /// attribute of the type is shown.
 pub fn found_has_its_type()
     ensures same { (d : List ℕ) (type n : ℕ) → IfSome (nth d type n) (λ a. a.type ≡ type) }
@@ -58,8 +58,8 @@ pub fn found_has_its_type()
         → is_some (nth d type 0) ≡ list_any (λ a. a.type == type) (shown d) }
 {}
 
-/// The value of what is found in these bytes is the part of them that follows the four bytes of its
-/// header.
+/// The value that a look-up finds in bytes is the part of them that follows the four bytes of the
+/// attribute's header.
 pub fn found_is_there(bytes: &[u8])
     ensures { (type n : ℕ) → IfSome (nth bytes.now type n)
         (λ a. (a.offset + 4 + length a.value ≤ length bytes.now)

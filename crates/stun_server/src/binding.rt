@@ -113,8 +113,8 @@ fn success_response(
     Ok(write)
 }
 
-/// The error response 420 to a binding request that shows types that require comprehension, of which
-/// the server comprehends none.
+/// The error response 420 to a binding request that shows types that require comprehension, of
+/// which the server comprehends none.
 fn refusing_response(
     alloc: Global,
     request: &Message<'_>,
@@ -205,9 +205,32 @@ pub(crate) fn request_in(datagram: &[u8]) -> Option<Message<'_>>
     Some(request)
 }
 
-/// The reply to a datagram that came from `source`, if it deserves one: a binding request does, and
-/// whatever else is silently discarded (RFC 8489, section 6.3). The error says that an allocation
-/// failed: no reply is refused for its length, since 65555 bytes show at most 16383 types.
+/// Returns the reply to a datagram that came from `source`, if it deserves one: a binding request
+/// does, and whatever else is silently discarded (RFC 8489, section 6.3).
+///
+/// # Errors
+///
+/// Only if an allocation failed: no reply is refused for its length, since 65555 bytes show at most
+/// 16383 types.
+///
+/// # Examples
+///
+/// ```
+/// use std::net::SocketAddr;
+/// use stun_types::attribute::XorMappedAddress;
+/// use stun_types::message::Message;
+///
+/// let request = b"\x00\x01\x00\x00\x21\x12\xA4\x42\
+///                 \xB7\xE7\xA7\x01\xBC\x34\xD6\x86\xFA\x87\xDF\xAE";
+/// let source: SocketAddr = "192.0.2.1:32853".parse()?;
+/// let reply = stun_server::reply(alloc, source, request)?.ok_or("no reply")?;
+/// let reply = Message::from_bytes(&reply)?;
+/// assert!(rt; reply.answers(&Message::from_bytes(request)?));
+/// let mapped = reply.attribute::<XorMappedAddress>(alloc)?;
+/// assert_eq!(rt; mapped.addr(reply.transaction_id()), source);
+/// // What is no STUN message isn't answered.
+/// assert!(rt; stun_server::reply(alloc, source, b"GET / HTTP/1.1")?.is_none());
+/// ```
 pub fn reply(
     alloc: Global,
     source: SocketAddr,

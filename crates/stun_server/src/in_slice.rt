@@ -206,14 +206,33 @@ fn write_reply(
     Ok(Some(whole))
 }
 
-/// The reply to a datagram as [`reply`](crate::reply) makes it, written at the start of a slice.
-/// Returns how many bytes it has, at most 32840, or `None` if none is owed: the slice is as it
+/// Writes the reply to a datagram, as [`reply`](crate::reply) makes it, at the start of a slice,
+/// and returns its length in bytes, at most 32840; `None` if no reply is owed: the slice is as it
 /// was then. The bytes after the reply stay. It takes no memory.
 ///
 /// # Errors
 ///
 /// `TooSmall { expected, actual }` if the slice has no room for the reply: the length of the
 /// whole reply, and that of the slice, which is as it was.
+///
+/// # Examples
+///
+/// ```
+/// use std::net::SocketAddr;
+/// use stun_server::reply_into;
+/// use stun_types::message::StunWriteError;
+///
+/// let request = b"\x00\x01\x00\x00\x21\x12\xA4\x42\
+///                 \xB7\xE7\xA7\x01\xBC\x34\xD6\x86\xFA\x87\xDF\xAE";
+/// let source: SocketAddr = "192.0.2.1:32853".parse()?;
+/// // 20 bytes of header, 12 of XOR-MAPPED-ADDRESS and 16 of SOFTWARE.
+/// let mut reply = [0; 1500];
+/// assert_eq!(rt; reply_into(source, request, &mut reply), Ok(Some(48)));
+/// // XOR-MAPPED-ADDRESS as in section 2.2 of RFC 5769.
+/// assert_eq!(rt; &reply[20..32], b"\x00\x20\x00\x08\x00\x01\xA1\x47\xE1\x12\xA6\x43".as_slice());
+/// let short = StunWriteError::TooSmall { expected: 48, actual: 40 };
+/// assert_eq!(rt; reply_into(source, request, &mut reply[..40]), Err(short));
+/// ```
 pub fn reply_into(
     source: SocketAddr,
     datagram: &[u8],

@@ -11,6 +11,18 @@ use itoa::Buffer;
 /// # Errors
 ///
 /// That of the sink.
+///
+/// # Examples
+///
+/// ```
+/// use stun_types::{TextSlice, put_decimal};
+///
+/// let mut text = [0; 8];
+/// let mut sink = TextSlice::new(&mut text);
+/// let Ok(()) = put_decimal(&mut sink, 3478);
+/// assert_eq!(rt; sink.finish()?, 4);
+/// assert_eq!(rt; &text[..4], b"3478".as_slice());
+/// ```
 pub fn put_decimal<S: TextSink>(sink: &mut S, n: u64) -> Result<(), S::Error>
     ensures { OnOk result (S.wrote sink.old (decimal n) sink.new) }
 {
@@ -51,6 +63,18 @@ pub fn hex_digit(digit: u8) -> &'static str
 /// # Errors
 ///
 /// That of the sink.
+///
+/// # Examples
+///
+/// ```
+/// use stun_types::{TextSlice, put_hex};
+///
+/// let mut text = [0; 8];
+/// let mut sink = TextSlice::new(&mut text);
+/// let Ok(()) = put_hex(&mut sink, 0x2112_A442);
+/// assert_eq!(rt; sink.finish()?, 8);
+/// assert_eq!(rt; text, *b"2112a442");
+/// ```
 #[tactic(auto, using(crate::proofs::HexLemmas::hex_step, crate::proofs::HexLemmas::hex_last))]
 pub fn put_hex<S: TextSink>(sink: &mut S, n: u128) -> Result<(), S::Error>
     ensures { OnOk result (S.wrote sink.old (digits 16 false n) sink.new) }

@@ -4,9 +4,9 @@ ghost use Rattle.std.specs.Prelude.{ℕ, List, [], ◌++◌, OnOk};
 
 use std::fmt;
 
-/// What text is written to, piece by piece.
+/// A destination of text, piece by piece: a formatter or a slice.
 pub trait TextSink {
-    /// Why a piece is refused; a type with no values if none ever is.
+    /// The error of a refused piece; a type with no values if no piece is ever refused.
     type Error;
 
     ghost wrote: { Self → List ℕ → Self → Type 0 };

@@ -11,7 +11,7 @@ use thiserror::Error;
 #[derive(Clone, Copy, Debug, PartialEq, Eq, Error)]
 #[error("The text has {length} bytes")]
 pub struct TextTooLong {
-    /// How many bytes the text has; `usize::MAX` if they are more than that.
+    /// The number of bytes of the text; `usize::MAX` if they are more than that.
     pub length: usize,
 }
 
@@ -28,6 +28,18 @@ fn lay_over(to: &mut [u8], text: &[u8])
 ///
 /// In contracts `text_count` is how many bytes the text has so far, `lent_bytes` the bytes of the
 /// slice, and `lent_name` says which slice it is.
+///
+/// # Examples
+///
+/// ```
+/// use stun_types::{TextSink, TextSlice};
+///
+/// let mut text = [0; 4];
+/// let mut sink = TextSlice::new(&mut text);
+/// let (Ok(()), Ok(())) = (sink.put("one, "), sink.put("two"));
+/// assert_eq!(rt; sink.finish().err().map(|error| error.length), Some(8));
+/// assert_eq!(rt; text, *b"one,");
+/// ```
 #[derive(Drop)]
 pub struct TextSlice<'a> {
     to: &'a mut [u8],
@@ -38,7 +50,7 @@ impl<'a> TextSlice<'a> {
     ghost use Rattle.std.specs.Prelude.{◌≡◌, length};
     ghost use Rattle.stun_text.specs.Slices.{lent_bytes, lent_name, text_answer, text_count};
 
-    /// A slice with no text in it yet.
+    /// A sink into the slice `to`, with no text yet.
     pub fn new(to: &'a mut [u8]) -> Self
         ensures bytes { lent_bytes result ≡ to.old }
         ensures count { text_count result ≡ 0 }
@@ -47,8 +59,8 @@ impl<'a> TextSlice<'a> {
         TextSlice { to, length: 0 }
     }
 
-    /// Returns how many bytes the text has. The slice holds the text, followed by what was there
-    /// before.
+    /// Returns the number of bytes of the text. The slice holds the text, followed by what was
+    /// there before.
     ///
     /// # Errors
     ///

@@ -16,25 +16,25 @@ use stun_types::attribute::{
 };
 use stun_types::message::{IntegrityAlgorithm, IntegrityKey, Message, StunWriteError};
 
-/// How a request is protected, and with which key (RFC 8489, section 9).
+/// The credential mechanism that protects a request, and its key (RFC 8489, section 9).
 #[derive(Debug, Drop)]
 pub enum Protection {
-    /// It isn't signed, and no response is validated.
+    /// The request isn't signed, and no response is validated.
     Unprotected,
-    /// It is the first request of a client that uses the long-term mechanism: it isn't signed
-    /// (section 9.2.3.1), and no response is validated. A response is discarded whose nonce promises
-    /// PASSWORD-ALGORITHMS and that shows none, and so is a 400 with no integrity attribute (section
-    /// 9.2.5).
+    /// The request is the first one of a client that uses the long-term mechanism: it isn't signed
+    /// (section 9.2.3.1), and no response is validated. A response is discarded whose nonce
+    /// promises PASSWORD-ALGORITHMS and that shows none, and so is a 400 with no integrity
+    /// attribute (section 9.2.5).
     FirstLongTerm,
-    /// It is signed by a short-term credential (section 9.1). A key that was made for one algorithm
-    /// validates by that algorithm's attribute alone, a key with no algorithm by either.
+    /// The request is signed by a short-term credential (section 9.1). A key that was made for one
+    /// algorithm validates by that algorithm's attribute alone, a key with no algorithm by either.
     ShortTerm(IntegrityKey),
     /// It is signed by a long-term credential (section 9.2). Whatever the key was made for, a
     /// response validates by either attribute (section 9.2.5).
     LongTerm(IntegrityKey),
 }
 
-/// Which integrity attributes a request shows.
+/// The integrity attributes that a request shows.
 #[derive(Clone, Copy, Debug, PartialEq, Eq)]
 pub struct Signed {
     /// A MESSAGE-INTEGRITY.
@@ -188,13 +188,24 @@ impl Protection {
         }
     }
 
-    /// Prepares the key, if there is one, for many HMACs, with memory from `alloc`: a request that is
-    /// signed with it and several responses are then validated faster
+    /// Prepares the key, if there is one, for many HMACs, with memory from `alloc`: a request that
+    /// is signed with it and several responses are then validated faster
     /// ([`IntegrityKey::prepare`]). Nothing else changes.
     ///
     /// # Errors
     ///
     /// `OutOfMemory` alone. The protection works as before.
+    ///
+    /// # Examples
+    ///
+    /// ```
+    /// use stun_transactions::Protection;
+    /// use stun_types::message::IntegrityKey;
+    ///
+    /// let key = IntegrityKey::new(alloc, b"VOkJxbRl1RmTxUk/WvJxBt", None)?;
+    /// let mut protection = Protection::ShortTerm(key);
+    /// assert_eq!(rt; protection.prepare(alloc), Ok(()));
+    /// ```
     pub fn prepare(&mut self, alloc: Global) -> Result<(), StunWriteError>
         ensures same { HasSameKey self.old self.new }
         ensures prepared { OnOk result (has_prepared_key self.new ≡ true) }

@@ -27,9 +27,9 @@ ghost use Rattle.stun_transactions.specs.Transactions.{terms_of, state_of, Begin
 ghost use Rattle.stun_transactions.specs.Parts.{plan_in, state_in, at_state, parts_of, key_of, parts_fault, whole_fault};
 ghost use Rattle.stun_transactions.specs.Runs.{Call, IsRun, Stays, sends, IsSpaced, left_by};
 
-/// Polls that are in time keep the row: request number `k + 1` follows request number `k` after the
-/// wait that the schedule gives once `k + 1` requests were sent, and so the end follows the last
-/// one.
+/// The moments of the requests are those of the schedule if every poll is in time: request number
+/// `k + 1` follows request number `k` after the wait that the schedule gives once `k + 1` requests
+/// were sent, and so the end follows the last one.
 pub fn waits_make_the_row()
     ensures next { (rto requests last_wait_factor k : ℕ) → k + 1 < requests
         → moment rto (k + 1) ≡ moment rto k + row_wait rto requests last_wait_factor (k + 1) }
@@ -38,22 +38,23 @@ pub fn waits_make_the_row()
         ≡ moment rto (requests - 1) + row_wait rto requests last_wait_factor requests }
 {}
 
-/// The first poll of a transaction answers `Send`, if no time has passed since it began.
+/// The first poll of a transaction answers `Send`, if no time has passed since the transaction
+/// began.
 #[tactic(auto, using(crate::proofs::FirstPollLemmas::first_sends))]
 pub fn first_poll_sends()
     ensures { (plan : Plan) (now : Duration) (action : Action) (state : RetransmissionState)
         → Polls plan (begun now) now action state → action ≡ Action.Send }
 {}
 
-/// Received bytes are for a transaction with a prepared key what they are without.
+/// A prepared key changes nothing about what a received message is for a transaction.
 pub fn preparing_changes_nothing()
     ensures { (terms other : Terms) (state : RetransmissionState) (understood : List AttributeType)
         (d : List ℕ) → AreSameTerms terms other
         → received_outcome other state understood d ≡ received_outcome terms state understood d }
 {}
 
-/// Whatever calls are made, with whatever moments: no poll answers `Send` before the interval after
-/// the last such poll has passed, nor more often than the plan allows.
+/// No poll answers `Send` before the interval after the last such poll has passed, nor more often
+/// than the plan allows, whatever calls are made, with whatever moments.
 #[tactic(auto, using(crate::proofs::RunsLemmas::spaced))]
 pub fn requests_are_spaced()
     ensures { (plan : Plan) (state : RetransmissionState) (calls : List Call)
@@ -61,7 +62,8 @@ pub fn requests_are_spaced()
         → IsSpaced plan state.sent (as_nanos state.last) (sends calls) }
 {}
 
-/// After an end no call changes anything, no poll answers `Send`, and no message is taken.
+/// After the end of a transaction no call changes anything, no poll answers `Send`, and no message
+/// is taken.
 #[tactic(auto, using(crate::proofs::RunsLemmas::nothing_left, crate::proofs::RunsLemmas::nothing_sent))]
 pub fn ends_are_final()
     ensures calls { (plan : Plan) (state : RetransmissionState) (calls : List Call)
@@ -102,11 +104,11 @@ pub fn other_calls_stay()
     ensures stopping { (state : RetransmissionState) → Stays state (stopped_by state) }
 {}
 
-/// What is taken is a message and a response to the request, and shows a FINGERPRINT if the usage
-/// sends them. If a credential protects the request, it is authentic by the algorithm that is
-/// returned with it, with an HMAC that is long enough; only a 401 or 438 under a long-term
-/// credential need not be. So a 300 that answers a protected request is taken only if
-/// it is authentic.
+/// Whatever a transaction takes is a message and a response to its request, and shows a FINGERPRINT
+/// if the usage sends them. If a credential protects the request, it is authentic by the algorithm
+/// that is returned with it, with an HMAC that is long enough; only a 401 or 438 under a long-term
+/// credential need not be. So a 300 that answers a protected request is taken only if it is
+/// authentic.
 #[tactic(auto, using(crate::proofs::TakingLemmas::right))]
 pub fn taken_is_right()
     ensures { (terms : Terms) (state : RetransmissionState) (understood : List AttributeType)
@@ -115,8 +117,8 @@ pub fn taken_is_right()
         → IsRightResponse terms d (proof_in (received_outcome terms state understood d)) }
 {}
 
-/// Its parts and its key determine a transaction: one that is taken apart and put together again
-/// has the terms and the state that it had.
+/// A transaction is determined by its parts and its key: one that is taken apart and put together
+/// again has the terms and the state that it had.
 #[tactic(auto, using(crate::proofs::PartsLemmas::all_of_it))]
 pub fn parts_are_the_whole()
     ensures { (one other : Transaction) → parts_of one ≡ parts_of other → key_of one ≡ key_of other

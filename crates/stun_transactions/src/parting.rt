@@ -70,7 +70,7 @@ impl TransactionParts {
         }
     }
 
-    /// Tests that these can be the parts of a transaction, as [`Transaction::from_parts`] does
+    /// Tests that these parts can be those of a transaction, as [`Transaction::from_parts`] does
     /// before it looks at the key.
     ///
     /// [`Transaction::from_parts`]: crate::Transaction::from_parts
@@ -78,6 +78,27 @@ impl TransactionParts {
     /// # Errors
     ///
     /// The first of these that applies: `SignedOtherwise`, `SentTooOften`, `SentTooLate`.
+    ///
+    /// # Examples
+    ///
+    /// ```
+    /// use std::time::Duration;
+    /// use stun_transactions::{PartsError, Protection, Schedule, Transaction, Usage};
+    /// use stun_types::TransportType;
+    /// use stun_types::message::Message;
+    ///
+    /// let request = Message::from_bytes(
+    ///     b"\x00\x01\x00\x00\x21\x12\xA4\x42\xB7\xE7\xA7\x01\xBC\x34\xD6\x86\xFA\x87\xDF\xAE",
+    /// )?;
+    /// let (schedule, usage) = (Schedule::new_default(), Usage::default());
+    /// let (udp, open, start) = (TransportType::Udp, Protection::Unprotected, Duration::ZERO);
+    /// let transaction = Transaction::new(&request, schedule, udp, open, usage, start)?;
+    /// let (mut parts, _key) = transaction.into_parts();
+    /// assert_eq!(rt; parts.check(), Ok(()));
+    /// // The schedule has seven requests.
+    /// parts.sent = 8;
+    /// assert_eq!(rt; parts.check(), Err(PartsError::SentTooOften));
+    /// ```
     pub fn check(&self) -> Result<(), PartsError>
         ensures { MatchResult result (λ _. parts_fault self.now ≡ None)
             (λ e. parts_fault self.now ≡ Some e) }
@@ -94,7 +115,7 @@ impl TransactionParts {
         Ok(())
     }
 
-    /// The moment from which on a poll does something, as
+    /// Returns the moment from which on a poll does something, as
     /// [`Transaction::next_wake`](crate::Transaction::next_wake) has it.
     pub fn next_wake(&self) -> Option<Duration>
         ensures { MatchOption result (is_some self.now.end ≡ true)
@@ -107,8 +128,29 @@ impl TransactionParts {
         }
     }
 
-    /// What is to be done now, as [`Transaction::poll`](crate::Transaction::poll) answers; it needs
-    /// no key.
+    /// Returns what the caller has to do now, as [`Transaction::poll`](crate::Transaction::poll)
+    /// does; it needs no key.
+    ///
+    /// # Examples
+    ///
+    /// ```
+    /// use std::time::Duration;
+    /// use stun_transactions::{Action, Protection, Schedule, Transaction, Usage};
+    /// use stun_types::TransportType;
+    /// use stun_types::message::Message;
+    ///
+    /// let request = Message::from_bytes(
+    ///     b"\x00\x01\x00\x00\x21\x12\xA4\x42\xB7\xE7\xA7\x01\xBC\x34\xD6\x86\xFA\x87\xDF\xAE",
+    /// )?;
+    /// let (schedule, usage) = (Schedule::new_default(), Usage::default());
+    /// let (udp, open, start) = (TransportType::Udp, Protection::Unprotected, Duration::ZERO);
+    /// let transaction = Transaction::new(&request, schedule, udp, open, usage, start)?;
+    /// let (mut parts, key) = transaction.into_parts();
+    /// assert_eq!(rt; parts.poll(start), Action::Send);
+    /// // The transaction continues where its parts are.
+    /// let mut transaction = Transaction::from_parts(parts, key)?;
+    /// assert_eq!(rt; transaction.poll(start), Action::WaitUntil(Duration::from_millis(500)));
+    /// ```
     pub fn poll(&mut self, now: Duration) -> Action
         ensures polls { Polls (plan_in self.old) (state_in self.old) now result
             (state_in self.new) }
@@ -120,7 +162,7 @@ impl TransactionParts {
         action
     }
 
-    /// Sends the request no more, as
+    /// Stops sending the request, as
     /// [`Transaction::stop_sending`](crate::Transaction::stop_sending) does.
     pub fn stop_sending(&mut self)
         ensures { self.new ≡ at_state self.old (stopped_by (state_in self.old)) }
@@ -130,8 +172,8 @@ impl TransactionParts {
         self.go_on(state);
     }
 
-    /// How long the response took, as
-    /// [`Transaction::round_trip`](crate::Transaction::round_trip) returns.
+    /// Returns how long the response took, as
+    /// [`Transaction::round_trip`](crate::Transaction::round_trip) does.
     pub fn round_trip(&self, now: Duration) -> Option<Duration>
         ensures { TellsTime (state_in self.now) now result }
     {
@@ -147,7 +189,7 @@ impl TransactionParts {
         self.go_on(state);
     }
 
-    /// Ends the transaction, unless it has ended, as
+    /// Ends the transaction as cancelled, unless it has ended, as
     /// [`Transaction::cancel`](crate::Transaction::cancel) does.
     pub fn cancel(&mut self)
         ensures { self.new ≡ at_state self.old (ended_by TransactionEnd.Cancelled
@@ -156,7 +198,7 @@ impl TransactionParts {
         self.end_by(TransactionEnd::Cancelled);
     }
 
-    /// Ends the transaction, unless it has ended, as
+    /// Ends the transaction as failed by its transport, unless it has ended, as
     /// [`Transaction::fail`](crate::Transaction::fail) does.
     pub fn fail(&mut self)
         ensures { self.new

@@ -11,15 +11,16 @@ use thiserror::Error;
 /// A mechanism by which credentials protect requests (RFC 8489, section 9).
 #[derive(Clone, Copy, Debug, PartialEq, Eq)]
 pub enum Mechanism {
-    /// By a short-term credential (section 9.1).
+    /// The request is protected by a short-term credential (section 9.1).
     ShortTerm,
-    /// By a long-term credential that the first request doesn't use yet (section 9.2.3.1).
+    /// The request is the first of the long-term mechanism, which is sent without the credential
+    /// (section 9.2.3.1).
     FirstLongTerm,
-    /// By a long-term credential (section 9.2).
+    /// The request is protected by a long-term credential (section 9.2).
     LongTerm,
 }
 
-/// Why no transaction has certain parts.
+/// Why parts and a key make no transaction.
 #[derive(Clone, Copy, Debug, PartialEq, Eq, Error)]
 pub enum PartsError {
     /// A credential protects the request and it shows no integrity attribute, or none does and it
@@ -44,13 +45,13 @@ pub enum PartsError {
     KeyForOneAlgorithm,
 }
 
-/// A transaction without its key: what it was begun with, and how far it has come, for a caller that
-/// stores it in its own representation.
+/// A transaction without its key: what it was begun with, and how far it has come, for a caller
+/// that stores it in its own representation.
 #[derive(Clone, Copy, Debug, PartialEq, Eq)]
 pub struct TransactionParts {
-    /// When the request is sent.
+    /// The schedule by which the request is sent.
     pub schedule: Schedule,
-    /// Over which transport.
+    /// The transport over which the request is sent.
     pub transport: TransportType,
     /// The method of the request.
     pub method: Method,
@@ -60,18 +61,18 @@ pub struct TransactionParts {
     pub sha1: bool,
     /// Whether the request shows a MESSAGE-INTEGRITY-SHA256.
     pub sha256: bool,
-    /// The mechanism in use, if one is.
+    /// The credential mechanism in use, if one is.
     pub mechanism: Option<Mechanism>,
-    /// What the usage specifies of responses.
+    /// The requirements of the STUN usage on responses.
     pub usage: Usage,
-    /// How many polls have answered `Send`.
+    /// The number of polls that have answered `Send`.
     pub sent: u32,
-    /// The moment of the last of them, and before the first the moment at which the transaction
-    /// began.
+    /// The moment of the last poll that answered `Send`, and before the first the moment at which
+    /// the transaction began.
     pub last: Duration,
     /// The latest moment that a call was given.
     pub clock: Duration,
-    /// Whether a response was discarded that wasn't authentic.
+    /// Whether a response that wasn't authentic was discarded.
     pub violated: bool,
     /// Whether the caller has stopped sending.
     pub stopped: bool,

@@ -6,7 +6,7 @@ ghost use Rattle.stun_transactions.specs.Schedules.{requests_in, wait_in, rest_i
 use crate::schedule::Schedule;
 use stun_types::TransportType;
 
-/// A schedule and the transport that it is for.
+/// A schedule and the transport over which its requests are sent.
 #[derive(Clone, Copy, Debug, PartialEq, Eq)]
 pub struct Plan {
     pub(crate) schedule: Schedule,

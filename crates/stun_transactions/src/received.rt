@@ -10,60 +10,61 @@ use stun_types::message::{IntegrityAlgorithm, Message};
 /// Why a response was discarded, as if it had never been received.
 #[derive(Clone, Copy, Debug, PartialEq, Eq)]
 pub enum Discard {
-    /// It isn't authentic (RFC 8489, sections 9.1.4 and 9.2.5).
+    /// The response isn't authentic (RFC 8489, sections 9.1.4 and 9.2.5).
     NotAuthentic,
-    /// It is signed, but by no algorithm by which the request was signed, to a request that a
-    /// short-term credential protects (RFC 8489, section 9.1.4).
+    /// The response is signed, but by no algorithm by which the request was signed, to a request
+    /// that a short-term credential protects (RFC 8489, section 9.1.4).
     OtherAlgorithm,
-    /// Its nonce promises PASSWORD-ALGORITHMS, and it shows none, to a request by the long-term
-    /// mechanism: an attacker may have removed it. A 401 or a 438 is not discarded for
-    /// this reason (RFC 8489, section 9.2.5).
+    /// The nonce of the response promises PASSWORD-ALGORITHMS, and it shows none, to a request by
+    /// the long-term mechanism: an attacker may have removed it. A 401 or a 438 is not discarded
+    /// for this reason (RFC 8489, section 9.2.5).
     BidDown,
-    /// It is an error response with the code 400 and with no integrity attribute, to a request by the
-    /// long-term mechanism (RFC 8489, section 9.2.5).
+    /// The response is an error response with the code 400 and with no integrity attribute, to a
+    /// request by the long-term mechanism (RFC 8489, section 9.2.5).
     UnsignedBadRequest,
-    /// It shows no FINGERPRINT, and the usage sends them (RFC 8489, sections 6.3 and 7).
+    /// The response shows no FINGERPRINT, and the usage sends them (RFC 8489, sections 6.3 and 7).
     NoFingerprint,
 }
 
-/// What a response claims that isn't taken. It isn't authentic: whoever can send the client a
+/// The claim of a response that isn't taken. It isn't authentic: whoever can send the client a
 /// message may have written it. It may explain to a person why an exchange doesn't go on; nothing
 /// else follows from it, and a claimed 300 is never followed (RFC 8489, section 14.8).
 #[derive(Clone, Copy, Debug, PartialEq, Eq)]
 pub struct Claim {
-    /// The code, of 300 to 699, if it is an error response that has one.
+    /// The code of the response, of 300 to 699, if it is an error response that has one.
     pub code: Option<u16>,
 }
 
 /// Why a response ended its transaction, though it wasn't taken.
 #[derive(Clone, Copy, Debug, PartialEq, Eq)]
 pub enum Failure {
-    /// It isn't authentic, and came over a reliable transport (RFC 8489, sections 9.1.4 and 9.2.5).
+    /// The response isn't authentic, and came over a reliable transport (RFC 8489, sections 9.1.4
+    /// and 9.2.5).
     IntegrityViolated(Claim),
-    /// It shows an attribute of this type, which must be understood and isn't (RFC 8489, sections
-    /// 6.3.3 and 6.3.4).
+    /// The response shows an attribute of this type, which must be understood and isn't (RFC 8489,
+    /// sections 6.3.3 and 6.3.4).
     UnknownAttribute(AttributeType),
-    /// It is an error response without an ERROR-CODE of 300 to 699 that can be read (RFC 8489,
-    /// section 6.3.4).
+    /// The response is an error response without an ERROR-CODE of 300 to 699 that can be read (RFC
+    /// 8489, section 6.3.4).
     NoErrorCode,
 }
 
-/// What a received message is for a transaction, without the message.
+/// The kinds of [`Received`], without the message.
 #[derive(Clone, Copy, Debug, PartialEq, Eq)]
 pub enum Outcome {
-    /// As [`Received::NotForThis`].
+    /// The message isn't for the transaction, as [`Received::NotForThis`].
     NotForThis,
-    /// As [`Received::Discarded`].
+    /// The response is discarded, as [`Received::Discarded`].
     Discarded(Discard, Claim),
-    /// As [`Received::Failed`].
+    /// The response ends the transaction, as [`Received::Failed`].
     Failed(Failure),
-    /// As [`Received::Success`].
+    /// The message is the success response, as [`Received::Success`].
     Success(Option<IntegrityAlgorithm>),
-    /// As [`Received::Error`].
+    /// The message is the error response, as [`Received::Error`].
     Error(u16, Option<IntegrityAlgorithm>),
 }
 
-/// What a received message is for a transaction.
+/// The result of passing a received message to a transaction.
 ///
 /// A response comes with the algorithm of the integrity attribute that authenticates it: later
 /// requests to the same server are signed by this one (RFC 8489, sections 9.1.5 and 9.2.3.2). It is
@@ -71,17 +72,19 @@ pub enum Outcome {
 /// that isn't authentic.
 #[derive(Clone, Copy, Debug)]
 pub enum Received<'m> {
-    /// It is no message, or no response to the request, or the request wasn't sent yet, or the
-    /// transaction has ended.
+    /// The bytes are no message, or no response to the request, or the request wasn't sent yet, or
+    /// the transaction has ended.
     NotForThis,
-    /// It is discarded, and the transaction goes on.
+    /// The response is discarded, and the transaction goes on.
     Discarded(Discard, Claim),
-    /// It ends the transaction, which has failed.
+    /// The response ends the transaction, which has failed.
     Failed(Failure),
-    /// The success response, and what authenticates it.
+    /// The message is the success response; the algorithm is the one that authenticates it, if any
+    /// does.
     Success(Message<'m>, Option<IntegrityAlgorithm>),
-    /// The error response, its code, of 300 to 699, and what authenticates it. A 300 (Try Alternate)
-    /// that nothing authenticates must not be followed (RFC 8489, sections 10 and 14.8).
+    /// The message is the error response; the code, of 300 to 699, is that of its ERROR-CODE, and
+    /// the algorithm the one that authenticates it, if any does. A 300 (Try Alternate) that nothing
+    /// authenticates must not be followed (RFC 8489, sections 10 and 14.8).
     Error(Message<'m>, u16, Option<IntegrityAlgorithm>),
 }
 

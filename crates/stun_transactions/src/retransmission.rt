@@ -14,21 +14,21 @@ use std::time::Duration;
 pub enum TransactionEnd {
     /// A response was taken.
     Answered,
-    /// Time ran out.
+    /// The time for a response was up before one was taken.
     TimedOut,
     /// A response was discarded that wasn't authentic, and none was taken (RFC 8489, sections 9.1.4
     /// and 9.2.5).
     IntegrityViolated,
     /// A response was received that the client can't take (RFC 8489, sections 6.3.3 and 6.3.4).
     Refused,
-    /// The caller cancelled it; or it stopped sending, and no response was taken until the time was
-    /// up.
+    /// The caller cancelled the transaction; or it stopped sending, and no response was taken until
+    /// the time was up.
     Cancelled,
-    /// The transport failed.
+    /// The caller reported that the transport failed.
     TransportFailed,
 }
 
-/// What a transaction wants done.
+/// What the caller of a transaction has to do.
 #[derive(Clone, Copy, Debug, PartialEq, Eq)]
 pub enum Action {
     /// Send the request now.

@@ -7,7 +7,8 @@ use std::time::Duration;
 use stun_types::TransportType;
 use thiserror::Error;
 
-/// When a request is sent again, and when its transaction is given up (RFC 8489, section 6.2).
+/// The times at which a request is sent again, and at which its transaction is given up (RFC 8489,
+/// section 6.2).
 ///
 /// Over an unreliable transport (UDP, or DTLS over it) the request is sent again after RTO, and
 /// then after twice the interval before, until `max_requests` requests were sent; after
@@ -29,13 +30,13 @@ pub struct Schedule {
     ghost fits: { row_end rto max_requests last_wait_factor < 2 ^ 64 },
 }
 
-/// Why no schedule has certain numbers.
+/// Why numbers make no schedule.
 #[derive(Clone, Copy, Debug, PartialEq, Eq, Error)]
 pub enum ScheduleError {
-    /// One of them is 0.
+    /// A number of the schedule is 0.
     #[error("a number of the schedule is 0")]
     Zero,
-    /// The end, in milliseconds from the first request, needs more than 64 bits.
+    /// The end of the transaction, in milliseconds from the first request, needs more than 64 bits.
     #[error("the schedule is too long")]
     TooLong,
 }
@@ -63,8 +64,8 @@ impl Schedule {
     ghost use Rattle.stun_transactions.specs.Rows.{moment, moments, row_end};
     ghost use Rattle.stun_transactions.specs.Schedules.{schedule_fault, IsSchedule, requests_over, wait_over, rest_over};
 
-    /// The numbers that RFC 8489 recommends: an RTO of 500 ms, 7 requests, a last wait of 16 RTO,
-    /// and over a reliable transport 39500 ms (sections 6.2.1 and 6.2.2).
+    /// Returns the schedule that RFC 8489 recommends: an RTO of 500 ms, 7 requests, a last wait of
+    /// 16 RTO, and over a reliable transport 39500 ms (sections 6.2.1 and 6.2.2).
     pub fn new_default() -> Schedule
         ensures { IsSchedule 500 7 16 39500 result }
     {
@@ -76,15 +77,28 @@ impl Schedule {
         }
     }
 
-    /// The schedule of an RTO in milliseconds, of at most `max_requests` requests (Rc of RFC 8489,
-    /// section 6.2.1), and of a wait of `last_wait_factor` times RTO after the last one (Rm). Over a
-    /// reliable transport it waits for 39500 ms.
+    /// Returns the schedule of an RTO in milliseconds, of at most `max_requests` requests (Rc of
+    /// RFC 8489, section 6.2.1), and of a wait of `last_wait_factor` times RTO after the last one
+    /// (Rm). Over a reliable transport it waits for 39500 ms.
     ///
     /// # Errors
     ///
-    /// `Zero` if one of the numbers is 0, `TooLong` if the end of the transaction needs more
-    /// than 64 bits: it is `rto * (2 ^ (max_requests - 1) - 1 + last_wait_factor)` milliseconds after
+    /// `Zero` if one of the numbers is 0, `TooLong` if the end of the transaction needs more than
+    /// 64 bits: it is `rto * (2 ^ (max_requests - 1) - 1 + last_wait_factor)` milliseconds after
     /// the first request.
+    ///
+    /// # Examples
+    ///
+    /// ```
+    /// use stun_transactions::{Schedule, ScheduleError};
+    ///
+    /// // RTO, Rc and Rm as RFC 8489 recommends them.
+    /// assert_eq!(rt; Schedule::new(500, 7, 16), Ok(Schedule::new_default()));
+    /// // Half a second for the first response, and a second for the second one.
+    /// let schedule = Schedule::new(500, 2, 2)?;
+    /// assert_eq!(rt; schedule.end(), 1500);
+    /// assert_eq!(rt; Schedule::new(500, 0, 16), Err(ScheduleError::Zero));
+    /// ```
     pub fn new(
         rto: u64,
         max_requests: u32,
@@ -109,8 +123,19 @@ impl Schedule {
         }
     }
 
-    /// The same schedule, but with another timeout over a reliable transport, in milliseconds (Ti of
+    /// Returns this schedule with another timeout over a reliable transport, in milliseconds (Ti of
     /// RFC 8489, section 6.2.2).
+    ///
+    /// # Examples
+    ///
+    /// ```
+    /// use stun_transactions::Schedule;
+    ///
+    /// let schedule = Schedule::new_default().with_reliable_timeout(10000);
+    /// assert_eq!(rt; schedule.reliable_timeout(), 10000);
+    /// // Over UDP nothing changes.
+    /// assert_eq!(rt; schedule.end(), 39500);
+    /// ```
     pub fn with_reliable_timeout(self, reliable_timeout: u64) -> Schedule
         ensures { IsSchedule self.rto self.max_requests self.last_wait_factor reliable_timeout result }
     {
@@ -128,37 +153,54 @@ impl Schedule {
         }
     }
 
-    /// RTO, in milliseconds.
+    /// Returns the retransmission timeout, RTO, in milliseconds.
     pub fn rto(&self) -> u64
         ensures { result ≡ self.now.rto }
     {
         self.rto
     }
 
-    /// The greatest number of requests over an unreliable transport (Rc of RFC 8489, section 6.2.1).
+    /// Returns the greatest number of requests over an unreliable transport (Rc of RFC 8489,
+    /// section 6.2.1).
     pub fn max_requests(&self) -> u32
         ensures { result ≡ self.now.max_requests }
     {
         self.max_requests
     }
 
-    /// How many times RTO to wait after the last request over an unreliable transport (Rm of RFC
-    /// 8489, section 6.2.1).
+    /// Returns how many times RTO the transaction waits after the last request over an unreliable
+    /// transport (Rm of RFC 8489, section 6.2.1).
     pub fn last_wait_factor(&self) -> u32
         ensures { result ≡ self.now.last_wait_factor }
     {
         self.last_wait_factor
     }
 
-    /// The timeout over a reliable transport, in milliseconds (Ti of RFC 8489, section 6.2.2).
+    /// Returns the timeout over a reliable transport, in milliseconds (Ti of RFC 8489, section
+    /// 6.2.2).
     pub fn reliable_timeout(&self) -> u64
         ensures { result ≡ self.now.reliable_timeout }
     {
         self.reliable_timeout
     }
 
-    /// When request number `n`, counted from 0, is sent over an unreliable transport if every poll
-    /// is in time: in milliseconds from the first request. `None` if there is no such request.
+    /// Returns when request number `n`, counted from 0, is sent over an unreliable transport if
+    /// every poll is in time: in milliseconds from the first request. `None` if there is no such
+    /// request.
+    ///
+    /// # Examples
+    ///
+    /// ```
+    /// use stun_transactions::Schedule;
+    ///
+    /// // The times of the example in section 6.2.1 of RFC 8489.
+    /// let schedule = Schedule::new_default();
+    /// assert_eq!(rt; schedule.moment(0), Some(0));
+    /// assert_eq!(rt; schedule.moment(1), Some(500));
+    /// assert_eq!(rt; schedule.moment(2), Some(1500));
+    /// assert_eq!(rt; schedule.moment(6), Some(31500));
+    /// assert_eq!(rt; schedule.moment(7), None);
+    /// ```
     #[tactic(auto, using(crate::proofs::RowsLemmas::moment_fits, crate::proofs::RowsLemmas::pow_fits, crate::proofs::RowsLemmas::moment_at))]
     pub fn moment(&self, n: u32) -> Option<u64>
         ensures { MatchOption result
@@ -184,8 +226,16 @@ impl Schedule {
         self.rto * (2u64.pow(n) - 1)
     }
 
-    /// When the transaction ends over an unreliable transport if every poll is in time: in
+    /// Returns when the transaction ends over an unreliable transport if every poll is in time: in
     /// milliseconds from the first request.
+    ///
+    /// # Examples
+    ///
+    /// ```
+    /// use stun_transactions::Schedule;
+    ///
+    /// assert_eq!(rt; Schedule::new_default().end(), 39500);
+    /// ```
     #[tactic(auto, using(crate::proofs::RowsLemmas::pow_fits))]
     pub fn end(&self) -> u64
         ensures { result ≡ row_end self.now.rto self.now.max_requests self.now.last_wait_factor }
@@ -194,7 +244,18 @@ impl Schedule {
             + self.rto * u64::from(self.last_wait_factor)
     }
 
-    /// How many requests are sent over a transport at most.
+    /// Returns the greatest number of requests that are sent over a transport.
+    ///
+    /// # Examples
+    ///
+    /// ```
+    /// use stun_transactions::Schedule;
+    /// use stun_types::TransportType;
+    ///
+    /// let schedule = Schedule::new_default();
+    /// assert_eq!(rt; schedule.requests_over(TransportType::Udp), 7);
+    /// assert_eq!(rt; schedule.requests_over(TransportType::Tcp), 1);
+    /// ```
     pub fn requests_over(&self, transport: TransportType) -> u32
         ensures { result ≡ requests_over self.now transport }
     {
@@ -204,7 +265,21 @@ impl Schedule {
         }
     }
 
-    /// How many milliseconds nothing is done once `sent` requests were sent: 0 before the first.
+    /// Returns for how many milliseconds nothing is done over a transport once `sent` requests were
+    /// sent: 0 before the first.
+    ///
+    /// # Examples
+    ///
+    /// ```
+    /// use stun_transactions::Schedule;
+    /// use stun_types::TransportType;
+    ///
+    /// let schedule = Schedule::new_default();
+    /// assert_eq!(rt; schedule.wait_over(TransportType::Udp, 1), 500);
+    /// assert_eq!(rt; schedule.wait_over(TransportType::Udp, 2), 1000);
+    /// // After the last request: 16 times RTO.
+    /// assert_eq!(rt; schedule.wait_over(TransportType::Udp, 7), 8000);
+    /// ```
     #[tactic(auto, using(crate::proofs::RowsLemmas::wait_fits, crate::proofs::RowsLemmas::pow_fits))]
     pub fn wait_over(&self, transport: TransportType, sent: u32) -> u64
         ensures { result ≡ wait_over self.now transport sent }
@@ -219,8 +294,21 @@ impl Schedule {
         }
     }
 
-    /// How many milliseconds a response is still waited for once `sent` requests were sent, and no
-    /// further one is: as long as the transaction would have gone on, and 0 before the first.
+    /// Returns for how many milliseconds a response is still waited for once `sent` requests were
+    /// sent, and no further one is: as long as the transaction would have gone on, and 0 before the
+    /// first.
+    ///
+    /// # Examples
+    ///
+    /// ```
+    /// use stun_transactions::Schedule;
+    /// use stun_types::TransportType;
+    ///
+    /// // The transaction would end after 39500 ms. The second request was sent at 500 ms.
+    /// let schedule = Schedule::new_default();
+    /// assert_eq!(rt; schedule.rest_over(TransportType::Udp, 1), 39500);
+    /// assert_eq!(rt; schedule.rest_over(TransportType::Udp, 2), 39000);
+    /// ```
     pub fn rest_over(&self, transport: TransportType, sent: u32) -> u64
         ensures { result ≡ rest_over self.now transport sent }
     {

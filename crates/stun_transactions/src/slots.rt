@@ -15,7 +15,7 @@ use stun_types::attribute::AttributeType;
 use stun_types::message::{Message, TransactionId};
 use thiserror::Error;
 
-/// What is to be done for one of many transactions.
+/// What the caller of many transactions has to do, for one of them.
 #[derive(Clone, Copy, Debug, PartialEq, Eq)]
 pub enum Task {
     /// Send the request with this ID now.
@@ -28,16 +28,16 @@ pub enum Task {
     Idle,
 }
 
-/// Why no transaction begins among others.
+/// Why a transaction isn't begun among others.
 #[derive(Clone, Copy, Debug, PartialEq, Eq, Error)]
 pub enum AddError {
-    /// It wouldn't begin alone.
+    /// The transaction couldn't begin alone either, by this error.
     #[error("{0}")]
     Begin(BeginError),
-    /// There is one with the same ID.
+    /// Another transaction has the same ID.
     #[error("there is a transaction with the same ID")]
     InUse,
-    /// There are as many as there is room for.
+    /// All `N` slots are taken by other transactions.
     #[error("there is no room for another transaction")]
     Full,
 }

@@ -7,19 +7,24 @@ ghost use Rattle.stun_transactions.specs.Usages.{lacks_fingerprint};
 use stun_types::attribute::{AttributeStaticType, Fingerprint};
 use stun_types::message::Message;
 
-/// What a STUN usage specifies of the responses that a client takes: that of ICE's checks, of TURN,
-/// or of NAT discovery.
+/// The requirements of a STUN usage on the responses that a client takes: those of ICE's checks, of
+/// TURN, or of NAT discovery.
 ///
-/// `Usage::default()` is for a usage that specifies nothing: a MESSAGE-INTEGRITY-SHA256 must have 32
-/// bytes, and FINGERPRINT isn't required.
+/// `Usage::default()` is for a usage that specifies nothing: a MESSAGE-INTEGRITY-SHA256 must have
+/// 32 bytes, and FINGERPRINT isn't required.
+///
+/// # Examples
 ///
 /// ```
+/// use stun_transactions::Usage;
+///
 /// let ice = Usage { fingerprint: true, ..Usage::default() };
+/// assert_eq!(rt; ice.shortest, 32);
 /// ```
 #[derive(Clone, Copy, Debug, PartialEq, Eq)]
 pub struct Usage {
-    /// How many bytes a MESSAGE-INTEGRITY-SHA256 has at least. A usage may say 16, 20, 24 or 28;
-    /// otherwise it is 32 (section 14.6).
+    /// The least length of the HMAC in a MESSAGE-INTEGRITY-SHA256, in bytes. A usage may say 16,
+    /// 20, 24 or 28; otherwise it is 32 (section 14.6).
     pub shortest: usize,
     /// Whether the usage sends FINGERPRINT, as ICE does: a response without one is discarded
     /// (sections 6.3 and 7).

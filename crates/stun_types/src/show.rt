@@ -21,9 +21,20 @@ pub use shown::Shown;
 /// It takes the registry and the Rust type, and returns what [`show::Registry::add_display_impl`]
 /// does. Call it in the body of a function that makes the registry itself and does not return it.
 ///
+/// # Examples
+///
 /// ```
+/// use ice_attrs::Priority;
+/// use stun_types::attribute::RawAttribute;
+/// use stun_types::attribute_display;
+/// use stun_types::prelude::*;
+/// use stun_types::show::{Registry, Shown};
+///
 /// let mut registry = Registry::new(alloc);
-/// attribute_display!(registry, MyAttribute)?;
+/// attribute_display!(registry, Priority)?;
+/// let raw = RawAttribute::new(Priority::TYPE, &[0, 0, 0, 7])?;
+/// let shown = Shown { registry: &registry, raw: &raw };
+/// assert_eq!(rt; format!(in alloc; "{shown}")?.as_str(), "PRIORITY: 7");
 /// ```
 ///
 /// [`show::Registry::add_display_impl`]: crate::show::Registry::add_display_impl

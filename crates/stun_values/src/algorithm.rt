@@ -21,8 +21,18 @@ pub enum PasswordAlgorithmValue {
 }
 
 impl PasswordAlgorithmValue {
-    /// The algorithm by which a message is signed if passwords are hashed by this one: SHA-1 for
-    /// MD5, and SHA-256 for SHA-256.
+    /// The algorithm by which a message is signed if passwords are hashed by the password
+    /// algorithm: SHA-1 for MD5, and SHA-256 for SHA-256.
+    ///
+    /// # Examples
+    ///
+    /// ```
+    /// use stun_types::attribute::PasswordAlgorithmValue;
+    /// use stun_types::message::IntegrityAlgorithm;
+    ///
+    /// assert_eq!(rt; PasswordAlgorithmValue::MD5.as_integrity(), IntegrityAlgorithm::Sha1);
+    /// assert_eq!(rt; PasswordAlgorithmValue::SHA256.as_integrity(), IntegrityAlgorithm::Sha256);
+    /// ```
     pub fn as_integrity(&self) -> IntegrityAlgorithm
         ensures { result ≡ integrity_of self.now }
     {

@@ -37,6 +37,17 @@ pub fn check_range(length: usize, least: usize, greatest: usize) -> Result<(), S
 ///
 /// `Truncated { expected: wanted, actual }` if it has fewer, and
 /// `TooLarge { expected: wanted, actual }` if it has more.
+///
+/// # Examples
+///
+/// ```
+/// use stun_types::attribute::check_length;
+/// use stun_types::message::StunParseError;
+///
+/// assert_eq!(rt; check_length(&[1, 2, 3, 4], 4), Ok(()));
+/// let refused = StunParseError::TooLarge { expected: 2, actual: 4 };
+/// assert_eq!(rt; check_length(&[1, 2, 3, 4], 2), Err(refused));
+/// ```
 pub fn check_length(value: &[u8], wanted: usize) -> Result<(), StunParseError>
     ensures { MatchResult result
         (λ _. (exact_fault wanted (length value.now) ≡ None) × (length value.now ≡ wanted))

@@ -74,9 +74,9 @@ fn read_code(value: &[u8]) -> Option<u16>
     Some(100 * code_class as u16 + number as u16)
 }
 
-/// Reads a value as a code and a reason, which is borrowed: it has 4 to 767 bytes, the code is one
-/// of 300 to 699, and the reason is UTF-8. The first two bytes and the high five bits of the third
-/// are ignored.
+/// Reads a value as a code and a reason, which is borrowed: the value has 4 to 767 bytes, the code
+/// is one of 300 to 699, and the reason is UTF-8. The first two bytes and the high five bits of the
+/// third are ignored.
 ///
 /// # Errors
 ///
@@ -84,6 +84,15 @@ fn read_code(value: &[u8]) -> Option<u16>
 /// `TooLarge { expected: 767, actual }` if there are more than 767. Otherwise
 /// `InvalidAttributeData` if the class isn't 3 to 6, the number is above 99, or the reason isn't
 /// UTF-8.
+///
+/// # Examples
+///
+/// ```
+/// use stun_types::attribute::read_error;
+///
+/// assert_eq!(rt; read_error(b"\x00\x00\x04\x26Stale Nonce"), Ok((438, "Stale Nonce")));
+/// assert!(rt; read_error(b"\x00\x00\x07\x00").is_err()); // the code 700
+/// ```
 #[tactic(auto, using(crate::proofs::ErrorValuesLemmas::wrong_length, crate::proofs::ErrorValuesLemmas::no_code, crate::proofs::ErrorValuesLemmas::no_text, crate::proofs::ErrorValuesLemmas::is_error))]
 pub fn read_error(value: &[u8]) -> Result<(u16, &str), StunParseError>
     ensures { MatchResult result

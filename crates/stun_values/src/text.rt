@@ -6,12 +6,22 @@ ghost use Rattle.stun_values.specs.TextValues.{text_fault};
 use crate::check_range;
 use stun_base::StunParseError;
 
-/// Reads a text: a value of at most `most` bytes, which are UTF-8. The text is borrowed.
+/// Reads a text, which is borrowed: a value of at most `most` bytes, which are UTF-8. The text is
+/// borrowed.
 ///
 /// # Errors
 ///
 /// `TooLarge { expected: most, actual }` if the value has more than `most` bytes. Otherwise
 /// `InvalidAttributeData` if they aren't UTF-8.
+///
+/// # Examples
+///
+/// ```
+/// use stun_types::attribute::read_text;
+///
+/// assert_eq!(rt; read_text(b"example.org", 763), Ok("example.org"));
+/// assert!(rt; read_text(b"\xFF", 763).is_err());
+/// ```
 #[tactic(auto, using(crate::proofs::TextValuesLemmas::refused, crate::proofs::TextValuesLemmas::not_utf8, crate::proofs::TextValuesLemmas::is_text))]
 pub fn read_text(value: &[u8], most: u16) -> Result<&str, StunParseError>
     ensures { MatchResult result

@@ -7,7 +7,7 @@ ghost use Rattle.stun_grammar.specs.Hmac.{digest_length};
 ghost use Rattle.stun_grammar.specs.Verdicts.{type_of_algorithm};
 ghost use Rattle.stun_grammar.specs.Fingerprints.{fingerprint_value};
 ghost use Rattle.stun_grammar.specs.Steps.{add, sign, finger, integrity_value};
-ghost use Rattle.stun_grammar.specs.Adding.{grown_length, add_refusal, any_refusal, IsAddAnswer};
+ghost use Rattle.stun_grammar.specs.Adding.{grown_length, add_refusal, any_refusal, IsAddAnswer, IsAnyAnswer};
 ghost use Rattle.stun_keys.specs.Keys.{key_bytes, credentials_key};
 ghost use Rattle.stun_base.specs.MessageTypes.{class_of, method_of, is_response as responds};
 ghost use Rattle.stun_write.specs.Writers.{Allocates, Adds};
@@ -19,7 +19,7 @@ use crate::refusals::{Addition, check_add};
 use std::alloc::Global;
 use stun_attrs::AttributeWrite;
 use stun_base::{
-    AttributeType, MessageClass, MessageType, Method, StunWriteError, TransactionId,
+    AddError, AttributeType, MessageClass, MessageType, Method, StunWriteError, TransactionId,
     pad_attribute_len,
 };
 use stun_grammar::IntegrityAlgorithm;
@@ -33,24 +33,53 @@ use stun_values::hmac_length;
 /// `Message::builder` and after every add that follows it: adding attributes changes neither the
 /// message type nor the transaction ID.
 ///
+/// # Examples
+///
 /// ```
-/// let mut message = Message::builder(mtype, id, MessageWriteVec::new(alloc))?;
+/// use stun_types::attribute::Software;
+/// use stun_types::message::{
+///     BINDING, IntegrityAlgorithm, IntegrityKey, Message, MessageClass, MessageType,
+///     MessageWriteVec, TransactionId,
+/// };
+/// use stun_types::prelude::*;
+///
+/// let key = IntegrityKey::new(alloc, b"secret", None)?;
+/// let mtype = MessageType::from_class_method(MessageClass::Request, BINDING);
+/// let write = MessageWriteVec::new(alloc);
+/// let mut message = Message::builder(mtype, TransactionId::from(1000), write)?;
 /// message.add_attribute(&Software::new(alloc, "my client")?)?;
 /// message.add_message_integrity_with_key(&key, IntegrityAlgorithm::Sha256)?;
 /// message.add_fingerprint()?;
-/// let bytes = message.finish();
+/// assert_eq!(rt; message.finish().len(), 20 + 16 + 36 + 8);
 /// ```
 pub trait MessageWriteExt: MessageWrite {
-    /// The message type: class and method.
+    /// The type of the message that is being written: class and method.
     ///
     /// # Requires
     ///
     /// The bytes written begin with a header: `MessageHeader::from_bytes(message.data())` is `Ok`.
+    ///
+    /// # Examples
+    ///
+    /// ```
+    /// use stun_types::message::{
+    ///     BINDING, Message, MessageClass, MessageType, MessageWriteVec, TransactionId,
+    /// };
+    /// use stun_types::prelude::*;
+    ///
+    /// let mtype = MessageType::from_class_method(MessageClass::Indication, BINDING);
+    /// let id = TransactionId::from(1000);
+    /// let message = Message::builder(mtype, id, MessageWriteVec::new(alloc))?;
+    /// assert!(rt; message.get_type() == mtype && message.transaction_id() == id);
+    /// assert!(rt; message.class() == MessageClass::Indication && message.method() == BINDING);
+    /// assert!(rt; message.has_class(MessageClass::Indication) && message.has_method(BINDING));
+    /// assert!(rt; !message.is_response());
+    /// ```
     fn get_type(&self) -> MessageType
         requires { is_header (Self.state self.now).bytes ≡ true }
         ensures { result ≡ type_field (Self.state self.now).bytes };
 
-    /// The class.
+    /// The class of the message that is being written.
     ///
     /// # Requires
     ///
@@ -59,7 +88,7 @@ pub trait MessageWriteExt: MessageWrite {
         requires { is_header (Self.state self.now).bytes ≡ true }
         ensures { result ≡ class_of (type_field (Self.state self.now).bytes) };
 
-    /// Whether the class is `cls`.
+    /// Whether the class of the message that is being written is `cls`.
     ///
     /// # Requires
     ///
@@ -68,7 +97,7 @@ pub trait MessageWriteExt: MessageWrite {
         requires { is_header (Self.state self.now).bytes ≡ true }
         ensures { IsTrue result ↔ (class_of (type_field (Self.state self.now).bytes) ≡ cls) };
 
-    /// Whether the class is success or error.
+    /// Whether the message that is being written is a response: its class is success or error.
     ///
     /// # Requires
     ///
@@ -77,7 +106,7 @@ pub trait MessageWriteExt: MessageWrite {
         requires { is_header (Self.state self.now).bytes ≡ true }
         ensures { result ≡ responds (class_of (type_field (Self.state self.now).bytes)) };
 
-    /// The method.
+    /// The method of the message that is being written.
     ///
     /// # Requires
     ///
@@ -86,7 +115,7 @@ pub trait MessageWriteExt: MessageWrite {
         requires { is_header (Self.state self.now).bytes ≡ true }
         ensures { result ≡ method_of (type_field (Self.state self.now).bytes) };
 
-    /// Whether the method is `method`.
+    /// Whether the method of the message that is being written is `method`.
     ///
     /// # Requires
     ///
@@ -95,7 +124,7 @@ pub trait MessageWriteExt: MessageWrite {
         requires { is_header (Self.state self.now).bytes ≡ true }
         ensures { IsTrue result ↔ (method_of (type_field (Self.state self.now).bytes) ≡ method) };
 
-    /// The transaction ID.
+    /// The transaction ID of the message that is being written.
     ///
     /// # Requires
     ///
@@ -117,7 +146,8 @@ pub trait MessageWriteExt: MessageWrite {
     /// needs no test, and neither does a raw attribute that `RawAttribute::new` or `new_owned` makes
     /// of a literal type. One whose type is known only when the program runs is added by
     /// [`MessageWriteExt::add_any_attribute`], which tests it. A type and bytes are added by
-    /// [`MessageWriteExt::add_value`], without a raw attribute.
+    /// [`MessageWriteExt::add_ordinary_value`] and [`MessageWriteExt::add_value`], without a raw
+    /// attribute.
     ///
     /// # Errors
     ///
@@ -131,6 +161,26 @@ pub trait MessageWriteExt: MessageWrite {
     /// - `TooLarge { expected: 65555, actual }` if it would be longer than a message may be;
     /// - `OutOfMemory`, only if the attribute needs more than the writer's ready room: the bytes
     ///   and the attributes that it surely takes, of which [`MessageWrite`] says more.
+    ///
+    /// # Examples
+    ///
+    /// ```
+    /// use stun_types::attribute::{Software, Username};
+    /// use stun_types::message::{
+    ///     BINDING, Message, MessageClass, MessageType, MessageWriteVec, StunWriteError,
+    ///     TransactionId,
+    /// };
+    /// use stun_types::prelude::*;
+    ///
+    /// let mtype = MessageType::from_class_method(MessageClass::Request, BINDING);
+    /// let write = MessageWriteVec::new(alloc);
+    /// let mut message = Message::builder(mtype, TransactionId::from(1000), write)?;
+    /// message.add_attribute(&Software::new(alloc, "STUN")?)?;
+    /// assert_eq!(rt; &message.data()[20..], b"\x80\x22\x00\x04STUN".as_slice());
+    /// message.add_fingerprint()?;
+    /// let late = message.add_attribute(&Username::new(alloc, "bob")?);
+    /// assert_eq!(rt; late, Err(StunWriteError::FingerprintExists));
+    /// ```
     fn add_attribute(&mut self, attribute: &dyn AttributeWrite) -> Result<(), StunWriteError>
         requires ordinary { IsOrdinary (atype attribute.now) }
         ensures answer { IsAddAnswer
@@ -143,25 +193,35 @@ pub trait MessageWriteExt: MessageWrite {
         ensures type_fits { atype attribute.now < 2 ^ 16 }
         ensures value_fits { length (value attribute.now) < 2 ^ 16 };
 
-    /// As [`MessageWriteExt::add_attribute`], for an attribute whose type is known only at run time:
-    /// one of an ending type is refused. A proxy adds the attributes of a message that it received
-    /// so:
+    /// Adds an attribute whose type is known only at run time, as [`MessageWriteExt::add_attribute`]
+    /// does: one of an ending type is refused. A proxy adds the attributes of a message that it
+    /// received so.
+    ///
+    /// # Examples
     ///
     /// ```
+    /// use stun_types::message::{Message, MessageWriteVec};
+    /// use stun_types::prelude::*;
+    ///
+    /// let bytes = b"\x00\x01\x00\x08\x21\x12\xA4\x42abcdefghijkl\x80\x22\x00\x04STUN";
+    /// let received = Message::from_bytes(bytes)?;
+    /// let (mtype, id) = (received.get_type(), received.transaction_id());
+    /// let mut message = Message::builder(mtype, id, MessageWriteVec::new(alloc))?;
     /// for (_offset, attribute) in received.iter_attributes() {
     ///     if !attribute.get_type().is_ending() {
     ///         message.add_any_attribute(&attribute)?;
     ///     }
     /// }
+    /// assert_eq!(rt; message.finish().as_slice(), bytes.as_slice());
     /// ```
     ///
     /// # Errors
     ///
     /// `EndingType` with the type if it is that of MESSAGE-INTEGRITY (0x0008),
-    /// MESSAGE-INTEGRITY-SHA256 (0x001C) or FINGERPRINT (0x8028), otherwise as for
-    /// [`MessageWriteExt::add_attribute`]; the bytes and the attributes then stay as they were.
-    fn add_any_attribute(&mut self, attribute: &dyn AttributeWrite) -> Result<(), StunWriteError>
-        ensures answer { IsAddAnswer
+    /// MESSAGE-INTEGRITY-SHA256 (0x001C) or FINGERPRINT (0x8028), otherwise `Write` with the error
+    /// of [`MessageWriteExt::add_attribute`]; the bytes and the attributes then stay as they were.
+    fn add_any_attribute(&mut self, attribute: &dyn AttributeWrite) -> Result<(), AddError>
+        ensures answer { IsAnyAnswer
             (any_refusal (atype attribute.now) (value attribute.now)
             (Self.state self.old).types (length (Self.state self.old).bytes)
             (Self.state self.old).greatest)
@@ -169,11 +229,23 @@ pub trait MessageWriteExt: MessageWrite {
         ensures adds { Adds result (Self.state self.old) (Self.state self.new)
             (atype attribute.now) (value attribute.now) };
 
-    /// As [`MessageWriteExt::add_any_attribute`], of a type and the bytes of a value, for a caller
-    /// that has no attribute but these:
+    /// Adds an attribute, of which a type and the bytes of a value are given, as
+    /// [`MessageWriteExt::add_any_attribute`] does.
+    ///
+    /// # Examples
     ///
     /// ```
-    /// message.add_value(AttributeType(0x8022), b"my client".as_slice())?;
+    /// use stun_types::attribute::AttributeType;
+    /// use stun_types::message::{
+    ///     BINDING, Message, MessageClass, MessageType, MessageWriteVec, TransactionId,
+    /// };
+    /// use stun_types::prelude::*;
+    ///
+    /// let mtype = MessageType::from_class_method(MessageClass::Request, BINDING);
+    /// let write = MessageWriteVec::new(alloc);
+    /// let mut message = Message::builder(mtype, TransactionId::from(1000), write)?;
+    /// message.add_value(AttributeType(0x8022), b"my client")?;
+    /// assert!(rt; message.add_value(AttributeType(0x8028), &[0; 4]).is_err());
     /// ```
     ///
     /// # Requires
@@ -183,10 +255,32 @@ pub trait MessageWriteExt: MessageWrite {
     /// # Errors
     ///
     /// As for [`MessageWriteExt::add_any_attribute`].
-    fn add_value(&mut self, atype: AttributeType, value: &[u8]) -> Result<(), StunWriteError>
+    fn add_value(&mut self, atype: AttributeType, value: &[u8]) -> Result<(), AddError>
         requires { length value.now ≤ 65535 }
-        ensures answer { IsAddAnswer
+        ensures answer { IsAnyAnswer
             (any_refusal atype.0 value.now (Self.state self.old).types
+            (length (Self.state self.old).bytes) (Self.state self.old).greatest)
+            (Allocates (Self.state self.old) (length value.now)) result }
+        ensures adds { Adds result (Self.state self.old) (Self.state self.new) atype.0 value.now };
+
+    /// As [`MessageWriteExt::add_attribute`], of a type and the bytes of a value.
+    ///
+    /// # Requires
+    ///
+    /// `atype.is_ending()` is `false`, and `value.len()` is at most 65535.
+    ///
+    /// # Errors
+    ///
+    /// As for [`MessageWriteExt::add_attribute`].
+    fn add_ordinary_value(
+        &mut self,
+        atype: AttributeType,
+        value: &[u8],
+    ) -> Result<(), StunWriteError>
+        requires ordinary { IsOrdinary atype.0 }
+        requires value { length value.now ≤ 65535 }
+        ensures answer { IsAddAnswer
+            (add_refusal (add atype.0 value.now) (Self.state self.old).types
             (length (Self.state self.old).bytes) (Self.state self.old).greatest)
             (Allocates (Self.state self.old) (length value.now)) result }
         ensures adds { Adds result (Self.state self.old) (Self.state self.new) atype.0 value.now };
@@ -208,6 +302,24 @@ pub trait MessageWriteExt: MessageWrite {
     /// - `TooSmall` and `TooLarge` as for [`MessageWriteExt::add_attribute`];
     /// - `OutOfMemory`, if the key couldn't be made, or the attribute needs more than the ready
     ///   room.
+    ///
+    /// # Examples
+    ///
+    /// ```
+    /// use stun_types::message::{
+    ///     BINDING, IntegrityAlgorithm, Message, MessageClass, MessageIntegrityCredentials,
+    ///     MessageType, MessageWriteVec, ShortTermCredentials, TransactionId,
+    /// };
+    /// use stun_types::prelude::*;
+    ///
+    /// let password = ShortTermCredentials::new(String::from_str(alloc, "secret")?);
+    /// let credentials = MessageIntegrityCredentials::from(password);
+    /// let mtype = MessageType::from_class_method(MessageClass::Request, BINDING);
+    /// let write = MessageWriteVec::new(alloc);
+    /// let mut message = Message::builder(mtype, TransactionId::from(1000), write)?;
+    /// message.add_message_integrity(alloc, &credentials, IntegrityAlgorithm::Sha1)?;
+    /// assert_eq!(rt; &message.data()[20..24], [0, 8, 0, 20].as_slice());
+    /// ```
     fn add_message_integrity(
         &mut self,
         alloc: Global,
@@ -224,13 +336,32 @@ pub trait MessageWriteExt: MessageWrite {
             (integrity_value (Self.state self.old).bytes
             (credentials_key credentials.now algorithm) algorithm) };
 
-    /// As [`MessageWriteExt::add_message_integrity`], with a key, whichever algorithm the key was
-    /// made for.
+    /// Adds the integrity attribute of an algorithm, with a key, whichever algorithm the key was
+    /// made for, as [`MessageWriteExt::add_message_integrity`] does with credentials.
     ///
     /// # Errors
     ///
     /// As for [`MessageWriteExt::add_message_integrity`], but `OutOfMemory` only if the
     /// attribute needs more than the ready room.
+    ///
+    /// # Examples
+    ///
+    /// ```
+    /// use stun_types::message::{
+    ///     BINDING, IntegrityAlgorithm, IntegrityKey, Message, MessageClass, MessageType,
+    ///     MessageWriteVec, TransactionId,
+    /// };
+    /// use stun_types::prelude::*;
+    ///
+    /// let key = IntegrityKey::new(alloc, b"secret", None)?;
+    /// let mtype = MessageType::from_class_method(MessageClass::Request, BINDING);
+    /// let write = MessageWriteVec::new(alloc);
+    /// let mut message = Message::builder(mtype, TransactionId::from(1000), write)?;
+    /// message.add_message_integrity_with_key(&key, IntegrityAlgorithm::Sha256)?;
+    /// assert_eq!(rt; &message.data()[20..24], [0, 0x1C, 0, 32].as_slice());
+    /// let again = message.add_message_integrity_with_key(&key, IntegrityAlgorithm::Sha256);
+    /// assert!(rt; again.is_err());
+    /// ```
     fn add_message_integrity_with_key(
         &mut self,
         key: &IntegrityKey,
@@ -245,7 +376,8 @@ pub trait MessageWriteExt: MessageWrite {
             (type_of_algorithm algorithm)
             (integrity_value (Self.state self.old).bytes (key_bytes key.now) algorithm) };
 
-    /// As [`MessageWriteExt::add_message_integrity_with_key`], without its checks.
+    /// Adds the integrity attribute of an algorithm, with a key, without the checks of
+    /// [`MessageWriteExt::add_message_integrity_with_key`].
     ///
     /// # Requires
     ///
@@ -288,6 +420,23 @@ pub trait MessageWriteExt: MessageWrite {
     /// - `AttributeExists(0x8028)` if a FINGERPRINT is written;
     /// - `TooSmall` and `TooLarge` as for [`MessageWriteExt::add_attribute`];
     /// - `OutOfMemory`, only if the attribute needs more than the ready room.
+    ///
+    /// # Examples
+    ///
+    /// ```
+    /// use stun_types::message::{
+    ///     BINDING, Message, MessageClass, MessageType, MessageWriteVec, TransactionId,
+    /// };
+    /// use stun_types::prelude::*;
+    ///
+    /// let mtype = MessageType::from_class_method(MessageClass::Request, BINDING);
+    /// let write = MessageWriteVec::new(alloc);
+    /// let mut message = Message::builder(mtype, TransactionId::from(1), write)?;
+    /// message.add_fingerprint()?;
+    /// // the CRC-32 of the header, with a length of 8, XORed with 0x5354554E
+    /// assert_eq!(rt; &message.data()[24..], [0xC5, 0xAD, 0xC9, 0x60].as_slice());
+    /// assert!(rt; message.add_fingerprint().is_err());
+    /// ```
     fn add_fingerprint(&mut self) -> Result<(), StunWriteError>
         ensures answer { IsAddAnswer
             (add_refusal (finger)
@@ -298,7 +447,7 @@ pub trait MessageWriteExt: MessageWrite {
             (fingerprint_value (Self.state self.old).bytes
             (length (Self.state self.old).bytes)) };
 
-    /// As [`MessageWriteExt::add_fingerprint`], without its checks.
+    /// Adds a FINGERPRINT without the checks of [`MessageWriteExt::add_fingerprint`].
     ///
     /// # Requires
     ///
@@ -360,19 +509,29 @@ impl<W: MessageWrite> MessageWriteExt for W {
         self.push_attribute_unchecked(attribute)
     }
 
-    fn add_any_attribute(&mut self, attribute: &dyn AttributeWrite) -> Result<(), StunWriteError> {
+    fn add_any_attribute(&mut self, attribute: &dyn AttributeWrite) -> Result<(), AddError> {
         let atype = attribute.get_type();
         if atype.is_ending() {
-            return Err(StunWriteError::EndingType(atype));
+            return Err(AddError::EndingType(atype));
         }
-        self.add_attribute(attribute)
+        self.add_attribute(attribute)?;
+        Ok(())
+    }
+
+    fn add_value(&mut self, atype: AttributeType, value: &[u8]) -> Result<(), AddError> {
+        if atype.is_ending() {
+            return Err(AddError::EndingType(atype));
+        }
+        self.add_ordinary_value(atype, value)?;
+        Ok(())
     }
 
     #[tactic(auto, using(stun_grammar::proofs::AddingLemmas::appended_length, crate::proofs::KeptHeadersLemmas::pushed, stun_grammar::proofs::AddingRefusedLemmas::ordinary_barred))]
-    fn add_value(&mut self, atype: AttributeType, value: &[u8]) -> Result<(), StunWriteError> {
-        if atype.is_ending() {
-            return Err(StunWriteError::EndingType(atype));
-        }
+    fn add_ordinary_value(
+        &mut self,
+        atype: AttributeType,
+        value: &[u8],
+    ) -> Result<(), StunWriteError> {
         let added = 4 + pad_attribute_len(value.len());
         check_add(self, Addition::Ordinary, added)?;
         self.push_value_unchecked(atype, value)

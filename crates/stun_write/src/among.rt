@@ -22,7 +22,17 @@ fn find_any(written: &[AttributeType], asked: &[AttributeType]) -> Option<Attrib
     written.iter().copied().find(|atype| any_is(asked, *atype))
 }
 
-/// Whether the type is one of the written ones.
+/// Whether the type `atype` is one of the written ones.
+///
+/// # Examples
+///
+/// ```
+/// use stun_types::attribute::AttributeType;
+/// use stun_types::message::write::is_among;
+///
+/// let written = [AttributeType(0x8022), AttributeType(0x0006)];
+/// assert!(rt; is_among(&written, AttributeType(0x0006)));
+/// ```
 pub fn is_among(written: &[AttributeType], atype: AttributeType) -> bool
     ensures { result ≡ has atype.0 (numbers written.now) }
 {
@@ -30,6 +40,17 @@ pub fn is_among(written: &[AttributeType], atype: AttributeType) -> bool
 }
 
 /// The first of the written types that is one of those asked for, or `None`.
+///
+/// # Examples
+///
+/// ```
+/// use stun_types::attribute::AttributeType;
+/// use stun_types::message::write::first_among;
+///
+/// let written = [AttributeType(0x8022), AttributeType(0x0006)];
+/// let asked = [AttributeType(0x0006), AttributeType(0x8022)];
+/// assert_eq!(rt; first_among(&written, &asked), Some(AttributeType(0x8022)));
+/// ```
 pub fn first_among(written: &[AttributeType], asked: &[AttributeType]) -> Option<AttributeType>
     ensures { option_map (λ found. found.0) result
         ≡ first_of (numbers asked.now) (numbers written.now) }

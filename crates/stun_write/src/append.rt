@@ -39,13 +39,24 @@ pub(crate) fn append_sized(
 }
 
 /// Writes an attribute after the first `len` bytes of `message`, which hold the message so far, and
-/// sets the length field (its bytes 2 and 3) to count what follows the header. What comes after the
-/// attribute stays. A writer that keeps its bytes in a slice can be built on it.
+/// sets the length field (its bytes 2 and 3) to the number of bytes that follow the header. What
+/// comes after the attribute stays. A writer that keeps its bytes in a slice can be built on it.
 ///
 /// # Requires
 ///
 /// `len` is at least 20, and `len + attribute.padded_len()` at most 65555 and at most
 /// `message.len()`.
+///
+/// # Examples
+///
+/// ```
+/// use stun_types::attribute::Software;
+/// use stun_types::message::write::append_attribute;
+///
+/// let mut message = *b"\x00\x01\x00\x00\x21\x12\xA4\x42abcdefghijkl--------";
+/// append_attribute(&Software::new(alloc, "STUN")?, 20, &mut message);
+/// assert_eq!(rt; message, *b"\x00\x01\x00\x08\x21\x12\xA4\x42abcdefghijkl\x80\x22\x00\x04STUN");
+/// ```
 pub fn append_attribute(attribute: &dyn AttributeWrite, len: usize, message: &mut [u8])
     requires header { 20 ≤ len }
     requires room { grown_length len (length (value attribute.now)) ≤ length message.old }
@@ -57,12 +68,24 @@ pub fn append_attribute(attribute: &dyn AttributeWrite, len: usize, message: &mu
     append_sized(attribute, len, len + attribute.padded_len(), message);
 }
 
-/// As [`append_attribute`], with a type and a value.
+/// Writes an attribute, of which a type and a value are given, after the first `len` bytes of
+/// `message`, as [`append_attribute`] does.
 ///
 /// # Requires
 ///
 /// `value.len()` is at most 65535, `len` at least 20, and
 /// `len + 4 + pad_attribute_len(value.len())` at most 65555 and at most `message.len()`.
+///
+/// # Examples
+///
+/// ```
+/// use stun_types::attribute::AttributeType;
+/// use stun_types::message::write::append_value;
+///
+/// let mut message = *b"\x00\x01\x00\x00\x21\x12\xA4\x42abcdefghijkl--------";
+/// append_value(AttributeType(0x8022), b"STUN", 20, &mut message);
+/// assert_eq!(rt; message, *b"\x00\x01\x00\x08\x21\x12\xA4\x42abcdefghijkl\x80\x22\x00\x04STUN");
+/// ```
 #[tactic(auto, unfolding(stun_grammar::specs::Adding::appended))]
 pub fn append_value(atype: AttributeType, value: &[u8], len: usize, message: &mut [u8])
     requires header { 20 ≤ len }
@@ -77,7 +100,8 @@ pub fn append_value(atype: AttributeType, value: &[u8], len: usize, message: &mu
     BigEndian::write_u16(&mut message[2..4], field as u16);
 }
 
-/// As [`append_attribute`], with a type and a value that is encoded straight into the message.
+/// Writes an attribute, of which a type and a value are given, after the first `len` bytes of
+/// `message`, as [`append_attribute`] does; the value is encoded straight into the message.
 ///
 /// # Requires
 ///

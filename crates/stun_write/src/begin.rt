@@ -25,12 +25,25 @@ fn header_bytes(mtype: MessageType, transaction_id: TransactionId) -> [u8; 20]
     header
 }
 
-/// Writes the header of a message without attributes at the start of `slice`: the twenty bytes with
-/// which [`begin_message`] begins (RFC 8489, section 5). What follows stays.
+/// Writes the header of a message without attributes at the start of `slice`: twenty bytes (RFC
+/// 8489, section 5). What follows stays.
 ///
 /// # Requires
 ///
 /// `slice.len()` is at least 20.
+///
+/// # Examples
+///
+/// ```
+/// use stun_types::message::write::write_message_header;
+/// use stun_types::message::{BINDING, MessageClass, MessageType, TransactionId};
+///
+/// let mtype = MessageType::from_class_method(MessageClass::Request, BINDING);
+/// let mut slice = [0xFF; 24];
+/// write_message_header(mtype, TransactionId::from_bytes(b"abcdefghijkl"), &mut slice);
+/// let header = b"\x00\x01\x00\x00\x21\x12\xA4\x42abcdefghijkl\xFF\xFF\xFF\xFF";
+/// assert_eq!(rt; slice, *header);
+/// ```
 pub fn write_message_header(mtype: MessageType, transaction_id: TransactionId, slice: &mut [u8])
     requires { 20 ≤ length slice.old }
     ensures { slice.new ≡ message_encoding mtype transaction_id [] ++ drop 20 slice.old }

@@ -9,8 +9,8 @@ ghost use Rattle.stun_grammar.specs.Writing.{message_encoding, greatest_length};
 ghost use Rattle.stun_grammar.specs.Adding.{appended, grown_length};
 ghost use Rattle.stun_write.specs.Resuming.{message_types, whole_fault, resume_fault};
 
-/// A message that was begun can be resumed, and has no attributes; and so can any whose
-/// attributes are encoded in a message that is no longer than a message may be.
+/// A message that was begun can be resumed, and has no attributes; and so can any message of
+/// encoded attributes that is no longer than a message may be.
 pub fn begun_resumes()
     ensures begun { (type id : ℕ) → type < 2 ^ 14
         → (whole_fault (message_encoding type id []) ≡ None)

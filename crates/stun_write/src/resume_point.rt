@@ -6,7 +6,7 @@ ghost use Rattle.stun_write.specs.Resuming.{resume_fault};
 use crate::listed::Listed;
 use stun_base::StunParseError;
 
-/// That a writer can resume the message in the first bytes of a slice, as
+/// The point at which a writer can resume the message in the first bytes of a slice, as
 /// [`ResumePoint::check`] found; [`MessageWriteMutSlice::resume_at`] makes that writer.
 ///
 /// [`MessageWriteMutSlice::resume_at`]: crate::MessageWriteMutSlice::resume_at
@@ -24,11 +24,17 @@ impl ResumePoint {
     ///
     /// [`MessageWriteMutSlice::resume`] calls it. A caller whose contract has to say that its slice
     /// stays as it was after an error calls it first, and then
-    /// [`MessageWriteMutSlice::resume_at`]:
+    /// [`MessageWriteMutSlice::resume_at`].
+    ///
+    /// # Examples
     ///
     /// ```
-    /// let point = ResumePoint::check(buf, written)?;
-    /// let mut message = MessageWriteMutSlice::resume_at(alloc, buf, point);
+    /// use stun_types::message::{ResumePoint, StunParseError};
+    ///
+    /// let slice = b"\x00\x01\x00\x00\x21\x12\xA4\x42abcdefghijkl--------";
+    /// assert!(rt; ResumePoint::check(slice, 20).is_ok());
+    /// let longer = StunParseError::TooLarge { expected: 20, actual: 24 };
+    /// assert_eq!(rt; ResumePoint::check(slice, 24).err(), Some(longer));
     /// ```
     ///
     /// # Errors

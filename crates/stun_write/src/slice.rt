@@ -7,9 +7,9 @@ use std::alloc::Global;
 use stun_attrs::AttributeWrite;
 use stun_base::{AttributeType, StunParseError, StunWriteError, pad_attribute_len};
 
-/// Writes a message (RFC 8489, section 5) into a borrowed slice, from its first byte on, or goes on
-/// with one that is there ([`MessageWriteMutSlice::resume`]). What follows the bytes written
-/// stays as it was.
+/// Writes a message (RFC 8489, section 5) into a borrowed slice, from its first byte on, or resumes
+/// one that is there ([`MessageWriteMutSlice::resume`]). What follows the bytes written stays as it
+/// was.
 ///
 /// Each call writes straight into the slice. A writer that is dropped without
 /// [`MessageWrite::finish`] leaves there what was written so far, followed by what was there
@@ -18,6 +18,23 @@ use stun_base::{AttributeType, StunParseError, StunWriteError, pad_attribute_len
 /// The bytes never need memory. The types of sixteen attributes that it adds don't either; those of
 /// more are kept in memory that the `alloc` of [`MessageWriteMutSlice::new`] or
 /// [`MessageWriteMutSlice::resume`] gives.
+///
+/// # Examples
+///
+/// ```
+/// use stun_types::message::{
+///     BINDING, Message, MessageClass, MessageType, MessageWriteMutSlice, TransactionId,
+/// };
+/// use stun_types::prelude::*;
+///
+/// let mut slice = [0; 64];
+/// let mtype = MessageType::from_class_method(MessageClass::Request, BINDING);
+/// let write = MessageWriteMutSlice::new(alloc, &mut slice);
+/// let mut message = Message::builder(mtype, TransactionId::from(1000), write)?;
+/// message.add_fingerprint()?;
+/// let length = message.finish();
+/// assert!(rt; Message::from_bytes(&slice[..length]).is_ok());
+/// ```
 #[derive(Debug, Drop)]
 pub struct MessageWriteMutSlice<'a, T = WrittenTypes> {
     slice: &'a mut [u8],
@@ -31,8 +48,8 @@ impl<'a> MessageWriteMutSlice<'a> {
     ghost use Rattle.stun_write.specs.Resuming.{resume_fault, IsResumed};
     ghost use Rattle.stun_write.specs.ResumePoints.{resumed_length, IsPointOf};
 
-    /// A writer into `slice`, with nothing written. All bytes of `slice` and sixteen attributes are
-    /// ready. It takes no memory.
+    /// A writer into the slice `slice`, with nothing written. All bytes of `slice` and sixteen
+    /// attributes are ready. It takes no memory.
     pub fn new(alloc: Global, slice: &'a mut [u8]) -> Self
         ensures empty { (⟦<MessageWriteMutSlice<'a> as MessageWrite>⟧.state result).bytes ≡ [] }
         ensures greatest { (⟦<MessageWriteMutSlice<'a> as MessageWrite>⟧.state result).greatest
@@ -59,13 +76,6 @@ impl<'a> MessageWriteMutSlice<'a> {
     /// count as written, and their types are read in place. The other bytes of `slice` and
     /// sixteen attributes are ready. It walks the attributes once.
     ///
-    /// ```
-    /// // adds one attribute to the message in `buf`, and returns how long it is then
-    /// let mut message = MessageWriteMutSlice::resume(alloc, buf, written)?;
-    /// message.add_attribute(&software)?;
-    /// let written = message.finish();
-    /// ```
-    ///
     /// Neither the order of the attributes nor the value of a FINGERPRINT is looked at: each
     /// attribute that is there blocks an add as one does that was just written, so nothing is added
     /// after a FINGERPRINT.
@@ -89,6 +99,21 @@ impl<'a> MessageWriteMutSlice<'a> {
     /// - `Truncated { expected, actual }` if the last attribute is cut off: the offset at which
     ///   its header, value or padding would end, and `written`. If its header is cut off, both
     ///   are 4 more than that.
+    ///
+    /// # Examples
+    ///
+    /// ```
+    /// use stun_types::attribute::Software;
+    /// use stun_types::message::MessageWriteMutSlice;
+    /// use stun_types::prelude::*;
+    ///
+    /// let mut slice = [0; 64];
+    /// slice[..20].copy_from_slice(b"\x00\x01\x00\x00\x21\x12\xA4\x42abcdefghijkl");
+    /// let mut message = MessageWriteMutSlice::resume(alloc, &mut slice, 20)?;
+    /// message.add_attribute(&Software::new(alloc, "STUN")?)?;
+    /// assert_eq!(rt; message.finish(), 28);
+    /// assert_eq!(rt; &slice[20..28], b"\x80\x22\x00\x04STUN".as_slice());
+    /// ```
     pub fn resume(
         alloc: Global,
         slice: &'a mut [u8],
@@ -104,11 +129,26 @@ impl<'a> MessageWriteMutSlice<'a> {
         Ok(Self::resume_at(alloc, slice, point))
     }
 
-    /// As [`MessageWriteMutSlice::resume`], for a message that was checked. It takes constant time.
+    /// A writer that resumes a message that was checked, as [`MessageWriteMutSlice::resume`] makes
+    /// one. It takes constant time.
     ///
     /// # Requires
     ///
     /// `point` is what [`ResumePoint::check`] returned of `slice`, and `slice` is as it was then.
+    ///
+    /// # Examples
+    ///
+    /// ```
+    /// use stun_types::message::{MessageWriteMutSlice, ResumePoint};
+    /// use stun_types::prelude::*;
+    ///
+    /// let mut slice = [0; 64];
+    /// slice[..20].copy_from_slice(b"\x00\x01\x00\x00\x21\x12\xA4\x42abcdefghijkl");
+    /// let point = ResumePoint::check(&slice, 20)?;
+    /// let mut message = MessageWriteMutSlice::resume_at(alloc, &mut slice, point);
+    /// message.add_fingerprint()?;
+    /// assert_eq!(rt; message.finish(), 28);
+    /// ```
     pub fn resume_at(alloc: Global, slice: &'a mut [u8], point: ResumePoint) -> Self
         requires { IsPointOf point slice.old }
         ensures { IsResumed (⟦<MessageWriteMutSlice<'a> as MessageWrite>⟧.state result) slice.old
@@ -122,7 +162,7 @@ impl<'a> MessageWriteMutSlice<'a> {
         }
     }
 
-    /// The whole borrowed slice: the bytes written, followed by what was there before.
+    /// The whole borrowed slice: the bytes written, followed by those that were there before.
     pub fn buffer(&self) -> &[u8]
         ensures { result.now
             ≡ (⟦<MessageWriteMutSlice<'a> as MessageWrite>⟧.state self.now).bytes
@@ -131,8 +171,8 @@ impl<'a> MessageWriteMutSlice<'a> {
         &self.slice[..]
     }
 
-    /// The whole borrowed slice, mutable. It is up to the caller that the bytes written stay a
-    /// message.
+    /// The whole borrowed slice, mutable: the bytes written, followed by those that were there
+    /// before. It is up to the caller that the bytes written stay a message.
     pub fn buffer_mut(&mut self) -> &mut [u8]
         ensures { result.now
             ≡ (⟦<MessageWriteMutSlice<'a> as MessageWrite>⟧.state self.old).bytes

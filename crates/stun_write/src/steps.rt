@@ -13,8 +13,8 @@ use stun_base::{MessageType, StunWriteError, TransactionId};
 use stun_grammar::IntegrityAlgorithm;
 use stun_keys::keys::{IntegrityKey, MessageIntegrityCredentials};
 
-/// One step of [`write_steps`]: what is added to the message, an attribute that is given, or one
-/// that is computed over what is written so far (a signature or a FINGERPRINT).
+/// One step of [`write_steps`]: an attribute that is added to the message, given, or computed over
+/// what is written so far (a signature or a FINGERPRINT).
 #[derive(Clone, Copy)]
 pub enum Step<'s, O> {
     /// An attribute of an ordinary type, as [`MessageWriteExt::add_attribute`] adds it.
@@ -25,7 +25,7 @@ pub enum Step<'s, O> {
     /// Signs the message so far: the integrity attribute of an algorithm, with a key, as
     /// [`MessageWriteExt::add_message_integrity_with_key`] adds it.
     SignKey(&'s IntegrityKey, IntegrityAlgorithm),
-    /// A FINGERPRINT, as [`MessageWriteExt::add_fingerprint`] adds it.
+    /// Ends the message by a FINGERPRINT, as [`MessageWriteExt::add_fingerprint`] adds it.
     Finger,
 }
 
@@ -57,7 +57,7 @@ fn take_step<B: MessageWrite>(
     }
 }
 
-/// As [`write_steps`], but borrows the writer.
+/// Writes a message into a borrowed writer, step by step, as [`write_steps`] does.
 ///
 /// # Requires
 ///
@@ -67,6 +67,24 @@ fn take_step<B: MessageWrite>(
 ///
 /// Only `OutOfMemory`, and only if fewer than twenty bytes are ready; nothing is written then,
 /// and the verdicts stay as they were.
+///
+/// # Examples
+///
+/// ```
+/// use stun_types::message::{
+///     BINDING, MessageClass, MessageType, MessageWriteMutSlice, Step, TransactionId,
+///     write_steps_into,
+/// };
+/// use stun_types::prelude::*;
+///
+/// let mut slice = [0; 64];
+/// let mut write = MessageWriteMutSlice::new(alloc, &mut slice);
+/// let mtype = MessageType::from_class_method(MessageClass::Request, BINDING);
+/// let id = TransactionId::from(1000);
+/// let mut verdicts = [Ok(())];
+/// write_steps_into(alloc, mtype, id, &[Step::Finger], &mut verdicts, &mut write)?;
+/// assert_eq!(rt; write.finish(), 28);
+/// ```
 pub fn write_steps_into<B: MessageWrite>(
     alloc: Global,
     mtype: MessageType,
@@ -91,24 +109,12 @@ pub fn write_steps_into<B: MessageWrite>(
     Ok(())
 }
 
-/// Writes a message of this type and transaction ID: its header, and then the attribute of each
-/// step in turn (RFC 8489, sections 5 and 14).
+/// Writes a message of the type `mtype` with the transaction ID `id`: its header, and then the
+/// attribute of each step in turn (RFC 8489, sections 5 and 14).
 ///
 /// The result of each step is stored in `verdicts`, at the step's own index. A refused step adds
 /// nothing, and the next one goes on from what is written. The keys of [`Step::Sign`] are made in
 /// memory that `alloc` gives.
-///
-/// ```
-/// let mut verdicts = [Ok(()); 3];
-/// let message = write_steps(
-///     alloc,
-///     mtype,
-///     id,
-///     &[Step::Add(&software), Step::SignKey(&key, IntegrityAlgorithm::Sha1), Step::Finger],
-///     &mut verdicts,
-///     MessageWriteVec::new(alloc),
-/// )?;
-/// ```
 ///
 /// What is written is the message of the accepted steps. It parses, and shows their attributes in
 /// order, a FINGERPRINT among them with the right value. It validates with the key of the last step
@@ -132,6 +138,29 @@ pub fn write_steps_into<B: MessageWrite>(
 /// Each verdict is the result of the step's method of [`MessageWriteExt`] after the accepted steps
 /// before it. It is `OutOfMemory` only if nothing else refuses the step, and the step makes a
 /// key or needs more room than the writer had ready at the start.
+///
+/// # Examples
+///
+/// ```
+/// use stun_types::attribute::Software;
+/// use stun_types::message::{
+///     BINDING, IntegrityAlgorithm, IntegrityKey, MessageClass, MessageType, MessageWriteVec, Step,
+///     StunWriteError, TransactionId, write_steps,
+/// };
+/// use stun_types::prelude::*;
+///
+/// let key = IntegrityKey::new(alloc, b"secret", None)?;
+/// let software = Software::new(alloc, "my client")?;
+/// let sign = Step::SignKey(&key, IntegrityAlgorithm::Sha1);
+/// let steps = [Step::Add(&software as &dyn AttributeWrite), sign, Step::Finger, sign];
+/// let mut verdicts = [Ok(()); 4];
+/// let mtype = MessageType::from_class_method(MessageClass::Request, BINDING);
+/// let (id, write) = (TransactionId::from(1000), MessageWriteVec::new(alloc));
+/// let message = write_steps(alloc, mtype, id, &steps, &mut verdicts, write)?;
+/// assert_eq!(rt; message.finish().len(), 20 + 16 + 24 + 8);
+/// assert_eq!(rt; verdicts[2], Ok(()));
+/// assert!(rt; verdicts[3].is_err());
+/// ```
 pub fn write_steps<B: MessageWrite + Drop>(
     alloc: Global,
     mtype: MessageType,

@@ -11,6 +11,20 @@ use stun_base::{AttributeType, StunWriteError, pad_attribute_len};
 /// Writes a message (RFC 8489, section 5) into a vector, which grows as needed. The types of
 /// sixteen attributes need no memory; those of more are kept in memory of the same allocator. A
 /// writer that is dropped without [`MessageWrite::finish`] drops what was written.
+///
+/// # Examples
+///
+/// ```
+/// use stun_types::message::{
+///     BINDING, Message, MessageClass, MessageType, MessageWriteVec, TransactionId,
+/// };
+/// use stun_types::prelude::*;
+///
+/// let mtype = MessageType::from_class_method(MessageClass::Indication, BINDING);
+/// let write = MessageWriteVec::with_capacity(alloc, 20)?;
+/// let message = Message::builder(mtype, TransactionId::from(1000), write)?;
+/// assert_eq!(rt; message.finish().len(), 20);
+/// ```
 #[derive(Debug, Drop)]
 pub struct MessageWriteVec {
     output: Vec<u8>,
@@ -44,8 +58,8 @@ fn lengthen(bytes: &mut Vec<u8>, longer: usize) -> Result<(), AllocError>
 impl MessageWriteVec {
     ghost use Rattle.std.specs.Prelude.{◌≡◌, [], IfOk, IfErr};
 
-    /// A writer with nothing written. It takes no memory: sixteen attributes and no bytes are
-    /// ready.
+    /// A writer into a new vector, with nothing written. It takes no memory: sixteen attributes and
+    /// no bytes are ready.
     pub fn new(alloc: Global) -> Self
         ensures empty { (⟦<MessageWriteVec as MessageWrite>⟧.state result).bytes ≡ [] }
         ensures ready_bytes { (⟦<MessageWriteVec as MessageWrite>⟧.state result).ready_bytes ≡ 0 }
@@ -57,8 +71,8 @@ impl MessageWriteVec {
         }
     }
 
-    /// A writer with nothing written, and with `capacity` bytes and sixteen attributes ready. The
-    /// bytes are kept in memory that `alloc` gives.
+    /// A writer into a new vector, with nothing written, and with `capacity` bytes and sixteen
+    /// attributes ready. The bytes are kept in memory that `alloc` gives.
     ///
     /// # Errors
     ///

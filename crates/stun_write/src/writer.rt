@@ -9,9 +9,9 @@ ghost use Rattle.stun_write.specs.Writers.{Writer, HasRoomFor, Extends, Pushes, 
 use stun_attrs::AttributeWrite;
 use stun_base::{AttributeType, StunWriteError};
 
-/// A writer: where a message, its header and its attributes, is written to (RFC 8489, sections 5
-/// and 14). `MessageWriteVec` writes to a vector,
-/// `MessageWriteMutSlice` to a borrowed slice, and a type of your own may implement it too.
+/// A destination of messages: a writer of a header and attributes (RFC 8489, sections 5 and 14).
+/// `MessageWriteVec` writes to a vector, `MessageWriteMutSlice` to a borrowed slice, and a type of
+/// your own may implement it too.
 ///
 /// Each push appends all that it is given or, if an allocation failed, leaves the bytes and the
 /// attributes as they were. The ready room is the bytes and the attributes that the writer surely
@@ -27,43 +27,75 @@ use stun_base::{AttributeType, StunWriteError};
 /// - `slice_name`: the name of the slice that it borrows, or 0.
 ///
 /// `finishes_with` relates a writer to what its [`MessageWrite::finish`] returns.
+///
+/// # Examples
+///
+/// ```
+/// use stun_types::message::MessageWriteMutSlice;
+/// use stun_types::prelude::*;
+///
+/// let mut slice = [0; 64];
+/// let mut write = MessageWriteMutSlice::new(alloc, &mut slice);
+/// assert_eq!(rt; write.max_size(), Some(64));
+/// write.push_data(b"\x00\x01\x00\x00\x21\x12\xA4\x42abcdefghijkl")?;
+/// assert_eq!(rt; write.len(), 20);
+/// assert_eq!(rt; write.finish(), 20);
+/// ```
 pub trait MessageWrite {
-    /// What [`MessageWrite::finish`] returns.
+    /// The result of [`MessageWrite::finish`]: what was written, or how much.
     type Output;
 
     ghost state: { Self → Writer };
 
     ghost finishes_with: { Self → Self.Output → Type 0 };
 
-    /// The most bytes that the writer takes, or `None` if it has no such bound.
+    /// The greatest number of bytes that the writer takes, or `None` if it has no such bound.
     fn max_size(&self) -> Option<usize>
         ensures { result ≡ (state self.now).greatest };
 
-    /// The bytes written. If there are none, there are no attributes either.
+    /// The bytes written so far. If there are none, there are no attributes either.
     fn data(&self) -> &[u8]
         ensures value { result.now ≡ (state self.now).bytes }
         ensures no_types { (state self.now).bytes ≡ [] → (state self.now).types ≡ [] };
 
-    /// The bytes written, mutable. It is up to the caller that they stay a message. Nothing but
-    /// the bytes may change by it; of `MessageWriteVec` the contract says so.
+    /// The bytes written so far, mutable. It is up to the caller that they stay a message. Nothing
+    /// but the bytes may change by it; of `MessageWriteVec` the contract says so.
     fn mut_data(&mut self) -> &mut [u8]
         ensures { result.now ≡ (state self.old).bytes };
 
-    /// The number of bytes written.
+    /// The number of bytes written so far.
     fn len(&self) -> usize
         ensures value { result ≡ length (state self.now).bytes }
         ensures bound { result < 2 ^ 63 };
 
-    /// Whether an attribute of this type is written.
+    /// Whether an attribute of the type `atype` is written.
     fn has_attribute(&self, atype: AttributeType) -> bool
         ensures { result ≡ has atype.0 (state self.now).types };
 
-    /// The first of the written types that is one of those asked for, or `None`.
+    /// The first of the written types that is one of those in `asked`, or `None`.
+    ///
+    /// # Examples
+    ///
+    /// ```
+    /// use stun_types::attribute::{Software, Username};
+    /// use stun_types::message::{
+    ///     BINDING, Message, MessageClass, MessageType, MessageWriteVec, TransactionId,
+    /// };
+    /// use stun_types::prelude::*;
+    ///
+    /// let mtype = MessageType::from_class_method(MessageClass::Request, BINDING);
+    /// let write = MessageWriteVec::new(alloc);
+    /// let mut message = Message::builder(mtype, TransactionId::from(1000), write)?;
+    /// message.add_attribute(&Software::new(alloc, "STUN")?)?;
+    /// assert!(rt; message.has_attribute(Software::TYPE));
+    /// let first = message.has_any_attribute(&[Username::TYPE, Software::TYPE]);
+    /// assert_eq!(rt; first, Some(Software::TYPE));
+    /// ```
     fn has_any_attribute(&self, asked: &[AttributeType]) -> Option<AttributeType>
         ensures { option_map (λ found. found.0) result
             ≡ first_of (numbers asked.now) (state self.now).types };
 
-    /// Appends bytes.
+    /// Appends bytes to those written.
     ///
     /// # Requires
     ///
@@ -80,8 +112,8 @@ pub trait MessageWrite {
         ensures { Pushes result (state self.old) (state self.new) (length more.now) 0
             (Extends (state self.old) (state self.new) more.now) };
 
-    /// Appends an attribute: its type, length, value and zero padding (RFC 8489, section 14), and
-    /// sets the length field of the header to count them (section 5).
+    /// Appends an attribute to what is written: its type, length, value and zero padding (RFC 8489,
+    /// section 14), and sets the length field of the header to count them (section 5).
     ///
     /// # Requires
     ///
@@ -100,7 +132,8 @@ pub trait MessageWrite {
         ensures { PushesAttribute result (state self.old) (state self.new)
             (atype attribute.now) (value attribute.now) };
 
-    /// As [`MessageWrite::push_attribute_unchecked`], with a type and a value.
+    /// Appends an attribute, of which a type and a value are given, as
+    /// [`MessageWrite::push_attribute_unchecked`] does.
     ///
     /// # Requires
     ///

@@ -19,7 +19,24 @@ impl AddressErrorCode {
     ghost use Rattle.std.specs.Prelude.{◌≡◌};
     ghost use Rattle.turn_attrs.specs.Turn.{failed_error, failed_family};
 
-    /// The attribute of this family, code and reason.
+    /// Makes the attribute of this family, code and reason.
+    ///
+    /// # Examples
+    ///
+    /// ```
+    /// use stun_types::AddressFamily;
+    /// use stun_types::attribute::ErrorCode;
+    /// use stun_types::prelude::*;
+    /// use turn_attrs::{AddressErrorCode, error_codes};
+    ///
+    /// let code = error_codes::ADDRESS_FAMILY_NOT_SUPPORTED;
+    /// let reason = error_codes::reason(code).ok_or("no reason")?;
+    /// let error = ErrorCode::new(alloc, code, reason)?;
+    /// let attribute = AddressErrorCode::new(AddressFamily::IPV6, error);
+    /// let mut bytes = [0; 36];
+    /// assert_eq!(rt; attribute.write_into(&mut bytes), Ok(36));
+    /// assert_eq!(rt; &bytes, b"\x80\x01\x00\x20\x02\x00\x04\x28Address Family not Supported");
+    /// ```
     pub fn new(family: AddressFamily, error: ErrorCode) -> Self
         ensures family { failed_family result ≡ family }
         ensures error { failed_error result ≡ error }
@@ -27,14 +44,14 @@ impl AddressErrorCode {
         AddressErrorCode { family, error }
     }
 
-    /// The family.
+    /// Returns the family of which no address was allocated.
     pub fn family(&self) -> AddressFamily
         ensures { result ≡ failed_family self.now }
     {
         self.family
     }
 
-    /// The code and the reason.
+    /// Returns the error code, with its reason.
     pub fn error(&self) -> &ErrorCode
         ensures { result.now ≡ failed_error self.now }
     {

@@ -5,49 +5,64 @@
 use stun_types::attribute::AttributeType;
 pub use turn_basics::attribute_types::{DATA, LIFETIME, XOR_PEER_ADDRESS};
 
-/// CHANNEL-NUMBER.
+/// The type of CHANNEL-NUMBER (RFC 8656, section 18.1).
 pub const CHANNEL_NUMBER: u16 = 0x000C;
 
-/// XOR-RELAYED-ADDRESS.
+/// The type of XOR-RELAYED-ADDRESS (RFC 8656, section 18.5).
 pub const XOR_RELAYED_ADDRESS: u16 = 0x0016;
 
-/// REQUESTED-ADDRESS-FAMILY.
+/// The type of REQUESTED-ADDRESS-FAMILY (RFC 8656, section 18.6).
 pub const REQUESTED_ADDRESS_FAMILY: u16 = 0x0017;
 
-/// EVEN-PORT.
+/// The type of EVEN-PORT (RFC 8656, section 18.7).
 pub const EVEN_PORT: u16 = 0x0018;
 
-/// REQUESTED-TRANSPORT.
+/// The type of REQUESTED-TRANSPORT (RFC 8656, section 18.8).
 pub const REQUESTED_TRANSPORT: u16 = 0x0019;
 
-/// DONT-FRAGMENT.
+/// The type of DONT-FRAGMENT (RFC 8656, section 18.9).
 pub const DONT_FRAGMENT: u16 = 0x001A;
 
-/// ACCESS-TOKEN.
+/// The type of ACCESS-TOKEN (RFC 7635, section 6.2).
 pub const ACCESS_TOKEN: u16 = 0x001B;
 
-/// RESERVATION-TOKEN.
+/// The type of RESERVATION-TOKEN (RFC 8656, section 18.10).
 pub const RESERVATION_TOKEN: u16 = 0x0022;
 
-/// CONNECTION-ID.
+/// The type of CONNECTION-ID (RFC 6062, section 6.2.1).
 pub const CONNECTION_ID: u16 = 0x002A;
 
-/// ADDITIONAL-ADDRESS-FAMILY.
+/// The type of ADDITIONAL-ADDRESS-FAMILY (RFC 8656, section 18.11).
 pub const ADDITIONAL_ADDRESS_FAMILY: u16 = 0x8000;
 
-/// ADDRESS-ERROR-CODE.
+/// The type of ADDRESS-ERROR-CODE (RFC 8656, section 18.12).
 pub const ADDRESS_ERROR_CODE: u16 = 0x8001;
 
-/// ICMP.
+/// The type of ICMP (RFC 8656, section 18.13).
 pub const ICMP: u16 = 0x8004;
 
-/// THIRD-PARTY-AUTHORIZATION.
+/// The type of THIRD-PARTY-AUTHORIZATION (RFC 7635, section 6.1).
 pub const THIRD_PARTY_AUTHORIZATION: u16 = 0x802E;
 
-/// MOBILITY-TICKET.
+/// The type of MOBILITY-TICKET (RFC 8016, section 3.3).
 pub const MOBILITY_TICKET: u16 = 0x8030;
 
-/// The types of this crate, for `Message::check_attribute_types`.
+/// The types of the attributes of TURN, for `Message::check_attribute_types`.
+///
+/// # Examples
+///
+/// ```
+/// use stun_types::message::{Message, MessageWriteVec};
+/// use turn_attrs::KNOWN;
+///
+/// // An Allocate request with REQUESTED-TRANSPORT (UDP) and DONT-FRAGMENT.
+/// let request = Message::from_bytes(
+///     b"\x00\x03\x00\x0C\x21\x12\xA4\x42\xA5\x62\x50\xD3\xF1\x7A\xBE\x67\x94\x22\xDE\x85\
+///       \x00\x19\x00\x04\x11\x00\x00\x00\x00\x1A\x00\x00",
+/// )?;
+/// let reply = MessageWriteVec::new(alloc);
+/// assert!(rt; Message::check_attribute_types(alloc, &request, &KNOWN, &[], reply)?.is_none());
+/// ```
 pub const KNOWN: [AttributeType; 17] = [
     AttributeType(CHANNEL_NUMBER),
     AttributeType(LIFETIME),
@@ -68,14 +83,22 @@ pub const KNOWN: [AttributeType; 17] = [
     AttributeType(MOBILITY_TICKET),
 ];
 
-/// Registers the names of types and methods and the functions that print of this crate, so that a
-/// message shows its attributes as what they are. Call it in the body of a function that makes
-/// the registry itself and returns a `Result`; it returns from it with `OutOfMemory` if an
-/// allocation fails.
+/// Registers the attributes and methods of TURN in a `Registry`, by their names and the functions
+/// that print them, so that a message shows them as what they are. Call it in the body of a
+/// function that makes the registry itself and returns a `Result`; it returns from it with
+/// `OutOfMemory` if an allocation fails.
+///
+/// # Examples
 ///
 /// ```
+/// use stun_types::prelude::*;
+/// use stun_types::show::Registry;
+/// use turn_attrs::{ChannelNumber, methods};
+///
 /// let mut registry = Registry::new(alloc);
 /// turn_attrs::register!(registry);
+/// assert_eq!(rt; registry.name(ChannelNumber::TYPE), "CHANNEL-NUMBER");
+/// assert_eq!(rt; registry.method_name(methods::ALLOCATE), "ALLOCATE");
 /// ```
 #[macro_export]
 macro_rules! register {

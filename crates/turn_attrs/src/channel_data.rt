@@ -17,7 +17,7 @@ pub enum ChannelDataError {
     /// The first byte is none of 0x40 to 0x4F, with which the number of a channel begins.
     #[error("The provided data is not a ChannelData message")]
     NotChannelData,
-    /// Bytes are missing.
+    /// The bytes end before the message does.
     #[error("Not enough data for a ChannelData message, expected {expected}, actual {actual}")]
     Truncated {
         /// How many bytes are needed.
@@ -25,7 +25,7 @@ pub enum ChannelDataError {
         /// How many there are.
         actual: usize,
     },
-    /// More bytes follow than a padding has.
+    /// After the message more bytes follow than a padding has.
     #[error("Too much data for a ChannelData message, expected {expected}, actual {actual}")]
     TooLarge {
         /// How many bytes are allowed.
@@ -35,7 +35,7 @@ pub enum ChannelDataError {
     },
 }
 
-/// Data on a channel: the number of the channel and the length of the data in two bytes each,
+/// A ChannelData message: the number of a channel and the length of the data in two bytes each,
 /// big-endian, and the data. Over TCP and TLS zeros follow up to a multiple of 4; over UDP they
 /// may.
 #[derive(Clone, Copy, Debug, PartialEq, Eq)]
@@ -68,14 +68,26 @@ fn read_channel(bytes: &[u8]) -> Result<Channel, ChannelDataError>
     Ok(Channel::from_bytes(bytes[0], bytes[1]))
 }
 
-/// The length of the ChannelData message whose first bytes are `prefix` on a stream: four bytes,
-/// its data, and zeros up to a multiple of 4; 4 to 65540 in all. `None` if there are fewer than
-/// four bytes, and a ChannelData message may begin with them. It takes no memory, and looks at the
-/// first four bytes alone.
+/// Returns the length in bytes of the ChannelData message whose first bytes are `prefix` on a
+/// stream: four bytes, its data, and zeros up to a multiple of 4; 4 to 65540 in all. `None` if
+/// there are fewer than four bytes, and a ChannelData message may begin with them. It takes no
+/// memory, and looks at the first four bytes alone.
 ///
 /// # Errors
 ///
 /// `NotChannelData` if the first byte is none of 0x40 to 0x4F.
+///
+/// # Examples
+///
+/// ```
+/// use turn_attrs::{ChannelDataError, channel_data_length};
+///
+/// // Five bytes of data on the channel 0x4001: four bytes, the data, and three of padding.
+/// assert_eq!(rt; channel_data_length(b"\x40\x01\x00\x05he"), Ok(Some(12)));
+/// assert_eq!(rt; channel_data_length(b"\x40\x01"), Ok(None));
+/// // A STUN message begins with 0 to 3.
+/// assert_eq!(rt; channel_data_length(b"\x00"), Err(ChannelDataError::NotChannelData));
+/// ```
 pub fn channel_data_length(prefix: &[u8]) -> Result<Option<usize>, ChannelDataError>
     ensures { MatchResult result
         (λ told. MatchOption told
@@ -100,11 +112,22 @@ impl<'a> ChannelData<'a> {
     ghost use Rattle.stun_grammar.specs.Numbers.{padded_length};
     ghost use Rattle.turn_attrs.specs.ChannelMessages.{IsData, IsIn, channel_fault, message_bytes, padded_bytes, data_of};
 
-    /// The message of this data on this channel. It borrows the data.
+    /// Makes the message of this data on this channel, and borrows the data.
     ///
     /// # Errors
     ///
     /// `TooLarge { expected: 65535, actual }` if there are more than 65535 bytes.
+    ///
+    /// # Examples
+    ///
+    /// ```
+    /// use turn_attrs::{Channel, ChannelData};
+    ///
+    /// let channel = Channel::new(0x4001).ok_or("no channel")?;
+    /// let message = ChannelData::new(channel, b"hello")?;
+    /// assert!(rt; message.length() == 9 && message.padded_len() == 12);
+    /// assert!(rt; ChannelData::new(channel, &[0; 65536]).is_err());
+    /// ```
     pub fn new(channel: Channel, bytes: &'a [u8]) -> Result<Self, StunWriteError>
         ensures ok { length bytes.now ≤ 65535 → IsOkAnd result (IsData channel bytes.now) }
         ensures large { 65535 < length bytes.now
@@ -119,9 +142,9 @@ impl<'a> ChannelData<'a> {
         Ok(ChannelData { channel, bytes })
     }
 
-    /// Reads the message in a datagram, whose data it borrows. Up to three bytes may follow it, as
-    /// padding, and are ignored. On a stream `stun_framing::MessageStream::carrying` cuts it, or the
-    /// caller does, by [`channel_data_length`].
+    /// Reads the ChannelData message in a datagram, whose data it borrows. Up to three bytes may
+    /// follow it, as padding, and are ignored. On a stream `stun_framing::MessageStream::carrying`
+    /// cuts it, or the caller does, by [`channel_data_length`].
     ///
     /// # Errors
     ///
@@ -131,6 +154,17 @@ impl<'a> ChannelData<'a> {
     /// - `Truncated { expected: 4, actual }` if there are fewer than four bytes;
     /// - `Truncated { expected, actual }` if there are fewer than four bytes and the data;
     /// - `TooLarge { expected, actual }` if there are more than that, padded to a multiple of 4.
+    ///
+    /// # Examples
+    ///
+    /// ```
+    /// use turn_attrs::{ChannelData, ChannelDataError};
+    ///
+    /// let message = ChannelData::from_bytes(b"\x40\x01\x00\x05hello")?;
+    /// assert!(rt; message.channel().number() == 0x4001 && message.data() == b"hello".as_slice());
+    /// let cut = ChannelDataError::Truncated { expected: 9, actual: 7 };
+    /// assert_eq!(rt; ChannelData::from_bytes(b"\x40\x01\x00\x05hel").err(), Some(cut));
+    /// ```
     pub fn from_bytes(bytes: &'a [u8]) -> Result<Self, ChannelDataError>
         ensures { MatchResult result
             (λ read. (channel_fault bytes.now ≡ None) × IsIn bytes.now read)
@@ -156,14 +190,14 @@ impl<'a> ChannelData<'a> {
         Ok(ChannelData { channel, bytes })
     }
 
-    /// The channel.
+    /// Returns the channel on which the data is.
     pub fn channel(&self) -> Channel
         ensures { result ≡ self.now.channel }
     {
         self.channel
     }
 
-    /// The data, for as long as it is borrowed.
+    /// Returns the data, for as long as it is borrowed.
     pub fn data(&self) -> &'a [u8]
         ensures bytes { result.now ≡ data_of self.now }
         ensures short { length result.now ≤ 65535 }
@@ -171,27 +205,38 @@ impl<'a> ChannelData<'a> {
         self.bytes
     }
 
-    /// How many bytes the message has without padding: four, and the data.
+    /// Returns the length of the message without padding, in bytes: four, and the data.
     pub fn length(&self) -> usize
         ensures { result ≡ 4 + length (data_of self.now) }
     {
         4 + self.bytes.len()
     }
 
-    /// How many bytes the message has on a stream: a multiple of 4, at most 65540.
+    /// Returns the length of the message on a stream, in bytes: a multiple of 4, at most 65540.
     pub fn padded_len(&self) -> usize
         ensures { result ≡ padded_length (4 + length (data_of self.now)) }
     {
         pad_attribute_len(self.length())
     }
 
-    /// Writes the message at the start of `dest`, without padding, and returns how many bytes it
-    /// has, [`ChannelData::length`]. What follows is unchanged.
+    /// Writes the message at the start of `dest`, without padding, and returns its length in bytes,
+    /// [`ChannelData::length`]. What follows is unchanged.
     ///
     /// # Errors
     ///
     /// `TooSmall { expected, actual }` if `dest` has fewer bytes than that; they are unchanged
     /// then.
+    ///
+    /// # Examples
+    ///
+    /// ```
+    /// use turn_attrs::{Channel, ChannelData};
+    ///
+    /// let channel = Channel::new(0x4001).ok_or("no channel")?;
+    /// let mut datagram = [0; 1500];
+    /// let length = ChannelData::new(channel, b"hello")?.write_into(&mut datagram)?;
+    /// assert_eq!(rt; &datagram[..length], b"\x40\x01\x00\x05hello".as_slice());
+    /// ```
     pub fn write_into(&self, dest: &mut [u8]) -> Result<usize, StunWriteError>
         ensures short { length dest.old < 4 + length (data_of self.now)
             → (result ≡ Err (StunWriteError.TooSmall (4 + length (data_of self.now))
@@ -208,12 +253,23 @@ impl<'a> ChannelData<'a> {
     }
 
     /// Writes the message and its padding at the start of `dest`, as a stream has it, and returns
-    /// how many bytes they are, [`ChannelData::padded_len`]. What follows is unchanged.
+    /// their length in bytes, [`ChannelData::padded_len`]. What follows is unchanged.
     ///
     /// # Errors
     ///
     /// `TooSmall { expected, actual }` if `dest` has fewer bytes than that; they are unchanged
     /// then.
+    ///
+    /// # Examples
+    ///
+    /// ```
+    /// use turn_attrs::{Channel, ChannelData};
+    ///
+    /// let channel = Channel::new(0x4001).ok_or("no channel")?;
+    /// let mut bytes = [0xFF; 16];
+    /// let length = ChannelData::new(channel, b"hello")?.write_padded_into(&mut bytes)?;
+    /// assert_eq!(rt; &bytes[..length], b"\x40\x01\x00\x05hello\x00\x00\x00".as_slice());
+    /// ```
     pub fn write_padded_into(&self, dest: &mut [u8]) -> Result<usize, StunWriteError>
         ensures short { length dest.old < padded_length (4 + length (data_of self.now))
             → (result ≡ Err (StunWriteError.TooSmall (padded_length (4 + length (data_of self.now)))

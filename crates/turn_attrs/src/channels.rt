@@ -26,7 +26,16 @@ impl Channel {
     ghost use Rattle.std.specs.Prelude.{◌≡◌, ◌≤◌, ◌+◌, ◌*◌};
     ghost use Rattle.turn_attrs.specs.Channels.{channel_of};
 
-    /// The channel of this number; `None` if it is below 0x4000 or above 0x4FFF.
+    /// Returns the channel of this number; `None` if it is below 0x4000 or above 0x4FFF.
+    ///
+    /// # Examples
+    ///
+    /// ```
+    /// use turn_attrs::Channel;
+    ///
+    /// assert!(rt; Channel::new(0x4FFF).is_some_and(|channel| channel.number() == 0x4FFF));
+    /// assert!(rt; Channel::new(0x3FFF).is_none() && Channel::new(0x5000).is_none());
+    /// ```
     pub fn new(number: u16) -> Option<Channel>
         ensures { result ≡ channel_of number }
     {
@@ -46,7 +55,7 @@ impl Channel {
         Channel(high as u16 * 256 + low as u16)
     }
 
-    /// The number.
+    /// Returns the number of the channel, 0x4000 to 0x4FFF.
     pub fn number(&self) -> u16
         ensures number { result ≡ self.now }
         ensures least { 0x4000 ≤ result }

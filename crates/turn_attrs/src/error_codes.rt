@@ -4,30 +4,42 @@ ghost use Rattle.std.specs.Prelude.{◌≡◌};
 ghost use Rattle.std.specs.Option.{option_map};
 ghost use Rattle.turn_attrs.specs.Reasons.{reason_of};
 
-/// The request is not allowed.
+/// 403 (Forbidden): the server doesn't allow the request.
 pub const FORBIDDEN: u16 = 403;
-/// Mobility is not allowed (RFC 8016).
+/// 405 (Mobility Forbidden): the server doesn't allow mobility (RFC 8016).
 pub const MOBILITY_FORBIDDEN: u16 = 405;
-/// There is an allocation already, or none.
+/// 437 (Allocation Mismatch): the client has an allocation already, or none.
 pub const ALLOCATION_MISMATCH: u16 = 437;
-/// The address family is not served.
+/// 440 (Address Family not Supported): the server doesn't serve the address family.
 pub const ADDRESS_FAMILY_NOT_SUPPORTED: u16 = 440;
-/// The credentials are not those of the allocation.
+/// 441 (Wrong Credentials): the credentials are not those of the allocation.
 pub const WRONG_CREDENTIALS: u16 = 441;
-/// The transport is not served.
+/// 442 (Unsupported Transport Protocol): the server doesn't serve this transport between itself and
+/// the peers.
 pub const UNSUPPORTED_TRANSPORT_PROTOCOL: u16 = 442;
-/// The peer's address has another family.
+/// 443 (Peer Address Family Mismatch): the peer's address has another family than the relayed one.
 pub const PEER_ADDRESS_FAMILY_MISMATCH: u16 = 443;
-/// There is a connection to this peer already (RFC 6062).
+/// 446 (Connection Already Exists): the client has a connection to this peer already (RFC 6062).
 pub const CONNECTION_ALREADY_EXISTS: u16 = 446;
-/// A connection to the peer failed (RFC 6062).
+/// 447 (Connection Timeout or Failure): the connection to the peer failed (RFC 6062).
 pub const CONNECTION_TIMEOUT_OR_FAILURE: u16 = 447;
-/// The user has no allocations left.
+/// 486 (Allocation Quota Reached): the user may make no more allocations.
 pub const ALLOCATION_QUOTA_REACHED: u16 = 486;
-/// The server has no capacity left.
+/// 508 (Insufficient Capacity): the server has no capacity left.
 pub const INSUFFICIENT_CAPACITY: u16 = 508;
 
-/// The reason that the RFCs give with a code of this list, to the letter; `None` for another code.
+/// Returns the reason that the RFCs give with a code of TURN, to the letter; `None` for another
+/// code.
+///
+/// # Examples
+///
+/// ```
+/// use turn_attrs::error_codes;
+///
+/// assert_eq!(rt; error_codes::reason(437), Some("Allocation Mismatch"));
+/// // 401 is a code of STUN, and not of TURN.
+/// assert_eq!(rt; error_codes::reason(401), None);
+/// ```
 pub fn reason(code: u16) -> Option<&'static str>
     ensures { option_map (λ reason. reason.now) result ≡ reason_of code }
 {

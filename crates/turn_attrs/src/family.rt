@@ -8,7 +8,7 @@ use std::fmt;
 use stun_types::attribute::FieldsKind;
 use stun_types::{AddressFamily, PrintText, TextSink};
 
-/// IPv6, the one family that may be asked for beside IPv4.
+/// The family IPv6, the one that may be asked for beside IPv4.
 #[derive(Clone, Copy, Debug, PartialEq, Eq)]
 pub struct OnlyIpv6;
 

@@ -3,13 +3,13 @@ use std::fmt;
 use stun_types::attribute::FieldsKind;
 use stun_types::{PrintText, TextSink};
 
-/// An ICMP message about a packet that a peer did not get. What type and code mean depends on
-/// whether it came over IPv4 or IPv6.
+/// An ICMP message about a packet that a peer did not get: its type, its code and its data. What
+/// type and code mean depends on whether it came over IPv4 or IPv6.
 #[derive(Clone, Copy, Debug, PartialEq, Eq)]
 pub struct IcmpError {
-    /// The type.
+    /// The type of the ICMP message.
     pub icmp_type: u8,
-    /// The code.
+    /// The code of the ICMP message.
     pub code: u8,
     /// The MTU of the next hop if the packet was too large, else 0.
     pub data: u32,

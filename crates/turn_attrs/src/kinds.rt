@@ -9,6 +9,18 @@ use stun_types::attribute::{
 
 /// CHANNEL-NUMBER: the channel that a peer is bound to (RFC 8656, section 18.1). The value is the
 /// number of the channel in two bytes, big-endian, and two bytes that are written 0 and ignored.
+///
+/// # Examples
+///
+/// ```
+/// use stun_types::prelude::*;
+/// use turn_attrs::{Channel, ChannelNumber};
+///
+/// let channel = Channel::new(0x4000).ok_or("no channel")?;
+/// let mut bytes = [0; 8];
+/// assert_eq!(rt; ChannelNumber::new(channel).write_into(&mut bytes), Ok(8));
+/// assert_eq!(rt; bytes, [0x00, 0x0C, 0x00, 0x04, 0x40, 0x00, 0x00, 0x00]);
+/// ```
 pub type ChannelNumber = FieldsAttribute<ChannelNumberKind, Channel>;
 
 /// The kind of [`ChannelNumber`].
@@ -31,6 +43,21 @@ impl AttributeKind for ChannelNumberKind {
 
 /// XOR-RELAYED-ADDRESS: the address that the server has allocated (RFC 8656, section 18.5). The
 /// value is that of an XOR-MAPPED-ADDRESS, 8 bytes for IPv4 and 20 for IPv6.
+///
+/// # Examples
+///
+/// ```
+/// use stun_types::attribute::RawAttribute;
+/// use stun_types::message::TransactionId;
+/// use stun_types::prelude::*;
+/// use turn_attrs::XorRelayedAddress;
+///
+/// // The address and the transaction ID of the example in section 20 of RFC 8656.
+/// let raw = RawAttribute::from_bytes(b"\x00\x16\x00\x08\x00\x01\xE2\x42\xE1\x12\xA6\x4D")?;
+/// let relayed = XorRelayedAddress::from_raw_ref(alloc, &raw)?;
+/// let id = TransactionId::from(0xC271_E932_AD74_46A3_2C23_4492);
+/// assert_eq!(rt; relayed.addr(id), "192.0.2.15:50000".parse()?);
+/// ```
 pub type XorRelayedAddress = XorAddressAttribute<XorRelayedAddressKind>;
 
 /// The kind of [`XorRelayedAddress`].
@@ -51,12 +78,25 @@ impl AttributeKind for XorRelayedAddressKind {
     }
 }
 
-/// REQUESTED-ADDRESS-FAMILY: of which family the relayed address is to be (RFC 8656, section 18.6).
-/// The value is a byte, 1 for IPv4 and 2 for IPv6, and three bytes that are written 0 and ignored.
+/// REQUESTED-ADDRESS-FAMILY: the family of which the relayed address is to be (RFC 8656, section
+/// 18.6). The value is a byte, 1 for IPv4 and 2 for IPv6, and three bytes that are written 0 and
+/// ignored.
 ///
 /// Reading refuses another family as `InvalidAttributeData`, and a malformed length by other
 /// errors: a server answers the first with 440, Address Family not Supported (RFC 8656, section
 /// 7.2).
+///
+/// # Examples
+///
+/// ```
+/// use stun_types::AddressFamily;
+/// use stun_types::prelude::*;
+/// use turn_attrs::RequestedAddressFamily;
+///
+/// let mut bytes = [0; 8];
+/// assert_eq!(rt; RequestedAddressFamily::new(AddressFamily::IPV6).write_into(&mut bytes), Ok(8));
+/// assert_eq!(rt; bytes, [0x00, 0x17, 0x00, 0x04, 0x02, 0x00, 0x00, 0x00]);
+/// ```
 pub type RequestedAddressFamily = FieldsAttribute<RequestedAddressFamilyKind, AddressFamily>;
 
 /// The kind of [`RequestedAddressFamily`].
@@ -77,9 +117,21 @@ impl AttributeKind for RequestedAddressFamilyKind {
     }
 }
 
-/// EVEN-PORT: the relayed port is to be even (RFC 8656, section 18.7), and if the value is true
-/// the next-higher port is to be reserved too. It is one byte, whose highest bit is read; the
-/// others are written 0 and ignored.
+/// EVEN-PORT: the relayed port is to be even (RFC 8656, section 18.7), and if the value is true the
+/// next-higher port is to be reserved too. It is one byte, whose highest bit is read; the others
+/// are written 0 and ignored.
+///
+/// # Examples
+///
+/// ```
+/// use stun_types::prelude::*;
+/// use turn_attrs::EvenPort;
+///
+/// // The next-higher port is to be reserved too.
+/// let mut bytes = [0; 8];
+/// assert_eq!(rt; EvenPort::new(true).write_into(&mut bytes), Ok(8));
+/// assert_eq!(rt; bytes, [0x00, 0x18, 0x00, 0x01, 0x80, 0x00, 0x00, 0x00]);
+/// ```
 pub type EvenPort = FieldsAttribute<EvenPortKind, bool>;
 
 /// The kind of [`EvenPort`].
@@ -103,6 +155,18 @@ impl AttributeKind for EvenPortKind {
 /// REQUESTED-TRANSPORT: the protocol between the server and the peers (RFC 8656, section 18.8). The
 /// value is its number in a byte, 17 for UDP and 6 for TCP (RFC 6062), and three bytes that are
 /// written 0 and ignored.
+///
+/// # Examples
+///
+/// ```
+/// use stun_types::prelude::*;
+/// use turn_attrs::RequestedTransport;
+///
+/// // UDP between the server and the peers.
+/// let mut bytes = [0; 8];
+/// assert_eq!(rt; RequestedTransport::new(17).write_into(&mut bytes), Ok(8));
+/// assert_eq!(rt; bytes, [0x00, 0x19, 0x00, 0x04, 0x11, 0x00, 0x00, 0x00]);
+/// ```
 pub type RequestedTransport = FieldsAttribute<RequestedTransportKind, u8>;
 
 /// The kind of [`RequestedTransport`].
@@ -125,6 +189,17 @@ impl AttributeKind for RequestedTransportKind {
 
 /// DONT-FRAGMENT: packets to peers are not to be fragmented (RFC 8656, section 18.9). The value has
 /// no bytes.
+///
+/// # Examples
+///
+/// ```
+/// use stun_types::prelude::*;
+/// use turn_attrs::DontFragment;
+///
+/// let mut bytes = [0; 4];
+/// assert_eq!(rt; DontFragment::new().write_into(&mut bytes), Ok(4));
+/// assert_eq!(rt; bytes, [0x00, 0x1A, 0x00, 0x00]);
+/// ```
 pub type DontFragment = EmptyAttribute<DontFragmentKind>;
 
 /// The kind of [`DontFragment`].
@@ -147,6 +222,18 @@ impl AttributeKind for DontFragmentKind {
 
 /// ACCESS-TOKEN: a token that another server has issued (RFC 7635, section 6.2). The value is any
 /// bytes, at most 65535, which are borrowed or owned.
+///
+/// # Examples
+///
+/// ```
+/// use stun_types::attribute::RawAttribute;
+/// use stun_types::prelude::*;
+/// use turn_attrs::AccessToken;
+///
+/// let raw = RawAttribute::from_bytes(b"\x00\x1B\x00\x05token\x00\x00\x00")?;
+/// let token = AccessToken::from_raw(alloc, raw)?;
+/// assert_eq!(rt; token.data(), b"token".as_slice());
+/// ```
 pub type AccessToken<'a> = BytesAttribute<AccessTokenKind, ShortBytes<'a>>;
 
 /// The kind of [`AccessToken`].
@@ -169,6 +256,19 @@ impl AttributeKind for AccessTokenKind {
 
 /// RESERVATION-TOKEN: the name of a port that is held in reserve (RFC 8656, section 18.10). The
 /// value is eight bytes, here as one number, big-endian.
+///
+/// # Examples
+///
+/// ```
+/// use stun_types::attribute::RawAttribute;
+/// use stun_types::prelude::*;
+/// use turn_attrs::ReservationToken;
+///
+/// // The client copies the token of the one response into another request.
+/// let raw = RawAttribute::from_bytes(b"\x00\x22\x00\x08\x01\x02\x03\x04\x05\x06\x07\x08")?;
+/// let token = ReservationToken::from_raw_ref(alloc, &raw)?;
+/// assert_eq!(rt; token.value(), 0x0102_0304_0506_0708);
+/// ```
 pub type ReservationToken = NumberAttribute<ReservationTokenKind, u64>;
 
 /// The kind of [`ReservationToken`].
@@ -191,6 +291,17 @@ impl AttributeKind for ReservationTokenKind {
 
 /// CONNECTION-ID: the connection to a peer (RFC 6062, section 6.2.1). The value is four bytes,
 /// big-endian.
+///
+/// # Examples
+///
+/// ```
+/// use stun_types::attribute::RawAttribute;
+/// use stun_types::prelude::*;
+/// use turn_attrs::ConnectionId;
+///
+/// let raw = RawAttribute::from_bytes(b"\x00\x2A\x00\x04\x00\x00\x00\x07")?;
+/// assert_eq!(rt; ConnectionId::from_raw_ref(alloc, &raw)?.value(), 7);
+/// ```
 pub type ConnectionId = NumberAttribute<ConnectionIdKind, u32>;
 
 /// The kind of [`ConnectionId`].
@@ -213,6 +324,17 @@ impl AttributeKind for ConnectionIdKind {
 
 /// ADDITIONAL-ADDRESS-FAMILY: an IPv6 address is asked for beside one of IPv4 (RFC 8656, section
 /// 18.11). The value is a byte, 2, and three bytes that are written 0 and ignored.
+///
+/// # Examples
+///
+/// ```
+/// use stun_types::prelude::*;
+/// use turn_attrs::{AdditionalAddressFamily, OnlyIpv6};
+///
+/// let mut bytes = [0; 8];
+/// assert_eq!(rt; AdditionalAddressFamily::new(OnlyIpv6).write_into(&mut bytes), Ok(8));
+/// assert_eq!(rt; bytes, [0x80, 0x00, 0x00, 0x04, 0x02, 0x00, 0x00, 0x00]);
+/// ```
 pub type AdditionalAddressFamily = FieldsAttribute<AdditionalAddressFamilyKind, OnlyIpv6>;
 
 /// The kind of [`AdditionalAddressFamily`].
@@ -236,6 +358,20 @@ impl AttributeKind for AdditionalAddressFamilyKind {
 /// ICMP: why a packet to a peer was dropped (RFC 8656, section 18.13). The value is two bytes that
 /// are written 0 and ignored, the type and the code of the ICMP message in a byte each, and four
 /// bytes of data.
+///
+/// # Examples
+///
+/// ```
+/// use stun_types::attribute::RawAttribute;
+/// use stun_types::prelude::*;
+/// use turn_attrs::{Icmp, IcmpError};
+///
+/// // Over IPv4, 3 and 4: the packet has to be fragmented, and must not be. The next hop takes 1400
+/// // bytes.
+/// let raw = RawAttribute::from_bytes(b"\x80\x04\x00\x08\x00\x00\x03\x04\x00\x00\x05\x78")?;
+/// let error = IcmpError { icmp_type: 3, code: 4, data: 1400 };
+/// assert_eq!(rt; Icmp::from_raw_ref(alloc, &raw)?.value(), error);
+/// ```
 pub type Icmp = FieldsAttribute<IcmpKind, IcmpError>;
 
 /// The kind of [`Icmp`].
@@ -256,8 +392,20 @@ impl AttributeKind for IcmpKind {
     }
 }
 
-/// MOBILITY-TICKET: by which a client keeps its allocation if its address changes (RFC 8016,
-/// section 3.3). The value is any bytes, at most 65535, which are borrowed or owned.
+/// MOBILITY-TICKET: the ticket by which a client keeps its allocation if its address changes (RFC
+/// 8016, section 3.3). The value is any bytes, at most 65535, which are borrowed or owned.
+///
+/// # Examples
+///
+/// ```
+/// use stun_types::prelude::*;
+/// use turn_attrs::MobilityTicket;
+///
+/// // The first Allocate request asks for a ticket by an empty one (RFC 8016, section 3.1.1).
+/// let mut bytes = [0; 4];
+/// assert_eq!(rt; MobilityTicket::new(b"")?.write_into(&mut bytes), Ok(4));
+/// assert_eq!(rt; bytes, [0x80, 0x30, 0x00, 0x00]);
+/// ```
 pub type MobilityTicket<'a> = BytesAttribute<MobilityTicketKind, ShortBytes<'a>>;
 
 /// The kind of [`MobilityTicket`].

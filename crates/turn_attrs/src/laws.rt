@@ -17,7 +17,8 @@ ghost use Rattle.turn_attrs.specs.ChannelMessages.{channel_fault, data_of, padde
 ghost use Rattle.turn_attrs.specs.Channels.{channel_in, channel_number, begin_fault, data_length};
 ghost use Rattle.turn_attrs.specs.Turn.{address_error_value, failed_error, failed_family, family_in, family_number, icmp_in, icmp_number, ipv6_in, ipv6_number, protocol_in, protocol_number, reserve_in, reserve_number, ReadsAddressError};
 
-/// The number of a channel, a family, a flag, a protocol and an ICMP error holds it.
+/// The number that encodes a channel, a family, a flag, a protocol or an ICMP error holds it, so
+/// that each is read back.
 pub fn fields_are_held()
     ensures channel { (channel : ℕ) → 0x4000 ≤ channel → channel ≤ 0x4FFF
         → channel_in (channel_number channel) ≡ Some channel }
@@ -29,7 +30,7 @@ pub fn fields_are_held()
         → error.«data» < 2 ^ 32 → icmp_in (icmp_number error) ≡ Some error }
 {}
 
-/// An ADDRESS-ERROR-CODE is read back, unless out of memory.
+/// An ADDRESS-ERROR-CODE that is written is read back as the same value, unless out of memory.
 #[tactic(auto, using(crate::proofs::AddressErrorsLemmas::address_error_back))]
 pub fn address_error_is_read_back()
     ensures { (attribute : AddressErrorCode) (result : Result AddressErrorCode StunParseError)
@@ -41,7 +42,7 @@ pub fn address_error_is_read_back()
         (λ e. e ≡ OutOfMemory) }
 {}
 
-/// What a stream between a TURN client and its server cuts as ChannelData is read
+/// The ChannelData that a stream between a TURN client and its server cuts is read
 /// (`ChannelData::from_bytes`), and is as long as `channel_data_length` says; both know it by the
 /// same first byte; and what is written with its padding is ChannelData of such a stream.
 pub fn channel_data_is_framed()

@@ -16,12 +16,24 @@ impl ThirdPartyAuthorization {
     ghost use Rattle.std.specs.Prelude.{◌≡◌, ◌≤◌, ◌<◌, Err, IfOk, IfErr, length};
     ghost use Rattle.turn_attrs.specs.Turn.{server_name};
 
-    /// The attribute of this name, which is copied into memory from `alloc`.
+    /// Makes the attribute of this name, which is copied into memory from `alloc`.
     ///
     /// # Errors
     ///
     /// `TooLarge { expected: 65535, actual }` if the name has more than 65535 bytes, and
     /// `OutOfMemory` if an allocation failed.
+    ///
+    /// # Examples
+    ///
+    /// ```
+    /// use stun_types::prelude::*;
+    /// use turn_attrs::ThirdPartyAuthorization;
+    ///
+    /// let attribute = ThirdPartyAuthorization::new(alloc, "turn.example")?;
+    /// let mut bytes = [0; 16];
+    /// assert_eq!(rt; attribute.write_into(&mut bytes), Ok(16));
+    /// assert_eq!(rt; &bytes, b"\x80\x2E\x00\x0Cturn.example");
+    /// ```
     pub fn new(alloc: Global, name: &str) -> Result<Self, StunWriteError>
         ensures ok { IfOk result (λ made. server_name made ≡ name.now) }
         ensures large { 65535 < length name.now
@@ -32,7 +44,7 @@ impl ThirdPartyAuthorization {
         Ok(ThirdPartyAuthorization { name })
     }
 
-    /// The name of the server.
+    /// Returns the name of the server, as the server that issues tokens knows it.
     pub fn server(&self) -> &str
         ensures { result.now ≡ server_name self.now }
     {

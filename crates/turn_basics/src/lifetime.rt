@@ -17,14 +17,26 @@ impl Lifetime {
     ghost use Rattle.std.specs.Prelude.{◌≡◌};
     ghost use Rattle.turn_basics.specs.TurnBasics.{seconds_of};
 
-    /// The attribute of so many seconds.
+    /// Makes the attribute of so many seconds.
+    ///
+    /// # Examples
+    ///
+    /// ```
+    /// use stun_types::prelude::*;
+    /// use turn_basics::Lifetime;
+    ///
+    /// // The hour that the client of section 20 of RFC 8656 asks for.
+    /// let mut bytes = [0; 8];
+    /// assert_eq!(rt; Lifetime::new(3600).write_into(&mut bytes), Ok(8));
+    /// assert_eq!(rt; bytes, [0x00, 0x0D, 0x00, 0x04, 0x00, 0x00, 0x0E, 0x10]);
+    /// ```
     pub fn new(seconds: u32) -> Self
         ensures { seconds_of result ≡ seconds }
     {
         Lifetime { seconds }
     }
 
-    /// How many seconds.
+    /// Returns the lifetime in seconds.
     pub fn seconds(&self) -> u32
         ensures { result ≡ seconds_of self.now }
     {

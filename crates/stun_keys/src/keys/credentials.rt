@@ -8,6 +8,19 @@ use stun_grammar::{IntegrityAlgorithm, StunWriteError};
 /// The credentials with which a message is signed and validated (RFC 8489, section 9). Their texts
 /// are used as they are: no function applies SASLprep (RFC 4013) or the OpaqueString profile
 /// (RFC 8265) to them.
+///
+/// # Examples
+///
+/// ```
+/// use stun_types::message::{
+///     IntegrityAlgorithm, MessageIntegrityCredentials, ShortTermCredentials,
+/// };
+///
+/// let password = String::from_str(alloc, "VOkJxbRl1RmTxUk/WvJxBt")?;
+/// let credentials = MessageIntegrityCredentials::from(ShortTermCredentials::new(password));
+/// let key = credentials.make_key(alloc, IntegrityAlgorithm::Sha1)?;
+/// assert_eq!(rt; key.as_bytes(), b"VOkJxbRl1RmTxUk/WvJxBt".as_slice());
+/// ```
 #[derive(Debug, PartialEq, Eq, Drop)]
 pub enum MessageIntegrityCredentials {
     /// Short-term credentials: a password.
@@ -17,7 +30,7 @@ pub enum MessageIntegrityCredentials {
 }
 
 impl MessageIntegrityCredentials {
-    /// The same credentials, copied into memory that `alloc` gives.
+    /// Copies the credentials into memory that `alloc` gives.
     ///
     /// # Errors
     ///
@@ -36,8 +49,8 @@ impl MessageIntegrityCredentials {
         }
     }
 
-    /// The key for an algorithm, in memory from `alloc`, as [`ShortTermCredentials::make_key`] and
-    /// [`LongTermKeyCredentials::make_key`] make it.
+    /// Makes the key of the credentials for an algorithm, in memory from `alloc`, as
+    /// [`ShortTermCredentials::make_key`] and [`LongTermKeyCredentials::make_key`] do.
     ///
     /// One allocation. A key that makes more than two HMACs is faster after
     /// [`IntegrityKey::prepare`].

@@ -68,9 +68,9 @@ impl IntegrityKey {
     ghost use Rattle.stun_keys.specs.Prepared.{ArePrepared, are_there};
     ghost use Rattle.stun_keys.specs.Keys.{key_bytes, key_algorithm, serves, is_prepared, is_prepared_for, IsKey};
 
-    /// The key with these bytes, made for an algorithm or with none. The bytes are copied, and the
-    /// blocks of its HMACs are made, in one allocation by `alloc`. For a key that makes more than two
-    /// HMACs, [`IntegrityKey::prepare`] pays.
+    /// A key with the bytes `bytes`, made for an algorithm or with none. The bytes are copied, and
+    /// the blocks of its HMACs are made, in one allocation by `alloc`. For a key that makes more
+    /// than two HMACs, [`IntegrityKey::prepare`] pays.
     ///
     /// A server that keeps no passwords makes the keys of long-term credentials by it: for `Sha1`
     /// of the MD5 of `username:realm:password`, 16 bytes, and for `Sha256` of its SHA-256, 32 bytes
@@ -79,6 +79,16 @@ impl IntegrityKey {
     /// # Errors
     ///
     /// `OutOfMemory` alone.
+    ///
+    /// # Examples
+    ///
+    /// ```
+    /// use stun_types::message::{IntegrityAlgorithm, IntegrityKey};
+    ///
+    /// let key = IntegrityKey::new(alloc, b"secret", Some(IntegrityAlgorithm::Sha256))?;
+    /// assert_eq!(rt; key.as_bytes(), b"secret".as_slice());
+    /// assert!(rt; !key.serves(IntegrityAlgorithm::Sha1));
+    /// ```
     pub fn new(
         alloc: Global,
         bytes: &[u8],
@@ -105,6 +115,17 @@ impl IntegrityKey {
     /// # Errors
     ///
     /// `OutOfMemory` alone. The key works as before.
+    ///
+    /// # Examples
+    ///
+    /// ```
+    /// use stun_types::message::IntegrityKey;
+    ///
+    /// let mut key = IntegrityKey::new(alloc, b"secret", None)?;
+    /// let hmac = key.hmac_sha1(&[b"some bytes".as_slice()]);
+    /// key.prepare(alloc)?;
+    /// assert_eq!(rt; key.hmac_sha1(&[b"some bytes".as_slice()]), hmac);
+    /// ```
     pub fn prepare(&mut self, alloc: Global) -> Result<(), StunWriteError>
         ensures key { IsKey (key_algorithm self.old) (key_bytes self.old) self.new }
         ensures prepared { OnOk result (is_prepared self.new ≡ true) }
@@ -132,7 +153,7 @@ impl IntegrityKey {
         }
     }
 
-    /// The same key, in memory from `alloc`. Its bytes are copied; the copy isn't prepared.
+    /// Copies the key into memory from `alloc`. Its bytes are copied; the copy isn't prepared.
     ///
     /// # Errors
     ///
@@ -144,7 +165,7 @@ impl IntegrityKey {
         IntegrityKey::new(alloc, self.as_bytes(), self.algorithm)
     }
 
-    /// The bytes.
+    /// The bytes of the key.
     pub fn as_bytes(&self) -> &[u8]
         ensures { result.now ≡ key_bytes self.now }
     {
@@ -158,9 +179,20 @@ impl IntegrityKey {
         self.algorithm
     }
 
-    /// The same key with no algorithm, which works with both. RFC 8489 ties a long-term key to a
-    /// password algorithm and not to an HMAC (section 18.5.1): the MD5 of `username:realm:password`
-    /// may be the key of an HMAC-SHA256 too. Nothing is copied, and what was prepared stays so.
+    /// Converts the key into one with no algorithm, which works with both. RFC 8489 ties a
+    /// long-term key to a password algorithm and not to an HMAC (section 18.5.1): the MD5 of
+    /// `username:realm:password` may be the key of an HMAC-SHA256 too. Nothing is
+    /// copied, and what was prepared stays so.
+    ///
+    /// # Examples
+    ///
+    /// ```
+    /// use stun_types::message::{IntegrityAlgorithm, IntegrityKey};
+    ///
+    /// let key = IntegrityKey::new(alloc, b"secret", Some(IntegrityAlgorithm::Sha1))?.for_both();
+    /// assert_eq!(rt; key.algorithm(), None);
+    /// assert!(rt; key.serves(IntegrityAlgorithm::Sha256));
+    /// ```
     pub fn for_both(self) -> Self
         ensures key { IsKey None (key_bytes self) result }
         ensures prepared { is_prepared result ≡ is_prepared_for None self }
@@ -168,9 +200,19 @@ impl IntegrityKey {
         self.made_for(None)
     }
 
-    /// The same key, as if it had been made for this algorithm, or with none: so a validation with
-    /// it looks at the integrity attribute of that algorithm alone. Nothing is copied, and a key that
-    /// is prepared for what it works with then stays prepared.
+    /// Converts the key into one made for the algorithm `algorithm`, or with none: so a validation
+    /// with it looks at the integrity attribute of that algorithm alone. Nothing is
+    /// copied, and a key that is prepared for what it then works with stays prepared.
+    ///
+    /// # Examples
+    ///
+    /// ```
+    /// use stun_types::message::{IntegrityAlgorithm, IntegrityKey};
+    ///
+    /// let key = IntegrityKey::new(alloc, b"secret", None)?;
+    /// let key = key.made_for(Some(IntegrityAlgorithm::Sha256));
+    /// assert_eq!(rt; key.algorithm(), Some(IntegrityAlgorithm::Sha256));
+    /// ```
     pub fn made_for(self, algorithm: Option<IntegrityAlgorithm>) -> Self
         ensures key { IsKey algorithm (key_bytes self) result }
         ensures prepared { is_prepared result ≡ is_prepared_for algorithm self }
@@ -182,7 +224,7 @@ impl IntegrityKey {
         }
     }
 
-    /// Whether the key works with an algorithm: it was made for that one, or has none.
+    /// Whether the key works with the algorithm `algorithm`: it was made for that one, or has none.
     pub fn serves(&self, algorithm: IntegrityAlgorithm) -> bool
         ensures { result ≡ serves (key_algorithm self.now) algorithm }
     {
@@ -226,6 +268,17 @@ impl IntegrityKey {
 
     /// HMAC-SHA1 of the pieces, joined, under the key: 20 bytes (RFC 2104). The algorithm that the
     /// key was made for does not matter. It takes no memory.
+    ///
+    /// # Examples
+    ///
+    /// ```
+    /// use stun_types::message::IntegrityKey;
+    ///
+    /// // the second test case of RFC 2202
+    /// let key = IntegrityKey::new(alloc, b"Jefe", None)?;
+    /// let hmac = key.hmac_sha1(&[b"what do ya want ".as_slice(), b"for nothing?"]);
+    /// assert_eq!(rt; &hmac[..4], [0xEF, 0xFC, 0xDF, 0x6A].as_slice());
+    /// ```
     pub fn hmac_sha1(&self, pieces: &[&[u8]]) -> [u8; 20]
         ensures { result ≡ hmac IntegrityAlgorithm.Sha1 (key_bytes self.now)
             (concat (map (λ piece. piece.now) pieces.now)) }
@@ -235,6 +288,17 @@ impl IntegrityKey {
 
     /// HMAC-SHA256 of the pieces, joined, under the key: 32 bytes (RFC 2104). The algorithm that
     /// the key was made for does not matter. It takes no memory.
+    ///
+    /// # Examples
+    ///
+    /// ```
+    /// use stun_types::message::IntegrityKey;
+    ///
+    /// // the second test case of RFC 4231
+    /// let key = IntegrityKey::new(alloc, b"Jefe", None)?;
+    /// let hmac = key.hmac_sha256(&[b"what do ya want ".as_slice(), b"for nothing?"]);
+    /// assert_eq!(rt; &hmac[..4], [0x5B, 0xDC, 0xC1, 0x46].as_slice());
+    /// ```
     pub fn hmac_sha256(&self, pieces: &[&[u8]]) -> [u8; 32]
         ensures { result ≡ hmac IntegrityAlgorithm.Sha256 (key_bytes self.now)
             (concat (map (λ piece. piece.now) pieces.now)) }

@@ -22,7 +22,18 @@ pub struct LongTermCredentials {
 }
 
 impl LongTermCredentials {
-    /// The credentials of a username and a password, which they own.
+    /// Credentials of a username and a password, which they own.
+    ///
+    /// # Examples
+    ///
+    /// ```
+    /// use stun_types::message::LongTermCredentials;
+    ///
+    /// let copy = |text| String::from_str(alloc, text);
+    /// let credentials = LongTermCredentials::new(copy("user")?, copy("pass")?);
+    /// assert_eq!(rt; credentials.username(), "user");
+    /// assert_eq!(rt; credentials.password(), "pass");
+    /// ```
     pub fn new(username: String, password: String) -> Self
         ensures username { login_username result ≡ string_bytes username }
         ensures password { login_password result ≡ string_bytes password }
@@ -33,7 +44,7 @@ impl LongTermCredentials {
         }
     }
 
-    /// The same credentials, copied into memory that `alloc` gives.
+    /// Copies the credentials into memory that `alloc` gives.
     ///
     /// # Errors
     ///
@@ -47,26 +58,38 @@ impl LongTermCredentials {
         Ok(LongTermCredentials { username, password })
     }
 
-    /// The username.
+    /// The username of the credentials.
     pub fn username(&self) -> &str
         ensures { result.now ≡ login_username self.now }
     {
         self.username.as_str()
     }
 
-    /// The password.
+    /// The password of the credentials.
     pub fn password(&self) -> &str
         ensures { result.now ≡ login_password self.now }
     {
         self.password.as_str()
     }
 
-    /// These credentials in a realm, which the result owns. Username and password are copied into
-    /// memory that `alloc` gives.
+    /// Makes the credentials of a realm, which they own, from a username and a password. Username
+    /// and password are copied into memory that `alloc` gives.
     ///
     /// # Errors
     ///
     /// `OutOfMemory` alone.
+    ///
+    /// # Examples
+    ///
+    /// ```
+    /// use stun_types::message::LongTermCredentials;
+    ///
+    /// let copy = |text| String::from_str(alloc, text);
+    /// let credentials = LongTermCredentials::new(copy("user")?, copy("pass")?);
+    /// let in_realm = credentials.to_key(alloc, copy("realm")?)?;
+    /// assert_eq!(rt; in_realm.username(), "user");
+    /// assert_eq!(rt; in_realm.realm(), "realm");
+    /// ```
     pub fn to_key(
         &self,
         alloc: Global,

@@ -24,7 +24,19 @@ pub struct LongTermKeyCredentials {
 }
 
 impl LongTermKeyCredentials {
-    /// The credentials of a username, a password and a realm, which they own.
+    /// Credentials of a username, a password and a realm, which they own.
+    ///
+    /// # Examples
+    ///
+    /// ```
+    /// use stun_types::message::LongTermKeyCredentials;
+    ///
+    /// let copy = |text| String::from_str(alloc, text);
+    /// let credentials = LongTermKeyCredentials::new(copy("user")?, copy("pass")?, copy("realm")?);
+    /// assert_eq!(rt; credentials.username(), "user");
+    /// assert_eq!(rt; credentials.password(), "pass");
+    /// assert_eq!(rt; credentials.realm(), "realm");
+    /// ```
     pub fn new(username: String, password: String, realm: String) -> Self
         ensures username { long_term_username result ≡ string_bytes username }
         ensures password { long_term_password result ≡ string_bytes password }
@@ -46,7 +58,7 @@ impl LongTermKeyCredentials {
         }
     }
 
-    /// The same credentials, copied into memory that `alloc` gives.
+    /// Copies the credentials into memory that `alloc` gives.
     ///
     /// # Errors
     ///
@@ -65,30 +77,30 @@ impl LongTermKeyCredentials {
         })
     }
 
-    /// The username.
+    /// The username of the credentials.
     pub fn username(&self) -> &str
         ensures { result.now ≡ long_term_username self.now }
     {
         self.username.as_str()
     }
 
-    /// The password.
+    /// The password of the credentials.
     pub fn password(&self) -> &str
         ensures { result.now ≡ long_term_password self.now }
     {
         self.password.as_str()
     }
 
-    /// The realm.
+    /// The realm of the credentials.
     pub fn realm(&self) -> &str
         ensures { result.now ≡ long_term_realm self.now }
     {
         self.realm.as_str()
     }
 
-    /// The key for an algorithm, in memory from `alloc`: for `Sha1` the MD5 of
-    /// `username:realm:password`, 16 bytes, and for `Sha256` its SHA-256, 32 bytes (RFC 8489,
-    /// sections 9.2.2 and 18.5.1). The three texts are not copied.
+    /// Makes the key of the credentials for an algorithm, in memory from `alloc`: for `Sha1` the
+    /// MD5 of `username:realm:password`, 16 bytes, and for `Sha256` its SHA-256, 32 bytes (RFC
+    /// 8489, sections 9.2.2 and 18.5.1). The three texts are not copied.
     ///
     /// One allocation. A key that makes more than two HMACs is faster after
     /// [`IntegrityKey::prepare`].
@@ -96,6 +108,19 @@ impl LongTermKeyCredentials {
     /// # Errors
     ///
     /// `OutOfMemory` alone.
+    ///
+    /// # Examples
+    ///
+    /// ```
+    /// use stun_types::message::{IntegrityAlgorithm, LongTermKeyCredentials};
+    ///
+    /// // the example of RFC 8489, section 9.2.2
+    /// let copy = |text| String::from_str(alloc, text);
+    /// let credentials = LongTermKeyCredentials::new(copy("user")?, copy("pass")?, copy("realm")?);
+    /// let key = credentials.make_key(alloc, IntegrityAlgorithm::Sha1)?;
+    /// assert_eq!(rt; key.as_bytes().len(), 16);
+    /// assert_eq!(rt; &key.as_bytes()[..4], [0x84, 0x93, 0xFB, 0xC5].as_slice());
+    /// ```
     pub fn make_key(
         &self,
         alloc: Global,

@@ -19,7 +19,16 @@ pub struct ShortTermCredentials {
 }
 
 impl ShortTermCredentials {
-    /// The credentials of a password, which they own.
+    /// Credentials of a password, which they own.
+    ///
+    /// # Examples
+    ///
+    /// ```
+    /// use stun_types::message::ShortTermCredentials;
+    ///
+    /// let credentials = ShortTermCredentials::new(String::from_str(alloc, "pass")?);
+    /// assert_eq!(rt; credentials.password(), "pass");
+    /// ```
     pub fn new(password: String) -> Self
         ensures { short_term_password result ≡ string_bytes password }
     {
@@ -27,7 +36,7 @@ impl ShortTermCredentials {
         ShortTermCredentials { password }
     }
 
-    /// The same credentials, copied into memory that `alloc` gives.
+    /// Copies the credentials into memory that `alloc` gives.
     ///
     /// # Errors
     ///
@@ -41,15 +50,15 @@ impl ShortTermCredentials {
         Ok(ShortTermCredentials { password })
     }
 
-    /// The password.
+    /// The password of the credentials.
     pub fn password(&self) -> &str
         ensures { result.now ≡ short_term_password self.now }
     {
         self.password.as_str()
     }
 
-    /// The key, in memory from `alloc`: the bytes of the password. It has no algorithm, and so works
-    /// with both (RFC 8489, section 9.1.1).
+    /// Makes the key of the credentials, in memory from `alloc`: the bytes of the password. It has
+    /// no algorithm, and so works with both (RFC 8489, section 9.1.1).
     ///
     /// One allocation. A key that makes more than two HMACs is faster after
     /// [`IntegrityKey::prepare`].
@@ -57,6 +66,18 @@ impl ShortTermCredentials {
     /// # Errors
     ///
     /// `OutOfMemory` alone.
+    ///
+    /// # Examples
+    ///
+    /// ```
+    /// use stun_types::message::ShortTermCredentials;
+    ///
+    /// let password = String::from_str(alloc, "VOkJxbRl1RmTxUk/WvJxBt")?;
+    /// let credentials = ShortTermCredentials::new(password);
+    /// let key = credentials.make_key(alloc)?;
+    /// assert_eq!(rt; key.as_bytes(), b"VOkJxbRl1RmTxUk/WvJxBt".as_slice());
+    /// assert_eq!(rt; key.algorithm(), None);
+    /// ```
     pub fn make_key(&self, alloc: Global) -> Result<IntegrityKey, StunWriteError>
         ensures ok { IfOk result (IsKey None (short_term_password self.now)) }
         ensures err { IfErr result (λ e. e ≡ StunWriteError.OutOfMemory) }

@@ -13,14 +13,9 @@ use stun_base::{MessageClass, MessageType, Method, StunWriteError, TransactionId
 use stun_write::{MessageWrite, begin_message, begin_message_into};
 
 impl Message<'_> {
-    /// Begins a message of this type and transaction ID: writes the twenty bytes of its header,
-    /// with the length 0, into `write`, and returns the writer (RFC 8489, section 5).
-    ///
-    /// ```
-    /// let mtype = MessageType::from_class_method(MessageClass::Request, BINDING);
-    /// let mut message = Message::builder(mtype, id, MessageWriteVec::new(alloc))?;
-    /// message.add_attribute(&Software::new(alloc, "my client")?)?;
-    /// ```
+    /// Begins a message of the type `mtype` with the transaction ID `transaction_id`: writes the
+    /// twenty bytes of its header, with the length 0, into `write`, and returns the writer (RFC
+    /// 8489, section 5).
     ///
     /// # Requires
     ///
@@ -32,6 +27,23 @@ impl Message<'_> {
     ///
     /// Only `OutOfMemory`, and only if fewer than twenty bytes are ready; the writer is dropped
     /// then.
+    ///
+    /// # Examples
+    ///
+    /// ```
+    /// use stun_types::attribute::Software;
+    /// use stun_types::message::{
+    ///     BINDING, Message, MessageClass, MessageType, MessageWriteVec, TransactionId,
+    /// };
+    /// use stun_types::prelude::*;
+    ///
+    /// let mtype = MessageType::from_class_method(MessageClass::Request, BINDING);
+    /// let id = TransactionId::from_bytes(b"abcdefghijkl");
+    /// let mut message = Message::builder(mtype, id, MessageWriteVec::new(alloc))?;
+    /// message.add_attribute(&Software::new(alloc, "STUN")?)?;
+    /// let bytes = b"\x00\x01\x00\x08\x21\x12\xA4\x42abcdefghijkl\x80\x22\x00\x04STUN";
+    /// assert_eq!(rt; message.finish().as_slice(), bytes.as_slice());
+    /// ```
     #[inline(always)]
     pub fn builder<B: MessageWrite + Drop>(
         mtype: MessageType,
@@ -45,7 +57,7 @@ impl Message<'_> {
         begin_message(mtype, transaction_id, write)
     }
 
-    /// As [`Message::builder`], but borrows the writer.
+    /// Begins a message in a borrowed writer, as [`Message::builder`] does.
     ///
     /// # Requires
     ///
@@ -55,6 +67,22 @@ impl Message<'_> {
     ///
     /// Only `OutOfMemory`, and only if fewer than twenty bytes are ready; nothing is written
     /// then.
+    ///
+    /// # Examples
+    ///
+    /// ```
+    /// use stun_types::message::{
+    ///     BINDING, Message, MessageClass, MessageType, MessageWriteMutSlice, TransactionId,
+    /// };
+    /// use stun_types::prelude::*;
+    ///
+    /// let mut slice = [0; 28];
+    /// let mut write = MessageWriteMutSlice::new(alloc, &mut slice);
+    /// let mtype = MessageType::from_class_method(MessageClass::Request, BINDING);
+    /// Message::builder_into(mtype, TransactionId::from(1000), &mut write)?;
+    /// write.add_fingerprint()?;
+    /// assert_eq!(rt; write.finish(), 28);
+    /// ```
     #[inline(always)]
     pub fn builder_into<B: MessageWrite>(
         mtype: MessageType,
@@ -69,8 +97,8 @@ impl Message<'_> {
         begin_message_into(mtype, transaction_id, write)
     }
 
-    /// Begins a request of this method, with a transaction ID that is drawn from `rng` as
-    /// [`TransactionId::generate`] does (RFC 8489, section 6.1).
+    /// Begins a request with the method `method` and a transaction ID that
+    /// [`TransactionId::generate`] draws from `rng` (RFC 8489, section 6.1).
     ///
     /// # Requires
     ///
@@ -79,6 +107,20 @@ impl Message<'_> {
     /// # Errors
     ///
     /// As for [`Message::builder`]; the ID is drawn all the same.
+    ///
+    /// # Examples
+    ///
+    /// ```
+    /// use rand::{make_rng, rngs::StdRng};
+    /// use stun_types::message::{BINDING, Message, MessageClass, MessageWriteVec};
+    /// use stun_types::prelude::*;
+    ///
+    /// let mut rng: StdRng = make_rng(&rt)?;
+    /// let mut request = Message::builder_request(BINDING, &mut rng, MessageWriteVec::new(alloc))?;
+    /// request.add_fingerprint()?;
+    /// let bytes = request.finish();
+    /// assert!(rt; Message::from_bytes(&bytes)?.has_class(MessageClass::Request));
+    /// ```
     pub fn builder_request<R: Rng, B: MessageWrite + Drop>(
         method: Method,
         rng: &mut R,
@@ -94,7 +136,7 @@ impl Message<'_> {
         Ok(write)
     }
 
-    /// As [`Message::builder_request`], but borrows the writer.
+    /// Begins a request in a borrowed writer, as [`Message::builder_request`] does.
     ///
     /// # Requires
     ///
@@ -119,7 +161,8 @@ impl Message<'_> {
         Self::builder_into(mtype, TransactionId::generate(rng), write)
     }
 
-    /// As [`Message::builder_request`], but begins an indication, which expects no response.
+    /// Begins an indication, which expects no response, with the method `method` and a transaction
+    /// ID drawn from `rng`, as [`Message::builder_request`] begins a request.
     ///
     /// # Requires
     ///
@@ -128,6 +171,19 @@ impl Message<'_> {
     /// # Errors
     ///
     /// As for [`Message::builder_request`].
+    ///
+    /// # Examples
+    ///
+    /// ```
+    /// use rand::{make_rng, rngs::StdRng};
+    /// use stun_types::message::{BINDING, Message, MessageClass, MessageWriteVec};
+    /// use stun_types::prelude::*;
+    ///
+    /// let mut rng: StdRng = make_rng(&rt)?;
+    /// let write = MessageWriteVec::new(alloc);
+    /// let indication = Message::builder_indication(BINDING, &mut rng, write)?;
+    /// assert!(rt; indication.has_class(MessageClass::Indication));
+    /// ```
     pub fn builder_indication<R: Rng, B: MessageWrite + Drop>(
         method: Method,
         rng: &mut R,
@@ -143,7 +199,7 @@ impl Message<'_> {
         Ok(write)
     }
 
-    /// As [`Message::builder_indication`], but borrows the writer.
+    /// Begins an indication in a borrowed writer, as [`Message::builder_indication`] does.
     ///
     /// # Requires
     ///

@@ -11,8 +11,8 @@ use stun_base::{AttributeType, StunParseError};
 use stun_read::nth_raw;
 
 impl<'a> Message<'a> {
-    /// The attribute at place `n`, counted from 0, of the attributes of the type `atype` that the
-    /// message shows, with the offset of its header from the start of the message. `None` if it
+    /// The attribute at place `n`, counted from 0, among those of the type `atype` that the message
+    /// shows, with the offset of its header in bytes from the start of the message. `None` if it
     /// shows no more than `n` of them.
     ///
     /// [`Message::iter_attributes`] says which attributes are shown. This walks them once, up
@@ -20,8 +20,20 @@ impl<'a> Message<'a> {
     /// MESSAGE-INTEGRITY-SHA256 at place 0 at once, and no other attribute. The value borrows the
     /// bytes of the message for `'a`, and may outlive the message.
     ///
+    /// # Examples
+    ///
     /// ```
-    /// let second = message.nth_raw_attribute_and_offset(AttributeType(0x0001), 1);
+    /// use stun_types::attribute::AttributeType;
+    /// use stun_types::message::Message;
+    ///
+    /// let bytes = b"\x00\x01\x00\x10\x21\x12\xA4\x42abcdefghijkl\
+    ///     \x88\x51\x00\x01a\0\0\0\x88\x51\x00\x01b\0\0\0";
+    /// let message = Message::from_bytes(bytes)?;
+    /// let (offset, second) = message
+    ///     .nth_raw_attribute_and_offset(AttributeType(0x8851), 1)
+    ///     .ok_or("there is one")?;
+    /// assert_eq!(rt; offset, 28);
+    /// assert_eq!(rt; second.value().as_bytes(), b"b".as_slice());
     /// ```
     #[tactic(auto, using(stun_grammar::proofs::ParsingLemmas::parsed_frame))]
     pub fn nth_raw_attribute_and_offset(
@@ -34,7 +46,20 @@ impl<'a> Message<'a> {
         nth_raw(self.as_bytes(), self.integrity_offsets(), atype, n)
     }
 
-    /// As [`Message::nth_raw_attribute_and_offset`], without the offset.
+    /// The attribute at place `n`, counted from 0, among those of the type `atype` that the message
+    /// shows, as [`Message::nth_raw_attribute_and_offset`] finds it.
+    ///
+    /// # Examples
+    ///
+    /// ```
+    /// use stun_types::attribute::AttributeType;
+    /// use stun_types::message::Message;
+    ///
+    /// let bytes = b"\x00\x01\x00\x08\x21\x12\xA4\x42abcdefghijkl\x88\x51\x00\x01a\0\0\0";
+    /// let message = Message::from_bytes(bytes)?;
+    /// assert!(rt; message.nth_raw_attribute(AttributeType(0x8851), 0).is_some());
+    /// assert!(rt; message.nth_raw_attribute(AttributeType(0x8851), 1).is_none());
+    /// ```
     pub fn nth_raw_attribute(&self, atype: AttributeType, n: usize) -> Option<RawAttribute<'a>>
         ensures { IsRawFound (nth (message_bytes self.now) atype.0 n) result }
     {
@@ -43,7 +68,7 @@ impl<'a> Message<'a> {
     }
 
     /// The first attribute of the type `atype` that the message shows, with the offset of its
-    /// header: [`Message::nth_raw_attribute_and_offset`] with 0.
+    /// header in bytes: [`Message::nth_raw_attribute_and_offset`] with 0.
     pub fn raw_attribute_and_offset(
         &self,
         atype: AttributeType,
@@ -59,15 +84,24 @@ impl<'a> Message<'a> {
     /// Each look-up walks the attributes anew, so one for each type of a message with n
     /// attributes takes some n² steps. If several types are wanted, one walk finds them all:
     ///
+    /// # Examples
+    ///
     /// ```
-    /// let (mut priority, mut username) = (None, None);
+    /// use stun_types::message::Message;
+    /// use stun_types::prelude::*;
+    ///
+    /// let bytes = b"\x00\x01\x00\x10\x21\x12\xA4\x42abcdefghijkl\
+    ///     \x80\x22\x00\x04STUN\x00\x06\x00\x03bob\0";
+    /// let message = Message::from_bytes(bytes)?;
+    /// let (mut software, mut username) = (None, None);
     /// for (_offset, attribute) in message.iter_attributes() {
     ///     match attribute.get_type().value() {
-    ///         0x0024 if priority.is_none() => priority = Some(attribute),
+    ///         0x8022 if software.is_none() => software = Some(attribute),
     ///         0x0006 if username.is_none() => username = Some(attribute),
     ///         _ => {}
     ///     }
     /// }
+    /// assert!(rt; software.is_some() && username.is_some());
     /// ```
     pub fn raw_attribute(&self, atype: AttributeType) -> Option<RawAttribute<'a>>
         ensures { IsRawFound (nth (message_bytes self.now) atype.0 0) result }
@@ -76,14 +110,26 @@ impl<'a> Message<'a> {
     }
 
     /// Whether the message shows an attribute of the type `atype`. It takes no memory.
+    ///
+    /// # Examples
+    ///
+    /// ```
+    /// use stun_types::attribute::{Realm, Software};
+    /// use stun_types::message::Message;
+    /// use stun_types::prelude::*;
+    ///
+    /// let bytes = b"\x00\x01\x00\x08\x21\x12\xA4\x42abcdefghijkl\x80\x22\x00\x04STUN";
+    /// let message = Message::from_bytes(bytes)?;
+    /// assert!(rt; message.has_attribute(Software::TYPE) && !message.has_attribute(Realm::TYPE));
+    /// ```
     pub fn has_attribute(&self, atype: AttributeType) -> bool
         ensures { result ≡ is_some (nth (message_bytes self.now) atype.0 0) }
     {
         self.raw_attribute(atype).is_some()
     }
 
-    /// Reads the attribute at place `n`, counted from 0, of the attributes of the type `A::TYPE`
-    /// that the message shows, and returns it with the offset of its header from the start of the
+    /// Reads the attribute at place `n`, counted from 0, among those of the type `A::TYPE` that the
+    /// message shows, and returns it with the offset of its header in bytes from the start of the
     /// message.
     ///
     /// It walks the attributes once, up to the one that it finds. It takes memory from `alloc`
@@ -91,15 +137,24 @@ impl<'a> Message<'a> {
     /// message for `'a`: `A::from_raw` is given a value that is borrowed (`reads_borrowed` of
     /// [`AttributeFromRaw`]).
     ///
-    /// ```
-    /// let (offset, software) = message.nth_attribute_and_offset::<Software>(alloc, 1)?;
-    /// ```
-    ///
     /// # Errors
     ///
     /// `MissingAttribute(A::TYPE)` if the message shows no more than `n` attributes of the type.
     /// Otherwise the errors of `A::from_raw`: those of the value, and `OutOfMemory` if it needs
     /// memory, as for a text or a list, and an allocation failed.
+    ///
+    /// # Examples
+    ///
+    /// ```
+    /// use stun_types::attribute::Software;
+    /// use stun_types::message::Message;
+    ///
+    /// let bytes = b"\x00\x01\x00\x10\x21\x12\xA4\x42abcdefghijkl\
+    ///     \x80\x22\x00\x04ABCD\x80\x22\x00\x04EFGH";
+    /// let message = Message::from_bytes(bytes)?;
+    /// let (offset, software) = message.nth_attribute_and_offset::<Software>(alloc, 1)?;
+    /// assert_eq!(rt; (offset, software.software()), (28, "EFGH"));
+    /// ```
     pub fn nth_attribute_and_offset<A: AttributeFromRaw<'a> + AttributeStaticType>(
         &self,
         alloc: Global,
@@ -116,13 +171,28 @@ impl<'a> Message<'a> {
         Ok((offset, attribute))
     }
 
-    /// As [`Message::nth_attribute_and_offset`], without the offset.
+    /// Reads the attribute at place `n`, counted from 0, among those of the type `A::TYPE` that the
+    /// message shows, as [`Message::nth_attribute_and_offset`] does.
     ///
     /// # Errors
     ///
     /// `MissingAttribute(A::TYPE)` if the message shows no more than `n` attributes of the type.
     /// Otherwise the errors of `A::from_raw`, `OutOfMemory` among them, as for
     /// [`Message::nth_attribute_and_offset`].
+    ///
+    /// # Examples
+    ///
+    /// ```
+    /// use stun_types::attribute::Software;
+    /// use stun_types::message::{Message, StunParseError};
+    /// use stun_types::prelude::*;
+    ///
+    /// let bytes = b"\x00\x01\x00\x08\x21\x12\xA4\x42abcdefghijkl\x80\x22\x00\x04STUN";
+    /// let message = Message::from_bytes(bytes)?;
+    /// assert_eq!(rt; message.nth_attribute::<Software>(alloc, 0)?.software(), "STUN");
+    /// let missing = StunParseError::MissingAttribute(Software::TYPE);
+    /// assert_eq!(rt; message.nth_attribute::<Software>(alloc, 1), Err(missing));
+    /// ```
     pub fn nth_attribute<A: AttributeFromRaw<'a> + AttributeStaticType>(
         &self,
         alloc: Global,
@@ -137,7 +207,7 @@ impl<'a> Message<'a> {
     }
 
     /// Reads the first attribute of the type `A::TYPE` that the message shows, and returns it with
-    /// the offset of its header: [`Message::nth_attribute_and_offset`] with 0.
+    /// the offset of its header in bytes: [`Message::nth_attribute_and_offset`] with 0.
     ///
     /// # Errors
     ///
@@ -158,15 +228,24 @@ impl<'a> Message<'a> {
     /// Reads the first attribute of the type `A::TYPE` that the message shows:
     /// [`Message::nth_attribute`] with 0.
     ///
-    /// ```
-    /// let software = message.attribute::<Software>(alloc)?;
-    /// ```
-    ///
     /// # Errors
     ///
     /// `MissingAttribute(A::TYPE)` if the message shows no attribute of the type. Otherwise the
     /// errors of `A::from_raw`: those of the value, and `OutOfMemory` if it needs memory, as for
     /// a text or a list, and an allocation failed.
+    ///
+    /// # Examples
+    ///
+    /// ```
+    /// use stun_types::attribute::{Software, Username};
+    /// use stun_types::message::Message;
+    ///
+    /// let bytes = b"\x00\x01\x00\x10\x21\x12\xA4\x42abcdefghijkl\
+    ///     \x80\x22\x00\x04STUN\x00\x06\x00\x03bob\0";
+    /// let message = Message::from_bytes(bytes)?;
+    /// assert_eq!(rt; message.attribute::<Software>(alloc)?.software(), "STUN");
+    /// assert_eq!(rt; message.attribute::<Username>(alloc)?.username(), "bob");
+    /// ```
     pub fn attribute<A: AttributeFromRaw<'a> + AttributeStaticType>(
         &self,
         alloc: Global,

@@ -47,12 +47,6 @@ impl<'a> Message<'a> {
     /// longer than the datagram that was received into it, cut them first to the length that
     /// [`message_length`](crate::message::message_length) returns.
     ///
-    /// ```
-    /// let message = Message::from_bytes(packet)?;
-    /// let asks = message.has_class(MessageClass::Request) && message.has_method(BINDING);
-    /// let id = message.transaction_id();
-    /// ```
-    ///
     /// The scan passes ordinary attributes, and then ending ones (MESSAGE-INTEGRITY,
     /// MESSAGE-INTEGRITY-SHA256 and FINGERPRINT), each at most once and in any order. It stops,
     /// without an error, at an ordinary attribute after an ending one and at an ending type that it
@@ -73,6 +67,19 @@ impl<'a> Message<'a> {
     /// - for a FINGERPRINT, also `Truncated { expected: 4, actual }` or
     ///   `TooLarge { expected: 4, actual }` if its value doesn't have four bytes, and
     ///   `FingerprintMismatch` if the value isn't right.
+    ///
+    /// # Examples
+    ///
+    /// ```
+    /// use stun_types::message::{BINDING, Message, MessageClass, StunParseError};
+    ///
+    /// let bytes = b"\x00\x01\x00\x08\x21\x12\xA4\x42abcdefghijkl\x80\x22\x00\x04STUN";
+    /// let message = Message::from_bytes(bytes)?;
+    /// assert!(rt; message.has_class(MessageClass::Request) && message.has_method(BINDING));
+    /// assert_eq!(rt; message.transaction_id().to_bytes(), *b"abcdefghijkl");
+    /// let cut_off = StunParseError::Truncated { expected: 28, actual: 24 };
+    /// assert_eq!(rt; Message::from_bytes(&bytes[..24]).err(), Some(cut_off));
+    /// ```
     #[inline(always)]
     pub fn from_bytes(bytes: &'a [u8]) -> Result<Message<'a>, StunParseError>
         ensures { MatchResult result
@@ -83,8 +90,8 @@ impl<'a> Message<'a> {
         Ok(Message { bytes, offsets })
     }
 
-    /// The bytes that it was parsed from. They parse: a function that is handed a message need not
-    /// parse its bytes again.
+    /// The bytes that the message was parsed from. They parse: a function that is handed a message
+    /// need not parse its bytes again.
     pub fn as_bytes(&self) -> &'a [u8]
         ensures value { result.now ≡ message_bytes self.now }
         ensures accepted { parse_fault (message_bytes self.now) ≡ None }
@@ -99,71 +106,149 @@ impl<'a> Message<'a> {
         self.offsets
     }
 
-    /// The header: message type, length field and transaction ID, which the methods below return
-    /// one by one.
+    /// The header of the message: type, length field and transaction ID, which the methods below
+    /// return one by one.
     pub fn header(&self) -> MessageHeader
         ensures { result ≡ header_of (message_bytes self.now) }
     {
         read_header(self.bytes)
     }
 
-    /// The message type: class and method.
+    /// The type of the message: class and method.
+    ///
+    /// # Examples
+    ///
+    /// ```
+    /// use stun_types::message::{BINDING, Message, MessageClass, MessageType};
+    ///
+    /// let message = Message::from_bytes(b"\x01\x01\x00\x00\x21\x12\xA4\x42abcdefghijkl")?;
+    /// let mtype = MessageType::from_class_method(MessageClass::Success, BINDING);
+    /// assert_eq!(rt; message.get_type(), mtype);
+    /// ```
     pub fn get_type(&self) -> MessageType
         ensures { result ≡ type_field (message_bytes self.now) }
     {
         self.header().get_type()
     }
 
-    /// The class.
+    /// The class of the message.
+    ///
+    /// # Examples
+    ///
+    /// ```
+    /// use stun_types::message::{Message, MessageClass};
+    ///
+    /// let message = Message::from_bytes(b"\x01\x11\x00\x00\x21\x12\xA4\x42abcdefghijkl")?;
+    /// assert_eq!(rt; message.class(), MessageClass::Error);
+    /// ```
     pub fn class(&self) -> MessageClass
         ensures { result ≡ class_of (type_field (message_bytes self.now)) }
     {
         self.get_type().class()
     }
 
-    /// Whether the class is `cls`.
+    /// Whether the class of the message is `cls`.
+    ///
+    /// # Examples
+    ///
+    /// ```
+    /// use stun_types::message::{Message, MessageClass};
+    ///
+    /// let message = Message::from_bytes(b"\x00\x11\x00\x00\x21\x12\xA4\x42abcdefghijkl")?;
+    /// assert!(rt; message.has_class(MessageClass::Indication));
+    /// assert!(rt; !message.has_class(MessageClass::Request));
+    /// ```
     pub fn has_class(&self, cls: MessageClass) -> bool
         ensures { IsTrue result ↔ (class_of (type_field (message_bytes self.now)) ≡ cls) }
     {
         self.class() == cls
     }
 
-    /// Whether the class is success or error.
+    /// Whether the message is a response: its class is success or error.
+    ///
+    /// # Examples
+    ///
+    /// ```
+    /// use stun_types::message::Message;
+    ///
+    /// let response = Message::from_bytes(b"\x01\x01\x00\x00\x21\x12\xA4\x42abcdefghijkl")?;
+    /// let request = Message::from_bytes(b"\x00\x01\x00\x00\x21\x12\xA4\x42abcdefghijkl")?;
+    /// assert!(rt; response.is_response() && !request.is_response());
+    /// ```
     pub fn is_response(&self) -> bool
         ensures { result ≡ responds (class_of (type_field (message_bytes self.now))) }
     {
         self.class().is_response()
     }
 
-    /// The method.
+    /// The method of the message.
+    ///
+    /// # Examples
+    ///
+    /// ```
+    /// use stun_types::message::Message;
+    ///
+    /// // an Allocate request of TURN
+    /// let message = Message::from_bytes(b"\x00\x03\x00\x00\x21\x12\xA4\x42abcdefghijkl")?;
+    /// assert_eq!(rt; message.method().value(), 0x003);
+    /// ```
     pub fn method(&self) -> Method
         ensures { result ≡ method_of (type_field (message_bytes self.now)) }
     {
         self.get_type().method()
     }
 
-    /// Whether the method is `method`.
+    /// Whether the method of the message is `method`.
+    ///
+    /// # Examples
+    ///
+    /// ```
+    /// use stun_types::message::{BINDING, Message, Method};
+    ///
+    /// let message = Message::from_bytes(b"\x00\x01\x00\x00\x21\x12\xA4\x42abcdefghijkl")?;
+    /// assert!(rt; message.has_method(BINDING) && !message.has_method(Method::new(0x003)));
+    /// ```
     pub fn has_method(&self, method: Method) -> bool
         ensures { IsTrue result ↔ (method_of (type_field (message_bytes self.now)) ≡ method) }
     {
         self.method() == method
     }
 
-    /// The transaction ID.
+    /// The transaction ID of the message.
+    ///
+    /// # Examples
+    ///
+    /// ```
+    /// use stun_types::message::Message;
+    ///
+    /// let message = Message::from_bytes(b"\x00\x01\x00\x00\x21\x12\xA4\x42abcdefghijkl")?;
+    /// assert_eq!(rt; message.transaction_id().to_bytes(), *b"abcdefghijkl");
+    /// ```
     pub fn transaction_id(&self) -> TransactionId
         ensures { result ≡ id_field (message_bytes self.now) }
     {
         self.header().transaction_id()
     }
 
-    /// Iterates over the attributes that the message shows, each with the offset of its header;
-    /// [`MessageAttributesIter`] says which they are. It takes no memory, and the values borrow the
-    /// bytes of the message.
+    /// Iterates over the attributes that the message shows, each with the offset of its header in
+    /// bytes; [`MessageAttributesIter`] says which they are. It takes no memory, and the values
+    /// borrow the bytes of the message.
+    ///
+    /// # Examples
     ///
     /// ```
-    /// for (offset, attribute) in message.iter_attributes() {
-    ///     let (atype, value) = (attribute.header().get_type(), attribute.into_value());
-    /// }
+    /// use stun_types::message::Message;
+    /// use stun_types::prelude::*;
+    ///
+    /// let bytes = b"\x00\x01\x00\x10\x21\x12\xA4\x42abcdefghijkl\
+    ///     \x80\x22\x00\x04STUN\x00\x06\x00\x03bob\0";
+    /// let message = Message::from_bytes(bytes)?;
+    /// let mut attributes = message.iter_attributes();
+    /// let (offset, attribute) = attributes.next().ok_or("there are two")?;
+    /// assert_eq!(rt; (offset, attribute.get_type().value()), (20, 0x8022));
+    /// let (offset, attribute) = attributes.next().ok_or("there are two")?;
+    /// assert_eq!(rt; (offset, attribute.get_type().value()), (28, 0x0006));
+    /// assert!(rt; attributes.next().is_none());
     /// ```
     #[tactic(auto, using(stun_grammar::proofs::ParsingLemmas::parsed_frame))]
     pub fn iter_attributes(&self) -> MessageAttributesIter<'a>
@@ -192,8 +277,8 @@ impl Message<'_> {
     ghost use Rattle.stun_read.specs.PrintedMessages.{message_text};
     ghost use Rattle.stun_types.specs.Message.{message_bytes};
 
-    /// Writes what the message prints as, in UTF-8, at the start of `to`, and returns how many
-    /// bytes that is. The bytes of `to` after the text stay as they were. It walks the
+    /// Writes the text that the message prints, in UTF-8, at the start of `to`, and returns the
+    /// number of its bytes. The bytes of `to` after the text stay as they were. It walks the
     /// attributes once, takes no memory, and if `to` has room it succeeds.
     ///
     /// # Errors
@@ -201,6 +286,19 @@ impl Message<'_> {
     /// [`TextTooLong`] if the text has more bytes than `to`, with the length of the text: a
     /// slice of that length has room. `to` then holds the first bytes of the text, as many as it
     /// has room for, and a character may be cut at its end.
+    ///
+    /// # Examples
+    ///
+    /// ```
+    /// use stun_types::message::Message;
+    ///
+    /// let bytes = b"\x00\x01\x00\x00\x21\x12\xA4\x42\0\0\0\0\0\0\0\0\0\0\x73\x92";
+    /// let mut text = [0; 128];
+    /// let length = Message::from_bytes(bytes)?.write_text(&mut text)?;
+    /// let printed = b"Message(class: Request, method: 1(0x1: BINDING), \
+    ///     transaction: 0x7392, attributes: [])";
+    /// assert_eq!(rt; &text[..length], printed.as_slice());
+    /// ```
     pub fn write_text(&self, to: &mut [u8]) -> Result<usize, TextTooLong>
         ensures answer { result
             ≡ text_answer (length (message_text (message_bytes self.now))) (length to.old) }

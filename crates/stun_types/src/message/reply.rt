@@ -160,9 +160,9 @@ fn lacks_one(message: &Message<'_>, required: &[AttributeType]) -> bool
     required.iter().any(|atype| !message.has_attribute(*atype))
 }
 
-/// The law of responses: what may be written with the type of a response to a request and with its
-/// transaction ID is a response that answers the request, whatever its attributes. The function
-/// does nothing: its contract is the law.
+/// The law of responses: a message that may be written with the type of a response to a request and
+/// with its transaction ID answers the request, whatever its attributes. The function does nothing:
+/// its contract is the law.
 #[tactic(auto, using(crate::proofs::RepliesLemmas::answers_request))]
 pub fn response_answers()
     ensures { (class : MessageClass) (r : List ℕ) (attributes : List Attribute)
@@ -171,8 +171,19 @@ pub fn response_answers()
 {}
 
 impl Message<'_> {
-    /// Whether this is a response (success or error) with the method and the transaction ID of
-    /// `request` (RFC 8489, section 6.3.1).
+    /// Whether the message is a response (success or error) with the method and the transaction ID
+    /// of `request` (RFC 8489, section 6.3.1).
+    ///
+    /// # Examples
+    ///
+    /// ```
+    /// use stun_types::message::Message;
+    ///
+    /// let request = Message::from_bytes(b"\x00\x01\x00\x00\x21\x12\xA4\x42abcdefghijkl")?;
+    /// let response = Message::from_bytes(b"\x01\x01\x00\x00\x21\x12\xA4\x42abcdefghijkl")?;
+    /// let other = Message::from_bytes(b"\x01\x01\x00\x00\x21\x12\xA4\x42abcdefghijkm")?;
+    /// assert!(rt; response.answers(&request) && !other.answers(&request));
+    /// ```
     pub fn answers(&self, request: &Message<'_>) -> bool
         ensures { result ≡ is_answer_to (message_bytes request.now) (message_bytes self.now) }
     {
@@ -184,11 +195,6 @@ impl Message<'_> {
     /// Begins the success response to a request: writes its header, with the method and the
     /// transaction ID of the request, into `write` (RFC 8489, section 6.3.1.1).
     ///
-    /// ```
-    /// let mut response = Message::builder_success(&request, MessageWriteVec::new(alloc))?;
-    /// response.add_attribute(&XorMappedAddress::new(source, request.transaction_id()))?;
-    /// ```
-    ///
     /// # Requires
     ///
     /// `orig` is a request, as `orig.has_class(MessageClass::Request)` tests, and the writer is as
@@ -197,6 +203,22 @@ impl Message<'_> {
     /// # Errors
     ///
     /// As for [`Message::builder`].
+    ///
+    /// # Examples
+    ///
+    /// ```
+    /// use std::net::{IpAddr, Ipv4Addr, SocketAddr};
+    /// use stun_types::attribute::XorMappedAddress;
+    /// use stun_types::message::{Message, MessageWriteVec};
+    /// use stun_types::prelude::*;
+    ///
+    /// let request = Message::from_bytes(b"\x00\x01\x00\x00\x21\x12\xA4\x42abcdefghijkl")?;
+    /// let source = SocketAddr::new(IpAddr::V4(Ipv4Addr::new(192, 0, 2, 1)), 32853);
+    /// let mut response = Message::builder_success(&request, MessageWriteVec::new(alloc))?;
+    /// response.add_attribute(&XorMappedAddress::new(source, request.transaction_id()))?;
+    /// let bytes = response.finish();
+    /// assert!(rt; Message::from_bytes(&bytes)?.answers(&request));
+    /// ```
     pub fn builder_success<B: MessageWrite + Drop>(
         orig: &Message<'_>,
         mut write: B,
@@ -212,7 +234,8 @@ impl Message<'_> {
         Ok(write)
     }
 
-    /// As [`Message::builder_success`], but borrows the writer.
+    /// Begins the success response to a request in a borrowed writer, as
+    /// [`Message::builder_success`] does.
     ///
     /// # Requires
     ///
@@ -237,8 +260,9 @@ impl Message<'_> {
         Self::builder_into(mtype, orig.transaction_id(), write)
     }
 
-    /// As [`Message::builder_success`], but begins an error response. It lacks the ERROR-CODE that
-    /// each error response has (RFC 8489, section 6.3.1.1).
+    /// Begins the error response to a request: writes its header, with the method and the
+    /// transaction ID of the request, into `write`. The response lacks the ERROR-CODE that each error
+    /// response has (RFC 8489, section 6.3.1.1).
     ///
     /// # Requires
     ///
@@ -247,6 +271,20 @@ impl Message<'_> {
     /// # Errors
     ///
     /// As for [`Message::builder`].
+    ///
+    /// # Examples
+    ///
+    /// ```
+    /// use stun_types::attribute::ErrorCode;
+    /// use stun_types::message::{Message, MessageClass, MessageWriteVec};
+    /// use stun_types::prelude::*;
+    ///
+    /// let request = Message::from_bytes(b"\x00\x01\x00\x00\x21\x12\xA4\x42abcdefghijkl")?;
+    /// let mut response = Message::builder_error(&request, MessageWriteVec::new(alloc))?;
+    /// response.add_attribute(&ErrorCode::new(alloc, 500, "Server Error")?)?;
+    /// assert!(rt; response.has_class(MessageClass::Error));
+    /// assert_eq!(rt; response.transaction_id(), request.transaction_id());
+    /// ```
     pub fn builder_error<B: MessageWrite + Drop>(
         orig: &Message<'_>,
         mut write: B,
@@ -262,7 +300,8 @@ impl Message<'_> {
         Ok(write)
     }
 
-    /// As [`Message::builder_error`], but borrows the writer.
+    /// Begins the error response to a request in a borrowed writer, as [`Message::builder_error`]
+    /// does.
     ///
     /// # Requires
     ///
@@ -287,9 +326,9 @@ impl Message<'_> {
         Self::builder_into(mtype, orig.transaction_id(), write)
     }
 
-    /// The reply to a malformed request: an error response with the SOFTWARE `stun-types` and the
-    /// ERROR-CODE 400 `Bad Request`, 56 bytes (RFC 8489, section 14.8). The two attributes are made
-    /// in memory that `alloc` gives.
+    /// Writes the reply to a malformed request: an error response with the SOFTWARE `stun-types`
+    /// and the ERROR-CODE 400 `Bad Request`, 56 bytes (RFC 8489, section 14.8). The two attributes
+    /// are made in memory that `alloc` gives.
     ///
     /// # Requires
     ///
@@ -304,6 +343,20 @@ impl Message<'_> {
     ///   than are written.
     ///
     /// The writer is dropped then.
+    ///
+    /// # Examples
+    ///
+    /// ```
+    /// use stun_types::attribute::ErrorCode;
+    /// use stun_types::message::{Message, MessageWriteVec};
+    /// use stun_types::prelude::*;
+    ///
+    /// let request = Message::from_bytes(b"\x00\x01\x00\x00\x21\x12\xA4\x42abcdefghijkl")?;
+    /// let bytes = Message::bad_request(alloc, &request, MessageWriteVec::new(alloc))?.finish();
+    /// let reply = Message::from_bytes(&bytes)?;
+    /// assert!(rt; reply.answers(&request));
+    /// assert_eq!(rt; reply.attribute::<ErrorCode>(alloc)?.code(), 400);
+    /// ```
     pub fn bad_request<B: MessageWrite + Drop>(
         alloc: Global,
         src: &Message<'_>,
@@ -320,7 +373,8 @@ impl Message<'_> {
         Ok(write)
     }
 
-    /// As [`Message::bad_request`], but borrows the writer.
+    /// Writes the reply to a malformed request into a borrowed writer, as [`Message::bad_request`]
+    /// does.
     ///
     /// # Requires
     ///
@@ -348,11 +402,11 @@ impl Message<'_> {
         write_reply(alloc, src, &[ReplyPart::Software, error], write)
     }
 
-    /// The reply to a request with attributes that weren't understood, whose types are given: an
-    /// error response with the SOFTWARE `stun-types`, the ERROR-CODE 420 `Unknown Attributes`, and
-    /// an UNKNOWN-ATTRIBUTES with the types in order and with repeats, unless there are none
-    /// (RFC 8489, sections 6.3.1, 14.8 and 14.13). The attributes are made in memory that `alloc`
-    /// gives, each just before it is added.
+    /// Writes the reply to a request with attributes that weren't understood, whose types are
+    /// given: an error response with the SOFTWARE `stun-types`, the ERROR-CODE 420 `Unknown
+    /// Attributes`, and an UNKNOWN-ATTRIBUTES with the types in order and with repeats, unless
+    /// there are none (RFC 8489, sections 6.3.1, 14.8 and 14.13). The attributes are made in memory
+    /// that `alloc` gives, each just before it is added.
     ///
     /// # Requires
     ///
@@ -371,6 +425,20 @@ impl Message<'_> {
     ///   than are written.
     ///
     /// The writer is dropped then.
+    ///
+    /// # Examples
+    ///
+    /// ```
+    /// use stun_types::attribute::{AttributeType, UnknownAttributes};
+    /// use stun_types::message::{Message, MessageWriteVec};
+    /// use stun_types::prelude::*;
+    ///
+    /// let request = Message::from_bytes(b"\x00\x01\x00\x00\x21\x12\xA4\x42abcdefghijkl")?;
+    /// let (types, write) = ([AttributeType(0x7777)], MessageWriteVec::new(alloc));
+    /// let bytes = Message::unknown_attributes(alloc, &request, &types, write)?.finish();
+    /// let unknown = Message::from_bytes(&bytes)?.attribute::<UnknownAttributes>(alloc)?;
+    /// assert_eq!(rt; unknown.attributes(), types.as_slice());
+    /// ```
     pub fn unknown_attributes<B: MessageWrite + Drop>(
         alloc: Global,
         src: &Message<'_>,
@@ -388,7 +456,8 @@ impl Message<'_> {
         Ok(write)
     }
 
-    /// As [`Message::unknown_attributes`], but borrows the writer.
+    /// Writes the reply to a request with attributes that weren't understood into a borrowed
+    /// writer, as [`Message::unknown_attributes`] does.
     ///
     /// # Requires
     ///
@@ -434,11 +503,6 @@ impl Message<'_> {
     ///
     /// The list of types and the attributes are made in memory that `alloc` gives.
     ///
-    /// ```
-    /// let supported = [Username::TYPE, MessageIntegrity::TYPE];
-    /// let reply = Message::check_attribute_types(alloc, &request, &supported, &[], write)?;
-    /// ```
-    ///
     /// # Requires
     ///
     /// `msg` is a request, as `msg.has_class(MessageClass::Request)` tests, and the writer is as
@@ -448,6 +512,20 @@ impl Message<'_> {
     ///
     /// As for [`Message::unknown_attributes`] and [`Message::bad_request`]. If there is no reply
     /// there is no error either.
+    ///
+    /// # Examples
+    ///
+    /// ```
+    /// use stun_types::attribute::{ErrorCode, Username};
+    /// use stun_types::message::{Message, MessageWriteVec};
+    /// use stun_types::prelude::*;
+    ///
+    /// let bytes = b"\x00\x01\x00\x08\x21\x12\xA4\x42abcdefghijkl\x77\x77\x00\x01a\0\0\0";
+    /// let (request, write) = (Message::from_bytes(bytes)?, MessageWriteVec::new(alloc));
+    /// let reply = Message::check_attribute_types(alloc, &request, &[Username::TYPE], &[], write)?;
+    /// let reply = reply.ok_or("0x7777 isn't supported")?.finish();
+    /// assert_eq!(rt; Message::from_bytes(&reply)?.attribute::<ErrorCode>(alloc)?.code(), 420);
+    /// ```
     pub fn check_attribute_types<B: MessageWrite + Drop>(
         alloc: Global,
         msg: &Message<'_>,
@@ -473,8 +551,8 @@ impl Message<'_> {
         }
     }
 
-    /// As [`Message::check_attribute_types`], but borrows the writer, and returns whether a reply
-    /// was written.
+    /// Checks the attributes of a request, writes the reply that it deserves into a borrowed
+    /// writer, as [`Message::check_attribute_types`] does, and returns whether a reply was written.
     ///
     /// # Requires
     ///
@@ -484,6 +562,21 @@ impl Message<'_> {
     ///
     /// As for [`Message::check_attribute_types`]. The header and the attributes before the refused
     /// one are written then. If an allocation failed, fewer may be, or nothing.
+    ///
+    /// # Examples
+    ///
+    /// ```
+    /// use stun_types::attribute::KNOWN;
+    /// use stun_types::message::{Message, MessageWriteMutSlice};
+    /// use stun_types::prelude::*;
+    ///
+    /// let bytes = b"\x00\x01\x00\x08\x21\x12\xA4\x42abcdefghijkl\x80\x22\x00\x04STUN";
+    /// let request = Message::from_bytes(bytes)?;
+    /// let mut slice = [0; 512];
+    /// let mut write = MessageWriteMutSlice::new(alloc, &mut slice);
+    /// let wrote = Message::check_attribute_types_into(alloc, &request, &KNOWN, &[], &mut write)?;
+    /// assert!(rt; !wrote && write.len() == 0);
+    /// ```
     pub fn check_attribute_types_into<B: MessageWrite>(
         alloc: Global,
         msg: &Message<'_>,

@@ -46,6 +46,28 @@ impl Message<'_> {
     ///   found then, whose value has such a length, but nothing is known of its HMAC: the same call
     ///   may succeed later;
     /// - `IntegrityFailed` if the value isn't the HMAC.
+    ///
+    /// # Examples
+    ///
+    /// ```
+    /// use stun_types::message::{
+    ///     BINDING, IntegrityAlgorithm, Message, MessageClass, MessageIntegrityCredentials,
+    ///     MessageType, MessageWriteVec, ShortTermCredentials, TransactionId,
+    /// };
+    /// use stun_types::prelude::*;
+    ///
+    /// let password = ShortTermCredentials::new(String::from_str(alloc, "secret")?);
+    /// let credentials = MessageIntegrityCredentials::from(password);
+    /// let mtype = MessageType::from_class_method(MessageClass::Request, BINDING);
+    /// let write = MessageWriteVec::new(alloc);
+    /// let mut request = Message::builder(mtype, TransactionId::from(1000), write)?;
+    /// request.add_message_integrity(alloc, &credentials, IntegrityAlgorithm::Sha256)?;
+    /// let mut bytes = request.finish();
+    /// let validated = Message::from_bytes(&bytes)?.validate_integrity(alloc, &credentials);
+    /// assert_eq!(rt; validated, Ok(IntegrityAlgorithm::Sha256));
+    /// bytes[19] ^= 1; // another transaction ID
+    /// assert!(rt; Message::from_bytes(&bytes)?.validate_integrity(alloc, &credentials).is_err());
+    /// ```
     #[tactic(auto, using(stun_grammar::proofs::ParsingLemmas::parsed_frame))]
     pub fn validate_integrity(
         &self,
@@ -74,9 +96,9 @@ impl Message<'_> {
         )
     }
 
-    /// As [`Message::validate_integrity`], with a key. If the key was made for an algorithm,
-    /// only the integrity attribute of that algorithm is checked; else the last one that is shown.
-    /// It takes no memory.
+    /// Checks an integrity attribute with a key, as [`Message::validate_integrity`] does with
+    /// credentials. If the key was made for an algorithm, only the integrity attribute of that
+    /// algorithm is checked; else the last one that is shown. It takes no memory.
     ///
     /// If the result is `Ok`, the covered bytes, the key and the algorithm determine the message
     /// type, the transaction ID and the attributes that are shown up to and including the one that
@@ -92,6 +114,27 @@ impl Message<'_> {
     ///   MESSAGE-INTEGRITY-SHA256 (0x001C), also if a MESSAGE-INTEGRITY (0x0008) is shown;
     /// - the errors of the value's length as for [`Message::validate_integrity`];
     /// - `IntegrityFailed` if the value isn't the HMAC.
+    ///
+    /// # Examples
+    ///
+    /// ```
+    /// use stun_types::message::{
+    ///     BINDING, IntegrityAlgorithm, IntegrityKey, Message, MessageClass, MessageType,
+    ///     MessageWriteVec, TransactionId,
+    /// };
+    /// use stun_types::prelude::*;
+    ///
+    /// let key = IntegrityKey::new(alloc, b"secret", None)?;
+    /// let mtype = MessageType::from_class_method(MessageClass::Request, BINDING);
+    /// let write = MessageWriteVec::new(alloc);
+    /// let mut request = Message::builder(mtype, TransactionId::from(1000), write)?;
+    /// request.add_message_integrity_with_key(&key, IntegrityAlgorithm::Sha1)?;
+    /// let bytes = request.finish();
+    /// let request = Message::from_bytes(&bytes)?;
+    /// assert_eq!(rt; request.validate_integrity_with_key(&key), Ok(IntegrityAlgorithm::Sha1));
+    /// let for_sha256 = key.made_for(Some(IntegrityAlgorithm::Sha256));
+    /// assert!(rt; request.validate_integrity_with_key(&for_sha256).is_err());
+    /// ```
     #[tactic(auto, using(stun_grammar::proofs::ParsingLemmas::parsed_frame))]
     pub fn validate_integrity_with_key(
         &self,

@@ -3,11 +3,24 @@ use std::fmt;
 use stun_attrs::RawAttribute;
 
 /// An attribute that prints by [`Registry::show`].
+///
+/// # Examples
+///
+/// ```
+/// use stun_types::attribute::{AttributeType, RawAttribute};
+/// use stun_types::show::{Registry, Shown};
+///
+/// let registry = Registry::new(alloc);
+/// let raw = RawAttribute::new(AttributeType(0x8022), b"my client")?;
+/// let shown = Shown { registry: &registry, raw: &raw };
+/// let text = format!(in alloc; "{shown}")?;
+/// assert_eq!(rt; text.as_str(), "32802(0x8022: SOFTWARE): 'my client'");
+/// ```
 #[derive(Clone, Copy)]
 pub struct Shown<'r, 'a> {
-    /// The registry.
+    /// The registry by which the attribute prints.
     pub registry: &'r Registry,
-    /// The attribute.
+    /// The attribute that prints.
     pub raw: &'r RawAttribute<'a>,
 }
 
