@@ -212,7 +212,7 @@ impl ErrorCode {
         self.reason.as_str()
     }
 
-    /// The default reason of a code: of those with a constant
+    /// The default reason of a code: that of this table, and `Unknown` for every other number.
     ///
     /// | Code | Reason |
     /// |---|---|
@@ -233,8 +233,6 @@ impl ErrorCode {
     /// | 487 | `Role Conflict` |
     /// | 500 | `Server Error` |
     /// | 508 | `Insufficient Capacity` |
-    ///
-    /// and of every other number `Unknown`.
     ///
     /// # Examples
     ///

@@ -59,7 +59,7 @@ pub trait AttributeStaticType: Attribute {
 
     ghost has_that_type: { (attribute : Self) → Self.atype attribute ≡ TYPE.0 };
 
-    /// The type of every attribute of this Rust type, which is what [`Attribute::get_type`] returns
+    /// The type of every attribute of the Rust type, which is what [`Attribute::get_type`] returns
     /// of each.
     const TYPE: AttributeType;
 }
@@ -108,6 +108,16 @@ pub trait AttributeFromRaw<'a>: Attribute {
     /// # Errors
     ///
     /// As [`AttributeFromRaw::from_raw_ref`].
+    ///
+    /// # Examples
+    ///
+    /// ```
+    /// use stun_types::attribute::{RawAttribute, Software};
+    /// use stun_types::prelude::*;
+    ///
+    /// let raw = RawAttribute::new(Software::TYPE, b"my client")?;
+    /// assert_eq!(rt; Software::from_raw(alloc, raw)?.software(), "my client");
+    /// ```
     fn from_raw(alloc: Global, raw: RawAttribute<'a>) -> Result<Self, StunParseError>
     where
         Self: Sized,

@@ -82,6 +82,17 @@ impl<'a> RawAttribute<'a> {
     ///
     /// `TooLarge { expected: 65535, actual }` if the value is longer than its length field can
     /// state. The value is dropped then.
+    ///
+    /// # Examples
+    ///
+    /// ```
+    /// use stun_types::attribute::{AttributeType, RawAttribute};
+    /// use stun_types::data::Data;
+    ///
+    /// let value = [4, 0].to_vec(alloc)?.into_boxed_slice();
+    /// let raw = RawAttribute::new_owned(AttributeType(0x8851), value)?;
+    /// assert!(rt; matches!(raw.value(), Data::Owned(_)));
+    /// ```
     pub fn new_owned(atype: AttributeType, value: BoxedSlice<u8>) -> Result<Self, StunParseError>
         ensures ok { IfOk result (IsRawOf atype.0 (boxed_slice_items value)) }
         ensures atype { (raw : _) → result ≡ Ok raw → raw_type raw ≡ atype.0 }
@@ -155,6 +166,17 @@ impl<'a> RawAttribute<'a> {
 
     /// Converts the attribute into its value. A value that is borrowed stays borrowed for `'a`, and
     /// so outlives the attribute.
+    ///
+    /// # Examples
+    ///
+    /// ```
+    /// use stun_types::attribute::RawAttribute;
+    /// use stun_types::data::Data;
+    ///
+    /// let bytes = [0x88, 0x51, 0, 2, 4, 0];
+    /// let value = RawAttribute::from_bytes(&bytes)?.into_value();
+    /// assert!(rt; matches!(value, Data::Borrowed(slice) if slice.take() == &bytes[4..]));
+    /// ```
     pub fn into_value(self) -> Data<'a>
         ensures { result ≡ raw_data self.entry }
     {

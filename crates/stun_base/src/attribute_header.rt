@@ -75,6 +75,16 @@ impl AttributeHeader {
     /// # Requires
     ///
     /// `dest.len()` is at least 4.
+    ///
+    /// # Examples
+    ///
+    /// ```
+    /// use stun_types::attribute::{AttributeHeader, AttributeType};
+    ///
+    /// let mut bytes = [0xFF; 5];
+    /// AttributeHeader { atype: AttributeType(0x8022), length: 4 }.write_into(&mut bytes);
+    /// assert_eq!(rt; bytes, [0x80, 0x22, 0x00, 0x04, 0xFF]);
+    /// ```
     pub fn write_into(&self, dest: &mut [u8])
         requires { 4 ≤ length dest.old }
         ensures { dest.new ≡ be16 self.now.atype.0 ++ be16 self.now.length ++ drop 4 dest.old }

@@ -34,7 +34,7 @@ pub struct DataSlice<'a> {
 }
 
 impl<'a> DataSlice<'a> {
-    /// The borrowed bytes, for as long as the value is.
+    /// The bytes that the value borrows.
     pub fn as_bytes(&self) -> &[u8]
         ensures { result.now ≡ slice_bytes self.now }
     {
@@ -42,6 +42,16 @@ impl<'a> DataSlice<'a> {
     }
 
     /// Returns the bytes, for as long as they are borrowed.
+    ///
+    /// # Examples
+    ///
+    /// ```
+    /// use stun_types::data::DataSlice;
+    ///
+    /// let bytes = [4, 0];
+    /// let taken = DataSlice::from(bytes.as_slice()).take();
+    /// assert_eq!(rt; taken, bytes.as_slice());
+    /// ```
     pub fn take(self) -> &'a [u8]
         ensures { result.now ≡ slice_bytes self.entry }
     {
@@ -53,6 +63,15 @@ impl<'a> DataSlice<'a> {
     /// # Errors
     ///
     /// `OutOfMemory` alone.
+    ///
+    /// # Examples
+    ///
+    /// ```
+    /// use stun_types::data::DataSlice;
+    ///
+    /// let owned = DataSlice::from([4, 0].as_slice()).to_owned(alloc)?;
+    /// assert_eq!(rt; owned.as_bytes(), [4, 0].as_slice());
+    /// ```
     pub fn to_owned(&self, alloc: Global) -> Result<DataOwned, StunWriteError>
         ensures bytes { IfOk result (λ copy. owned_bytes copy ≡ slice_bytes self.now) }
         ensures err { IfErr result (λ e. e ≡ StunWriteError.OutOfMemory) }
@@ -97,7 +116,7 @@ pub struct DataOwned {
 }
 
 impl DataOwned {
-    /// The owned bytes, as a slice.
+    /// The bytes that the value owns.
     pub fn as_bytes(&self) -> &[u8]
         ensures { result.now ≡ owned_bytes self.now }
     {

@@ -87,8 +87,17 @@ impl Method {
         self.0
     }
 
-    /// The name of a method: `BINDING`, and `unknown` for every other than that of a binding (RFC
-    /// 8489, section 18.2).
+    /// The name of the method: `BINDING`, or `unknown` for every other method than that of a
+    /// binding (RFC 8489, section 18.2).
+    ///
+    /// # Examples
+    ///
+    /// ```
+    /// use stun_types::message::{BINDING, Method};
+    ///
+    /// assert_eq!(rt; BINDING.name(), "BINDING");
+    /// assert_eq!(rt; Method::new(0x003).name(), "unknown");
+    /// ```
     pub fn name(self) -> &'static str
         ensures { result.now ≡ method_name self }
     {
@@ -127,7 +136,7 @@ impl fmt::Display for Method {
 pub enum MessageClass {
     /// A request, which expects a response.
     Request,
-    /// An indication, which expects none.
+    /// An indication, which expects no response.
     Indication,
     /// The response to a request that succeeded.
     Success,
@@ -320,6 +329,16 @@ impl MessageType {
     /// # Requires
     ///
     /// `dest.len()` is at least 2.
+    ///
+    /// # Examples
+    ///
+    /// ```
+    /// use stun_types::message::{BINDING, MessageClass, MessageType};
+    ///
+    /// let mut bytes = [0xFF; 3];
+    /// MessageType::from_class_method(MessageClass::Error, BINDING).write_into(&mut bytes);
+    /// assert_eq!(rt; bytes, [0x01, 0x11, 0xFF]);
+    /// ```
     pub fn write_into(&self, dest: &mut [u8])
         requires { 2 ≤ length dest.old }
         ensures written { dest.new ≡ be16 self.now ++ drop 2 dest.old }
@@ -347,6 +366,15 @@ impl MessageType {
     ///
     /// `Truncated { expected: 2, actual }` if there are fewer than two bytes. Otherwise
     /// `NotStun` if one of the two highest bits is not zero.
+    ///
+    /// # Examples
+    ///
+    /// ```
+    /// use stun_types::message::{MessageClass, MessageType, StunParseError};
+    ///
+    /// assert_eq!(rt; MessageType::from_bytes(&[0x00, 0x11])?.class(), MessageClass::Indication);
+    /// assert_eq!(rt; MessageType::from_bytes(&[0x40, 0x01]).err(), Some(StunParseError::NotStun));
+    /// ```
     pub fn from_bytes(bytes: &[u8]) -> Result<Self, StunParseError>
         ensures short { length bytes.now < 2
             → result ≡ Err (StunParseError.Truncated 2 (length bytes.now)) }

@@ -83,6 +83,15 @@ impl TransactionId {
 
     /// The bytes of the transaction ID, the most significant first: network byte order, as in the
     /// header of a message (RFC 8489, section 5).
+    ///
+    /// # Examples
+    ///
+    /// ```
+    /// use stun_types::message::TransactionId;
+    ///
+    /// let id = TransactionId::from(0x0102);
+    /// assert_eq!(rt; id.to_bytes(), [0, 0, 0, 0, 0, 0, 0, 0, 0, 0, 0x01, 0x02]);
+    /// ```
     pub fn to_bytes(&self) -> [u8; 12]
         ensures { result ≡ be96 self.now }
     {
@@ -106,6 +115,15 @@ impl From<u128> for TransactionId {
     ghost from_gives = { λ number transaction. transaction ≡ number % 2 ^ 96 };
 
     /// The transaction ID of the low 96 bits.
+    ///
+    /// # Examples
+    ///
+    /// ```
+    /// use stun_types::message::TransactionId;
+    ///
+    /// assert_eq!(rt; TransactionId::from(1000).value(), 1000);
+    /// assert_eq!(rt; TransactionId::from((1 << 96) + 1000).value(), 1000);
+    /// ```
     fn from(id: u128) -> Self {
         TransactionId { id: id % (1 << 96) }
     }

@@ -31,9 +31,9 @@ pub fn fingerprint_has_length()
     ensures { (d : List ℕ) (offset : ℕ) → length (fingerprint_value d offset) ≡ 4 }
 {}
 
-/// How long a step's attribute is: its value has `value_length` bytes, and its encoding 24 bytes as
-/// a MESSAGE-INTEGRITY, 36 as a MESSAGE-INTEGRITY-SHA256 and 8 as a FINGERPRINT, each with its
-/// header (RFC 8489, sections 14.5 to 14.7).
+/// The length of a step's attribute in bytes: its value has `value_length` bytes, and its encoding
+/// 24 bytes as a MESSAGE-INTEGRITY, 36 as a MESSAGE-INTEGRITY-SHA256 and 8 as a FINGERPRINT, each
+/// with its header (RFC 8489, sections 14.5 to 14.7).
 pub fn step_has_length()
     ensures value { (step : Step) (message : List ℕ)
         → length (appended_by step message).value ≡ value_length step }

@@ -1,7 +1,7 @@
 use crate::AttributeType;
 use thiserror::Error;
 
-/// Why bytes are not a STUN message, or not the expected attribute.
+/// The error of bytes that are not a STUN message, or not the expected attribute.
 ///
 /// `expected` and `actual` count bytes: `expected` is how many are needed (`Truncated`) or allowed
 /// (`TooLarge`), and `actual` is how many there are. If the header of an attribute in a message
@@ -37,7 +37,7 @@ pub enum StunParseError {
         /// How many there are.
         actual: usize,
     },
-    /// The message shows no attribute of this type.
+    /// The message shows no attribute of the type that was looked up.
     #[error("Missing attribute {0}")]
     MissingAttribute(AttributeType),
     /// An attribute follows an integrity attribute. No function of this library returns it.
@@ -63,13 +63,14 @@ pub enum StunParseError {
     OutOfMemory,
 }
 
-/// Why an attribute or a message is not made or not written.
+/// The error of an attribute or a message that is not made or not written.
 ///
 /// `expected` and `actual` count bytes. For an UNKNOWN-ATTRIBUTES and a PASSWORD-ALGORITHMS, which
 /// are made of a list, they count its entries.
 #[derive(Clone, Copy, Debug, PartialEq, Eq, Error)]
 pub enum StunWriteError {
-    /// The message already has an attribute of this type, which the new one may not follow.
+    /// The message already has an attribute of the type that is given, which the new one may not
+    /// follow.
     #[error("The attribute already exists in the message")]
     AttributeExists(AttributeType),
     /// The message already has a FINGERPRINT, which no attribute may follow.
@@ -94,10 +95,6 @@ pub enum StunWriteError {
         /// How many there are.
         actual: usize,
     },
-    /// The attribute is of a type that has an add of its own: MESSAGE-INTEGRITY (0x0008),
-    /// MESSAGE-INTEGRITY-SHA256 (0x001C) or FINGERPRINT (0x8028).
-    #[error("An attribute of this type is added by a method of its own")]
-    EndingType(AttributeType),
     /// The bytes cannot be the value of an integrity attribute. An error of reading that has no
     /// counterpart here is converted to this one.
     #[error("Failed to compute integrity")]
@@ -160,7 +157,32 @@ impl From<StunParseError> for StunWriteError {
     }
 }
 
-/// Why a message does not validate.
+/// The error of an add whose attribute type is known only at run time.
+///
+/// A call that takes an attribute of an ordinary type alone returns a [`StunWriteError`].
+#[derive(Clone, Copy, Debug, PartialEq, Eq, Error)]
+pub enum AddError {
+    /// An attribute of this type is added by a method of its own: MESSAGE-INTEGRITY (0x0008),
+    /// MESSAGE-INTEGRITY-SHA256 (0x001C) or FINGERPRINT (0x8028).
+    #[error("An attribute of this type is added by a method of its own")]
+    EndingType(AttributeType),
+    /// The type is an ordinary one, and the attribute is not added for this reason.
+    #[error(transparent)]
+    Write(StunWriteError),
+}
+
+impl From<StunWriteError> for AddError {
+    ghost use Rattle.std.specs.Prelude.{◌≡◌};
+    ghost use Rattle.stun_grammar.specs.declared.error.AddError.TheVariants.{Write};
+
+    ghost from_gives = { λ told error. error ≡ Write told };
+
+    fn from(told: StunWriteError) -> Self {
+        AddError::Write(told)
+    }
+}
+
+/// The error of a message that does not validate.
 #[derive(Clone, Copy, Debug, PartialEq, Eq, Error)]
 pub enum ValidateError {
     /// The message has no integrity attribute to check, its value has a wrong length, or an

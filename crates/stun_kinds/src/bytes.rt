@@ -14,7 +14,7 @@ use stun_attrs::{
 use stun_base::{AttributeType, Data, Hex, StunParseError, StunWriteError};
 use stun_text::{PrintText, TextSink};
 
-/// At most 65535 bytes, which are borrowed or owned.
+/// At most 65535 bytes, borrowed or owned: the value of a [`BytesAttribute`].
 #[derive(Debug, Drop)]
 pub struct ShortBytes<'a> {
     bytes: Data<'a>,

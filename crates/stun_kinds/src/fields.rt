@@ -15,6 +15,7 @@ use stun_text::{PrintText, TextSink};
 /// In contracts `number_of` is the number that a `V` is written as, and `fields_of` the `V` that a
 /// number holds, if it holds one.
 pub trait FieldsKind<V>: AttributeKind {
+    /// The Rust type of the number that a value is written as.
     type Number;
 
     ghost number_of: { V → Self.Number };

@@ -36,8 +36,7 @@ pub fn check_frame(bytes: &[u8]) -> Result<(), StunParseError>
 
 /// The length of the message whose first bytes are `prefix`: its header and as many bytes as the
 /// header states, 20 to 65555 in all, or `None` if `prefix` has fewer than twenty bytes that a
-/// header may begin with. `None` if there are fewer than twenty bytes, and a header may begin with
-/// them. It takes no memory, and looks at the first twenty bytes alone.
+/// header may begin with. It takes no memory, and looks at the first twenty bytes alone.
 ///
 /// A message is read from exactly that many bytes. If a buffer may hold more, as one that
 /// collects the bytes of a stream (RFC 8489, section 6.2.2) or one that is longer than the datagram

@@ -10,7 +10,7 @@ use stun_attrs::RawAttribute;
 use stun_grammar::attribute_types::FINGERPRINT;
 
 /// An iterator over the attributes that a message shows, in order, each with the offset of its
-/// header from the start of the message.
+/// header in bytes from the start of the message.
 ///
 /// A message shows the longest prefix of its attributes that consists of ordinary ones, followed by
 /// at most one MESSAGE-INTEGRITY, one MESSAGE-INTEGRITY-SHA256 and one FINGERPRINT, in that order

@@ -14,7 +14,7 @@ ghost use Rattle.stun_grammar.specs.Writing.{message_encoding, IsWritable};
 ghost use Rattle.stun_read.specs.LookingUp.{nth};
 
 /// An attribute that is shown after k others with its type is `nth d type k`, with its value and
-/// the offset of its header.
+/// the offset of its header in bytes.
 pub fn shown_is_found()
     ensures found { (d : List ℕ) (before behind : List Attribute) (a : Attribute)
         → shown d ≡ placed 20 (before ++ a ∷ behind)

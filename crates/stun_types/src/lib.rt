@@ -10,6 +10,37 @@
 //! [`message::write::MessageWriteExt::add_attribute`] adds to it.
 //! Values, attributes and messages print by `Display`, and [`write_text`] writes the same text to a
 //! slice, which succeeds exactly if the slice has room.
+//!
+//! # Examples
+//!
+//! A request, the response of the server, and the address that the client reads from it:
+//!
+//! ```
+//! use rand::{make_rng, rngs::StdRng};
+//! use std::net::{IpAddr, Ipv4Addr, SocketAddr};
+//! use stun_types::attribute::XorMappedAddress;
+//! use stun_types::message::{BINDING, Message, MessageWriteVec};
+//! use stun_types::prelude::*;
+//!
+//! // the client sends a request
+//! let mut rng: StdRng = make_rng(&rt)?;
+//! let mut request = Message::builder_request(BINDING, &mut rng, MessageWriteVec::new(alloc))?;
+//! request.add_fingerprint()?;
+//! let sent = request.finish();
+//!
+//! // the server answers it with the address that it came from
+//! let source = SocketAddr::new(IpAddr::V4(Ipv4Addr::new(192, 0, 2, 1)), 32853);
+//! let request = Message::from_bytes(&sent)?;
+//! let mut response = Message::builder_success(&request, MessageWriteVec::new(alloc))?;
+//! response.add_attribute(&XorMappedAddress::new(source, request.transaction_id()))?;
+//! let answer = response.finish();
+//!
+//! // the client reads that address
+//! let response = Message::from_bytes(&answer)?;
+//! assert!(rt; response.answers(&request));
+//! let mapped = response.attribute::<XorMappedAddress>(alloc)?;
+//! assert_eq!(rt; mapped.addr(response.transaction_id()), source);
+//! ```
 #![tactic(auto)]
 
 pub mod attribute;

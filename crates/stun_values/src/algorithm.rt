@@ -21,8 +21,8 @@ pub enum PasswordAlgorithmValue {
 }
 
 impl PasswordAlgorithmValue {
-    /// The algorithm by which a message is signed if passwords are hashed by this one: SHA-1 for
-    /// MD5, and SHA-256 for SHA-256.
+    /// The algorithm by which a message is signed if passwords are hashed by the password
+    /// algorithm: SHA-1 for MD5, and SHA-256 for SHA-256.
     ///
     /// # Examples
     ///

@@ -74,9 +74,9 @@ fn read_code(value: &[u8]) -> Option<u16>
     Some(100 * code_class as u16 + number as u16)
 }
 
-/// Reads a value as a code and a reason, which is borrowed: it has 4 to 767 bytes, the code is one
-/// of 300 to 699, and the reason is UTF-8. The first two bytes and the high five bits of the third
-/// are ignored.
+/// Reads a value as a code and a reason, which is borrowed: the value has 4 to 767 bytes, the code
+/// is one of 300 to 699, and the reason is UTF-8. The first two bytes and the high five bits of the
+/// third are ignored.
 ///
 /// # Errors
 ///

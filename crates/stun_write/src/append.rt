@@ -46,6 +46,17 @@ pub(crate) fn append_sized(
 ///
 /// `len` is at least 20, and `len + attribute.padded_len()` at most 65555 and at most
 /// `message.len()`.
+///
+/// # Examples
+///
+/// ```
+/// use stun_types::attribute::Software;
+/// use stun_types::message::write::append_attribute;
+///
+/// let mut message = *b"\x00\x01\x00\x00\x21\x12\xA4\x42abcdefghijkl--------";
+/// append_attribute(&Software::new(alloc, "STUN")?, 20, &mut message);
+/// assert_eq!(rt; message, *b"\x00\x01\x00\x08\x21\x12\xA4\x42abcdefghijkl\x80\x22\x00\x04STUN");
+/// ```
 pub fn append_attribute(attribute: &dyn AttributeWrite, len: usize, message: &mut [u8])
     requires header { 20 ≤ len }
     requires room { grown_length len (length (value attribute.now)) ≤ length message.old }

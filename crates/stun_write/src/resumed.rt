@@ -4,7 +4,7 @@
 use crate::refusals::{Addition, barring, check_order, check_room, ending_types};
 use crate::{ResumePoint, append_encoded, append_value};
 use stun_attrs::EncodeValue;
-use stun_base::{AttributeType, StunWriteError, pad_attribute_len};
+use stun_base::{AddError, AttributeType, StunWriteError, pad_attribute_len};
 use stun_grammar::IntegrityAlgorithm;
 use stun_grammar::attribute_types::{FINGERPRINT, MESSAGE_INTEGRITY, MESSAGE_INTEGRITY_SHA256};
 use stun_integrity::{fingerprint_at, hmac_sha1_at, hmac_sha256_at};
@@ -51,8 +51,8 @@ impl ResumePoint {
         check_room(self.written, Some(slice.len()), added)
     }
 
-    /// Adds an attribute by its type and value to the message at this point, and returns how many
-    /// bytes it has then: the same as
+    /// Adds an attribute by its type and value to the message at the point, and returns the number
+    /// of bytes that the message has then: the same as
     /// [`MessageWriteExt::add_value`](crate::MessageWriteExt::add_value) by a writer that goes on
     /// here, without memory. What follows the message in `slice` stays as it was.
     ///
@@ -72,7 +72,7 @@ impl ResumePoint {
         slice: &mut [u8],
         atype: AttributeType,
         value: &[u8],
-    ) -> Result<usize, StunWriteError>
+    ) -> Result<usize, AddError>
         requires point { IsPointOf self slice.old }
         requires value { length value.now ≤ 65535 }
         ensures { AppendsIn
@@ -80,7 +80,7 @@ impl ResumePoint {
             atype.0 value.now result (resumed_length self) slice.old slice.new }
     {
         if atype.is_ending() {
-            return Err(StunWriteError::EndingType(atype));
+            return Err(AddError::EndingType(atype));
         }
         let added = 4 + pad_attribute_len(value.len());
         self.check_add(slice, Addition::Ordinary, added)?;
@@ -88,7 +88,8 @@ impl ResumePoint {
         Ok(self.written + added)
     }
 
-    /// As [`ResumePoint::add_value`], with a value that is encoded straight into the message.
+    /// Adds an attribute by its type and value to the message at the point, as
+    /// [`ResumePoint::add_value`] does; the value is encoded straight into the message.
     ///
     /// # Requires
     ///
@@ -103,7 +104,7 @@ impl ResumePoint {
         slice: &mut [u8],
         atype: AttributeType,
         value: &V,
-    ) -> Result<usize, StunWriteError>
+    ) -> Result<usize, AddError>
         requires { IsPointOf self slice.old }
         ensures { AppendsIn
             (any_in (length slice.old) atype.0 (V.bytes value.now)
@@ -111,7 +112,7 @@ impl ResumePoint {
             atype.0 (V.bytes value.now) result (resumed_length self) slice.old slice.new }
     {
         if atype.is_ending() {
-            return Err(StunWriteError::EndingType(atype));
+            return Err(AddError::EndingType(atype));
         }
         let added = 4 + pad_attribute_len(value.value_length() as usize);
         self.check_add(slice, Addition::Ordinary, added)?;
@@ -131,6 +132,21 @@ impl ResumePoint {
     ///
     /// As for [`MessageWriteExt::add_message_integrity_with_key`], but never `OutOfMemory`. `slice`
     /// then stays as it was.
+    ///
+    /// # Examples
+    ///
+    /// ```
+    /// use stun_types::message::{IntegrityAlgorithm, IntegrityKey, Message, ResumePoint};
+    ///
+    /// let key = IntegrityKey::new(alloc, b"secret", None)?;
+    /// let mut slice = [0; 64];
+    /// slice[..20].copy_from_slice(b"\x00\x01\x00\x00\x21\x12\xA4\x42abcdefghijkl");
+    /// let (point, sha1) = (ResumePoint::check(&slice, 20)?, IntegrityAlgorithm::Sha1);
+    /// let written = point.add_message_integrity_with_key(&mut slice, &key, sha1)?;
+    /// assert_eq!(rt; written, 44);
+    /// let message = Message::from_bytes(&slice[..written])?;
+    /// assert_eq!(rt; message.validate_integrity_with_key(&key), Ok(sha1));
+    /// ```
     ///
     /// [`MessageWriteExt::add_message_integrity_with_key`]: crate::MessageWriteExt::add_message_integrity_with_key
     #[tactic(auto, using(stun_grammar::proofs::AddingRefusedLemmas::signing_barred, stun_grammar::proofs::AddingLemmas::hmac_padded))]

@@ -162,7 +162,7 @@ impl<'a> MessageWriteMutSlice<'a> {
         }
     }
 
-    /// The whole borrowed slice: the bytes written, followed by what was there before.
+    /// The whole borrowed slice: the bytes written, followed by those that were there before.
     pub fn buffer(&self) -> &[u8]
         ensures { result.now
             ≡ (⟦<MessageWriteMutSlice<'a> as MessageWrite>⟧.state self.now).bytes
@@ -171,8 +171,8 @@ impl<'a> MessageWriteMutSlice<'a> {
         &self.slice[..]
     }
 
-    /// The whole borrowed slice, mutable. It is up to the caller that the bytes written stay a
-    /// message.
+    /// The whole borrowed slice, mutable: the bytes written, followed by those that were there
+    /// before. It is up to the caller that the bytes written stay a message.
     pub fn buffer_mut(&mut self) -> &mut [u8]
         ensures { result.now
             ≡ (⟦<MessageWriteMutSlice<'a> as MessageWrite>⟧.state self.old).bytes

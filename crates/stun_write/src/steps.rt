@@ -67,6 +67,24 @@ fn take_step<B: MessageWrite>(
 ///
 /// Only `OutOfMemory`, and only if fewer than twenty bytes are ready; nothing is written then,
 /// and the verdicts stay as they were.
+///
+/// # Examples
+///
+/// ```
+/// use stun_types::message::{
+///     BINDING, MessageClass, MessageType, MessageWriteMutSlice, Step, TransactionId,
+///     write_steps_into,
+/// };
+/// use stun_types::prelude::*;
+///
+/// let mut slice = [0; 64];
+/// let mut write = MessageWriteMutSlice::new(alloc, &mut slice);
+/// let mtype = MessageType::from_class_method(MessageClass::Request, BINDING);
+/// let id = TransactionId::from(1000);
+/// let mut verdicts = [Ok(())];
+/// write_steps_into(alloc, mtype, id, &[Step::Finger], &mut verdicts, &mut write)?;
+/// assert_eq!(rt; write.finish(), 28);
+/// ```
 pub fn write_steps_into<B: MessageWrite>(
     alloc: Global,
     mtype: MessageType,

@@ -27,6 +27,20 @@ use stun_base::{AttributeType, StunWriteError};
 /// - `slice_name`: the name of the slice that it borrows, or 0.
 ///
 /// `finishes_with` relates a writer to what its [`MessageWrite::finish`] returns.
+///
+/// # Examples
+///
+/// ```
+/// use stun_types::message::MessageWriteMutSlice;
+/// use stun_types::prelude::*;
+///
+/// let mut slice = [0; 64];
+/// let mut write = MessageWriteMutSlice::new(alloc, &mut slice);
+/// assert_eq!(rt; write.max_size(), Some(64));
+/// write.push_data(b"\x00\x01\x00\x00\x21\x12\xA4\x42abcdefghijkl")?;
+/// assert_eq!(rt; write.len(), 20);
+/// assert_eq!(rt; write.finish(), 20);
+/// ```
 pub trait MessageWrite {
     /// The result of [`MessageWrite::finish`]: what was written, or how much.
     type Output;

@@ -203,6 +203,16 @@ impl IntegrityKey {
     /// Converts the key into one made for the algorithm `algorithm`, or with none: so a validation
     /// with it looks at the integrity attribute of that algorithm alone. Nothing is
     /// copied, and a key that is prepared for what it then works with stays prepared.
+    ///
+    /// # Examples
+    ///
+    /// ```
+    /// use stun_types::message::{IntegrityAlgorithm, IntegrityKey};
+    ///
+    /// let key = IntegrityKey::new(alloc, b"secret", None)?;
+    /// let key = key.made_for(Some(IntegrityAlgorithm::Sha256));
+    /// assert_eq!(rt; key.algorithm(), Some(IntegrityAlgorithm::Sha256));
+    /// ```
     pub fn made_for(self, algorithm: Option<IntegrityAlgorithm>) -> Self
         ensures key { IsKey algorithm (key_bytes self) result }
         ensures prepared { is_prepared result ≡ is_prepared_for algorithm self }
@@ -258,6 +268,17 @@ impl IntegrityKey {
 
     /// HMAC-SHA1 of the pieces, joined, under the key: 20 bytes (RFC 2104). The algorithm that the
     /// key was made for does not matter. It takes no memory.
+    ///
+    /// # Examples
+    ///
+    /// ```
+    /// use stun_types::message::IntegrityKey;
+    ///
+    /// // the second test case of RFC 2202
+    /// let key = IntegrityKey::new(alloc, b"Jefe", None)?;
+    /// let hmac = key.hmac_sha1(&[b"what do ya want ".as_slice(), b"for nothing?"]);
+    /// assert_eq!(rt; &hmac[..4], [0xEF, 0xFC, 0xDF, 0x6A].as_slice());
+    /// ```
     pub fn hmac_sha1(&self, pieces: &[&[u8]]) -> [u8; 20]
         ensures { result ≡ hmac IntegrityAlgorithm.Sha1 (key_bytes self.now)
             (concat (map (λ piece. piece.now) pieces.now)) }

@@ -23,6 +23,17 @@ pub struct LongTermCredentials {
 
 impl LongTermCredentials {
     /// Credentials of a username and a password, which they own.
+    ///
+    /// # Examples
+    ///
+    /// ```
+    /// use stun_types::message::LongTermCredentials;
+    ///
+    /// let copy = |text| String::from_str(alloc, text);
+    /// let credentials = LongTermCredentials::new(copy("user")?, copy("pass")?);
+    /// assert_eq!(rt; credentials.username(), "user");
+    /// assert_eq!(rt; credentials.password(), "pass");
+    /// ```
     pub fn new(username: String, password: String) -> Self
         ensures username { login_username result ≡ string_bytes username }
         ensures password { login_password result ≡ string_bytes password }

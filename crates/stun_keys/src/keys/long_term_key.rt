@@ -25,6 +25,18 @@ pub struct LongTermKeyCredentials {
 
 impl LongTermKeyCredentials {
     /// Credentials of a username, a password and a realm, which they own.
+    ///
+    /// # Examples
+    ///
+    /// ```
+    /// use stun_types::message::LongTermKeyCredentials;
+    ///
+    /// let copy = |text| String::from_str(alloc, text);
+    /// let credentials = LongTermKeyCredentials::new(copy("user")?, copy("pass")?, copy("realm")?);
+    /// assert_eq!(rt; credentials.username(), "user");
+    /// assert_eq!(rt; credentials.password(), "pass");
+    /// assert_eq!(rt; credentials.realm(), "realm");
+    /// ```
     pub fn new(username: String, password: String, realm: String) -> Self
         ensures username { long_term_username result ≡ string_bytes username }
         ensures password { long_term_password result ≡ string_bytes password }

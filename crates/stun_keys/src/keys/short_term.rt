@@ -20,6 +20,15 @@ pub struct ShortTermCredentials {
 
 impl ShortTermCredentials {
     /// Credentials of a password, which they own.
+    ///
+    /// # Examples
+    ///
+    /// ```
+    /// use stun_types::message::ShortTermCredentials;
+    ///
+    /// let credentials = ShortTermCredentials::new(String::from_str(alloc, "pass")?);
+    /// assert_eq!(rt; credentials.password(), "pass");
+    /// ```
     pub fn new(password: String) -> Self
         ensures { short_term_password result ≡ string_bytes password }
     {

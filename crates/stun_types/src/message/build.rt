@@ -67,6 +67,22 @@ impl Message<'_> {
     ///
     /// Only `OutOfMemory`, and only if fewer than twenty bytes are ready; nothing is written
     /// then.
+    ///
+    /// # Examples
+    ///
+    /// ```
+    /// use stun_types::message::{
+    ///     BINDING, Message, MessageClass, MessageType, MessageWriteMutSlice, TransactionId,
+    /// };
+    /// use stun_types::prelude::*;
+    ///
+    /// let mut slice = [0; 28];
+    /// let mut write = MessageWriteMutSlice::new(alloc, &mut slice);
+    /// let mtype = MessageType::from_class_method(MessageClass::Request, BINDING);
+    /// Message::builder_into(mtype, TransactionId::from(1000), &mut write)?;
+    /// write.add_fingerprint()?;
+    /// assert_eq!(rt; write.finish(), 28);
+    /// ```
     #[inline(always)]
     pub fn builder_into<B: MessageWrite>(
         mtype: MessageType,

@@ -106,15 +106,15 @@ impl<'a> Message<'a> {
         self.offsets
     }
 
-    /// The header: message type, length field and transaction ID, which the methods below return
-    /// one by one.
+    /// The header of the message: type, length field and transaction ID, which the methods below
+    /// return one by one.
     pub fn header(&self) -> MessageHeader
         ensures { result ≡ header_of (message_bytes self.now) }
     {
         read_header(self.bytes)
     }
 
-    /// The message type: class and method.
+    /// The type of the message: class and method.
     ///
     /// # Examples
     ///
@@ -230,9 +230,9 @@ impl<'a> Message<'a> {
         self.header().transaction_id()
     }
 
-    /// Iterates over the attributes that the message shows, each with the offset of its header;
-    /// [`MessageAttributesIter`] says which they are. It takes no memory, and the values borrow the
-    /// bytes of the message.
+    /// Iterates over the attributes that the message shows, each with the offset of its header in
+    /// bytes; [`MessageAttributesIter`] says which they are. It takes no memory, and the values
+    /// borrow the bytes of the message.
     ///
     /// # Examples
     ///

@@ -261,7 +261,7 @@ impl Message<'_> {
     }
 
     /// Begins the error response to a request: writes its header, with the method and the
-    /// transaction ID of the request, into `write`. It lacks the ERROR-CODE that each error
+    /// transaction ID of the request, into `write`. The response lacks the ERROR-CODE that each error
     /// response has (RFC 8489, section 6.3.1.1).
     ///
     /// # Requires
@@ -562,6 +562,21 @@ impl Message<'_> {
     ///
     /// As for [`Message::check_attribute_types`]. The header and the attributes before the refused
     /// one are written then. If an allocation failed, fewer may be, or nothing.
+    ///
+    /// # Examples
+    ///
+    /// ```
+    /// use stun_types::attribute::KNOWN;
+    /// use stun_types::message::{Message, MessageWriteMutSlice};
+    /// use stun_types::prelude::*;
+    ///
+    /// let bytes = b"\x00\x01\x00\x08\x21\x12\xA4\x42abcdefghijkl\x80\x22\x00\x04STUN";
+    /// let request = Message::from_bytes(bytes)?;
+    /// let mut slice = [0; 512];
+    /// let mut write = MessageWriteMutSlice::new(alloc, &mut slice);
+    /// let wrote = Message::check_attribute_types_into(alloc, &request, &KNOWN, &[], &mut write)?;
+    /// assert!(rt; !wrote && write.len() == 0);
+    /// ```
     pub fn check_attribute_types_into<B: MessageWrite>(
         alloc: Global,
         msg: &Message<'_>,

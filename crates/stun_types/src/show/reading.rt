@@ -25,13 +25,27 @@ impl fmt::Display for Malformed<'_, '_> {
     }
 }
 
-/// Reads the attribute as an `A`, in memory from `alloc`, and appends to `text` what that prints.
-/// If reading refuses, it appends the text of a malformed attribute.
+/// Reads a raw attribute as an `A`, in memory from `alloc`, and appends the text that the `A`
+/// prints to `text`. If reading refuses, it appends the text of a malformed attribute.
 ///
 /// # Errors
 ///
 /// `fmt::Error` if reading finds no memory, if the text finds none, or if the attribute
 /// answers it.
+///
+/// # Examples
+///
+/// ```
+/// use ice_attrs::Priority;
+/// use stun_types::attribute::RawAttribute;
+/// use stun_types::prelude::*;
+/// use stun_types::show::print_read;
+///
+/// let raw = RawAttribute::new(Priority::TYPE, &[0, 0, 0, 7])?;
+/// let mut text = String::new(alloc);
+/// print_read::<Priority>(alloc, &raw, &mut text)?;
+/// assert_eq!(rt; text.as_str(), "PRIORITY: 7");
+/// ```
 pub fn print_read<'a, A: AttributeFromRaw<'a> + fmt::Display + Drop>(
     alloc: Global,
     raw: &RawAttribute<'_>,

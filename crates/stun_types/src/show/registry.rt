@@ -115,6 +115,26 @@ impl Registry {
     ///
     /// `OutOfMemory` alone, and only for a type that no function was registered for. The registry
     /// is then as before.
+    ///
+    /// # Examples
+    ///
+    /// ```
+    /// use std::alloc::Global;
+    /// use std::fmt;
+    /// use stun_types::attribute::{AttributeType, RawAttribute};
+    /// use stun_types::show::{Registry, Shown};
+    ///
+    /// fn print_count(_alloc: Global, raw: &RawAttribute<'_>, text: &mut String) -> fmt::Result {
+    ///     let count = raw.value().as_bytes().len();
+    ///     write!(text, "MINE: {count} bytes").map_err(|_| fmt::Error)
+    /// }
+    ///
+    /// let mut registry = Registry::new(alloc);
+    /// registry.add_display_impl(AttributeType(0x8851), print_count)?;
+    /// let raw = RawAttribute::new(AttributeType(0x8851), &[4, 0])?;
+    /// let shown = Shown { registry: &registry, raw: &raw };
+    /// assert_eq!(rt; format!(in alloc; "{shown}")?.as_str(), "MINE: 2 bytes");
+    /// ```
     pub fn add_display_impl(
         &mut self,
         atype: AttributeType,
