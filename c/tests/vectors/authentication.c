@@ -7,7 +7,7 @@
 #include <string.h>
 
 /* (carol's password is a letter, so many times) */
-enum { ALGORITHMS = 20, LONG = 70000, ROOM = ANY_ROOM };
+enum { ALGORITHMS = 20, LONG = 65536, ROOM = ANY_ROOM };
 
 static const char realm[] = "example.org";
 

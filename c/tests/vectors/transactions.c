@@ -159,9 +159,10 @@ static bool take(const event *it, stun_types_transaction *transaction, const stu
     stun_types_action action;
     stun_types_received received;
     if (strcmp(it->name, "at") == 0) {
+        /* (one that has ended looks at no clock) */
+        if (latest < it->time && transaction->end == 0) latest = it->time;
         ANSWERS(stun_types_transaction_poll(transaction, it->time, &action), OK_ANSWER);
         last_time = it->time;
-        if (latest < it->time) latest = it->time;
         if (action.kind == STUN_TYPES_SEND_NOW) sent_at = latest;
         CHECK(transaction->clock == latest && transaction->last == sent_at);
         answer_action(&action);

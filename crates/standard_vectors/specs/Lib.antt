@@ -3,3 +3,4 @@ pub mod Parameters
 pub mod Right
 pub mod Digests
 pub mod WrittenMessages
+pub mod Tables

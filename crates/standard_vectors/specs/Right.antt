@@ -1,20 +1,28 @@
 -- What the definitions of the grammar give for a message from outside.
-use Rattle.std.specs.Prelude.{◌≡◌, ℕ, ◌+◌, ◌-◌, List, [], ◌∷◌, ◌++◌, codes, length, map, take, drop, slice_range, None, Some, Result, Ok, Err}
-use Rattle.stun_grammar.specs.declared.error.StunParseError.TheVariants.{Truncated, FingerprintMismatch, MissingAttribute}
+use Rattle.std.specs.Prelude.{◌≡◌, ℕ, ◌+◌, ◌-◌, List, [], ◌∷◌, ◌++◌, codes, length, map, take, drop, replicate, slice_range, Option, None, Some, Result, Ok, Err}
+use Rattle.std.specs.Option.{option_map_or}
+use Rattle.stun_grammar.specs.declared.error.StunParseError.{StunParseError}
+use Rattle.stun_grammar.specs.declared.error.StunParseError.TheVariants.{NotStun, Truncated, FingerprintMismatch, MissingAttribute}
+use Rattle.stun_grammar.specs.declared.error.StunWriteError.{StunWriteError}
 use Rattle.stun_grammar.specs.declared.error.ValidateError.{ValidateError}
 use Rattle.stun_grammar.specs.declared.error.ValidateError.TheVariants.{Parse, IntegrityFailed}
 use Rattle.stun_grammar.specs.declared.integrity_algorithm.IntegrityAlgorithm.{IntegrityAlgorithm}
 use Rattle.stun_grammar.specs.declared.integrity_algorithm.IntegrityAlgorithm.TheVariants.{Sha1, Sha256}
-use Rattle.stun_grammar.specs.AttributeTypes.{MESSAGE_INTEGRITY}
+use Rattle.stun_grammar.specs.AttributeTypes.{MESSAGE_INTEGRITY, SOFTWARE}
 use Rattle.stun_grammar.specs.Numbers.{be16}
 use Rattle.stun_grammar.specs.Headers.{type_field, id_field}
+use Rattle.stun_grammar.specs.Attributes.{types}
 use Rattle.stun_grammar.specs.Chains.{Shown, chain}
 use Rattle.stun_grammar.specs.Fingerprints.{fingerprint_value}
 use Rattle.stun_grammar.specs.Showing.{shown}
 use Rattle.stun_grammar.specs.Parsing.{parse_fault}
 use Rattle.stun_grammar.specs.Writing.{message_encoding}
+use Rattle.stun_grammar.specs.Steps.{add, sign, finger}
+use Rattle.stun_grammar.specs.Adding.{order_refusal}
 use Rattle.stun_grammar.specs.Verdicts.{verdict, covered, is_checked_type}
+use Rattle.stun_values.specs.Typed.{value_fault}
 use Rattle.standard_vectors.specs.Parameters.{password}
+use Rattle.standard_vectors.specs.WrittenMessages.{signed_twice}
 
 -- d parses, has this type, this transaction ID and these attributes, and is their encoding; without
 -- its last byte it is rejected
@@ -52,3 +60,41 @@ pub record IsAnswered (d : List ℕ) (types : List ℕ)
   pub parses : parse_fault d ≡ None
   pub shows : map (λ a. a.type) (shown d) ≡ types
   pub answers : verdict (is_checked_type None) (λ _. password) d ≡ answer
+
+-- d, cut off after n bytes, with a length field that counts them
+abbrev pub cut_to : List ℕ → ℕ → List ℕ
+cut_to d n = take 2 d ++ (be16 (n - 20) ++ slice_range d 4 n)
+
+-- d, followed by more bytes, which the length field counts too
+abbrev pub followed_by : List ℕ → List ℕ → List ℕ
+followed_by d more = take 2 d ++ (be16 (length d - 20 + length more) ++ (drop 4 d ++ more))
+
+-- d, with other bytes from an offset on, and then as before
+abbrev pub with_bytes : List ℕ → ℕ → List ℕ → List ℕ
+with_bytes d offset bytes = take offset d ++ (bytes ++ drop (offset + length bytes) d)
+
+-- d parses, shows these attributes, and validates with the key by an algorithm
+pub record IsShown (d : List ℕ) (attributes : List Shown) (key : IntegrityAlgorithm → List ℕ)
+    (algorithm : IntegrityAlgorithm) : Type 0 where
+  pub parses : parse_fault d ≡ None
+  pub shows : shown d ≡ attributes
+  pub validates : verdict (is_checked_type None) key d ≡ Ok algorithm
+
+-- the types of the attributes of d
+abbrev pub types_of : List ℕ → List ℕ
+types_of d = types (chain (drop 20 d))
+
+-- why an ordinary attribute, each integrity attribute and a FINGERPRINT may not follow these
+abbrev pub refusals_after : List ℕ → List (Option StunWriteError)
+refusals_after types =
+    map (λ step. order_refusal step types)
+    (add SOFTWARE (codes "other") ∷ sign Sha1 password ∷ sign Sha256 password ∷ finger ∷ [])
+
+-- what the MESSAGE-INTEGRITY-SHA256 of signed_twice covers
+abbrev pub text_of_sha256 : List ℕ
+text_of_sha256 = take 2 signed_twice ++ (be16 72 ++ slice_range signed_twice 4 56)
+
+-- why values of these lengths are none of a type, whatever their bytes are
+abbrev pub lengths_of : ℕ → List ℕ → List (Option StunParseError)
+lengths_of type lengths =
+    map (λ n. option_map_or (λ fault. fault) (value_fault type (replicate n 0)) (Some NotStun)) lengths

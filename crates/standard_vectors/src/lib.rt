@@ -4,35 +4,45 @@
 //! computes what their contracts state.
 #![tactic(auto)]
 
-ghost use Rattle.std.specs.Prelude.{◌≡◌, [], ◌∷◌, ◌++◌, codes, take, drop, slice_range, replicate, None, Some, Ok, Err};
+ghost use Rattle.std.specs.Prelude.{◌≡◌, [], ◌∷◌, ◌++◌, codes, take, drop, slice_range, replicate, None, Some, Ok, Err, false, map};
 ghost use Rattle.sha1.specs.Sha1.{sha1};
 ghost use Rattle.sha2.specs.Sha256.{sha256};
 ghost use Rattle.md5.specs.Md5.{md5};
-ghost use Rattle.stun_grammar.specs.declared.error.StunParseError.TheVariants.{NotStun, Truncated, TooLarge, MissingAttribute, InvalidAttributeData};
+ghost use Rattle.stun_grammar.specs.declared.error.StunParseError.TheVariants.{NotStun, Truncated, TooLarge, MissingAttribute, InvalidAttributeData, FingerprintMismatch};
+ghost use Rattle.stun_grammar.specs.declared.error.StunWriteError.TheVariants.{AttributeExists, FingerprintExists, MessageIntegrityExists, TooSmall, TooLarge as TooLargeToWrite};
 ghost use Rattle.stun_grammar.specs.declared.error.ValidateError.TheVariants.{Parse};
 ghost use Rattle.stun_grammar.specs.declared.integrity_algorithm.IntegrityAlgorithm.TheVariants.{Sha1, Sha256};
 ghost use Rattle.stun_grammar.specs.AttributeTypes.{MAPPED_ADDRESS, USERNAME, MESSAGE_INTEGRITY, ERROR_CODE, UNKNOWN_ATTRIBUTES, REALM, NONCE, XOR_MAPPED_ADDRESS, SOFTWARE, ALTERNATE_SERVER, FINGERPRINT, MESSAGE_INTEGRITY_SHA256, PASSWORD_ALGORITHM, USERHASH, PASSWORD_ALGORITHMS, ALTERNATE_DOMAIN};
 ghost use Rattle.stun_grammar.specs.Headers.{header_fault};
+ghost use Rattle.stun_grammar.specs.Names.{attribute_name};
 ghost use Rattle.stun_grammar.specs.Attributes.{types};
 ghost use Rattle.stun_grammar.specs.Chains.{chain};
+ghost use Rattle.stun_grammar.specs.ShownOrder.{IsInOrder};
+ghost use Rattle.stun_grammar.specs.ScannedOrder.{in_any_order, IsInAnyOrder};
 ghost use Rattle.stun_grammar.specs.Checksums.{crc};
 ghost use Rattle.stun_grammar.specs.Parsing.{parse_fault};
 ghost use Rattle.stun_grammar.specs.Hmac.{hmac};
 ghost use Rattle.stun_grammar.specs.Verdicts.{is_checked_type, verdict};
-ghost use Rattle.stun_grammar.specs.Authentic.{authentic, authentic_fingerprint};
+ghost use Rattle.stun_grammar.specs.Authentic.{authentic, authentic_fingerprint, content};
+ghost use Rattle.stun_grammar.specs.Carrying.{Carries};
+ghost use Rattle.stun_grammar.specs.Steps.{add, finger};
+ghost use Rattle.stun_grammar.specs.Adding.{room_refusal, add_refusal};
 ghost use Rattle.stun_grammar.specs.Sending.{sent_encoding};
+ghost use Rattle.stun_grammar.specs.Origin.{signed, IsUnsigned, ComesFrom};
 ghost use Rattle.stun_base.specs.declared.message_type.MessageClass.TheVariants.{Request, Indication, Success, Error};
 ghost use Rattle.stun_base.specs.MessageTypes.{type_of, class_of, method_of};
 ghost use Rattle.stun_values.specs.declared.algorithm.PasswordAlgorithmValue.TheVariants.{MD5, SHA256};
 ghost use Rattle.stun_values.specs.Addresses.{address_in, address_fault, address_value, IsXored};
 ghost use Rattle.stun_values.specs.Algorithms.{algorithms_fault, algorithms_in, algorithms_encoding};
 ghost use Rattle.stun_values.specs.ErrorValues.{error_fault, told_code, error_value};
+ghost use Rattle.stun_values.specs.Typed.{rule_of};
 ghost use Rattle.stun_values.specs.TypeLists.{types_fault, types_in, types_encoding};
 ghost use Rattle.standard_vectors.specs.Digests.{two_blocks, eighty_digits, sha1_of_abc, sha1_of_two_blocks, sha256_of_abc, sha256_of_two_blocks, md5_of_abc, md5_of_digits, question, long_key_text, sha1_case_1, sha1_case_2, sha1_case_6, sha256_case_1, sha256_case_2, sha256_case_6, sha1_of_64, sha1_of_65, sha256_of_64, sha256_of_65};
 ghost use Rattle.standard_vectors.specs.Messages.{sample_request, ipv4_response, ipv6_response, long_term_request, sha256_request};
 ghost use Rattle.standard_vectors.specs.Parameters.{password, user_name, realm, user_key, user_hash, sha256_hmac, check_id, user_id, mapped_ipv4, mapped_ipv6, sample_request_attributes, ipv4_response_attributes, ipv6_response_attributes, long_term_request_attributes, long_term_message, message_signed_twice};
-ghost use Rattle.standard_vectors.specs.Right.{signed_text, IsRead, IsSigned, HasFingerprint, IsAnswered};
-ghost use Rattle.standard_vectors.specs.WrittenMessages.{full_sha256, short_sha256, signed_twice, sha1_of_16, sha256_of_12, sha256_of_18, sha256_of_36, integrity_fingerprint_sha256, sha256_integrity_fingerprint, sha256_fingerprint_integrity, fingerprint_integrity_sha256, fingerprint_sha256_integrity, integrity_software};
+ghost use Rattle.standard_vectors.specs.Right.{signed_text, IsRead, IsSigned, HasFingerprint, IsAnswered, IsShown, cut_to, followed_by, with_bytes, types_of, refusals_after, text_of_sha256, lengths_of};
+ghost use Rattle.standard_vectors.specs.Tables.{all_types, all_rules, all_names};
+ghost use Rattle.standard_vectors.specs.WrittenMessages.{full_sha256, short_sha256, signed_twice, sha1_of_16, sha256_of_12, sha256_of_18, sha256_of_36, integrity_fingerprint_sha256, sha256_integrity_fingerprint, sha256_fingerprint_integrity, fingerprint_integrity_sha256, fingerprint_sha256_integrity, integrity_software, fingerprint_alone, software, zero_fingerprint, cut_username};
 
 /// The connectivity check of RFC 5769, section 2.1.
 pub fn sample_request_is_right()
@@ -154,6 +164,99 @@ pub fn other_orders_are_cut_off()
     ensures fingerprint_integrity { IsAnswered fingerprint_integrity_sha256 (FINGERPRINT ∷ []) (Err (Parse (MissingAttribute (record { 0 = MESSAGE_INTEGRITY })))) }
     ensures fingerprint_sha256 { IsAnswered fingerprint_sha256_integrity (FINGERPRINT ∷ []) (Err (Parse (MissingAttribute (record { 0 = MESSAGE_INTEGRITY })))) }
     ensures ordinary { IsAnswered integrity_software (MESSAGE_INTEGRITY ∷ []) (Ok Sha1) }
+{}
+
+/// Messages of RFC 5769 that are cut off: after whole attributes it is no fault; in an attribute, what
+/// is wanted is the end that its header states, or of its header four bytes more than both numbers
+/// have.
+pub fn cut_attributes_are_right()
+    ensures between { parse_fault (cut_to sample_request 40) ≡ None }
+    ensures header { parse_fault (cut_to sample_request 42) ≡ Some (Truncated 48 46) }
+    ensures value { parse_fault (cut_to sample_request 70) ≡ Some (Truncated 73 70) }
+    ensures padding { parse_fault (cut_to sample_request 74) ≡ Some (Truncated 76 74) }
+    ensures last { parse_fault (followed_by long_term_request cut_username) ≡ Some (Truncated 129 121) }
+{}
+
+/// What follows MESSAGE-INTEGRITY is ignored, but MESSAGE-INTEGRITY-SHA256 and FINGERPRINT; what follows
+/// MESSAGE-INTEGRITY-SHA256, but FINGERPRINT; and what follows FINGERPRINT (RFC 8489, sections 14.5 to
+/// 14.7): messages of RFC 5769 and of Python, and an attribute after them.
+pub fn what_follows_is_ignored()
+    ensures integrity { IsShown (followed_by long_term_request software) long_term_request_attributes user_key Sha1 }
+    ensures sha256 { IsAnswered (followed_by full_sha256 software) (SOFTWARE ∷ MESSAGE_INTEGRITY_SHA256 ∷ []) (Ok Sha256) }
+    ensures fingerprint { IsShown (followed_by ipv4_response software) ipv4_response_attributes (λ _. password) Sha1 }
+    ensures in_order { IsInOrder (USERNAME ∷ SOFTWARE ∷ MESSAGE_INTEGRITY ∷ MESSAGE_INTEGRITY_SHA256 ∷ FINGERPRINT ∷ []) }
+{}
+
+/// Parsing checks a FINGERPRINT that follows or precedes the integrity attributes in any order, also
+/// one that isn't shown. At an ordinary attribute after an ending one, and at a second one of a type,
+/// it stops: neither a FINGERPRINT after that nor an attribute that is cut off is looked at.
+pub fn scanned_orders_are_right()
+    ensures any { IsInAnyOrder (USERNAME ∷ MESSAGE_INTEGRITY_SHA256 ∷ FINGERPRINT ∷ MESSAGE_INTEGRITY ∷ []) }
+    ensures ordinary { in_any_order (MESSAGE_INTEGRITY ∷ SOFTWARE ∷ []) ≡ false }
+    ensures twice { in_any_order (FINGERPRINT ∷ MESSAGE_INTEGRITY ∷ FINGERPRINT ∷ []) ≡ false }
+    ensures last { parse_fault (with_bytes sha256_integrity_fingerprint 64 zero_fingerprint) ≡ Some FingerprintMismatch }
+    ensures first { parse_fault (with_bytes fingerprint_sha256_integrity 20 zero_fingerprint) ≡ Some FingerprintMismatch }
+    ensures after_ordinary { parse_fault (followed_by integrity_software zero_fingerprint) ≡ None }
+    ensures second { parse_fault (followed_by ipv4_response zero_fingerprint) ≡ None }
+    ensures cut { parse_fault (followed_by integrity_software cut_username) ≡ None }
+{}
+
+/// Which steps may follow a message without attributes, with MESSAGE-INTEGRITY, with
+/// MESSAGE-INTEGRITY-SHA256 and with FINGERPRINT, by the order of RFC 8489, sections 14.5 to 14.7.
+pub fn blocked_steps_are_right()
+    ensures none { refusals_after [] ≡ None ∷ None ∷ None ∷ None ∷ [] }
+    ensures integrity { refusals_after (types_of long_term_request) ≡ Some MessageIntegrityExists ∷ Some (AttributeExists (record { 0 = MESSAGE_INTEGRITY })) ∷ None ∷ None ∷ [] }
+    ensures sha256 { refusals_after (types_of full_sha256) ≡ Some MessageIntegrityExists ∷ Some (AttributeExists (record { 0 = MESSAGE_INTEGRITY_SHA256 })) ∷ Some (AttributeExists (record { 0 = MESSAGE_INTEGRITY_SHA256 })) ∷ None ∷ [] }
+    ensures fingerprint { refusals_after (types_of fingerprint_alone) ≡ Some FingerprintExists ∷ Some FingerprintExists ∷ Some FingerprintExists ∷ Some (AttributeExists (record { 0 = FINGERPRINT })) ∷ [] }
+    ensures both { refusals_after (types_of ipv4_response) ≡ Some MessageIntegrityExists ∷ Some (AttributeExists (record { 0 = MESSAGE_INTEGRITY })) ∷ Some FingerprintExists ∷ Some (AttributeExists (record { 0 = FINGERPRINT })) ∷ [] }
+{}
+
+/// A message has at most 65,552 bytes: the length field, of two bytes, counts what follows the header,
+/// a multiple of 4 (RFC 8489, section 5). A writer into a slice takes as many as it has room for.
+pub fn greatest_lengths_are_right()
+    ensures greatest { room_refusal 65548 None 65552 ≡ None }
+    ensures beyond { room_refusal 65552 None 65556 ≡ Some (TooLargeToWrite 65555 65556) }
+    ensures empty_value { add_refusal (add SOFTWARE []) (SOFTWARE ∷ []) 65548 None ≡ None }
+    ensures no_room_left { add_refusal (add SOFTWARE []) (SOFTWARE ∷ []) 65552 None ≡ Some (TooLargeToWrite 65555 65556) }
+    ensures room { add_refusal finger (USERNAME ∷ []) 32 (Some 40) ≡ None }
+    ensures no_room { add_refusal finger (USERNAME ∷ []) 32 (Some 39) ≡ Some (TooSmall 40 39) }
+    ensures padded { add_refusal (add SOFTWARE (codes "other")) [] 20 (Some 31) ≡ Some (TooSmall 32 31) }
+    ensures both { room_refusal 65552 (Some 65555) 65556 ≡ Some (TooSmall 65556 65555) }
+    ensures no_header { room_refusal 19 None 27 ≡ Some (TooSmall 20 19) }
+    ensures order_first { add_refusal (add SOFTWARE []) (MESSAGE_INTEGRITY ∷ []) 65552 None ≡ Some MessageIntegrityExists }
+{}
+
+/// What is signed in a message with all three ending attributes, written step by step: by each
+/// algorithm and key, the bytes before the integrity attribute and the attributes through it; that the
+/// content of its bytes comes from it, and other content doesn't; and that SHA-256 alone signed the
+/// bytes that the second attribute covers.
+pub fn signatures_are_right()
+    ensures sha1 { signed message_signed_twice password Sha1 ≡ record { covered = signed_text signed_twice 32; through = chain (slice_range signed_twice 20 56) } ∷ [] }
+    ensures sha256 { signed message_signed_twice password Sha256 ≡ record { covered = text_of_sha256; through = chain (slice_range signed_twice 20 92) } ∷ [] }
+    ensures other_key { signed message_signed_twice (codes "other") Sha1 ≡ [] }
+    ensures origin { ComesFrom (message_signed_twice ∷ []) password Sha256 text_of_sha256 (content signed_twice) }
+    ensures other_content { ¬ (ComesFrom (message_signed_twice ∷ []) password Sha256 text_of_sha256 (content ipv4_response)) }
+    ensures was_signed { ¬ (IsUnsigned (message_signed_twice ∷ []) password Sha256 text_of_sha256) }
+    ensures unsigned { IsUnsigned (message_signed_twice ∷ []) password Sha1 text_of_sha256 }
+{}
+
+/// The request of RFC 5769, section 2.1, carries the bytes before its MESSAGE-INTEGRITY and their HMAC.
+pub fn carried_content_is_right()
+    ensures { Carries sample_request (signed_text sample_request 76) password Sha1 }
+{}
+
+/// What the value of each type has to be (RFC 8489, sections 14.3 to 14.16), the least and greatest
+/// lengths of each fixed form, and types that have no rule.
+pub fn rules_of_types_are_right()
+    ensures rules { map rule_of all_types ≡ all_rules }
+    ensures hmac { lengths_of MESSAGE_INTEGRITY (19 ∷ 20 ∷ 21 ∷ []) ≡ Some (Truncated 20 19) ∷ None ∷ Some (TooLarge 20 21) ∷ [] }
+    ensures hash { lengths_of USERHASH (31 ∷ 32 ∷ 33 ∷ []) ≡ Some (Truncated 32 31) ∷ None ∷ Some (TooLarge 32 33) ∷ [] }
+    ensures checksum { lengths_of FINGERPRINT (3 ∷ 4 ∷ 5 ∷ []) ≡ Some (Truncated 4 3) ∷ None ∷ Some (TooLarge 4 5) ∷ [] }
+{}
+
+/// The name of each type (RFC 8489, section 18.3), and of one that no RFC assigns.
+pub fn names_of_types_are_right()
+    ensures { map attribute_name all_types ≡ all_names }
 {}
 
 /// The steps that write the request of RFC 5769, section 2.4, and a message with all three ending

@@ -5,8 +5,7 @@ use Rattle.std.specs.Result.{IsErr, IsErrAnd}
 use Rattle.std.specs.Option.{option_or, option_map}
 use Rattle.std.proofs.lemmas.List.{map-append}
 use Rattle.stun_grammar.specs.declared.error.StunWriteError.{StunWriteError}
-use Rattle.stun_grammar.specs.declared.error.StunWriteError.TheVariants.{EndingType}
-use Rattle.stun_grammar.specs.Adding.{appended, grown_length, first_of, exists_refusal, order_refusal, room_refusal, add_refusal, any_refusal, IsAddAnswer}
+use Rattle.stun_grammar.specs.Adding.{appended, grown_length, first_of, exists_refusal, order_refusal, room_refusal, add_refusal, IsAddAnswer}
 use Rattle.std.specs.List.{list_any}
 use Rattle.stun_grammar.specs.Attributes.{Attribute, canonical}
 use Rattle.stun_grammar.specs.AttributeTypes.{IsOrdinary, is_ending}
@@ -61,10 +60,6 @@ added result old new type value gains kept told ordinary t v = record {
     sized : (r : Result (Unit {0}) StunWriteError) → OnOk r (Gains old new type value) → OnOk r (length new.bytes ≡ longer (length old.bytes) (sizes (canonical type value ∷ [])))
     sized (Ok done) gained = gained.size
     sized (Err e) gained = tt
-
--- an attribute by its type and its value
-pub by_value : (type : ℕ) (value types : List ℕ) (len : ℕ) (greatest : Option ℕ) → is_ending type ≡ false → any_refusal type value types len greatest ≡ add_refusal (add type value) types len greatest
-by_value type value types len greatest plain = ap (λ (b : Bool). if b then Some (EndingType (record { 0 = type })) else add_refusal (add type value) types len greatest) plain
 
 -- ---- Many
 

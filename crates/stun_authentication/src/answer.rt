@@ -22,6 +22,15 @@ pub struct Accepted {
 }
 
 /// Why a request is refused, as the code of the error response.
+///
+/// # Examples
+///
+/// ```
+/// use stun_authentication::Refusal;
+///
+/// assert_eq!(rt; Refusal::StaleNonce.code(), 438);
+/// assert_eq!(rt; Refusal::StaleNonce.reason(), "Stale Nonce");
+/// ```
 #[derive(Clone, Copy, Debug, PartialEq, Eq)]
 pub enum Refusal {
     /// 400 (Bad Request): an attribute is missing, USERNAME and USERHASH are both there, or the

@@ -8,6 +8,30 @@ use stun_types::attribute::PasswordAlgorithmValue;
 use stun_types::message::IntegrityAlgorithm;
 
 /// What a server asks a client's next request to carry.
+///
+/// # Examples
+///
+/// ```
+/// use stun_authentication::challenge_of;
+/// use stun_types::attribute::PasswordAlgorithmValue;
+/// use stun_types::message::{IntegrityAlgorithm, Message};
+///
+/// // The 401 of section 20 of RFC 8656.
+/// let response = Message::from_bytes(
+///     b"\x01\x13\x00\x54\x21\x12\xA4\x42\xA5\x62\x50\xD3\xF1\x7A\xBE\x67\x94\x22\xDE\x85\
+///       \x00\x09\x00\x10\x00\x00\x04\x01Unauthorized\x00\x14\x00\x0Bexample.com\x00\
+///       \x00\x15\x00\x20obMatJos2gAAAadl7W7PeDU4hKE72jda\
+///       \x80\x02\x00\x08\x00\x01\x00\x00\x00\x02\x00\x00",
+/// )?;
+/// let supported = [PasswordAlgorithmValue::SHA256];
+/// let challenge = challenge_of(&response, &supported, None, None)?;
+/// // MD5 and SHA-256, in the order of the server.
+/// let list = b"\x00\x01\x00\x00\x00\x02\x00\x00".as_slice();
+/// assert_eq!(rt; challenge.password_algorithms(), Some(list));
+/// assert_eq!(rt; challenge.integrity_algorithm(), IntegrityAlgorithm::Sha256);
+/// // The nonce doesn't promise that the server knows its users by USERHASH.
+/// assert!(rt; !challenge.is_anonymous());
+/// ```
 #[derive(Clone, Copy, Debug)]
 pub struct Challenge<'a> {
     realm: &'a str,

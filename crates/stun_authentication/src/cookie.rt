@@ -22,6 +22,16 @@ pub struct SecurityFeatures {
 /// Returns the nonce cookie of a server with these features, the thirteen bytes with which its
 /// nonces begin: `obMatJos2`, and 24 bits in base64, of which bits 2 to 23 are 0 (RFC 8489, section
 /// 9.2).
+///
+/// # Examples
+///
+/// ```
+/// use stun_authentication::{SecurityFeatures, nonce_cookie};
+///
+/// // The nonces of section 20 of RFC 8656 begin with it: of the 24 bits the first one is set.
+/// let features = SecurityFeatures { password_algorithms: true, username_anonymity: false };
+/// assert_eq!(rt; nonce_cookie(features), "obMatJos2gAAA");
+/// ```
 pub fn nonce_cookie(features: SecurityFeatures) -> &'static str
     ensures { result.now ≡ cookie features }
 {
@@ -44,6 +54,17 @@ fn six_bits(character: u8) -> Option<usize>
 /// Returns the security features of a nonce, or `None` if it doesn't begin with a nonce cookie:
 /// `obMatJos2`, and four characters of base64, which spell 24 bits (RFC 8489, section 9.2). Bits 2
 /// to 23 may be anything.
+///
+/// # Examples
+///
+/// ```
+/// use stun_authentication::{SecurityFeatures, security_features};
+///
+/// // The nonce of section 20 of RFC 8656, and that of section 2.4 of RFC 5769.
+/// let features = SecurityFeatures { password_algorithms: true, username_anonymity: false };
+/// assert_eq!(rt; security_features(b"obMatJos2gAAAadl7W7PeDU4hKE72jda"), Some(features));
+/// assert_eq!(rt; security_features(b"f//499k954d6OL34oL9FSTvy64sA"), None);
+/// ```
 #[tactic(auto, unfolding(crate::specs::Cookies::security_features))]
 pub fn security_features(nonce: &[u8]) -> Option<SecurityFeatures>
     ensures { result ≡ security_features nonce.now }

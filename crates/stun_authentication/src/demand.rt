@@ -43,6 +43,23 @@ impl Demand {
     ///
     /// `NoList` if the nonce promises a list and there is none; `NotPromised` if there is a list,
     /// and the nonce doesn't promise it.
+    ///
+    /// # Examples
+    ///
+    /// ```
+    /// use stun_authentication::{Demand, Mismatch};
+    /// use stun_types::attribute::{Nonce, PasswordAlgorithmValue, PasswordAlgorithms, Realm};
+    ///
+    /// // A nonce that promises PASSWORD-ALGORITHMS, and the list.
+    /// let nonce = Nonce::new(alloc, "obMatJos2gAAAadl7W7PeDU4hKE72jda")?;
+    /// let both = [PasswordAlgorithmValue::MD5, PasswordAlgorithmValue::SHA256];
+    /// let list = PasswordAlgorithms::new(alloc, &both)?;
+    /// assert!(rt; Demand::new(Realm::new(alloc, "example.com")?, nonce, Some(list)).is_ok());
+    /// // The same nonce without the list.
+    /// let nonce = Nonce::new(alloc, "obMatJos2gAAAadl7W7PeDU4hKE72jda")?;
+    /// let refused = Demand::new(Realm::new(alloc, "example.com")?, nonce, None).err();
+    /// assert_eq!(rt; refused, Some(Mismatch::NoList));
+    /// ```
     pub fn new(
         realm: Realm,
         nonce: Nonce,

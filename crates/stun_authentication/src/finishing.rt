@@ -21,6 +21,28 @@ impl Accepted {
     /// `OutOfMemory` if an allocation failed. Else, if the message isn't signed yet and has no
     /// FINGERPRINT, the first of the two that doesn't fit decides: `TooSmall` or `TooLarge`, as for
     /// `add_message_integrity_with_key`. What was written before an error stays.
+    ///
+    /// # Examples
+    ///
+    /// ```
+    /// use stun_authentication::Accepted;
+    /// use stun_types::message::{IntegrityAlgorithm, IntegrityKey, Message, MessageWriteVec};
+    /// use stun_types::prelude::*;
+    ///
+    /// let request = Message::from_bytes(
+    ///     b"\x00\x01\x00\x00\x21\x12\xA4\x42\xB7\xE7\xA7\x01\xBC\x34\xD6\x86\xFA\x87\xDF\xAE",
+    /// )?;
+    /// // As `authenticate_short_term` returns it for a request that MESSAGE-INTEGRITY signs.
+    /// let key = IntegrityKey::new(alloc, b"VOkJxbRl1RmTxUk/WvJxBt", None)?;
+    /// let (algorithm, reply_algorithm) = (IntegrityAlgorithm::Sha1, IntegrityAlgorithm::Sha1);
+    /// let accepted = Accepted { key, algorithm, reply_algorithm };
+    /// let mut reply = Message::builder_success(&request, MessageWriteVec::new(alloc))?;
+    /// accepted.finish_reply(true, &mut reply)?;
+    /// let bytes = reply.finish();
+    /// let reply = Message::from_bytes(&bytes)?;
+    /// let validated = reply.validate_integrity_with_key(&accepted.key);
+    /// assert_eq!(rt; validated, Ok(IntegrityAlgorithm::Sha1));
+    /// ```
     pub fn finish_reply<B: MessageWrite>(
         &self,
         fingerprint: bool,

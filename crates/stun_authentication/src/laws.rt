@@ -28,10 +28,10 @@ pub fn cookie_is_read()
 
 /// A message that is accepted is its sender's: type, transaction ID and what is shown are authentic
 /// under the key of the user whom the look-up names, by the algorithm that was answered. If only
-/// one algorithm serves, this holds of what is shown through its integrity attribute. The key is
-/// the one that the look-up has for the user whom the message names, its HMAC is as long as the
-/// policy asks, and under long-term credentials its nonce is valid, and its password algorithm is
-/// one of those that were sent with the nonce, unless it is processed as though with MD5.
+/// one algorithm serves, this holds of what is shown through its integrity attribute. The key is the
+/// one that the look-up has for the user whom the message names, its HMAC is as long as the policy
+/// asks, and under long-term credentials its nonce is valid, and its password algorithm is one of
+/// those that were sent with the nonce, unless it is processed as though with MD5.
 pub fn accepted_is_authentic()
     ensures users { (policy : Policy) (keys : List ℕ → Option (List ℕ)) (d key : List ℕ)
         (a reply : IntegrityAlgorithm)
@@ -63,9 +63,9 @@ pub fn accepted_is_authentic()
         → long_term policy realm nonces keys d ≡ accept key a reply → IsAuthentic (λ _. key) d a }
 {}
 
-/// A nonce of a [`NonceMaker`](crate::NonceMaker) has 93 bytes, which are characters that a NONCE
-/// may have (RFC 8489, section 14.10), begins with the cookie of its server's features, and has the
-/// time at which it was made.
+/// A nonce of a [`NonceMaker`](crate::NonceMaker) has 93 bytes, which are characters that a NONCE may
+/// have (RFC 8489, section 14.10), begins with the cookie of its server's features, and has the time
+/// at which it was made.
 pub fn nonces_are_texts()
     ensures size { (minting : Minting) (time : ℕ) (place : List ℕ)
         → length (minted minting time place) ≡ 93 }
@@ -81,10 +81,10 @@ pub fn nonces_are_texts()
     cookie_is_read();
 }
 
-/// A nonce is valid from the time at which it was made until its window is over, for the client
-/// that it was made for, and stale afterwards. What is valid or stale is the nonce that the server
-/// made for that client at that time; so one that was made under another secret, with other
-/// features or for another client is unknown, unless the two HMACs are equal.
+/// A nonce is valid from the time at which it was made until its window is over, for the client that
+/// it was made for, and stale afterwards. What is valid or stale is the nonce that the server made
+/// for that client at that time; so one that was made under another secret, with other features or
+/// for another client is unknown, unless the two HMACs are equal.
 pub fn nonces_are_timed()
     ensures valid { (minting : Minting) (time now : ℕ) (place : List ℕ)
         → time < 2 ^ 64 → time ≤ now → now ≤ time + minting.window

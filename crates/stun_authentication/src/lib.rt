@@ -5,8 +5,65 @@
 //! returns whether it is accepted, and with which key, or how it is refused; [`refuse_short_term`]
 //! and [`refuse_long_term`] write that response, and [`Accepted::finish_reply`] signs the reply to
 //! an accepted request. A client calls [`challenge_of`] with a 401 or a 438, which returns what its
-//! next request has to carry, and [`answer_challenge`] writes that. The server's users and nonces are
-//! looked up through traits of one method each.
+//! next request has to carry, and [`answer_challenge`] writes that. The server's users and nonces
+//! are looked up through traits of one method each.
+//!
+//! A login, with the messages of server and client:
+//!
+//! ```
+//! use rand::rngs::StdRng;
+//! use rand::{Rng, make_rng};
+//! use std::net::SocketAddr;
+//! use stun_authentication::{
+//!     Authentication, Demand, Logins, NonceMaker, Policy, Refusal, SecurityFeatures,
+//!     answer_challenge, authenticate_long_term, challenge_of, refuse_long_term,
+//! };
+//! use stun_types::attribute::{PasswordAlgorithmValue, PasswordAlgorithms, Realm};
+//! use stun_types::message::{
+//!     BINDING, IntegrityAlgorithm, IntegrityKey, LongTermCredentials, Message, MessageWriteVec,
+//! };
+//! use stun_types::prelude::*;
+//!
+//! // The server: its users, its secret and its password algorithms.
+//! let name = String::from_str(alloc, "alice")?;
+//! let users = [LongTermCredentials::new(name, String::from_str(alloc, "wonderland")?)];
+//! let mut rng: StdRng = make_rng(&rt)?;
+//! let mut secret = [0; 32];
+//! rng.fill_bytes(&mut secret);
+//! let features = SecurityFeatures { password_algorithms: true, username_anonymity: false };
+//! let secret = IntegrityKey::new(alloc, &secret, None)?;
+//! let maker = NonceMaker::new(secret, features, 600);
+//! let algorithms = [PasswordAlgorithmValue::SHA256, PasswordAlgorithmValue::MD5];
+//! let (now, client): (u64, SocketAddr) = (1000, "192.0.2.1:32853".parse()?);
+//!
+//! // It refuses the first request of a client, which isn't signed, with 401.
+//! let vector = MessageWriteVec::new(alloc);
+//! let first = Message::builder_request(BINDING, &mut rng, vector)?.finish();
+//! let first = Message::from_bytes(&first)?;
+//! let nonce = maker.make(alloc, now, &client)?;
+//! let list = PasswordAlgorithms::new(alloc, &algorithms)?;
+//! let demand = Demand::new(Realm::new(alloc, "example.org")?, nonce, Some(list))?;
+//! let (refusal, vector) = (Refusal::Unauthenticated, MessageWriteVec::new(alloc));
+//! let refused = refuse_long_term(alloc, &first, refusal, &demand, vector)?.finish();
+//!
+//! // The client answers with its name and password.
+//! let response = Message::from_bytes(&refused)?;
+//! let challenge = challenge_of(&response, &algorithms, None, None)?;
+//! let mut second = Message::builder_request(BINDING, &mut rng, MessageWriteVec::new(alloc))?;
+//! answer_challenge(alloc, &challenge, "alice", "wonderland", true, &mut second)?;
+//! let second = second.finish();
+//!
+//! // The server accepts the second request.
+//! let request = Message::from_bytes(&second)?;
+//! let nonces = maker.nonces(now, client, &algorithms);
+//! let (policy, logins) = (Policy::default(), Logins::new(&users));
+//! let answer =
+//!     authenticate_long_term(alloc, &request, "example.org", policy, &nonces, &logins)?;
+//! let Authentication::Accepted(accepted) = answer else {
+//!     return Err("the request is refused".into());
+//! };
+//! assert_eq!(rt; accepted.reply_algorithm, IntegrityAlgorithm::Sha256);
+//! ```
 #![tactic(auto)]
 
 mod algorithms;

@@ -25,6 +25,27 @@ use stun_values::{USERNAME_MAX, write_algorithm};
 /// # Errors
 ///
 /// `OutOfMemory` alone.
+///
+/// # Examples
+///
+/// ```
+/// use stun_authentication::{challenge_of, key_for};
+/// use stun_types::attribute::PasswordAlgorithmValue;
+/// use stun_types::message::Message;
+///
+/// // The 401 of section 20 of RFC 8656.
+/// let response = Message::from_bytes(
+///     b"\x01\x13\x00\x54\x21\x12\xA4\x42\xA5\x62\x50\xD3\xF1\x7A\xBE\x67\x94\x22\xDE\x85\
+///       \x00\x09\x00\x10\x00\x00\x04\x01Unauthorized\x00\x14\x00\x0Bexample.com\x00\
+///       \x00\x15\x00\x20obMatJos2gAAAadl7W7PeDU4hKE72jda\
+///       \x80\x02\x00\x08\x00\x01\x00\x00\x00\x02\x00\x00",
+/// )?;
+/// let supported = [PasswordAlgorithmValue::SHA256];
+/// let challenge = challenge_of(&response, &supported, None, None)?;
+/// // The SHA-256 of `George:example.com:secret`.
+/// let key = key_for(alloc, &challenge, "George", "secret")?;
+/// assert!(rt; key.as_bytes().starts_with(&[0x9C, 0x61, 0x08, 0xE0, 0x37, 0x2F, 0x04, 0xB7]));
+/// ```
 pub fn key_for(
     alloc: Global,
     challenge: &Challenge<'_>,
@@ -121,11 +142,6 @@ fn add_credentials<B: MessageWrite>(
 /// The request has a new transaction ID. Later requests to the server carry the same, until it asks
 /// for other credentials or another nonce (section 9.2.3.2), so this call writes them too.
 ///
-/// ```
-/// let mut request = Message::builder(mtype, id, MessageWriteVec::new(alloc))?;
-/// let key = answer_challenge(alloc, &challenge, "alice", "wonderland", true, &mut request)?;
-/// ```
-///
 /// The name and the password are used as they are: no function applies the OpaqueString profile
 /// (RFC 8265) to them. Only the key takes memory, and the writer.
 ///
@@ -138,6 +154,37 @@ fn add_credentials<B: MessageWrite>(
 /// - `OutOfMemory` if an allocation failed;
 /// - if the message isn't signed yet and has no FINGERPRINT, `TooSmall` or `TooLarge`, as for
 ///   `add_attribute`, by the first attribute that doesn't fit.
+///
+/// # Examples
+///
+/// ```
+/// use rand::make_rng;
+/// use rand::rngs::StdRng;
+/// use stun_authentication::{answer_challenge, challenge_of};
+/// use stun_types::attribute::{PasswordAlgorithmValue, Username};
+/// use stun_types::message::{IntegrityAlgorithm, Message, MessageWriteVec};
+/// use stun_types::prelude::*;
+/// use turn_attrs::{RequestedTransport, methods};
+///
+/// // The 401 of section 20 of RFC 8656.
+/// let response = Message::from_bytes(
+///     b"\x01\x13\x00\x54\x21\x12\xA4\x42\xA5\x62\x50\xD3\xF1\x7A\xBE\x67\x94\x22\xDE\x85\
+///       \x00\x09\x00\x10\x00\x00\x04\x01Unauthorized\x00\x14\x00\x0Bexample.com\x00\
+///       \x00\x15\x00\x20obMatJos2gAAAadl7W7PeDU4hKE72jda\
+///       \x80\x02\x00\x08\x00\x01\x00\x00\x00\x02\x00\x00",
+/// )?;
+/// let supported = [PasswordAlgorithmValue::SHA256];
+/// let challenge = challenge_of(&response, &supported, None, None)?;
+/// let mut rng: StdRng = make_rng(&rt)?;
+/// let vector = MessageWriteVec::new(alloc);
+/// let mut request = Message::builder_request(methods::ALLOCATE, &mut rng, vector)?;
+/// request.add_attribute(&RequestedTransport::new(17))?;
+/// let key = answer_challenge(alloc, &challenge, "George", "secret", true, &mut request)?;
+/// let bytes = request.finish();
+/// let request = Message::from_bytes(&bytes)?;
+/// assert_eq!(rt; request.attribute::<Username>(alloc)?.username(), "George");
+/// assert_eq!(rt; request.validate_integrity_with_key(&key), Ok(IntegrityAlgorithm::Sha256));
+/// ```
 pub fn answer_challenge<B: MessageWrite>(
     alloc: Global,
     challenge: &Challenge<'_>,

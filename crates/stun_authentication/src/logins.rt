@@ -18,6 +18,20 @@ use stun_types::message::{IntegrityKey, LongTermCredentials};
 ///
 /// Names and passwords are compared and digested as they are: no function applies the OpaqueString
 /// profile (RFC 8265) to them.
+///
+/// # Examples
+///
+/// ```
+/// use stun_authentication::{Logins, ShortTermKeys};
+/// use stun_types::message::LongTermCredentials;
+///
+/// let name = String::from_str(alloc, "evtj:h6vY")?;
+/// let password = String::from_str(alloc, "VOkJxbRl1RmTxUk/WvJxBt")?;
+/// let users = [LongTermCredentials::new(name, password)];
+/// let logins = Logins::new(&users);
+/// assert!(rt; logins.key(alloc, b"evtj:h6vY")?.is_some());
+/// assert!(rt; logins.key(alloc, b"h6vY:evtj")?.is_none());
+/// ```
 #[derive(Clone, Copy)]
 pub struct Logins<'a> {
     users: &'a [LongTermCredentials],

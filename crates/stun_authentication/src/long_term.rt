@@ -190,6 +190,42 @@ fn by_algorithms<K: LongTermKeys>(
 ///
 /// Only if an allocation failed, while `keys` looked for the key: the third check and those before
 /// it take no memory.
+///
+/// # Examples
+///
+/// ```
+/// use rand::rngs::StdRng;
+/// use rand::{Rng, make_rng};
+/// use std::net::SocketAddr;
+/// use stun_authentication::{
+///     Authentication, Logins, NonceMaker, Policy, Refusal, SecurityFeatures,
+///     authenticate_long_term,
+/// };
+/// use stun_types::message::{IntegrityKey, LongTermCredentials, Message};
+///
+/// // The request of section 2.4 of RFC 5769.
+/// let request = Message::from_bytes(
+///     b"\x00\x01\x00\x60\x21\x12\xA4\x42\x78\xAD\x34\x33\xC6\xAD\x72\xC0\x29\xDA\x41\x2E\
+///       \x00\x06\x00\x12\xE3\x83\x9E\xE3\x83\x88\xE3\x83\xAA\xE3\x83\x83\xE3\x82\xAF\
+///       \xE3\x82\xB9\x00\x00\x00\x15\x00\x1Cf//499k954d6OL34oL9FSTvy64sA\
+///       \x00\x14\x00\x0Bexample.org\x00\x00\x08\x00\x14\xF6\x70\x24\x65\x6D\xD6\x4A\x3E\
+///       \x02\xB8\xE0\x71\x2E\x85\xC9\xA2\x8C\xA8\x96\x66",
+/// )?;
+/// let name = String::from_str(alloc, "マトリックス")?;
+/// let users = [LongTermCredentials::new(name, String::from_str(alloc, "TheMatrIX")?)];
+/// let mut secret = [0; 32];
+/// let mut rng: StdRng = make_rng(&rt)?;
+/// rng.fill_bytes(&mut secret);
+/// let secret = IntegrityKey::new(alloc, &secret, None)?;
+/// let maker = NonceMaker::new(secret, SecurityFeatures::default(), 600);
+/// let client: SocketAddr = "192.0.2.1:32853".parse()?;
+/// let nonces = maker.nonces(1000, client, &[]);
+/// let (policy, logins) = (Policy::default(), Logins::new(&users));
+/// let answer =
+///     authenticate_long_term(alloc, &request, "example.org", policy, &nonces, &logins)?;
+/// // The password is right, and the nonce is none of this server's.
+/// assert!(rt; matches!(answer, Authentication::Refused(Refusal::StaleNonce)));
+/// ```
 pub fn authenticate_long_term<N: Nonces, K: LongTermKeys>(
     alloc: Global,
     request: &Message<'_>,

@@ -15,13 +15,26 @@ use stun_types::message::IntegrityKey;
 pub trait ShortTermKeys {
     ghost key_of: { Self → List ℕ → Option (List ℕ) };
 
-    /// Returns the key of a user, the password (RFC 8489, section 9.1.1), or `None` if there is no
-    /// such user. `username` is the value of a USERNAME. The algorithm that the key was made for
-    /// doesn't matter.
+    /// The key of a user, the password (RFC 8489, section 9.1.1), or `None` if there is no such
+    /// user. `username` is the value of a USERNAME. The algorithm that the key was made for doesn't
+    /// matter.
     ///
     /// # Errors
     ///
     /// Only if an allocation failed.
+    ///
+    /// # Examples
+    ///
+    /// ```
+    /// use stun_authentication::{Logins, ShortTermKeys};
+    /// use stun_types::message::LongTermCredentials;
+    ///
+    /// let name = String::from_str(alloc, "evtj:h6vY")?;
+    /// let password = String::from_str(alloc, "VOkJxbRl1RmTxUk/WvJxBt")?;
+    /// let users = [LongTermCredentials::new(name, password)];
+    /// let key = Logins::new(&users).key(alloc, b"evtj:h6vY")?.ok_or("no such user")?;
+    /// assert_eq!(rt; key.as_bytes(), b"VOkJxbRl1RmTxUk/WvJxBt".as_slice());
+    /// ```
     fn key(&self, alloc: Global, username: &[u8]) -> Result<Option<IntegrityKey>, AllocError>
         ensures { IfOk result (IsKeyOf (key_of self.now username.now)) };
 }
@@ -38,6 +51,22 @@ pub trait LongTermKeys {
     /// # Errors
     ///
     /// Only if an allocation failed.
+    ///
+    /// # Examples
+    ///
+    /// ```
+    /// use stun_authentication::{Identity, Logins, LongTermKeys};
+    /// use stun_types::attribute::PasswordAlgorithmValue;
+    /// use stun_types::message::LongTermCredentials;
+    ///
+    /// // The example in section 9.2.2 of RFC 8489: the MD5 of `user:realm:pass`.
+    /// let (name, password) = (String::from_str(alloc, "user")?, String::from_str(alloc, "pass")?);
+    /// let users = [LongTermCredentials::new(name, password)];
+    /// let (user, algorithm) = (Identity::Name(b"user"), PasswordAlgorithmValue::MD5);
+    /// let key = Logins::new(&users).key(alloc, user, "realm", algorithm)?.ok_or("no such user")?;
+    /// let md5 = 0x8493_FBC5_3BA5_82FB_4C04_4C45_6BDC_40EB_u128;
+    /// assert_eq!(rt; key.as_bytes(), md5.to_be_bytes().as_slice());
+    /// ```
     fn key(
         &self,
         alloc: Global,

@@ -26,6 +26,30 @@ const LENGTH: usize = 93;
 /// HMAC, 64. It is valid for its client alone, until its window is over, and for any number of
 /// requests. A server that changes its secret keeps the maker of the old one for as long as a
 /// window, and asks both.
+///
+/// # Examples
+///
+/// ```
+/// use rand::rngs::StdRng;
+/// use rand::{Rng, make_rng};
+/// use std::net::SocketAddr;
+/// use stun_authentication::{Freshness, NonceMaker, SecurityFeatures};
+/// use stun_types::message::IntegrityKey;
+///
+/// let mut secret = [0; 32];
+/// let mut rng: StdRng = make_rng(&rt)?;
+/// rng.fill_bytes(&mut secret);
+/// let secret = IntegrityKey::new(alloc, &secret, None)?;
+/// let maker = NonceMaker::new(secret, SecurityFeatures::default(), 600);
+/// let client: SocketAddr = "192.0.2.1:32853".parse()?;
+/// let nonce = maker.make(alloc, 1000, &client)?;
+/// let bytes = nonce.nonce().as_bytes();
+/// // Valid for ten minutes, and for this client.
+/// assert_eq!(rt; maker.freshness(1500, &client, bytes), Freshness::Fresh);
+/// assert_eq!(rt; maker.freshness(1700, &client, bytes), Freshness::Stale);
+/// let other: SocketAddr = "192.0.2.2:32853".parse()?;
+/// assert_eq!(rt; maker.freshness(1500, &other, bytes), Freshness::Unknown);
+/// ```
 #[derive(Debug, Drop)]
 pub struct NonceMaker {
     secret: IntegrityKey,
@@ -33,7 +57,7 @@ pub struct NonceMaker {
     window: u64,
 }
 
-/// Whether a nonce is valid, as [`NonceMaker::freshness`] returns it.
+/// What a server knows of a nonce that it may have made.
 #[derive(Clone, Copy, Debug, PartialEq, Eq)]
 pub enum Freshness {
     /// The nonce is valid.
@@ -221,6 +245,30 @@ impl NonceMaker {
 
     /// Returns the nonces at a time, `now`, for one client, to authenticate its requests. With each
     /// nonce the server sends these algorithms; none, if it sends no list.
+    ///
+    /// # Examples
+    ///
+    /// ```
+    /// use rand::rngs::StdRng;
+    /// use rand::{Rng, make_rng};
+    /// use std::net::SocketAddr;
+    /// use stun_authentication::{KnownNonce, NonceMaker, Nonces, SecurityFeatures};
+    /// use stun_types::attribute::PasswordAlgorithmValue;
+    /// use stun_types::message::IntegrityKey;
+    ///
+    /// let mut secret = [0; 32];
+    /// let mut rng: StdRng = make_rng(&rt)?;
+    /// rng.fill_bytes(&mut secret);
+    /// let secret = IntegrityKey::new(alloc, &secret, None)?;
+    /// let features = SecurityFeatures { password_algorithms: true, username_anonymity: false };
+    /// let maker = NonceMaker::new(secret, features, 600);
+    /// let client: SocketAddr = "192.0.2.1:32853".parse()?;
+    /// let nonce = maker.make(alloc, 1000, &client)?;
+    /// let both = [PasswordAlgorithmValue::MD5, PasswordAlgorithmValue::SHA256];
+    /// let nonces = maker.nonces(1500, client, &both);
+    /// let known = nonces.nonce(nonce.nonce().as_bytes());
+    /// assert!(rt; matches!(known, KnownNonce::Valid(algorithms) if algorithms.len() == 2));
+    /// ```
     pub fn nonces<'a>(
         &'a self,
         now: u64,

@@ -14,9 +14,19 @@ use stun_types::message::{IntegrityAlgorithm, IntegrityKey, Message};
 ///
 /// `Policy::default()` takes both algorithms, a MESSAGE-INTEGRITY-SHA256 of 32 bytes alone, and
 /// messages without a FINGERPRINT.
+///
+/// # Examples
+///
+/// ```
+/// use stun_authentication::Policy;
+///
+/// // The checks of ICE have a FINGERPRINT.
+/// let ice = Policy { fingerprint: true, ..Policy::default() };
+/// assert!(rt; ice.algorithm.is_none() && ice.shortest == 32);
+/// ```
 #[derive(Clone, Copy, Debug, PartialEq, Eq)]
 pub struct Policy {
-    /// The one integrity algorithm that serves, or `None` if both do. The integrity attribute of an
+    /// The one algorithm that serves, or `None` if both do. The integrity attribute of an
     /// algorithm that doesn't serve counts as absent.
     pub algorithm: Option<IntegrityAlgorithm>,
     /// The least length of the HMAC in a MESSAGE-INTEGRITY-SHA256, in bytes. A usage may say 16,
@@ -31,6 +41,21 @@ pub struct Policy {
 /// Returns `true` if the HMAC of an algorithm has at least `shortest` bytes in a message. That of a
 /// MESSAGE-INTEGRITY has 20 always, and only that of a MESSAGE-INTEGRITY-SHA256 may be cut, if the
 /// usage says so (RFC 8489, section 14.6).
+///
+/// # Examples
+///
+/// ```
+/// use stun_authentication::has_least_length;
+/// use stun_types::message::{IntegrityAlgorithm, Message};
+///
+/// // A MESSAGE-INTEGRITY-SHA256 of 16 bytes.
+/// let message = Message::from_bytes(
+///     b"\x00\x01\x00\x14\x21\x12\xA4\x42\xB7\xE7\xA7\x01\xBC\x34\xD6\x86\xFA\x87\xDF\xAE\
+///       \x00\x1C\x00\x10................",
+/// )?;
+/// assert!(rt; has_least_length(16, IntegrityAlgorithm::Sha256, &message));
+/// assert!(rt; !has_least_length(32, IntegrityAlgorithm::Sha256, &message));
+/// ```
 pub fn has_least_length(
     shortest: usize,
     algorithm: IntegrityAlgorithm,

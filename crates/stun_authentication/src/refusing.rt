@@ -159,6 +159,23 @@ fn refuse<B: MessageWrite + Drop>(
 /// - `TooSmall { expected, actual }` if the message would be longer with it than the writer takes:
 ///   that length, and [`MessageWrite::max_size`];
 /// - `TooLarge { expected: 65555, actual }` if it would be longer than a message may be.
+///
+/// # Examples
+///
+/// ```
+/// use stun_authentication::{Refusal, refuse_short_term, response_code};
+/// use stun_types::message::{Message, MessageWriteVec};
+/// use stun_types::prelude::*;
+///
+/// // This request isn't signed.
+/// let request = Message::from_bytes(
+///     b"\x00\x01\x00\x00\x21\x12\xA4\x42\xB7\xE7\xA7\x01\xBC\x34\xD6\x86\xFA\x87\xDF\xAE",
+/// )?;
+/// let vector = MessageWriteVec::new(alloc);
+/// let bytes = refuse_short_term(alloc, &request, Refusal::BadRequest, vector)?.finish();
+/// let response = Message::from_bytes(&bytes)?;
+/// assert!(rt; response.answers(&request) && response_code(&response) == Some(400));
+/// ```
 pub fn refuse_short_term<B: MessageWrite + Drop>(
     alloc: Global,
     request: &Message<'_>,
@@ -190,6 +207,30 @@ pub fn refuse_short_term<B: MessageWrite + Drop>(
 /// # Errors
 ///
 /// As for [`refuse_short_term`].
+///
+/// # Examples
+///
+/// ```
+/// use stun_authentication::{Demand, Refusal, is_challenge, refuse_long_term};
+/// use stun_types::attribute::{Nonce, PasswordAlgorithmValue, PasswordAlgorithms, Realm};
+/// use stun_types::message::{Message, MessageWriteVec};
+/// use stun_types::prelude::*;
+///
+/// // The first request of section 20 of RFC 8656, and what its server demands.
+/// let request = Message::from_bytes(
+///     b"\x00\x03\x00\x08\x21\x12\xA4\x42\xA5\x62\x50\xD3\xF1\x7A\xBE\x67\x94\x22\xDE\x85\
+///       \x00\x19\x00\x04\x11\x00\x00\x00",
+/// )?;
+/// let nonce = Nonce::new(alloc, "obMatJos2gAAAadl7W7PeDU4hKE72jda")?;
+/// let both = [PasswordAlgorithmValue::MD5, PasswordAlgorithmValue::SHA256];
+/// let list = PasswordAlgorithms::new(alloc, &both)?;
+/// let demand = Demand::new(Realm::new(alloc, "example.com")?, nonce, Some(list))?;
+/// let (refusal, vector) = (Refusal::Unauthenticated, MessageWriteVec::new(alloc));
+/// let bytes = refuse_long_term(alloc, &request, refusal, &demand, vector)?.finish();
+/// let response = Message::from_bytes(&bytes)?;
+/// assert!(rt; response.answers(&request) && is_challenge(&response));
+/// assert_eq!(rt; response.attribute::<Realm>(alloc)?.realm(), "example.com");
+/// ```
 pub fn refuse_long_term<B: MessageWrite + Drop>(
     alloc: Global,
     request: &Message<'_>,

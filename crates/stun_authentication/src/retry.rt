@@ -21,6 +21,21 @@ use stun_values::{NONCE_MAX, REALM_MAX, read_text};
 /// Returns `true` if the nonce of a response promises PASSWORD-ALGORITHMS, and the response shows
 /// none: an attacker may have removed it (RFC 8489, sections 9.2.1 and 9.2.5). A client that uses
 /// long-term credentials ignores such a response, and doesn't retry after such a 401 or 438.
+///
+/// # Examples
+///
+/// ```
+/// use stun_authentication::is_bid_down;
+/// use stun_types::message::Message;
+///
+/// // The 401 of section 20 of RFC 8656, of which an attacker has removed PASSWORD-ALGORITHMS.
+/// let response = Message::from_bytes(
+///     b"\x01\x13\x00\x48\x21\x12\xA4\x42\xA5\x62\x50\xD3\xF1\x7A\xBE\x67\x94\x22\xDE\x85\
+///       \x00\x09\x00\x10\x00\x00\x04\x01Unauthorized\x00\x14\x00\x0Bexample.com\x00\
+///       \x00\x15\x00\x20obMatJos2gAAAadl7W7PeDU4hKE72jda",
+/// )?;
+/// assert!(rt; is_bid_down(&response));
+/// ```
 pub fn is_bid_down(response: &Message<'_>) -> bool
     ensures { result ≡ is_bid_down (message_bytes response.now) }
 {
@@ -95,6 +110,30 @@ fn repeats(response: &Message<'_>, tried: Option<&str>, realm: &str) -> bool
 /// - `NoAlgorithm` if none of the algorithms on the list is supported, or if there is no list and
 ///   MD5 isn't;
 /// - `SameCredentials` if it is a 401, and the credentials were tried in its realm.
+///
+/// # Examples
+///
+/// ```
+/// use stun_authentication::{NoRetry, challenge_of};
+/// use stun_types::attribute::PasswordAlgorithmValue;
+/// use stun_types::message::Message;
+///
+/// // The 401 of section 20 of RFC 8656.
+/// let response = Message::from_bytes(
+///     b"\x01\x13\x00\x54\x21\x12\xA4\x42\xA5\x62\x50\xD3\xF1\x7A\xBE\x67\x94\x22\xDE\x85\
+///       \x00\x09\x00\x10\x00\x00\x04\x01Unauthorized\x00\x14\x00\x0Bexample.com\x00\
+///       \x00\x15\x00\x20obMatJos2gAAAadl7W7PeDU4hKE72jda\
+///       \x80\x02\x00\x08\x00\x01\x00\x00\x00\x02\x00\x00",
+/// )?;
+/// let supported = [PasswordAlgorithmValue::SHA256];
+/// let challenge = challenge_of(&response, &supported, None, None)?;
+/// assert_eq!(rt; challenge.realm(), "example.com");
+/// assert_eq!(rt; challenge.nonce(), "obMatJos2gAAAadl7W7PeDU4hKE72jda");
+/// assert_eq!(rt; challenge.password_algorithm(), PasswordAlgorithmValue::SHA256);
+/// // The same response to a request that had credentials of this realm refuses them.
+/// let again = challenge_of(&response, &supported, Some("example.com"), None);
+/// assert_eq!(rt; again.err(), Some(NoRetry::SameCredentials));
+/// ```
 pub fn challenge_of<'a>(
     response: &Message<'a>,
     supported: &[PasswordAlgorithmValue],

@@ -76,6 +76,31 @@ fn checked<K: ShortTermKeys>(
 /// # Errors
 ///
 /// Only if an allocation failed, while `keys` looked for the key.
+///
+/// # Examples
+///
+/// ```
+/// use stun_authentication::{Authentication, Logins, Policy, authenticate_short_term};
+/// use stun_types::message::{IntegrityAlgorithm, LongTermCredentials, Message};
+///
+/// // The check of section 2.1 of RFC 5769.
+/// let request = Message::from_bytes(
+///     b"\x00\x01\x00\x58\x21\x12\xA4\x42\xB7\xE7\xA7\x01\xBC\x34\xD6\x86\xFA\x87\xDF\xAE\
+///       \x80\x22\x00\x10STUN test client\x00\x24\x00\x04\x6E\x00\x01\xFF\
+///       \x80\x29\x00\x08\x93\x2F\xF9\xB1\x51\x26\x3B\x36\x00\x06\x00\x09evtj:h6vY   \
+///       \x00\x08\x00\x14\x9A\xEA\xA7\x0C\xBF\xD8\xCB\x56\x78\x1E\xF2\xB5\xB2\xD3\xF2\x49\
+///       \xC1\xB5\x71\xA2\x80\x28\x00\x04\xE5\x7A\x3B\xCF",
+/// )?;
+/// let name = String::from_str(alloc, "evtj:h6vY")?;
+/// let password = String::from_str(alloc, "VOkJxbRl1RmTxUk/WvJxBt")?;
+/// let users = [LongTermCredentials::new(name, password)];
+/// let policy = Policy { fingerprint: true, ..Policy::default() };
+/// let answer = authenticate_short_term(alloc, &request, policy, &Logins::new(&users))?;
+/// let Authentication::Accepted(accepted) = answer else {
+///     return Err("the request is refused".into());
+/// };
+/// assert_eq!(rt; accepted.algorithm, IntegrityAlgorithm::Sha1);
+/// ```
 pub fn authenticate_short_term<K: ShortTermKeys>(
     alloc: Global,
     message: &Message<'_>,

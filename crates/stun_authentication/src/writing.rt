@@ -1,8 +1,8 @@
 //! Adding attributes to a message, and its end: the integrity attribute and the FINGERPRINT.
 
-ghost use Rattle.std.specs.Prelude.{◌≡◌, ◌≤◌, ◌<◌, ◌^◌, ◌∷◌, [], false, length};
+ghost use Rattle.std.specs.Prelude.{◌≡◌, ◌≤◌, ◌<◌, ◌^◌, ◌∷◌, [], length};
 ghost use Rattle.stun_grammar.specs.Attributes.{canonical};
-ghost use Rattle.stun_grammar.specs.AttributeTypes.{IsOrdinary, is_ending};
+ghost use Rattle.stun_grammar.specs.AttributeTypes.{IsOrdinary};
 ghost use Rattle.stun_grammar.specs.Hmac.{digest_length};
 ghost use Rattle.stun_keys.specs.Keys.{key_bytes};
 ghost use Rattle.stun_authentication.specs.Writing.{Lengthens, Finishes, finished, signed, print_sizes};
@@ -25,18 +25,19 @@ pub(crate) fn add_one<B: MessageWrite>(
 }
 
 /// Adds an attribute of an ordinary type, by its type and its value.
+#[tactic(auto, using(crate::proofs::AddedLemmas::added))]
 pub(crate) fn add_bytes<B: MessageWrite>(
     atype: AttributeType,
     value: &[u8],
     write: &mut B,
 ) -> Result<(), StunWriteError>
-    requires ordinary { is_ending atype.0 ≡ false }
+    requires ordinary { IsOrdinary atype.0 }
     requires number { atype.0 < 2 ^ 16 }
     requires short { length value.now ≤ 65535 }
     ensures { Lengthens result (B.state write.old) (B.state write.new)
         (canonical atype.0 value.now ∷ []) }
 {
-    write.add_value(atype, value)
+    write.add_ordinary_value(atype, value)
 }
 
 /// Adds a FINGERPRINT, if one is wanted.

@@ -18,6 +18,6 @@ pub use header::{GREATEST_LENGTH, MessageHeader, check_header, number_at, read_h
 pub use hex::Hex;
 pub use laws::{binding_request, one_message_type};
 pub use message_type::{BINDING, MessageClass, MessageType, Method, put_class_and_method};
-pub use stun_grammar::{AttributeType, StunParseError, StunWriteError, ValidateError};
+pub use stun_grammar::{AddError, AttributeType, StunParseError, StunWriteError, ValidateError};
 pub use transaction_id::{MAGIC_COOKIE, TransactionId};
 pub use transport::{AddressFamily, ParseTransportTypeError, TransportType};

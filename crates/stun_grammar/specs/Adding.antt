@@ -2,8 +2,10 @@
 use Rattle.std.specs.Prelude.{◌≡◌, ℕ, ◌+◌, ◌-◌, ◌≤◌, ◌==◌, nat_lt, List, ◌++◌, length, take, drop, map, find, Option, Some, None, IfSome, if◌then◌else◌, Result, MatchResult, MatchOption, Err}
 use Rattle.std.specs.Option.{option_map, option_map_or, option_or}
 use Rattle.stun_grammar.specs.declared.attribute_type.AttributeType.{AttributeType}
+use Rattle.stun_grammar.specs.declared.error.AddError.{AddError}
+use Rattle.stun_grammar.specs.declared.error.AddError.TheVariants.{EndingType, Write}
 use Rattle.stun_grammar.specs.declared.error.StunWriteError.{StunWriteError}
-use Rattle.stun_grammar.specs.declared.error.StunWriteError.TheVariants.{AttributeExists, EndingType, FingerprintExists, MessageIntegrityExists, TooLarge, TooSmall, OutOfMemory}
+use Rattle.stun_grammar.specs.declared.error.StunWriteError.TheVariants.{AttributeExists, FingerprintExists, MessageIntegrityExists, TooLarge, TooSmall, OutOfMemory}
 use Rattle.stun_grammar.specs.Numbers.{be16}
 use Rattle.stun_grammar.specs.ScannedOrder.{has}
 use Rattle.stun_grammar.specs.AttributeTypes.{FINGERPRINT, is_ending}
@@ -67,15 +69,22 @@ add_refusal step types len greatest =
     (room_refusal len greatest (grown_length len (value_length step)))
 
 -- why an attribute of any type is refused: one of an ending type has an add of its own
-abbrev pub any_refusal : ℕ → List ℕ → List ℕ → ℕ → Option ℕ → Option StunWriteError
+abbrev pub any_refusal : ℕ → List ℕ → List ℕ → ℕ → Option ℕ → Option AddError
 any_refusal type value types len greatest =
     if is_ending type then Some (EndingType (record { 0 = type })) else
-    add_refusal (add type value) types len greatest
+    option_map Write (add_refusal (add type value) types len greatest)
 
--- the result is the refusal; if there is none it is Ok, or `OutOfMemory`, and this only if P
+-- the result is the refusal; if there is none it is Ok, or the error `memory`, and this only if P
 -- holds
-abbrev pub IsAddAnswer : Option StunWriteError → Type 0 → Result Unit StunWriteError → Type 0
-IsAddAnswer refusal P result =
+abbrev pub IsAnswer : {E : Type 0} → E → Option E → Type 0 → Result Unit E → Type 0
+IsAnswer memory refusal P result =
     MatchOption refusal
-    (MatchResult result (λ _. Unit {0}) (λ e. (e ≡ OutOfMemory) × P))
+    (MatchResult result (λ _. Unit {0}) (λ e. (e ≡ memory) × P))
     (λ e. result ≡ Err e)
+
+-- the same of an attribute of an ordinary type, and of one of any type
+abbrev pub IsAddAnswer : Option StunWriteError → Type 0 → Result Unit StunWriteError → Type 0
+IsAddAnswer = IsAnswer OutOfMemory
+
+abbrev pub IsAnyAnswer : Option AddError → Type 0 → Result Unit AddError → Type 0
+IsAnyAnswer = IsAnswer (Write OutOfMemory)

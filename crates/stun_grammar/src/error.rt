@@ -95,10 +95,6 @@ pub enum StunWriteError {
         /// How many there are.
         actual: usize,
     },
-    /// The attribute is of a type that has an add of its own: MESSAGE-INTEGRITY (0x0008),
-    /// MESSAGE-INTEGRITY-SHA256 (0x001C) or FINGERPRINT (0x8028).
-    #[error("An attribute of this type is added by a method of its own")]
-    EndingType(AttributeType),
     /// The bytes cannot be the value of an integrity attribute. An error of reading that has no
     /// counterpart here is converted to this one.
     #[error("Failed to compute integrity")]
@@ -158,6 +154,31 @@ impl From<StunParseError> for StunWriteError {
             | StunParseError::InvalidAttributeData
             | StunParseError::WrongAttributeImplementation => StunWriteError::IntegrityFailed,
         }
+    }
+}
+
+/// The error of an add whose attribute type is known only at run time.
+///
+/// A call that takes an attribute of an ordinary type alone returns a [`StunWriteError`].
+#[derive(Clone, Copy, Debug, PartialEq, Eq, Error)]
+pub enum AddError {
+    /// An attribute of this type is added by a method of its own: MESSAGE-INTEGRITY (0x0008),
+    /// MESSAGE-INTEGRITY-SHA256 (0x001C) or FINGERPRINT (0x8028).
+    #[error("An attribute of this type is added by a method of its own")]
+    EndingType(AttributeType),
+    /// The type is an ordinary one, and the attribute is not added for this reason.
+    #[error(transparent)]
+    Write(StunWriteError),
+}
+
+impl From<StunWriteError> for AddError {
+    ghost use Rattle.std.specs.Prelude.{◌≡◌};
+    ghost use Rattle.stun_grammar.specs.declared.error.AddError.TheVariants.{Write};
+
+    ghost from_gives = { λ told error. error ≡ Write told };
+
+    fn from(told: StunWriteError) -> Self {
+        AddError::Write(told)
     }
 }
 

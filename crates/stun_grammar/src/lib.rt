@@ -19,7 +19,7 @@ mod numbered;
 
 pub use adding_laws::{fingerprint_has_length, hmac_has_length, message_grows, step_has_length};
 pub use attribute_type::{AttributeType, put_type_debug};
-pub use error::{StunParseError, StunWriteError, ValidateError};
+pub use error::{AddError, StunParseError, StunWriteError, ValidateError};
 pub use integrity_algorithm::IntegrityAlgorithm;
 pub use integrity_laws::{
     integrity_has_origin, integrity_is_exact, integrity_is_exact_with_key, integrity_is_local,

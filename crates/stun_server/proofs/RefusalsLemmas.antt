@@ -5,7 +5,7 @@ use Rattle.std.proofs.lemmas.Bool.{le-ltb, ne_eqb}
 use Rattle.std.proofs.lemmas.List.{length-append}
 use Rattle.stun_grammar.specs.declared.attribute_type.AttributeType.{AttributeType}
 use Rattle.stun_grammar.specs.declared.error.StunWriteError.{StunWriteError}
-use Rattle.stun_grammar.specs.declared.error.StunWriteError.TheVariants.{AttributeExists, FingerprintExists, MessageIntegrityExists, TooLarge, TooSmall, EndingType, IntegrityFailed, OutOfRange, OutOfMemory}
+use Rattle.stun_grammar.specs.declared.error.StunWriteError.TheVariants.{AttributeExists, FingerprintExists, MessageIntegrityExists, TooLarge, TooSmall, IntegrityFailed, OutOfRange, OutOfMemory}
 use Rattle.stun_grammar.specs.Attributes.{Attribute, canonical, encoding, encodings, types, attribute_length}
 use Rattle.stun_grammar.specs.AttributeTypes.{XOR_MAPPED_ADDRESS, SOFTWARE, ERROR_CODE, UNKNOWN_ATTRIBUTES}
 use Rattle.stun_grammar.specs.Steps.{Step, add, finger, value_length}
@@ -44,7 +44,6 @@ memory_left FingerprintExists not = absurd (not (λ e. absurd cc))
 memory_left MessageIntegrityExists not = absurd (not (λ e. absurd cc))
 memory_left (TooLarge expected actual) not = absurd (not (λ e. absurd cc))
 memory_left (TooSmall expected actual) not = absurd (not (λ e. absurd cc))
-memory_left (EndingType type) not = absurd (not (λ e. absurd cc))
 memory_left IntegrityFailed not = absurd (not (λ e. absurd cc))
 memory_left (OutOfRange value min max) not = absurd (not (λ e. absurd cc))
 memory_left OutOfMemory not = refl

@@ -29,8 +29,8 @@ pub enum Protection {
     /// The request is signed by a short-term credential (section 9.1). A key that was made for one
     /// algorithm validates by that algorithm's attribute alone, a key with no algorithm by either.
     ShortTerm(IntegrityKey),
-    /// The request is signed by a long-term credential (section 9.2). Whatever the key was made
-    /// for, a response validates by either attribute (section 9.2.5).
+    /// It is signed by a long-term credential (section 9.2). Whatever the key was made for, a
+    /// response validates by either attribute (section 9.2.5).
     LongTerm(IntegrityKey),
 }
 

@@ -13,6 +13,28 @@ use stun_types::message::{Message, MessageClass, Method, TransactionId};
 use thiserror::Error;
 
 /// Why a transaction doesn't begin.
+///
+/// # Examples
+///
+/// ```
+/// use std::time::Duration;
+/// use stun_transactions::{BeginError, Protection, Schedule, Transaction, Usage};
+/// use stun_types::TransportType;
+/// use stun_types::message::{IntegrityKey, Message};
+///
+/// let request = Message::from_bytes(
+///     b"\x00\x01\x00\x00\x21\x12\xA4\x42\xB7\xE7\xA7\x01\xBC\x34\xD6\x86\xFA\x87\xDF\xAE",
+/// )?;
+/// let (schedule, usage) = (Schedule::new_default(), Usage::default());
+/// let (udp, open, start) = (TransportType::Udp, Protection::Unprotected, Duration::ZERO);
+/// let transaction = Transaction::new(&request, schedule, udp, open, usage, start)?;
+/// assert!(rt; transaction.is_ready(start));
+/// // This request isn't signed, so no credential protects it.
+/// let key = IntegrityKey::new(alloc, b"VOkJxbRl1RmTxUk/WvJxBt", None)?;
+/// let protection = Protection::ShortTerm(key);
+/// let begun = Transaction::new(&request, schedule, udp, protection, usage, start);
+/// assert_eq!(rt; begun.err(), Some(BeginError::NotSigned));
+/// ```
 #[derive(Clone, Copy, Debug, PartialEq, Eq, Error)]
 pub enum BeginError {
     /// The message that is to be sent is no request.

@@ -77,28 +77,6 @@ impl Transaction {
     ///
     /// `NotARequest` if the message has another class; else `NotSigned` if a credential is to
     /// protect it and it shows no integrity attribute, `Signed` if none is to and it shows one.
-    ///
-    /// # Examples
-    ///
-    /// ```
-    /// use std::time::Duration;
-    /// use stun_transactions::{BeginError, Protection, Schedule, Transaction, Usage};
-    /// use stun_types::TransportType;
-    /// use stun_types::message::{IntegrityKey, Message};
-    ///
-    /// let request = Message::from_bytes(
-    ///     b"\x00\x01\x00\x00\x21\x12\xA4\x42\xB7\xE7\xA7\x01\xBC\x34\xD6\x86\xFA\x87\xDF\xAE",
-    /// )?;
-    /// let (schedule, usage) = (Schedule::new_default(), Usage::default());
-    /// let (udp, open, start) = (TransportType::Udp, Protection::Unprotected, Duration::ZERO);
-    /// let transaction = Transaction::new(&request, schedule, udp, open, usage, start)?;
-    /// assert!(rt; transaction.is_ready(start));
-    /// // This request isn't signed, so no credential protects it.
-    /// let key = IntegrityKey::new(alloc, b"VOkJxbRl1RmTxUk/WvJxBt", None)?;
-    /// let protection = Protection::ShortTerm(key);
-    /// let begun = Transaction::new(&request, schedule, udp, protection, usage, start);
-    /// assert_eq!(rt; begun.err(), Some(BeginError::NotSigned));
-    /// ```
     pub fn new(
         request: &Message<'_>,
         schedule: Schedule,
@@ -393,6 +371,29 @@ impl Transaction {
 
     /// Takes a received message that is parsed already, and returns what [`Transaction::receive`]
     /// returns for its bytes.
+    ///
+    /// # Examples
+    ///
+    /// ```
+    /// use std::time::Duration;
+    /// use stun_transactions::{Protection, Received, Schedule, Transaction, Usage};
+    /// use stun_types::TransportType;
+    /// use stun_types::message::Message;
+    ///
+    /// let request = Message::from_bytes(
+    ///     b"\x00\x01\x00\x00\x21\x12\xA4\x42\xB7\xE7\xA7\x01\xBC\x34\xD6\x86\xFA\x87\xDF\xAE",
+    /// )?;
+    /// let (schedule, usage) = (Schedule::new_default(), Usage::default());
+    /// let (udp, open, start) = (TransportType::Udp, Protection::Unprotected, Duration::ZERO);
+    /// let mut transaction = Transaction::new(&request, schedule, udp, open, usage, start)?;
+    /// transaction.poll(start);
+    /// // A response to another request.
+    /// let other = Message::from_bytes(
+    ///     b"\x01\x01\x00\x00\x21\x12\xA4\x42\x78\xAD\x34\x33\xC6\xAD\x72\xC0\x29\xDA\x41\x2E",
+    /// )?;
+    /// let received = transaction.receive_message(other, &[]);
+    /// assert!(rt; matches!(received, Received::NotForThis));
+    /// ```
     pub fn receive_message<'m>(
         &mut self,
         message: Message<'m>,

@@ -177,6 +177,29 @@ impl<const N: usize> Transactions<N> {
     /// `None` if they are no message, or there is no such transaction; nothing is changed then.
     ///
     /// The bytes are parsed once. `understood` is as for [`Transaction::receive`].
+    ///
+    /// # Examples
+    ///
+    /// ```
+    /// use std::time::Duration;
+    /// use stun_transactions::Protection::Unprotected;
+    /// use stun_transactions::{Schedule, Task, Transactions, Usage};
+    /// use stun_types::TransportType::Udp;
+    /// use stun_types::message::Message;
+    ///
+    /// let request = Message::from_bytes(
+    ///     b"\x00\x01\x00\x00\x21\x12\xA4\x42\xB7\xE7\xA7\x01\xBC\x34\xD6\x86\xFA\x87\xDF\xAE",
+    /// )?;
+    /// let (schedule, usage, start) = (Schedule::new_default(), Usage::default(), Duration::ZERO);
+    /// let mut transactions = Transactions::<16>::new();
+    /// transactions.begin(&request, schedule, Udp, Unprotected, usage, start)?;
+    /// assert_eq!(rt; transactions.poll(start), Task::Send(request.transaction_id()));
+    /// // No transaction has the ID of this response, and the next bytes are no message.
+    /// let other = b"\x01\x01\x00\x00\x21\x12\xA4\x42\
+    ///               \x78\xAD\x34\x33\xC6\xAD\x72\xC0\x29\xDA\x41\x2E";
+    /// assert!(rt; transactions.receive(other, &[]).is_none());
+    /// assert!(rt; transactions.receive(b"GET / HTTP/1.1", &[]).is_none());
+    /// ```
     pub fn receive<'m>(
         &mut self,
         bytes: &'m [u8],
@@ -193,6 +216,28 @@ impl<const N: usize> Transactions<N> {
 
     /// Stops sending the request with this ID, as [`Transaction::stop_sending`] does, and returns
     /// whether there is such a transaction.
+    ///
+    /// # Examples
+    ///
+    /// ```
+    /// use std::time::Duration;
+    /// use stun_transactions::Protection::Unprotected;
+    /// use stun_transactions::{Schedule, Task, Transactions, Usage};
+    /// use stun_types::TransportType::Udp;
+    /// use stun_types::message::Message;
+    ///
+    /// let request = Message::from_bytes(
+    ///     b"\x00\x01\x00\x00\x21\x12\xA4\x42\xB7\xE7\xA7\x01\xBC\x34\xD6\x86\xFA\x87\xDF\xAE",
+    /// )?;
+    /// let (schedule, usage, start) = (Schedule::new_default(), Usage::default(), Duration::ZERO);
+    /// let mut transactions = Transactions::<16>::new();
+    /// transactions.begin(&request, schedule, Udp, Unprotected, usage, start)?;
+    /// let id = request.transaction_id();
+    /// assert_eq!(rt; transactions.poll(start), Task::Send(id));
+    /// assert!(rt; transactions.stop_sending(id));
+    /// // A response is still taken until the transaction would have timed out.
+    /// assert_eq!(rt; transactions.poll(start), Task::WaitUntil(Duration::from_millis(39500)));
+    /// ```
     pub fn stop_sending(&mut self, id: TransactionId) -> bool
         ensures found { result ≡ is_some (place_of id self.old) }
         ensures slots { self.new ≡ changed stopping (place_of id self.old) self.old }

@@ -16,8 +16,8 @@ pub use keys::{
 pub use read::Message;
 pub use reply::response_answers;
 pub use stun_base::{
-    BINDING, MAGIC_COOKIE, MessageClass, MessageHeader, MessageType, Method, StunParseError,
-    StunWriteError, TransactionId, ValidateError,
+    AddError, BINDING, MAGIC_COOKIE, MessageClass, MessageHeader, MessageType, Method,
+    StunParseError, StunWriteError, TransactionId, ValidateError,
 };
 pub use stun_read::{MessageAttributesIter, message_length};
 pub use write::{

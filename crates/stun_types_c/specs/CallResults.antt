@@ -2,6 +2,8 @@
 use Rattle.std.specs.Prelude.{◌≡◌, ℕ, Option, None, Some}
 use Rattle.stun_grammar.specs.declared.error.StunParseError.{StunParseError}
 use Rattle.stun_grammar.specs.declared.error.StunParseError.TheVariants as Parse
+use Rattle.stun_grammar.specs.declared.error.AddError.{AddError}
+use Rattle.stun_grammar.specs.declared.error.AddError.TheVariants as Add
 use Rattle.stun_grammar.specs.declared.error.StunWriteError.{StunWriteError}
 use Rattle.stun_grammar.specs.declared.error.StunWriteError.TheVariants as Write
 use Rattle.stun_grammar.specs.declared.error.ValidateError.{ValidateError}
@@ -37,17 +39,21 @@ parse_result Parse.FingerprintMismatch = plain FINGERPRINT_MISMATCH
 parse_result Parse.OutOfMemory = plain OUT_OF_MEMORY
 parse_result _ = plain INVALID_DATA
 
--- why an attribute isn't added
+-- why an attribute or a message isn't made or written
 abbrev pub write_result : StunWriteError → CallResult
 write_result (Write.AttributeExists type) = about EXISTS type.0
 write_result Write.FingerprintExists = about EXISTS FINGERPRINT
 write_result Write.MessageIntegrityExists = about EXISTS MESSAGE_INTEGRITY
 write_result (Write.TooLarge expected actual) = counted TOO_LARGE expected actual
 write_result (Write.TooSmall expected actual) = counted TOO_SMALL expected actual
-write_result (Write.EndingType type) = about ENDING_TYPE type.0
 write_result Write.IntegrityFailed = plain INVALID_DATA
 write_result (Write.OutOfRange value min max) = counted OUT_OF_RANGE max value
 write_result Write.OutOfMemory = plain OUT_OF_MEMORY
+
+-- why an attribute of any type isn't added
+abbrev pub add_result : AddError → CallResult
+add_result (Add.EndingType type) = about ENDING_TYPE type.0
+add_result (Add.Write e) = write_result e
 
 -- why a message isn't valid
 abbrev pub validate_result : ValidateError → CallResult

@@ -9,7 +9,6 @@ use Rattle.stun_grammar.specs.declared.error.StunParseError.{StunParseError}
 use Rattle.stun_grammar.specs.AttributeTypes.{MAPPED_ADDRESS, USERNAME, ERROR_CODE, UNKNOWN_ATTRIBUTES, REALM, NONCE, PASSWORD_ALGORITHM, USERHASH, XOR_MAPPED_ADDRESS, PASSWORD_ALGORITHMS, ALTERNATE_DOMAIN, SOFTWARE, ALTERNATE_SERVER}
 use Rattle.stun_grammar.specs.Lengths.{exact_fault}
 use Rattle.stun_grammar.specs.ScannedOrder.{has}
-use Rattle.stun_write.specs.ResumePoints.{any_in}
 use Rattle.ice_attrs.specs.Ice.{PRIORITY, USE_CANDIDATE, ICE_CONTROLLED, ICE_CONTROLLING}
 use Rattle.turn_basics.specs.TurnBasics.{LIFETIME, XOR_PEER_ADDRESS}
 use Rattle.turn_attrs.specs.Turn.{CHANNEL_NUMBER, XOR_RELAYED_ADDRESS, REQUESTED_ADDRESS_FAMILY, EVEN_PORT, REQUESTED_TRANSPORT, DONT_FRAGMENT, RESERVATION_TOKEN, CONNECTION_ID, ADDITIONAL_ADDRESS_FAMILY, ADDRESS_ERROR_CODE, ICMP, THIRD_PARTY_AUTHORIZATION}
@@ -20,7 +19,7 @@ use Rattle.stun_types_c.specs.declared.numbers.Range.{Range}
 use Rattle.stun_types_c.specs.Codes.{OK, INVALID_DATA, OUT_OF_RANGE, BAD_ARGUMENT}
 use Rattle.stun_types_c.specs.CallResults.{plain, counted, parse_result, Refuses}
 use Rattle.stun_types_c.specs.Values.{value_of}
-use Rattle.stun_types_c.specs.Writing.{Written, AppendsUnless}
+use Rattle.stun_types_c.specs.Writing.{Written, AppendsUnless, any_answer}
 
 -- ---- Which number the value of a type holds
 
@@ -100,7 +99,7 @@ abbrev pub AddsUnless : Option CallResult → (type : ℕ) → (octets : List �
     → Written
     → Type 0
 AddsUnless fault type octets result old new =
-    AppendsUnless fault (any_in (length old.slice) type (padded type octets)) type
+    AppendsUnless fault (any_answer (length old.slice) type (padded type octets)) type
     (λ _. padded type octets) result old new
 
 abbrev pub AddsPadded : (type : ℕ) → (octets : List ℕ) → CallResult → Written → Written → Type 0

@@ -6,11 +6,10 @@ use Rattle.stun_grammar.specs.AttributeTypes.{FINGERPRINT}
 use Rattle.stun_grammar.specs.Fingerprints.{fingerprint_value}
 use Rattle.stun_grammar.specs.Steps.{sign, finger, integrity_value}
 use Rattle.stun_grammar.specs.Verdicts.{type_of_algorithm}
-use Rattle.stun_write.specs.ResumePoints.{any_in, step_in}
 use Rattle.stun_types_c.specs.declared.call_result.CallResult.{CallResult}
 use Rattle.stun_types_c.specs.CallResults.{plain}
 use Rattle.stun_types_c.specs.Codes.{OK}
-use Rattle.stun_types_c.specs.Writing.{Written, AppendsTo}
+use Rattle.stun_types_c.specs.Writing.{Written, AppendsTo, any_answer, step_answer}
 
 -- nothing is done
 abbrev pub Nothing : CallResult → Written → Written → Type 0
@@ -34,7 +33,7 @@ pub record Then (First Next : CallResult → Written → Written → Type 0) (re
 -- an attribute is added
 abbrev pub AddsOne : Attribute → CallResult → Written → Written → Type 0
 AddsOne a result old new =
-    AppendsTo (any_in (length old.slice) a.type a.value) a.type (λ _. a.value) result old new
+    AppendsTo (any_answer (length old.slice) a.type a.value) a.type (λ _. a.value) result old new
 
 -- attributes are added, one after the other
 abbrev pub AddsEach : List Attribute → CallResult → Written → Written → Type 0
@@ -45,13 +44,13 @@ AddsEach (a ∷ b ∷ more) = Then (AddsOne a) (AddsEach (b ∷ more))
 -- the integrity attribute of an algorithm is added, under a key
 abbrev pub SignsBy : IntegrityAlgorithm → (key : List ℕ) → CallResult → Written → Written → Type 0
 SignsBy algorithm key result old new =
-    AppendsTo (step_in (length old.slice) (sign algorithm key)) (type_of_algorithm algorithm)
+    AppendsTo (step_answer (length old.slice) (sign algorithm key)) (type_of_algorithm algorithm)
     (λ message. integrity_value message key algorithm) result old new
 
 -- a FINGERPRINT is added
 abbrev pub Fingers : CallResult → Written → Written → Type 0
 Fingers result old new =
-    AppendsTo (step_in (length old.slice) finger) FINGERPRINT
+    AppendsTo (step_answer (length old.slice) finger) FINGERPRINT
     (λ message. fingerprint_value message (length message)) result old new
 
 -- a message is signed, and gets a FINGERPRINT, if the usage uses it

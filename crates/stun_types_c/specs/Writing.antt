@@ -5,12 +5,11 @@ use Rattle.std.specs.List.{flat_map}
 use Rattle.std.specs.Option.{option_map, option_or}
 use Rattle.std.specs.Str.{is_utf8}
 use Rattle.std.specs.declared.net.socket_addr.SocketAddr.{SocketAddr}
-use Rattle.stun_grammar.specs.declared.error.StunWriteError.{StunWriteError}
 use Rattle.stun_grammar.specs.declared.integrity_algorithm.IntegrityAlgorithm.{IntegrityAlgorithm}
 use Rattle.stun_grammar.specs.Numbers.{be16, number}
 use Rattle.stun_grammar.specs.AttributeTypes.{ERROR_CODE, UNKNOWN_ATTRIBUTES}
 use Rattle.stun_grammar.specs.Headers.{header_fault, id_field}
-use Rattle.stun_grammar.specs.Steps.{sign, integrity_value}
+use Rattle.stun_grammar.specs.Steps.{Step, sign, integrity_value}
 use Rattle.stun_grammar.specs.Verdicts.{type_of_algorithm}
 use Rattle.stun_grammar.specs.Writing.{message_encoding}
 use Rattle.stun_grammar.specs.Adding.{appended, grown_length}
@@ -25,7 +24,7 @@ use Rattle.stun_types_c.specs.declared.address.Address.{Address}
 use Rattle.stun_types_c.specs.declared.reading.Id.{Id}
 use Rattle.stun_types_c.specs.Addresses.{ip_named, IsAt, is_xored_type, is_plain_type}
 use Rattle.stun_types_c.specs.Codes.{OK, TOO_LARGE, TOO_SMALL, INVALID_DATA, BAD_ARGUMENT, NO_KEY}
-use Rattle.stun_types_c.specs.CallResults.{plain, counted, write_result, Refuses}
+use Rattle.stun_types_c.specs.CallResults.{plain, counted, write_result, add_result, Refuses}
 use Rattle.stun_types_c.specs.Keys.{algorithm_named}
 
 -- a slice, and how many bytes of it are a message
@@ -52,7 +51,7 @@ Begins type id result old new =
 
 -- an attribute of a type and a value is appended to the message, or it is refused; what comes
 -- after the message stays
-abbrev pub Appends : Option StunWriteError → ℕ → List ℕ → CallResult → Written → Written → Type 0
+abbrev pub Appends : Option CallResult → ℕ → List ℕ → CallResult → Written → Written → Type 0
 Appends refusal type value result old new =
     MatchOption refusal
     ((result ≡ plain OK) × (new ≡ record {
@@ -60,10 +59,18 @@ Appends refusal type value result old new =
           ++ drop (grown_length old.count (length value)) old.slice;
       count = grown_length old.count (length value);
     }))
-    (λ e. Refuses (write_result e) result old new)
+    (λ answer. Refuses answer result old new)
+
+-- why an attribute of any type isn't added to a message in a slice of so many bytes
+abbrev pub any_answer : ℕ → ℕ → List ℕ → List ℕ → Option CallResult
+any_answer size type value message = option_map add_result (any_in size type value message)
+
+-- why a step isn't taken there
+abbrev pub step_answer : ℕ → Step → List ℕ → Option CallResult
+step_answer size step message = option_map write_result (step_in size step message)
 
 -- the same if what is written is tested first, and then the value, whatever the message
-abbrev pub AppendsUnless : Option CallResult → (List ℕ → Option StunWriteError) → ℕ
+abbrev pub AppendsUnless : Option CallResult → (List ℕ → Option CallResult) → ℕ
     → (List ℕ → List ℕ) → CallResult → Written → Written → Type 0
 AppendsUnless fault refusal type value result old new =
     let message = take old.count old.slice in
@@ -73,7 +80,7 @@ AppendsUnless fault refusal type value result old new =
     (λ answer. Refuses answer result old new))
     (λ _. Refuses (plain BAD_ARGUMENT) result old new)
 
-abbrev pub AppendsTo : (List ℕ → Option StunWriteError) → ℕ → (List ℕ → List ℕ) → CallResult
+abbrev pub AppendsTo : (List ℕ → Option CallResult) → ℕ → (List ℕ → List ℕ) → CallResult
     → Written → Written → Type 0
 AppendsTo = AppendsUnless None
 
@@ -84,7 +91,7 @@ long_answer most n = if nat_lt most n then Some (counted TOO_LARGE most n) else 
 -- an attribute of a type and a value is added
 abbrev pub AddsValue : ℕ → List ℕ → CallResult → Written → Written → Type 0
 AddsValue type value result old new =
-    AppendsUnless (long_answer 65535 (length value)) (any_in (length old.slice) type value) type
+    AppendsUnless (long_answer 65535 (length value)) (any_answer (length old.slice) type value) type
     (λ _. value) result old new
 
 -- an address of C's form is added as it is, under no type whose addresses are XORed
@@ -92,7 +99,7 @@ abbrev pub AddsAddress : Address → ℕ → CallResult → Written → Written 
 AddsAddress address type result old new =
     MatchOption (if is_xored_type type then None else ip_named address) (Refuses (plain BAD_ARGUMENT) result old new)
     (λ ip. (a : SocketAddr) × IsAt ip address.port a
-    × AppendsTo (any_in (length old.slice) type (address_value a)) type (λ _. address_value a)
+    × AppendsTo (any_answer (length old.slice) type (address_value a)) type (λ _. address_value a)
     result old new)
 
 -- an address of C's form is added XORed with the transaction ID in the slice, under no type whose
@@ -102,7 +109,7 @@ AddsXorAddress address type result old new =
     MatchOption (if is_plain_type type then None else ip_named address) (Refuses (plain BAD_ARGUMENT) result old new)
     (λ ip. MatchOption (header_fault old.slice)
     ((a xored : SocketAddr) × IsAt ip address.port a × IsXored (id_field old.slice) a xored
-    × AppendsTo (any_in (length old.slice) type (address_value xored)) type
+    × AppendsTo (any_answer (length old.slice) type (address_value xored)) type
     (λ _. address_value xored) result old new)
     (λ _. Refuses (plain BAD_ARGUMENT) result old new))
 
@@ -116,7 +123,7 @@ error_answer code reason =
 abbrev pub AddsError : ℕ → List ℕ → CallResult → Written → Written → Type 0
 AddsError code reason result old new =
     let value = error_value code reason in
-    AppendsUnless (error_answer code reason) (any_in (length old.slice) ERROR_CODE value) ERROR_CODE
+    AppendsUnless (error_answer code reason) (any_answer (length old.slice) ERROR_CODE value) ERROR_CODE
     (λ _. value) result old new
 
 -- an UNKNOWN-ATTRIBUTES is added (RFC 8489, section 14.13)
@@ -124,7 +131,7 @@ abbrev pub AddsTypes : List ℕ → CallResult → Written → Written → Type 
 AddsTypes types result old new =
     let value = flat_map be16 types in
     AppendsUnless (long_answer 32767 (length types))
-    (any_in (length old.slice) UNKNOWN_ATTRIBUTES value) UNKNOWN_ATTRIBUTES (λ _. value)
+    (any_answer (length old.slice) UNKNOWN_ATTRIBUTES value) UNKNOWN_ATTRIBUTES (λ _. value)
     result old new
 
 -- why a key doesn't sign by an algorithm: it was made for the other one
@@ -139,7 +146,7 @@ Signs held number result old new =
     (MatchOption (algorithm_named number) (Refuses (plain BAD_ARGUMENT) result old new)
     (λ algorithm. MatchOption held (Refuses (plain NO_KEY) result old new)
     (λ key. AppendsUnless (serving_answer key algorithm)
-    (step_in (length old.slice) (sign algorithm (key_bytes key)))
+    (step_answer (length old.slice) (sign algorithm (key_bytes key)))
     (type_of_algorithm algorithm)
     (λ message. integrity_value message (key_bytes key) algorithm) result old new)))
     (λ _. Refuses (plain BAD_ARGUMENT) result old new)

@@ -1,11 +1,11 @@
 //! What a call returns.
 
 ghost use Rattle.std.specs.Prelude.{◌≡◌};
-ghost use Rattle.stun_types_c.specs.CallResults.{plain, about, counted, parse_result, write_result, validate_result};
+ghost use Rattle.stun_types_c.specs.CallResults.{plain, about, counted, parse_result, write_result, add_result, validate_result};
 
 use crate::codes;
 use stun_grammar::attribute_types::{FINGERPRINT, MESSAGE_INTEGRITY};
-use stun_types::message::{StunParseError, StunWriteError, ValidateError};
+use stun_types::message::{AddError, StunParseError, StunWriteError, ValidateError};
 
 /// What a call returns: `codes::OK`, or why it did nothing.
 #[repr(C)]
@@ -80,7 +80,7 @@ pub(crate) fn parse_result(error: StunParseError) -> CallResult
     }
 }
 
-/// Why an attribute isn't added.
+/// Why an attribute or a message isn't made or written.
 pub(crate) fn write_result(error: StunWriteError) -> CallResult
     ensures { result ≡ write_result error }
 {
@@ -94,12 +94,21 @@ pub(crate) fn write_result(error: StunWriteError) -> CallResult
         StunWriteError::TooSmall { expected, actual } => {
             counted(codes::TOO_SMALL, expected, actual)
         }
-        StunWriteError::EndingType(atype) => about(codes::ENDING_TYPE, atype.0),
         StunWriteError::IntegrityFailed => plain(codes::INVALID_DATA),
         StunWriteError::OutOfRange { value, min: _, max } => {
             counted(codes::OUT_OF_RANGE, max, value)
         }
         StunWriteError::OutOfMemory => plain(codes::OUT_OF_MEMORY),
+    }
+}
+
+/// Why an attribute of any type isn't added.
+pub(crate) fn add_result(error: AddError) -> CallResult
+    ensures { result ≡ add_result error }
+{
+    match error {
+        AddError::EndingType(atype) => about(codes::ENDING_TYPE, atype.0),
+        AddError::Write(error) => write_result(error),
     }
 }
 

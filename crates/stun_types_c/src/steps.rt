@@ -5,7 +5,7 @@ ghost use Rattle.stun_grammar.specs.Attributes.{canonical};
 ghost use Rattle.stun_keys.specs.Keys.{key_bytes};
 ghost use Rattle.stun_types_c.specs.Steps.{AddsOne, SignsBy, Ends};
 
-use crate::call_result::{CallResult, plain};
+use crate::call_result::{CallResult, plain, write_result};
 use crate::codes;
 use crate::writing::{add_short, store_length, stun_types_add_fingerprint};
 use stun_types::message::IntegrityAlgorithm;
@@ -34,10 +34,10 @@ fn sign(
         (record { slice = room.new; count = written.new }) }
 {
     match ResumePoint::check(room, *written) {
-        Ok(point) => store_length(
-            point.add_message_integrity_with_key(room, key, algorithm),
-            written,
-        ),
+        Ok(point) => {
+            let added = point.add_message_integrity_with_key(room, key, algorithm);
+            store_length(added.map_err(write_result), written)
+        }
         Err(_) => plain(codes::BAD_ARGUMENT),
     }
 }

@@ -7,14 +7,13 @@ ghost use Rattle.stun_grammar.specs.Steps.{finger};
 ghost use Rattle.stun_values.specs.Addresses.{address_value};
 ghost use Rattle.stun_values.specs.ErrorValues.{making_fault};
 ghost use Rattle.stun_values.specs.TextValues.{text_max};
-ghost use Rattle.stun_write.specs.ResumePoints.{any_in, step_in};
 ghost use Rattle.stun_types_c.specs.Codes.{OK};
 ghost use Rattle.stun_types_c.specs.KeyHandles.{shared_key};
-ghost use Rattle.stun_types_c.specs.CallResults.{plain, write_result};
-ghost use Rattle.stun_types_c.specs.Writing.{Begins, AppendsTo, AddsValue, AddsAddress, AddsXorAddress, AddsError, AddsTypes, Signs};
+ghost use Rattle.stun_types_c.specs.CallResults.{plain};
+ghost use Rattle.stun_types_c.specs.Writing.{Begins, AppendsTo, AddsValue, AddsAddress, AddsXorAddress, AddsError, AddsTypes, Signs, any_answer, step_answer};
 
 use crate::address::{Address, is_plain_type, is_xored_type, socket_of};
-use crate::call_result::{CallResult, counted, plain, write_result};
+use crate::call_result::{CallResult, add_result, counted, plain, write_result};
 use crate::codes;
 use crate::keys::algorithm_of;
 use crate::new_values::{ErrorValue, TypeNumbers};
@@ -53,17 +52,17 @@ pub extern "C" fn stun_types_begin(
 }
 
 /// Stores how long the message is after an add; what the call returns.
-pub(crate) fn store_length(answer: Result<usize, StunWriteError>, written: &mut usize) -> CallResult
-    ensures { MatchResult answer
+pub(crate) fn store_length(added: Result<usize, CallResult>, written: &mut usize) -> CallResult
+    ensures { MatchResult added
         (λ length. (result ≡ plain OK) × (written.new ≡ length))
-        (λ e. (result ≡ write_result e) × (written.new ≡ written.old)) }
+        (λ answer. (result ≡ answer) × (written.new ≡ written.old)) }
 {
-    match answer {
+    match added {
         Ok(length) => {
             *written = length;
             plain(codes::OK)
         }
-        Err(error) => write_result(error),
+        Err(answer) => answer,
     }
 }
 
@@ -76,12 +75,15 @@ pub(crate) fn add_short(
     value: &[u8],
 ) -> CallResult
     requires { length value.now ≤ 65535 }
-    ensures { AppendsTo (any_in (length room.old) atype value.now) atype (λ _. value.now) result
+    ensures { AppendsTo (any_answer (length room.old) atype value.now) atype (λ _. value.now) result
         (record { slice = room.old; count = written.old })
         (record { slice = room.new; count = written.new }) }
 {
     match ResumePoint::check(room, *written) {
-        Ok(point) => store_length(point.add_value(room, AttributeType(atype), value), written),
+        Ok(point) => {
+            let added = point.add_value(room, AttributeType(atype), value);
+            store_length(added.map_err(add_result), written)
+        }
         Err(_) => plain(codes::BAD_ARGUMENT),
     }
 }
@@ -104,12 +106,13 @@ pub extern "C" fn stun_types_add(
     if value.len() > 65535 {
         return counted(codes::TOO_LARGE, 65535, value.len());
     }
-    store_length(point.add_value(room, AttributeType(atype), value), written)
+    let added = point.add_value(room, AttributeType(atype), value);
+    store_length(added.map_err(add_result), written)
 }
 
 /// Adds an attribute with this address for its value.
 fn add_socket(room: &mut [u8], written: &mut usize, atype: u16, addr: SocketAddr) -> CallResult
-    ensures { AppendsTo (any_in (length room.old) atype (address_value addr)) atype
+    ensures { AppendsTo (any_answer (length room.old) atype (address_value addr)) atype
         (λ _. address_value addr) result
         (record { slice = room.old; count = written.old })
         (record { slice = room.new; count = written.new }) }
@@ -204,10 +207,8 @@ pub extern "C" fn stun_types_add_error(
         return plain(codes::INVALID_DATA);
     }
     let value = ErrorValue { code, reason };
-    store_length(
-        point.add_encoded(room, AttributeType(ERROR_CODE), &value),
-        written,
-    )
+    let added = point.add_encoded(room, AttributeType(ERROR_CODE), &value);
+    store_length(added.map_err(add_result), written)
 }
 
 /// Adds an UNKNOWN-ATTRIBUTES.
@@ -228,10 +229,8 @@ pub extern "C" fn stun_types_add_unknown_types(
         return write_result(error);
     }
     let value = TypeNumbers { types };
-    store_length(
-        point.add_encoded(room, AttributeType(UNKNOWN_ATTRIBUTES), &value),
-        written,
-    )
+    let added = point.add_encoded(room, AttributeType(UNKNOWN_ATTRIBUTES), &value);
+    store_length(added.map_err(add_result), written)
 }
 
 /// Signs what is written.
@@ -252,10 +251,10 @@ pub extern "C" fn stun_types_add_integrity(
     };
     match key.key() {
         Some(key) if !key.serves(algorithm) => plain(codes::BAD_ARGUMENT),
-        Some(key) => store_length(
-            point.add_message_integrity_with_key(room, key, algorithm),
-            written,
-        ),
+        Some(key) => {
+            let added = point.add_message_integrity_with_key(room, key, algorithm);
+            store_length(added.map_err(write_result), written)
+        }
         None => plain(codes::NO_KEY),
     }
 }
@@ -263,13 +262,13 @@ pub extern "C" fn stun_types_add_integrity(
 /// Ends the message with a FINGERPRINT.
 #[unsafe(no_mangle)]
 pub extern "C" fn stun_types_add_fingerprint(room: &mut [u8], written: &mut usize) -> CallResult
-    ensures { AppendsTo (step_in (length room.old) finger) FINGERPRINT
+    ensures { AppendsTo (step_answer (length room.old) finger) FINGERPRINT
         (λ message. fingerprint_value message (length message)) result
         (record { slice = room.old; count = written.old })
         (record { slice = room.new; count = written.new }) }
 {
     match ResumePoint::check(room, *written) {
-        Ok(point) => store_length(point.add_fingerprint(room), written),
+        Ok(point) => store_length(point.add_fingerprint(room).map_err(write_result), written),
         Err(_) => plain(codes::BAD_ARGUMENT),
     }
 }

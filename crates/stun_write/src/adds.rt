@@ -7,7 +7,7 @@ ghost use Rattle.stun_grammar.specs.Hmac.{digest_length};
 ghost use Rattle.stun_grammar.specs.Verdicts.{type_of_algorithm};
 ghost use Rattle.stun_grammar.specs.Fingerprints.{fingerprint_value};
 ghost use Rattle.stun_grammar.specs.Steps.{add, sign, finger, integrity_value};
-ghost use Rattle.stun_grammar.specs.Adding.{grown_length, add_refusal, any_refusal, IsAddAnswer};
+ghost use Rattle.stun_grammar.specs.Adding.{grown_length, add_refusal, any_refusal, IsAddAnswer, IsAnyAnswer};
 ghost use Rattle.stun_keys.specs.Keys.{key_bytes, credentials_key};
 ghost use Rattle.stun_base.specs.MessageTypes.{class_of, method_of, is_response as responds};
 ghost use Rattle.stun_write.specs.Writers.{Allocates, Adds};
@@ -19,7 +19,7 @@ use crate::refusals::{Addition, check_add};
 use std::alloc::Global;
 use stun_attrs::AttributeWrite;
 use stun_base::{
-    AttributeType, MessageClass, MessageType, Method, StunWriteError, TransactionId,
+    AddError, AttributeType, MessageClass, MessageType, Method, StunWriteError, TransactionId,
     pad_attribute_len,
 };
 use stun_grammar::IntegrityAlgorithm;
@@ -146,7 +146,8 @@ pub trait MessageWriteExt: MessageWrite {
     /// needs no test, and neither does a raw attribute that `RawAttribute::new` or `new_owned` makes
     /// of a literal type. One whose type is known only when the program runs is added by
     /// [`MessageWriteExt::add_any_attribute`], which tests it. A type and bytes are added by
-    /// [`MessageWriteExt::add_value`], without a raw attribute.
+    /// [`MessageWriteExt::add_ordinary_value`] and [`MessageWriteExt::add_value`], without a raw
+    /// attribute.
     ///
     /// # Errors
     ///
@@ -217,10 +218,10 @@ pub trait MessageWriteExt: MessageWrite {
     /// # Errors
     ///
     /// `EndingType` with the type if it is that of MESSAGE-INTEGRITY (0x0008),
-    /// MESSAGE-INTEGRITY-SHA256 (0x001C) or FINGERPRINT (0x8028), otherwise as for
-    /// [`MessageWriteExt::add_attribute`]; the bytes and the attributes then stay as they were.
-    fn add_any_attribute(&mut self, attribute: &dyn AttributeWrite) -> Result<(), StunWriteError>
-        ensures answer { IsAddAnswer
+    /// MESSAGE-INTEGRITY-SHA256 (0x001C) or FINGERPRINT (0x8028), otherwise `Write` with the error
+    /// of [`MessageWriteExt::add_attribute`]; the bytes and the attributes then stay as they were.
+    fn add_any_attribute(&mut self, attribute: &dyn AttributeWrite) -> Result<(), AddError>
+        ensures answer { IsAnyAnswer
             (any_refusal (atype attribute.now) (value attribute.now)
             (Self.state self.old).types (length (Self.state self.old).bytes)
             (Self.state self.old).greatest)
@@ -254,10 +255,32 @@ pub trait MessageWriteExt: MessageWrite {
     /// # Errors
     ///
     /// As for [`MessageWriteExt::add_any_attribute`].
-    fn add_value(&mut self, atype: AttributeType, value: &[u8]) -> Result<(), StunWriteError>
+    fn add_value(&mut self, atype: AttributeType, value: &[u8]) -> Result<(), AddError>
         requires { length value.now ≤ 65535 }
-        ensures answer { IsAddAnswer
+        ensures answer { IsAnyAnswer
             (any_refusal atype.0 value.now (Self.state self.old).types
+            (length (Self.state self.old).bytes) (Self.state self.old).greatest)
+            (Allocates (Self.state self.old) (length value.now)) result }
+        ensures adds { Adds result (Self.state self.old) (Self.state self.new) atype.0 value.now };
+
+    /// As [`MessageWriteExt::add_attribute`], of a type and the bytes of a value.
+    ///
+    /// # Requires
+    ///
+    /// `atype.is_ending()` is `false`, and `value.len()` is at most 65535.
+    ///
+    /// # Errors
+    ///
+    /// As for [`MessageWriteExt::add_attribute`].
+    fn add_ordinary_value(
+        &mut self,
+        atype: AttributeType,
+        value: &[u8],
+    ) -> Result<(), StunWriteError>
+        requires ordinary { IsOrdinary atype.0 }
+        requires value { length value.now ≤ 65535 }
+        ensures answer { IsAddAnswer
+            (add_refusal (add atype.0 value.now) (Self.state self.old).types
             (length (Self.state self.old).bytes) (Self.state self.old).greatest)
             (Allocates (Self.state self.old) (length value.now)) result }
         ensures adds { Adds result (Self.state self.old) (Self.state self.new) atype.0 value.now };
@@ -486,19 +509,29 @@ impl<W: MessageWrite> MessageWriteExt for W {
         self.push_attribute_unchecked(attribute)
     }
 
-    fn add_any_attribute(&mut self, attribute: &dyn AttributeWrite) -> Result<(), StunWriteError> {
+    fn add_any_attribute(&mut self, attribute: &dyn AttributeWrite) -> Result<(), AddError> {
         let atype = attribute.get_type();
         if atype.is_ending() {
-            return Err(StunWriteError::EndingType(atype));
+            return Err(AddError::EndingType(atype));
         }
-        self.add_attribute(attribute)
+        self.add_attribute(attribute)?;
+        Ok(())
+    }
+
+    fn add_value(&mut self, atype: AttributeType, value: &[u8]) -> Result<(), AddError> {
+        if atype.is_ending() {
+            return Err(AddError::EndingType(atype));
+        }
+        self.add_ordinary_value(atype, value)?;
+        Ok(())
     }
 
     #[tactic(auto, using(stun_grammar::proofs::AddingLemmas::appended_length, crate::proofs::KeptHeadersLemmas::pushed, stun_grammar::proofs::AddingRefusedLemmas::ordinary_barred))]
-    fn add_value(&mut self, atype: AttributeType, value: &[u8]) -> Result<(), StunWriteError> {
-        if atype.is_ending() {
-            return Err(StunWriteError::EndingType(atype));
-        }
+    fn add_ordinary_value(
+        &mut self,
+        atype: AttributeType,
+        value: &[u8],
+    ) -> Result<(), StunWriteError> {
         let added = 4 + pad_attribute_len(value.len());
         check_add(self, Addition::Ordinary, added)?;
         self.push_value_unchecked(atype, value)

@@ -4,7 +4,7 @@
 use crate::refusals::{Addition, barring, check_order, check_room, ending_types};
 use crate::{ResumePoint, append_encoded, append_value};
 use stun_attrs::EncodeValue;
-use stun_base::{AttributeType, StunWriteError, pad_attribute_len};
+use stun_base::{AddError, AttributeType, StunWriteError, pad_attribute_len};
 use stun_grammar::IntegrityAlgorithm;
 use stun_grammar::attribute_types::{FINGERPRINT, MESSAGE_INTEGRITY, MESSAGE_INTEGRITY_SHA256};
 use stun_integrity::{fingerprint_at, hmac_sha1_at, hmac_sha256_at};
@@ -72,7 +72,7 @@ impl ResumePoint {
         slice: &mut [u8],
         atype: AttributeType,
         value: &[u8],
-    ) -> Result<usize, StunWriteError>
+    ) -> Result<usize, AddError>
         requires point { IsPointOf self slice.old }
         requires value { length value.now ≤ 65535 }
         ensures { AppendsIn
@@ -80,7 +80,7 @@ impl ResumePoint {
             atype.0 value.now result (resumed_length self) slice.old slice.new }
     {
         if atype.is_ending() {
-            return Err(StunWriteError::EndingType(atype));
+            return Err(AddError::EndingType(atype));
         }
         let added = 4 + pad_attribute_len(value.len());
         self.check_add(slice, Addition::Ordinary, added)?;
@@ -104,7 +104,7 @@ impl ResumePoint {
         slice: &mut [u8],
         atype: AttributeType,
         value: &V,
-    ) -> Result<usize, StunWriteError>
+    ) -> Result<usize, AddError>
         requires { IsPointOf self slice.old }
         ensures { AppendsIn
             (any_in (length slice.old) atype.0 (V.bytes value.now)
@@ -112,7 +112,7 @@ impl ResumePoint {
             atype.0 (V.bytes value.now) result (resumed_length self) slice.old slice.new }
     {
         if atype.is_ending() {
-            return Err(StunWriteError::EndingType(atype));
+            return Err(AddError::EndingType(atype));
         }
         let added = 4 + pad_attribute_len(value.value_length() as usize);
         self.check_add(slice, Addition::Ordinary, added)?;
