@@ -263,7 +263,8 @@ pub trait MessageWriteExt: MessageWrite {
             (Allocates (Self.state self.old) (length value.now)) result }
         ensures adds { Adds result (Self.state self.old) (Self.state self.new) atype.0 value.now };
 
-    /// As [`MessageWriteExt::add_attribute`], of a type and the bytes of a value.
+    /// Adds an attribute of an ordinary type, of which a type and the bytes of a value are given,
+    /// as [`MessageWriteExt::add_attribute`] does.
     ///
     /// # Requires
     ///
@@ -272,6 +273,22 @@ pub trait MessageWriteExt: MessageWrite {
     /// # Errors
     ///
     /// As for [`MessageWriteExt::add_attribute`].
+    ///
+    /// # Examples
+    ///
+    /// ```
+    /// use stun_types::attribute::Software;
+    /// use stun_types::message::{
+    ///     BINDING, Message, MessageClass, MessageType, MessageWriteVec, TransactionId,
+    /// };
+    /// use stun_types::prelude::*;
+    ///
+    /// let mtype = MessageType::from_class_method(MessageClass::Request, BINDING);
+    /// let write = MessageWriteVec::new(alloc);
+    /// let mut message = Message::builder(mtype, TransactionId::from(1000), write)?;
+    /// message.add_ordinary_value(Software::TYPE, b"STUN")?;
+    /// assert_eq!(rt; &message.data()[20..], b"\x80\x22\x00\x04STUN".as_slice());
+    /// ```
     fn add_ordinary_value(
         &mut self,
         atype: AttributeType,
