@@ -58,7 +58,7 @@ pub enum StunParseError {
     /// The attribute is not of the type that was to be read.
     #[error("Cannot parse with this attribute")]
     WrongAttributeImplementation,
-    /// An allocation failed: no memory was left for the value.
+    /// An allocation failed while a value was read or a key was made.
     #[error("Out of memory")]
     OutOfMemory,
 }
@@ -109,7 +109,7 @@ pub enum StunWriteError {
         /// The greatest number allowed.
         max: usize,
     },
-    /// An allocation failed: no memory was left for the value or the message.
+    /// An allocation failed while a value, a key or a message was made.
     #[error("Out of memory")]
     OutOfMemory,
 }
