@@ -97,7 +97,7 @@ impl<'a> Message<'a> {
     /// [`Message::nth_raw_attribute`] with 0.
     ///
     /// Each look-up walks the attributes anew, so one for each type of a message with n
-    /// attributes takes some n² steps. If several types are wanted, one walk finds them all:
+    /// attributes takes some n² steps. If several types are wanted, one walk finds them all.
     ///
     /// # Examples
     ///

@@ -432,10 +432,10 @@ impl Message<'_> {
     }
 
     /// Writes the reply to a request with attributes that weren't understood, whose types are
-    /// given: an error response with the SOFTWARE `stun-types`, the ERROR-CODE 420 `Unknown
-    /// Attributes`, and an UNKNOWN-ATTRIBUTES with the types in order and with repeats, unless
-    /// there are none (RFC 8489, sections 6.3.1, 14.8 and 14.13). The attributes are made in memory
-    /// that `alloc` gives, each just before it is added.
+    /// given: an error response with the SOFTWARE `stun-types`, the ERROR-CODE 420
+    /// `Unknown Attributes`, and an UNKNOWN-ATTRIBUTES with the types in order and with repeats,
+    /// unless there are none (RFC 8489, sections 6.3.1, 14.8 and 14.13). The attributes are made in
+    /// memory that `alloc` gives, each just before it is added.
     ///
     /// # Requires
     ///
