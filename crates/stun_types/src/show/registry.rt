@@ -59,6 +59,19 @@ impl Registry {
     ///
     /// `OutOfMemory` alone, and only for a type that no name was registered for. The registry is
     /// then as before.
+    ///
+    /// # Examples
+    ///
+    /// ```
+    /// use stun_types::attribute::AttributeType;
+    /// use stun_types::show::Registry;
+    ///
+    /// let mut registry = Registry::new(alloc);
+    /// registry.add_name(AttributeType(0x8851), "FIRST")?;
+    /// registry.add_name(AttributeType(0x8851), "SECOND")?;
+    /// assert_eq!(rt; registry.name(AttributeType(0x8851)), "SECOND");
+    /// assert_eq!(rt; registry.name(AttributeType(0x8852)), "unknown");
+    /// ```
     pub fn add_name(
         &mut self,
         atype: AttributeType,
