@@ -1,5 +1,5 @@
 /* The allocator of the test program, by the linker's --wrap=malloc, calloc, realloc and free. It
- * counts blocks, refuses those that it is told to, and looks at each that is given back. */
+ * counts blocks, refuses what a test asks it to, and looks at each that is given back. */
 #ifndef HEAP_H
 #define HEAP_H
 

@@ -28,6 +28,23 @@ pub struct XorSocketAddr {
 impl XorSocketAddr {
     /// The address `addr` as a value in a message with the transaction ID `transaction`. Flow info
     /// and scope ID of an IPv6 address are dropped.
+    ///
+    /// # Examples
+    ///
+    /// ```
+    /// use std::net::{IpAddr, Ipv4Addr, SocketAddr};
+    /// use stun_types::attribute::{AttributeType, XorSocketAddr};
+    /// use stun_types::message::TransactionId;
+    ///
+    /// // the address in the sample response of RFC 5769, section 2.2
+    /// let addr = SocketAddr::new(IpAddr::V4(Ipv4Addr::new(192, 0, 2, 1)), 32853);
+    /// let id = TransactionId::from(0xB7E7_A701_BC34_D686_FA87_DFAE);
+    /// let xored = XorSocketAddr::new(addr, id);
+    /// let raw = xored.to_raw(alloc, AttributeType(0x0020))?;
+    /// let value = [0x00, 0x01, 0xA1, 0x47, 0xE1, 0x12, 0xA6, 0x43];
+    /// assert_eq!(rt; raw.value().as_bytes(), value.as_slice());
+    /// assert_eq!(rt; XorSocketAddr::read(&value)?.addr(id), addr);
+    /// ```
     pub fn new(addr: SocketAddr, transaction: TransactionId) -> Self
         ensures { IsXored transaction addr (written_addr result) }
     {

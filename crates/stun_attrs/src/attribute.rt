@@ -202,6 +202,19 @@ pub trait AttributeWrite: Attribute {
     ///
     /// `TooSmall { expected: 4, actual }` if `dest` has fewer than four bytes; they are
     /// unchanged then.
+    ///
+    /// # Examples
+    ///
+    /// ```
+    /// use stun_types::attribute::Software;
+    /// use stun_types::prelude::*;
+    ///
+    /// let software = Software::new(alloc, "my client")?;
+    /// let mut header = [0; 4];
+    /// assert_eq!(rt; software.write_header(&mut header), Ok(4));
+    /// assert_eq!(rt; header, [0x80, 0x22, 0x00, 0x09]);
+    /// assert!(rt; software.write_header(&mut header[..3]).is_err());
+    /// ```
     fn write_header(&self, dest: &mut [u8]) -> Result<usize, StunWriteError>
         ensures short { length dest.old < 4
             → (result ≡ Err (StunWriteError.TooSmall 4 (length dest.old)))

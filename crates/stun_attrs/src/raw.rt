@@ -240,8 +240,8 @@ impl<'a> RawAttribute<'a> {
         Ok(bytes)
     }
 
-    /// Clones the attribute. A borrowed value stays borrowed, which takes no memory; an owned value
-    /// is copied into memory that `alloc` gives.
+    /// Clones the raw attribute. A borrowed value stays borrowed, which takes no memory; an owned
+    /// value is copied into memory that `alloc` gives.
     ///
     /// # Errors
     ///

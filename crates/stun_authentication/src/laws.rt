@@ -81,10 +81,11 @@ pub fn nonces_are_texts()
     cookie_is_read();
 }
 
-/// A nonce is valid from the time at which it was made until its window is over, for the client that
-/// it was made for, and stale afterwards. What is valid or stale is the nonce that the server made
-/// for that client at that time; so one that was made under another secret, with other features or
-/// for another client is unknown, unless the two HMACs are equal.
+/// A nonce of a [`NonceMaker`](crate::NonceMaker) is valid from the time at which it was made until
+/// its window is over, for the client that it was made for, and stale afterwards. What is valid or
+/// stale is the nonce that the server made for that client at that time; so one that was made under
+/// another secret, with other features or for another client is unknown, unless the two HMACs are
+/// equal.
 pub fn nonces_are_timed()
     ensures valid { (minting : Minting) (time now : ℕ) (place : List ℕ)
         → time < 2 ^ 64 → time ≤ now → now ≤ time + minting.window

@@ -216,7 +216,7 @@ pub fn refuse_short_term<B: MessageWrite + Drop>(
 /// use stun_types::message::{Message, MessageWriteVec};
 /// use stun_types::prelude::*;
 ///
-/// // The first request of section 20 of RFC 8656, and what its server demands.
+/// // An unsigned request, and what the server of section 20 of RFC 8656 demands.
 /// let request = Message::from_bytes(
 ///     b"\x00\x03\x00\x08\x21\x12\xA4\x42\xA5\x62\x50\xD3\xF1\x7A\xBE\x67\x94\x22\xDE\x85\
 ///       \x00\x19\x00\x04\x11\x00\x00\x00",

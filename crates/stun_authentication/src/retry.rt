@@ -28,7 +28,7 @@ use stun_values::{NONCE_MAX, REALM_MAX, read_text};
 /// use stun_authentication::is_bid_down;
 /// use stun_types::message::Message;
 ///
-/// // The 401 of section 20 of RFC 8656, of which an attacker has removed PASSWORD-ALGORITHMS.
+/// // The 401 of section 20 of RFC 8656, after an attacker has removed PASSWORD-ALGORITHMS.
 /// let response = Message::from_bytes(
 ///     b"\x01\x13\x00\x48\x21\x12\xA4\x42\xA5\x62\x50\xD3\xF1\x7A\xBE\x67\x94\x22\xDE\x85\
 ///       \x00\x09\x00\x10\x00\x00\x04\x01Unauthorized\x00\x14\x00\x0Bexample.com\x00\
@@ -118,7 +118,7 @@ fn repeats(response: &Message<'_>, tried: Option<&str>, realm: &str) -> bool
 /// use stun_types::attribute::PasswordAlgorithmValue;
 /// use stun_types::message::Message;
 ///
-/// // The 401 of section 20 of RFC 8656.
+/// // The 401 of section 20 of RFC 8656, without SOFTWARE.
 /// let response = Message::from_bytes(
 ///     b"\x01\x13\x00\x54\x21\x12\xA4\x42\xA5\x62\x50\xD3\xF1\x7A\xBE\x67\x94\x22\xDE\x85\
 ///       \x00\x09\x00\x10\x00\x00\x04\x01Unauthorized\x00\x14\x00\x0Bexample.com\x00\

@@ -222,8 +222,8 @@ impl<'a> Data<'a> {
         }
     }
 
-    /// Clones the bytes. Borrowed bytes stay borrowed, which takes no memory; owned bytes are
-    /// copied into memory that `alloc` gives.
+    /// Clones the borrowed or owned bytes. Borrowed bytes stay borrowed, which takes no memory;
+    /// owned bytes are copied into memory that `alloc` gives.
     ///
     /// # Errors
     ///

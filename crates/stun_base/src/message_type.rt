@@ -146,6 +146,15 @@ pub enum MessageClass {
 
 impl MessageClass {
     /// Whether the class is that of a response: success or error.
+    ///
+    /// # Examples
+    ///
+    /// ```
+    /// use stun_types::message::MessageClass;
+    ///
+    /// assert!(rt; MessageClass::Success.is_response() && MessageClass::Error.is_response());
+    /// assert!(rt; !MessageClass::Indication.is_response());
+    /// ```
     pub fn is_response(self) -> bool
         ensures { result ≡ responds self }
     {
@@ -352,6 +361,15 @@ impl MessageType {
     /// # Errors
     ///
     /// `OutOfMemory` alone.
+    ///
+    /// # Examples
+    ///
+    /// ```
+    /// use stun_types::message::{BINDING, MessageClass, MessageType};
+    ///
+    /// let mtype = MessageType::from_class_method(MessageClass::Indication, BINDING);
+    /// assert_eq!(rt; mtype.to_bytes(alloc)?.as_slice(), [0x00, 0x11].as_slice());
+    /// ```
     pub fn to_bytes(self, alloc: Global) -> Result<Vec<u8>, StunWriteError>
         ensures ok { IfOk result (λ bytes. bytes.items ≡ be16 self) }
         ensures err { IfErr result (λ e. e ≡ StunWriteError.OutOfMemory) }

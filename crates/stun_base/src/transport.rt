@@ -12,9 +12,9 @@ use thiserror::Error;
 /// The transport that carries a message.
 #[derive(Clone, Copy, Debug, PartialEq, Eq)]
 pub enum TransportType {
-    /// The transport UDP.
+    /// The transport protocol UDP.
     Udp,
-    /// The transport TCP.
+    /// The transport protocol TCP.
     Tcp,
 }
 

@@ -40,8 +40,8 @@ pub fn messages_are_framed()
     ensures apart { (size : ℕ) (m : List ℕ) → IsStunMessage size m → ¬ (IsChannelData size m) }
 {}
 
-/// What ends a stream is no beginning of one; and from the fourth byte on, with which the length
-/// field is there, what doesn't end it is.
+/// A stream ends only at bytes with which no message may begin; and from the fourth byte on, with
+/// which the length field is there, at all such bytes.
 #[tactic(auto, using(crate::proofs::CutsLemmas::refused, crate::proofs::CutsLemmas::goes_on))]
 pub fn faults_are_right()
     ensures refused { (room : Room) (b : List ℕ) (fault : StreamFault)

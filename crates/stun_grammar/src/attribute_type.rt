@@ -81,8 +81,8 @@ impl AttributeType {
         }
     }
 
-    /// Whether attributes of the type are comprehension-required: the number is below 0x8000 (RFC
-    /// 8489, section 14).
+    /// Whether attributes of the type are comprehension-required: the number is below 0x8000
+    /// (RFC 8489, section 14).
     ///
     /// # Examples
     ///

@@ -59,7 +59,7 @@ pub enum StunParseError {
     /// The attribute is not of the type that was to be read.
     #[error("Cannot parse with this attribute")]
     WrongAttributeImplementation,
-    /// An allocation failed: no memory was left for the value.
+    /// An allocation failed while a value was read or a key was made.
     #[error("Out of memory")]
     OutOfMemory,
 }
@@ -110,7 +110,7 @@ pub enum StunWriteError {
         /// The greatest number allowed.
         max: usize,
     },
-    /// An allocation failed: no memory was left for the value or the message.
+    /// An allocation failed while a value, a key or a message was made.
     #[error("Out of memory")]
     OutOfMemory,
 }
@@ -185,9 +185,25 @@ impl From<StunParseError> for StunWriteError {
 /// The error of an add whose attribute type is known only at run time.
 ///
 /// A call that takes an attribute of an ordinary type alone returns a [`StunWriteError`].
+///
+/// # Examples
+///
+/// ```
+/// use stun_types::attribute::Fingerprint;
+/// use stun_types::message::{
+///     AddError, BINDING, Message, MessageClass, MessageType, MessageWriteVec, TransactionId,
+/// };
+/// use stun_types::prelude::*;
+///
+/// let mtype = MessageType::from_class_method(MessageClass::Request, BINDING);
+/// let write = MessageWriteVec::new(alloc);
+/// let mut message = Message::builder(mtype, TransactionId::from(1000), write)?;
+/// let refused = message.add_value(Fingerprint::TYPE, &[0; 4]);
+/// assert_eq!(rt; refused, Err(AddError::EndingType(Fingerprint::TYPE)));
+/// ```
 #[derive(Clone, Copy, Debug, PartialEq, Eq, Error)]
 pub enum AddError {
-    /// An attribute of this type is added by a method of its own: MESSAGE-INTEGRITY (0x0008),
+    /// Attributes of the type are added by a method of their own: MESSAGE-INTEGRITY (0x0008),
     /// MESSAGE-INTEGRITY-SHA256 (0x001C) or FINGERPRINT (0x8028).
     #[error("An attribute of this type is added by a method of its own")]
     EndingType(AttributeType),

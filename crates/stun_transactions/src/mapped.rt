@@ -53,6 +53,7 @@ pub fn response_address(alloc: Global, response: &Message<'_>) -> Result<SocketA
 /// use stun_transactions::mapped_address;
 /// use stun_types::message::Message;
 ///
+/// // As `Message::builder_request` wrote it, with an ID that it drew.
 /// let request = b"\x00\x01\x00\x00\x21\x12\xA4\x42\
 ///                 \xB7\xE7\xA7\x01\xBC\x34\xD6\x86\xFA\x87\xDF\xAE";
 /// let response = b"\x01\x01\x00\x0C\x21\x12\xA4\x42\

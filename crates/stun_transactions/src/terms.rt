@@ -22,6 +22,7 @@ use thiserror::Error;
 /// use stun_types::TransportType;
 /// use stun_types::message::{IntegrityKey, Message};
 ///
+/// // As `Message::builder_request` wrote it, with an ID that it drew.
 /// let request = Message::from_bytes(
 ///     b"\x00\x01\x00\x00\x21\x12\xA4\x42\xB7\xE7\xA7\x01\xBC\x34\xD6\x86\xFA\x87\xDF\xAE",
 /// )?;

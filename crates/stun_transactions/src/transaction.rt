@@ -34,6 +34,7 @@ use stun_types::message::{IntegrityKey, Message, StunWriteError, TransactionId};
 /// use stun_types::TransportType;
 /// use stun_types::message::Message;
 ///
+/// // As `Message::builder_request` wrote it, with an ID that it drew.
 /// let request = Message::from_bytes(
 ///     b"\x00\x01\x00\x00\x21\x12\xA4\x42\xB7\xE7\xA7\x01\xBC\x34\xD6\x86\xFA\x87\xDF\xAE",
 /// )?;
@@ -127,6 +128,7 @@ impl Transaction {
     /// use stun_types::TransportType;
     /// use stun_types::message::Message;
     ///
+    /// // As `Message::builder_request` wrote it, with an ID that it drew.
     /// let request = Message::from_bytes(
     ///     b"\x00\x01\x00\x00\x21\x12\xA4\x42\xB7\xE7\xA7\x01\xBC\x34\xD6\x86\xFA\x87\xDF\xAE",
     /// )?;
@@ -193,6 +195,7 @@ impl Transaction {
     /// use stun_types::TransportType;
     /// use stun_types::message::Message;
     ///
+    /// // As `Message::builder_request` wrote it, with an ID that it drew.
     /// let request = Message::from_bytes(
     ///     b"\x00\x01\x00\x00\x21\x12\xA4\x42\xB7\xE7\xA7\x01\xBC\x34\xD6\x86\xFA\x87\xDF\xAE",
     /// )?;
@@ -249,6 +252,7 @@ impl Transaction {
     /// use stun_types::TransportType;
     /// use stun_types::message::Message;
     ///
+    /// // As `Message::builder_request` wrote it, with an ID that it drew.
     /// let request = Message::from_bytes(
     ///     b"\x00\x01\x00\x00\x21\x12\xA4\x42\xB7\xE7\xA7\x01\xBC\x34\xD6\x86\xFA\x87\xDF\xAE",
     /// )?;
@@ -291,6 +295,7 @@ impl Transaction {
     /// use stun_types::TransportType;
     /// use stun_types::message::Message;
     ///
+    /// // As `Message::builder_request` wrote it, with an ID that it drew.
     /// let request = Message::from_bytes(
     ///     b"\x00\x01\x00\x00\x21\x12\xA4\x42\xB7\xE7\xA7\x01\xBC\x34\xD6\x86\xFA\x87\xDF\xAE",
     /// )?;
@@ -380,6 +385,7 @@ impl Transaction {
     /// use stun_types::TransportType;
     /// use stun_types::message::Message;
     ///
+    /// // As `Message::builder_request` wrote it, with an ID that it drew.
     /// let request = Message::from_bytes(
     ///     b"\x00\x01\x00\x00\x21\x12\xA4\x42\xB7\xE7\xA7\x01\xBC\x34\xD6\x86\xFA\x87\xDF\xAE",
     /// )?;
@@ -429,6 +435,7 @@ impl Transaction {
     /// use stun_types::TransportType;
     /// use stun_types::message::Message;
     ///
+    /// // As `Message::builder_request` wrote it, with an ID that it drew.
     /// let request = Message::from_bytes(
     ///     b"\x00\x01\x00\x00\x21\x12\xA4\x42\xB7\xE7\xA7\x01\xBC\x34\xD6\x86\xFA\x87\xDF\xAE",
     /// )?;
@@ -462,6 +469,7 @@ impl Transaction {
     /// use stun_types::TransportType;
     /// use stun_types::message::Message;
     ///
+    /// // As `Message::builder_request` wrote it, with an ID that it drew.
     /// let request = Message::from_bytes(
     ///     b"\x00\x01\x00\x00\x21\x12\xA4\x42\xB7\xE7\xA7\x01\xBC\x34\xD6\x86\xFA\x87\xDF\xAE",
     /// )?;
@@ -510,6 +518,7 @@ impl Transaction {
     /// use stun_types::TransportType;
     /// use stun_types::message::Message;
     ///
+    /// // As `Message::builder_request` wrote it, with an ID that it drew.
     /// let request = Message::from_bytes(
     ///     b"\x00\x01\x00\x00\x21\x12\xA4\x42\xB7\xE7\xA7\x01\xBC\x34\xD6\x86\xFA\x87\xDF\xAE",
     /// )?;

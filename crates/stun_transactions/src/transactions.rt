@@ -33,6 +33,7 @@ use stun_types::message::{Message, TransactionId};
 /// use stun_types::TransportType;
 /// use stun_types::message::Message;
 ///
+/// // As `Message::builder_request` wrote it, with an ID that it drew.
 /// let request = Message::from_bytes(
 ///     b"\x00\x01\x00\x00\x21\x12\xA4\x42\xB7\xE7\xA7\x01\xBC\x34\xD6\x86\xFA\x87\xDF\xAE",
 /// )?;
@@ -106,6 +107,7 @@ impl<const N: usize> Transactions<N> {
     /// use stun_types::TransportType::Udp;
     /// use stun_types::message::Message;
     ///
+    /// // As `Message::builder_request` wrote it, with an ID that it drew.
     /// let request = Message::from_bytes(
     ///     b"\x00\x01\x00\x00\x21\x12\xA4\x42\xB7\xE7\xA7\x01\xBC\x34\xD6\x86\xFA\x87\xDF\xAE",
     /// )?;
@@ -187,6 +189,7 @@ impl<const N: usize> Transactions<N> {
     /// use stun_types::TransportType::Udp;
     /// use stun_types::message::Message;
     ///
+    /// // As `Message::builder_request` wrote it, with an ID that it drew.
     /// let request = Message::from_bytes(
     ///     b"\x00\x01\x00\x00\x21\x12\xA4\x42\xB7\xE7\xA7\x01\xBC\x34\xD6\x86\xFA\x87\xDF\xAE",
     /// )?;
@@ -226,6 +229,7 @@ impl<const N: usize> Transactions<N> {
     /// use stun_types::TransportType::Udp;
     /// use stun_types::message::Message;
     ///
+    /// // As `Message::builder_request` wrote it, with an ID that it drew.
     /// let request = Message::from_bytes(
     ///     b"\x00\x01\x00\x00\x21\x12\xA4\x42\xB7\xE7\xA7\x01\xBC\x34\xD6\x86\xFA\x87\xDF\xAE",
     /// )?;

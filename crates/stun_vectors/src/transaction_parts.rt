@@ -99,6 +99,14 @@ fn changed(parts: &TransactionParts, change: usize) -> TransactionParts {
             parts.mechanism = None;
             parts.sha1 = false;
         }
+        6 => {
+            parts.sent = 8;
+            parts.clock = Duration::from_millis(3999);
+        }
+        7 => {
+            parts.sha1 = false;
+            parts.sent = 8;
+        }
         _ => {}
     }
     parts
@@ -107,12 +115,14 @@ fn changed(parts: &TransactionParts, change: usize) -> TransactionParts {
 #[test]
 fn refused(rt: HostRuntime) -> Result<(), Fail> {
     let (parts, _key) = parted(rt.alloc())?;
-    let rows: [(&str, usize, Option<PartsError>); 5] = [
+    let rows: [(&str, usize, Option<PartsError>); 7] = [
         ("nothing", 0, None),
         ("not signed", 1, Some(SignedOtherwise)),
         ("not protected", 2, Some(SignedOtherwise)),
         ("sent eight times", 3, Some(SentTooOften)),
         ("sent before", 4, Some(SentTooLate)),
+        ("sent eight times and before", 6, Some(SentTooOften)),
+        ("not signed and sent eight times", 7, Some(SignedOtherwise)),
     ];
     for (name, change, error) in rows {
         let parts = changed(&parts, change);

@@ -62,18 +62,13 @@ pub trait MessageWriteExt: MessageWrite {
     /// # Examples
     ///
     /// ```
-    /// use stun_types::message::{
-    ///     BINDING, Message, MessageClass, MessageType, MessageWriteVec, TransactionId,
-    /// };
+    /// use stun_types::message::{BINDING, Message, MessageClass, MessageType, MessageWriteVec};
     /// use stun_types::prelude::*;
     ///
-    /// let mtype = MessageType::from_class_method(MessageClass::Indication, BINDING);
-    /// let id = TransactionId::from(1000);
-    /// let message = Message::builder(mtype, id, MessageWriteVec::new(alloc))?;
-    /// assert!(rt; message.get_type() == mtype && message.transaction_id() == id);
-    /// assert!(rt; message.class() == MessageClass::Indication && message.method() == BINDING);
-    /// assert!(rt; message.has_class(MessageClass::Indication) && message.has_method(BINDING));
-    /// assert!(rt; !message.is_response());
+    /// let request = Message::from_bytes(b"\x00\x01\x00\x00\x21\x12\xA4\x42abcdefghijkl")?;
+    /// let response = Message::builder_success(&request, MessageWriteVec::new(alloc))?;
+    /// let mtype = MessageType::from_class_method(MessageClass::Success, BINDING);
+    /// assert_eq!(rt; response.get_type(), mtype);
     /// ```
     fn get_type(&self) -> MessageType
         requires { is_header (Self.state self.now).bytes ≡ true }
@@ -84,6 +79,17 @@ pub trait MessageWriteExt: MessageWrite {
     /// # Requires
     ///
     /// The bytes written begin with a header: `MessageHeader::from_bytes(message.data())` is `Ok`.
+    ///
+    /// # Examples
+    ///
+    /// ```
+    /// use stun_types::message::{Message, MessageClass, MessageWriteVec};
+    /// use stun_types::prelude::*;
+    ///
+    /// let request = Message::from_bytes(b"\x00\x01\x00\x00\x21\x12\xA4\x42abcdefghijkl")?;
+    /// let response = Message::builder_success(&request, MessageWriteVec::new(alloc))?;
+    /// assert_eq!(rt; response.class(), MessageClass::Success);
+    /// ```
     fn class(&self) -> MessageClass
         requires { is_header (Self.state self.now).bytes ≡ true }
         ensures { result ≡ class_of (type_field (Self.state self.now).bytes) };
@@ -93,6 +99,17 @@ pub trait MessageWriteExt: MessageWrite {
     /// # Requires
     ///
     /// The bytes written begin with a header: `MessageHeader::from_bytes(message.data())` is `Ok`.
+    ///
+    /// # Examples
+    ///
+    /// ```
+    /// use stun_types::message::{Message, MessageClass, MessageWriteVec};
+    /// use stun_types::prelude::*;
+    ///
+    /// let request = Message::from_bytes(b"\x00\x01\x00\x00\x21\x12\xA4\x42abcdefghijkl")?;
+    /// let response = Message::builder_error(&request, MessageWriteVec::new(alloc))?;
+    /// assert!(rt; response.has_class(MessageClass::Error));
+    /// ```
     fn has_class(&self, cls: MessageClass) -> bool
         requires { is_header (Self.state self.now).bytes ≡ true }
         ensures { IsTrue result ↔ (class_of (type_field (Self.state self.now).bytes) ≡ cls) };
@@ -102,6 +119,17 @@ pub trait MessageWriteExt: MessageWrite {
     /// # Requires
     ///
     /// The bytes written begin with a header: `MessageHeader::from_bytes(message.data())` is `Ok`.
+    ///
+    /// # Examples
+    ///
+    /// ```
+    /// use stun_types::message::{Message, MessageWriteVec};
+    /// use stun_types::prelude::*;
+    ///
+    /// let request = Message::from_bytes(b"\x00\x01\x00\x00\x21\x12\xA4\x42abcdefghijkl")?;
+    /// let response = Message::builder_success(&request, MessageWriteVec::new(alloc))?;
+    /// assert!(rt; response.is_response());
+    /// ```
     fn is_response(&self) -> bool
         requires { is_header (Self.state self.now).bytes ≡ true }
         ensures { result ≡ responds (class_of (type_field (Self.state self.now).bytes)) };
@@ -111,6 +139,17 @@ pub trait MessageWriteExt: MessageWrite {
     /// # Requires
     ///
     /// The bytes written begin with a header: `MessageHeader::from_bytes(message.data())` is `Ok`.
+    ///
+    /// # Examples
+    ///
+    /// ```
+    /// use stun_types::message::{BINDING, Message, MessageWriteVec};
+    /// use stun_types::prelude::*;
+    ///
+    /// let request = Message::from_bytes(b"\x00\x01\x00\x00\x21\x12\xA4\x42abcdefghijkl")?;
+    /// let response = Message::builder_success(&request, MessageWriteVec::new(alloc))?;
+    /// assert_eq!(rt; response.method(), BINDING);
+    /// ```
     fn method(&self) -> Method
         requires { is_header (Self.state self.now).bytes ≡ true }
         ensures { result ≡ method_of (type_field (Self.state self.now).bytes) };
@@ -120,6 +159,18 @@ pub trait MessageWriteExt: MessageWrite {
     /// # Requires
     ///
     /// The bytes written begin with a header: `MessageHeader::from_bytes(message.data())` is `Ok`.
+    ///
+    /// # Examples
+    ///
+    /// ```
+    /// use stun_types::message::{Message, MessageWriteVec, Method};
+    /// use stun_types::prelude::*;
+    ///
+    /// // the response to an Allocate request of TURN
+    /// let request = Message::from_bytes(b"\x00\x03\x00\x00\x21\x12\xA4\x42abcdefghijkl")?;
+    /// let response = Message::builder_success(&request, MessageWriteVec::new(alloc))?;
+    /// assert!(rt; response.has_method(Method::new(0x003)));
+    /// ```
     fn has_method(&self, method: Method) -> bool
         requires { is_header (Self.state self.now).bytes ≡ true }
         ensures { IsTrue result ↔ (method_of (type_field (Self.state self.now).bytes) ≡ method) };
@@ -129,6 +180,17 @@ pub trait MessageWriteExt: MessageWrite {
     /// # Requires
     ///
     /// The bytes written begin with a header: `MessageHeader::from_bytes(message.data())` is `Ok`.
+    ///
+    /// # Examples
+    ///
+    /// ```
+    /// use stun_types::message::{Message, MessageWriteVec};
+    /// use stun_types::prelude::*;
+    ///
+    /// let request = Message::from_bytes(b"\x00\x01\x00\x00\x21\x12\xA4\x42abcdefghijkl")?;
+    /// let response = Message::builder_success(&request, MessageWriteVec::new(alloc))?;
+    /// assert_eq!(rt; response.transaction_id().to_bytes(), *b"abcdefghijkl");
+    /// ```
     fn transaction_id(&self) -> TransactionId
         requires { is_header (Self.state self.now).bytes ≡ true }
         ensures { result ≡ id_field (Self.state self.now).bytes };
@@ -263,7 +325,8 @@ pub trait MessageWriteExt: MessageWrite {
             (Allocates (Self.state self.old) (length value.now)) result }
         ensures adds { Adds result (Self.state self.old) (Self.state self.new) atype.0 value.now };
 
-    /// As [`MessageWriteExt::add_attribute`], of a type and the bytes of a value.
+    /// Adds an attribute of an ordinary type, of which a type and the bytes of a value are given,
+    /// as [`MessageWriteExt::add_attribute`] does.
     ///
     /// # Requires
     ///
@@ -272,6 +335,22 @@ pub trait MessageWriteExt: MessageWrite {
     /// # Errors
     ///
     /// As for [`MessageWriteExt::add_attribute`].
+    ///
+    /// # Examples
+    ///
+    /// ```
+    /// use stun_types::attribute::Software;
+    /// use stun_types::message::{
+    ///     BINDING, Message, MessageClass, MessageType, MessageWriteVec, TransactionId,
+    /// };
+    /// use stun_types::prelude::*;
+    ///
+    /// let mtype = MessageType::from_class_method(MessageClass::Request, BINDING);
+    /// let write = MessageWriteVec::new(alloc);
+    /// let mut message = Message::builder(mtype, TransactionId::from(1000), write)?;
+    /// message.add_ordinary_value(Software::TYPE, b"STUN")?;
+    /// assert_eq!(rt; &message.data()[20..], b"\x80\x22\x00\x04STUN".as_slice());
+    /// ```
     fn add_ordinary_value(
         &mut self,
         atype: AttributeType,

@@ -25,8 +25,8 @@ fn header_bytes(mtype: MessageType, transaction_id: TransactionId) -> [u8; 20]
     header
 }
 
-/// Writes the header of a message without attributes at the start of `slice`: twenty bytes (RFC
-/// 8489, section 5). What follows stays.
+/// Writes the header of a message without attributes at the start of `slice`: twenty bytes
+/// (RFC 8489, section 5). What follows stays.
 ///
 /// # Requires
 ///

@@ -65,6 +65,21 @@ impl ResumePoint {
     ///
     /// As for [`MessageWriteExt::add_any_attribute`](crate::MessageWriteExt::add_any_attribute), but
     /// never `OutOfMemory`. `slice` then stays as it was.
+    ///
+    /// # Examples
+    ///
+    /// ```
+    /// use stun_types::attribute::{AttributeType, Software};
+    /// use stun_types::message::{Message, ResumePoint};
+    ///
+    /// let mut slice = [0; 64];
+    /// slice[..20].copy_from_slice(b"\x00\x01\x00\x00\x21\x12\xA4\x42abcdefghijkl");
+    /// let point = ResumePoint::check(&slice, 20)?;
+    /// let written = point.add_value(&mut slice, AttributeType(0x8022), b"STUN")?;
+    /// assert_eq!(rt; written, 28);
+    /// let message = Message::from_bytes(&slice[..written])?;
+    /// assert_eq!(rt; message.attribute::<Software>(alloc)?.software(), "STUN");
+    /// ```
     #[tactic(auto, using(stun_grammar::proofs::AddingRefusedLemmas::ordinary_barred))]
     #[inline(always)]
     pub fn add_value(
@@ -98,6 +113,22 @@ impl ResumePoint {
     /// # Errors
     ///
     /// As for [`ResumePoint::add_value`].
+    ///
+    /// # Examples
+    ///
+    /// ```
+    /// use std::net::{IpAddr, Ipv4Addr, SocketAddr};
+    /// use stun_types::attribute::{AttributeType, MappedSocketAddr};
+    /// use stun_types::message::ResumePoint;
+    ///
+    /// let mut slice = [0; 64];
+    /// slice[..20].copy_from_slice(b"\x00\x01\x00\x00\x21\x12\xA4\x42abcdefghijkl");
+    /// let addr = SocketAddr::new(IpAddr::V4(Ipv4Addr::new(192, 0, 2, 7)), 3478);
+    /// let value = MappedSocketAddr::new(addr);
+    /// let point = ResumePoint::check(&slice, 20)?;
+    /// assert_eq!(rt; point.add_encoded(&mut slice, AttributeType(0x0001), &value), Ok(32));
+    /// assert_eq!(rt; &slice[20..32], [0, 1, 0, 8, 0, 1, 0x0D, 0x96, 192, 0, 2, 7].as_slice());
+    /// ```
     #[tactic(auto, using(stun_grammar::proofs::AddingRefusedLemmas::ordinary_barred))]
     pub fn add_encoded<V: EncodeValue>(
         self,

@@ -163,6 +163,19 @@ impl<'a> MessageWriteMutSlice<'a> {
     }
 
     /// The whole borrowed slice: the bytes written, followed by those that were there before.
+    ///
+    /// # Examples
+    ///
+    /// ```
+    /// use stun_types::message::MessageWriteMutSlice;
+    /// use stun_types::prelude::*;
+    ///
+    /// let mut slice = [0xFF; 4];
+    /// let mut write = MessageWriteMutSlice::new(alloc, &mut slice);
+    /// write.push_data(&[0, 1])?;
+    /// assert_eq!(rt; write.data(), [0, 1].as_slice());
+    /// assert_eq!(rt; write.buffer(), [0, 1, 0xFF, 0xFF].as_slice());
+    /// ```
     pub fn buffer(&self) -> &[u8]
         ensures { result.now
             ≡ (⟦<MessageWriteMutSlice<'a> as MessageWrite>⟧.state self.now).bytes

@@ -77,6 +77,16 @@ impl MessageWriteVec {
     /// # Errors
     ///
     /// Only `OutOfMemory`.
+    ///
+    /// # Examples
+    ///
+    /// ```
+    /// use stun_types::message::MessageWriteVec;
+    /// use stun_types::prelude::*;
+    ///
+    /// let write = MessageWriteVec::with_capacity(alloc, 1500)?;
+    /// assert_eq!(rt; (write.len(), write.max_size()), (0, None));
+    /// ```
     pub fn with_capacity(alloc: Global, capacity: usize) -> Result<Self, StunWriteError>
         ensures empty { IfOk result
             (λ write. (⟦<MessageWriteVec as MessageWrite>⟧.state write).bytes ≡ []) }

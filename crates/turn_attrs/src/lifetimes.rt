@@ -3,7 +3,7 @@
 ghost use Rattle.std.specs.Prelude.{◌≡◌};
 ghost use Rattle.turn_attrs.specs.Lifetimes.{allocated_for, refreshed_for};
 
-/// The lifetime of an allocation whose request asks for none, or for less, in seconds (RFC 8656,
+/// The lifetime in seconds of an allocation whose request asks for none, or for less (RFC 8656,
 /// section 3.2).
 pub const DEFAULT_LIFETIME: u32 = 600;
 

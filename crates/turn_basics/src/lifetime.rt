@@ -17,7 +17,7 @@ impl Lifetime {
     ghost use Rattle.std.specs.Prelude.{◌≡◌};
     ghost use Rattle.turn_basics.specs.TurnBasics.{seconds_of};
 
-    /// Makes the attribute of so many seconds.
+    /// Makes the attribute of this lifetime, in seconds.
     ///
     /// # Examples
     ///

@@ -1,14 +1,24 @@
 //! An attribute whose value is part of the message that it is read from.
 
-ghost use Rattle.std.specs.Prelude.{◌≡◌, Err, IsOkAnd, MatchOption};
+ghost use Rattle.std.specs.Prelude.{◌≡◌, true, None, Err, IfOk, IsOkAnd, MatchOption, MatchResult};
+ghost use Rattle.stun_grammar.specs.declared.error.StunParseError.TheVariants.{OutOfMemory};
+ghost use Rattle.stun_grammar.specs.Parsing.{parse_fault};
+ghost use Rattle.stun_kinds.specs.Kinds.{bytes_of, bytes_are_borrowed};
+ghost use Rattle.stun_types.specs.ReadingBack.{ShowsFirst};
 ghost use Rattle.stun_types.specs.Message.{message_bytes};
 ghost use Rattle.stun_read.specs.LookingUp.{nth};
 ghost use Rattle.user_examples.specs.Noted.{NOTE, IsPart};
 
 use std::alloc::Global;
+use stun_base::binding_request;
 use stun_types::attribute::{AttributeKind, BytesAttribute, ShortBytes};
-use stun_types::message::{Message, StunParseError};
-use stun_types::{found_has_its_type, found_is_there};
+use stun_types::message::{
+    Message, MessageWriteVec, StunParseError, StunWriteError, TransactionId,
+};
+use stun_types::prelude::*;
+use stun_types::{
+    added_is_shown, bytes_are_read_back, found_has_its_type, found_is_there, shown_is_read_back,
+};
 
 /// An attribute of type 0x8853 whose value is any bytes, which are borrowed or owned.
 pub type Note<'a> = BytesAttribute<NoteKind, ShortBytes<'a>>;
@@ -45,5 +55,44 @@ pub fn note_of<'a>(alloc: Global, message: &Message<'a>) -> Result<Note<'a>, Stu
     // the laws by which what is found has its type, and its value is part of the message
     found_has_its_type();
     found_is_there(message.as_bytes());
+    message.attribute(alloc)
+}
+
+/// Writes a binding request with this transaction ID and this note into a vector.
+fn write_note(alloc: Global, id: TransactionId, note: &Note<'_>) -> Result<Vec<u8>, StunWriteError>
+    ensures parses { IfOk result (λ bytes. parse_fault bytes.items ≡ None) }
+    ensures shows { IfOk result (λ bytes. ShowsFirst NOTE (bytes_of note.now) bytes.items) }
+{
+    // the law by which what adds write parses, and shows each attribute
+    added_is_shown();
+    let mut message = Message::builder(binding_request(), id, MessageWriteVec::new(alloc))?;
+    message.add_attribute(note)?;
+    Ok(message.finish())
+}
+
+/// Writes a binding request with this transaction ID and this note into `bytes`, instead of what is
+/// there, and reads the note from them. What it returns borrows `bytes`, and is what was written.
+///
+/// # Errors
+///
+/// `OutOfMemory` alone.
+pub fn note_there_and_back<'b>(
+    alloc: Global,
+    id: TransactionId,
+    note: &Note<'_>,
+    bytes: &'b mut Vec<u8>,
+) -> Result<Note<'b>, StunParseError>
+    ensures { MatchResult result
+        (λ read. (bytes_of read ≡ bytes_of note.now) × (bytes_are_borrowed read ≡ true))
+        (λ e. e ≡ OutOfMemory) }
+{
+    // the laws by which bytes are read back, and then what adds wrote of them
+    bytes_are_read_back::<NoteKind>();
+    shown_is_read_back::<Note<'b>>();
+    *bytes = match write_note(alloc, id, note) {
+        Ok(written) => written,
+        Err(_) => return Err(StunParseError::OutOfMemory),
+    };
+    let message = Message::from_bytes(bytes)?;
     message.attribute(alloc)
 }

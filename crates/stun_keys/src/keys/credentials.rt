@@ -84,6 +84,22 @@ impl MessageIntegrityCredentials {
     /// # Errors
     ///
     /// `OutOfMemory` alone.
+    ///
+    /// # Examples
+    ///
+    /// ```
+    /// use stun_types::message::{
+    ///     IntegrityAlgorithm, LongTermKeyCredentials, MessageIntegrityCredentials,
+    /// };
+    ///
+    /// let copy = |text| String::from_str(alloc, text);
+    /// let credentials = LongTermKeyCredentials::new(copy("user")?, copy("pass")?, copy("realm")?);
+    /// let credentials = MessageIntegrityCredentials::from(credentials);
+    /// let key = credentials.make_key(alloc, IntegrityAlgorithm::Sha256)?;
+    /// // the SHA-256 of `user:realm:pass`
+    /// assert_eq!(rt; key.as_bytes().len(), 32);
+    /// assert_eq!(rt; &key.as_bytes()[..4], [0x07, 0xE9, 0x34, 0x11].as_slice());
+    /// ```
     pub fn make_key(
         &self,
         alloc: Global,

@@ -123,8 +123,8 @@ impl LongTermKeyCredentials {
     }
 
     /// Makes the key of the credentials for an algorithm, in memory from `alloc`: for `Sha1` the
-    /// MD5 of `username:realm:password`, 16 bytes, and for `Sha256` its SHA-256, 32 bytes (RFC
-    /// 8489, sections 9.2.2 and 18.5.1). The three texts are not copied.
+    /// MD5 of `username:realm:password`, 16 bytes, and for `Sha256` its SHA-256, 32 bytes
+    /// (RFC 8489, sections 9.2.2 and 18.5.1). The three texts are not copied.
     ///
     /// One allocation. A key that makes more than two HMACs is faster after
     /// [`IntegrityKey::prepare`].

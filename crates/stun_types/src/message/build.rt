@@ -14,8 +14,8 @@ use stun_write::{MessageWrite, begin_message, begin_message_into};
 
 impl Message<'_> {
     /// Begins a message of the type `mtype` with the transaction ID `transaction_id`: writes the
-    /// twenty bytes of its header, with the length 0, into `write`, and returns the writer (RFC
-    /// 8489, section 5).
+    /// twenty bytes of its header, with the length 0, into `write`, and returns the writer
+    /// (RFC 8489, section 5).
     ///
     /// # Requires
     ///

@@ -69,6 +69,21 @@ impl<'a> Message<'a> {
 
     /// The first attribute of the type `atype` that the message shows, with the offset of its
     /// header in bytes: [`Message::nth_raw_attribute_and_offset`] with 0.
+    ///
+    /// # Examples
+    ///
+    /// ```
+    /// use stun_types::attribute::Username;
+    /// use stun_types::message::Message;
+    /// use stun_types::prelude::*;
+    ///
+    /// let bytes = b"\x00\x01\x00\x10\x21\x12\xA4\x42abcdefghijkl\
+    ///     \x80\x22\x00\x04STUN\x00\x06\x00\x03bob\0";
+    /// let found = Message::from_bytes(bytes)?.raw_attribute_and_offset(Username::TYPE);
+    /// let (offset, attribute) = found.ok_or("there is one")?;
+    /// assert_eq!(rt; offset, 28);
+    /// assert_eq!(rt; attribute.value().as_bytes(), b"bob".as_slice());
+    /// ```
     pub fn raw_attribute_and_offset(
         &self,
         atype: AttributeType,
@@ -82,7 +97,7 @@ impl<'a> Message<'a> {
     /// [`Message::nth_raw_attribute`] with 0.
     ///
     /// Each look-up walks the attributes anew, so one for each type of a message with n
-    /// attributes takes some n² steps. If several types are wanted, one walk finds them all:
+    /// attributes takes some n² steps. If several types are wanted, one walk finds them all.
     ///
     /// # Examples
     ///
@@ -214,6 +229,19 @@ impl<'a> Message<'a> {
     /// `MissingAttribute(A::TYPE)` if the message shows no attribute of the type. Otherwise the
     /// errors of `A::from_raw`, `OutOfMemory` among them, as for
     /// [`Message::nth_attribute_and_offset`].
+    ///
+    /// # Examples
+    ///
+    /// ```
+    /// use stun_types::attribute::Username;
+    /// use stun_types::message::Message;
+    ///
+    /// let bytes = b"\x00\x01\x00\x10\x21\x12\xA4\x42abcdefghijkl\
+    ///     \x80\x22\x00\x04STUN\x00\x06\x00\x03bob\0";
+    /// let message = Message::from_bytes(bytes)?;
+    /// let (offset, username) = message.attribute_and_offset::<Username>(alloc)?;
+    /// assert_eq!(rt; (offset, username.username()), (28, "bob"));
+    /// ```
     pub fn attribute_and_offset<A: AttributeFromRaw<'a> + AttributeStaticType>(
         &self,
         alloc: Global,

@@ -92,6 +92,15 @@ impl<'a> Message<'a> {
 
     /// The bytes that the message was parsed from. They parse: a function that is handed a message
     /// need not parse its bytes again.
+    ///
+    /// # Examples
+    ///
+    /// ```
+    /// use stun_types::message::Message;
+    ///
+    /// let bytes = b"\x00\x01\x00\x00\x21\x12\xA4\x42abcdefghijkl";
+    /// assert_eq!(rt; Message::from_bytes(bytes)?.as_bytes(), bytes.as_slice());
+    /// ```
     pub fn as_bytes(&self) -> &'a [u8]
         ensures value { result.now ≡ message_bytes self.now }
         ensures accepted { parse_fault (message_bytes self.now) ≡ None }
@@ -108,6 +117,16 @@ impl<'a> Message<'a> {
 
     /// The header of the message: type, length field and transaction ID, which the methods below
     /// return one by one.
+    ///
+    /// # Examples
+    ///
+    /// ```
+    /// use stun_types::message::Message;
+    ///
+    /// let bytes = b"\x00\x01\x00\x08\x21\x12\xA4\x42abcdefghijkl\x80\x22\x00\x04STUN";
+    /// let header = Message::from_bytes(bytes)?.header();
+    /// assert_eq!(rt; header.data_length(), 8);
+    /// ```
     pub fn header(&self) -> MessageHeader
         ensures { result ≡ header_of (message_bytes self.now) }
     {
@@ -311,7 +330,7 @@ impl Message<'_> {
 /// The class, the method, the transaction ID, and the attributes that the message shows, each as it
 /// is printed by itself: `Message(class: Request, method: 1(0x1: BINDING), transaction: 0x7392,
 /// attributes: [29(0x1d: PASSWORD-ALGORITHM): SHA256])`. It walks the attributes once, and
-/// takes no memory.
+/// takes no memory. The contract promises this text for a plain `{}` alone.
 impl fmt::Display for Message<'_> {
     ghost use Rattle.std.specs.Prelude.{Some};
     ghost use Rattle.stun_read.specs.PrintedMessages.{message_text};

@@ -244,6 +244,21 @@ impl Message<'_> {
     /// # Errors
     ///
     /// As for [`Message::builder_into`].
+    ///
+    /// # Examples
+    ///
+    /// ```
+    /// use stun_types::message::{Message, MessageWriteMutSlice};
+    /// use stun_types::prelude::*;
+    ///
+    /// let request = Message::from_bytes(b"\x00\x01\x00\x00\x21\x12\xA4\x42abcdefghijkl")?;
+    /// let mut slice = [0; 64];
+    /// let mut response = MessageWriteMutSlice::new(alloc, &mut slice);
+    /// Message::builder_success_into(&request, &mut response)?;
+    /// response.add_fingerprint()?;
+    /// let length = response.finish();
+    /// assert!(rt; Message::from_bytes(&slice[..length])?.answers(&request));
+    /// ```
     pub fn builder_success_into<B: MessageWrite>(
         orig: &Message<'_>,
         write: &mut B,
@@ -385,6 +400,20 @@ impl Message<'_> {
     /// As for [`Message::bad_request`]. The header and the attributes before the refused one are
     /// written then. If an allocation failed, fewer may be; but the header is written if
     /// twenty bytes are ready.
+    ///
+    /// # Examples
+    ///
+    /// ```
+    /// use stun_types::message::{Message, MessageClass, MessageWriteMutSlice};
+    /// use stun_types::prelude::*;
+    ///
+    /// let request = Message::from_bytes(b"\x00\x01\x00\x00\x21\x12\xA4\x42abcdefghijkl")?;
+    /// let mut slice = [0; 56];
+    /// let mut reply = MessageWriteMutSlice::new(alloc, &mut slice);
+    /// Message::bad_request_into(alloc, &request, &mut reply)?;
+    /// assert_eq!(rt; reply.finish(), 56);
+    /// assert!(rt; Message::from_bytes(&slice)?.has_class(MessageClass::Error));
+    /// ```
     pub fn bad_request_into<B: MessageWrite>(
         alloc: Global,
         src: &Message<'_>,
@@ -403,10 +432,10 @@ impl Message<'_> {
     }
 
     /// Writes the reply to a request with attributes that weren't understood, whose types are
-    /// given: an error response with the SOFTWARE `stun-types`, the ERROR-CODE 420 `Unknown
-    /// Attributes`, and an UNKNOWN-ATTRIBUTES with the types in order and with repeats, unless
-    /// there are none (RFC 8489, sections 6.3.1, 14.8 and 14.13). The attributes are made in memory
-    /// that `alloc` gives, each just before it is added.
+    /// given: an error response with the SOFTWARE `stun-types`, the ERROR-CODE 420
+    /// `Unknown Attributes`, and an UNKNOWN-ATTRIBUTES with the types in order and with repeats,
+    /// unless there are none (RFC 8489, sections 6.3.1, 14.8 and 14.13). The attributes are made in
+    /// memory that `alloc` gives, each just before it is added.
     ///
     /// # Requires
     ///
