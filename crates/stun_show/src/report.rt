@@ -12,8 +12,8 @@ ghost use Rattle.std.specs.Option.{option_map};
 
 use std::alloc::{AllocError, Global};
 use stun_base::Hex;
-use stun_types::attribute::RawAttribute;
 use stun_keys::keys::key_of_bytes;
+use stun_types::attribute::RawAttribute;
 use stun_types::message::keys::IntegrityAlgorithm;
 use stun_types::message::{Message, MessageHeader, StunParseError, ValidateError};
 
