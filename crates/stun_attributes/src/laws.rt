@@ -7,7 +7,7 @@ ghost use Rattle.std.specs.declared.net.socket_addr.SocketAddr.{SocketAddr};
 ghost use Rattle.stun_grammar.specs.AttributeTypes.{USERNAME, REALM, NONCE, SOFTWARE, ALTERNATE_DOMAIN};
 ghost use Rattle.stun_grammar.specs.declared.error.StunParseError.{StunParseError};
 ghost use Rattle.stun_grammar.specs.declared.error.StunParseError.TheVariants.{OutOfMemory};
-ghost use Rattle.stun_attrs.specs.ReadBack.{IsReadBack, IsReadBackInMemory};
+ghost use Rattle.stun_attrs.specs.ReadBack.{HasOneReadingInMemory, IsReadBack, IsReadBackInMemory};
 ghost use Rattle.stun_values.specs.Addresses.{address_value, IsInRange, IsPlain, IsXored};
 ghost use Rattle.stun_values.specs.Algorithms.{algorithm_encoding, algorithms_encoding};
 ghost use Rattle.stun_values.specs.ErrorValues.{error_value};
@@ -23,22 +23,22 @@ ghost use Rattle.stun_attributes.specs.declared.xor_mapped_address.XorMappedAddr
 ghost use Rattle.stun_attributes.specs.AddressAttributes.{ReadsAddress, server_addr, written_mapped_addr};
 ghost use Rattle.stun_attributes.specs.ErrorCodes.{error_code, error_reason, IsError, ReadsError};
 ghost use Rattle.stun_attributes.specs.PasswordAlgorithms.{ReadsAlgorithm, ReadsAlgorithms, held_algorithm, held_algorithms};
-ghost use Rattle.stun_attributes.specs.Texts.{text_bytes, ReadsText};
+ghost use Rattle.stun_attributes.specs.Texts.{text_bytes};
 ghost use Rattle.stun_attributes.specs.Unknown.{ReadsTypes, listed};
 
 use crate::{
     AlternateDomain, AlternateServer, ErrorCode, Nonce, PasswordAlgorithm, PasswordAlgorithms,
-    Realm, Software, UnknownAttributes, Username, XorMappedAddress,
+    Realm, Software, TextAttribute, UnknownAttributes, Username, XorMappedAddress,
 };
-use stun_attrs::{Attribute, AttributeFromRaw};
+use stun_attrs::{Attribute, AttributeFromRaw, EncodeValue, ReadValue};
 
-/// A text is read back, unless out of memory.
+/// A text has one reading, unless out of memory.
 #[tactic(auto, using(crate::proofs::TextsLemmas::read_back))]
 pub fn text_is_read_back<const TYPE: u16, const MAX: u16>()
-    ensures { (text : TextAttribute TYPE MAX)
-        (result : Result (TextAttribute TYPE MAX) StunParseError)
-        → ReadsText MAX (text_bytes text) result
-        → MatchResult result (λ read. text_bytes read ≡ text_bytes text) (λ e. e ≡ OutOfMemory) }
+    ensures { (text : TextAttribute TYPE MAX) → HasOneReadingInMemory
+        ⟦<TextAttribute<TYPE, MAX> as EncodeValue>⟧.bytes
+        ⟦<TextAttribute<TYPE, MAX> as ReadValue>⟧.reads_value text
+        (λ read. text_bytes read ≡ text_bytes text) }
 {}
 
 /// An address without flow info and scope ID that is XORed twice under one transaction ID is
@@ -111,67 +111,67 @@ pub fn algorithms_are_read_back()
 /// that keeps its value in memory of its own. There are two exceptions: flow info and scope ID of an
 /// ALTERNATE-SERVER are not written, and an empty PASSWORD-ALGORITHMS, which can be written, is
 /// refused. `IsInRange` and `AreTypes` hold of every value of the Rust types.
-pub fn attribute_types_are_read_back()
+pub fn attribute_types_are_read_back<'a>()
     ensures username { (attribute : TextAttribute USERNAME username_max) → IsReadBackInMemory
         ⟦<Username as Attribute>⟧.atype ⟦<Username as Attribute>⟧.value
-        ⟦<Username as AttributeFromRaw<'static>>⟧.reads_ref
-        ⟦<Username as AttributeFromRaw<'static>>⟧.reads attribute
+        ⟦<Username as AttributeFromRaw<'a>>⟧.reads_ref
+        ⟦<Username as AttributeFromRaw<'a>>⟧.reads attribute
         (λ read. text_bytes read ≡ text_bytes attribute) }
     ensures realm { (attribute : TextAttribute REALM text_max) → IsReadBackInMemory
         ⟦<Realm as Attribute>⟧.atype ⟦<Realm as Attribute>⟧.value
-        ⟦<Realm as AttributeFromRaw<'static>>⟧.reads_ref
-        ⟦<Realm as AttributeFromRaw<'static>>⟧.reads attribute
+        ⟦<Realm as AttributeFromRaw<'a>>⟧.reads_ref
+        ⟦<Realm as AttributeFromRaw<'a>>⟧.reads attribute
         (λ read. text_bytes read ≡ text_bytes attribute) }
     ensures nonce { (attribute : TextAttribute NONCE text_max) → IsReadBackInMemory
         ⟦<Nonce as Attribute>⟧.atype ⟦<Nonce as Attribute>⟧.value
-        ⟦<Nonce as AttributeFromRaw<'static>>⟧.reads_ref
-        ⟦<Nonce as AttributeFromRaw<'static>>⟧.reads attribute
+        ⟦<Nonce as AttributeFromRaw<'a>>⟧.reads_ref
+        ⟦<Nonce as AttributeFromRaw<'a>>⟧.reads attribute
         (λ read. text_bytes read ≡ text_bytes attribute) }
     ensures software { (attribute : TextAttribute SOFTWARE text_max) → IsReadBackInMemory
         ⟦<Software as Attribute>⟧.atype ⟦<Software as Attribute>⟧.value
-        ⟦<Software as AttributeFromRaw<'static>>⟧.reads_ref
-        ⟦<Software as AttributeFromRaw<'static>>⟧.reads attribute
+        ⟦<Software as AttributeFromRaw<'a>>⟧.reads_ref
+        ⟦<Software as AttributeFromRaw<'a>>⟧.reads attribute
         (λ read. text_bytes read ≡ text_bytes attribute) }
     ensures alternate_domain { (attribute : TextAttribute ALTERNATE_DOMAIN 65535) → IsReadBackInMemory
         ⟦<AlternateDomain as Attribute>⟧.atype ⟦<AlternateDomain as Attribute>⟧.value
-        ⟦<AlternateDomain as AttributeFromRaw<'static>>⟧.reads_ref
-        ⟦<AlternateDomain as AttributeFromRaw<'static>>⟧.reads attribute
+        ⟦<AlternateDomain as AttributeFromRaw<'a>>⟧.reads_ref
+        ⟦<AlternateDomain as AttributeFromRaw<'a>>⟧.reads attribute
         (λ read. text_bytes read ≡ text_bytes attribute) }
     // an address without flow info and scope ID
     ensures alternate_server { (attribute : AlternateServer) → IsPlain (server_addr attribute)
         → IsInRange (server_addr attribute) → IsReadBack
         ⟦<AlternateServer as Attribute>⟧.atype ⟦<AlternateServer as Attribute>⟧.value
-        ⟦<AlternateServer as AttributeFromRaw<'static>>⟧.reads_ref
-        ⟦<AlternateServer as AttributeFromRaw<'static>>⟧.reads attribute
+        ⟦<AlternateServer as AttributeFromRaw<'a>>⟧.reads_ref
+        ⟦<AlternateServer as AttributeFromRaw<'a>>⟧.reads attribute
         (λ read. IsInRange (server_addr read) → server_addr read ≡ server_addr attribute) }
     ensures xor_mapped_address { (attribute : XorMappedAddress) →
         IsInRange (written_mapped_addr attribute) → IsReadBack
         ⟦<XorMappedAddress as Attribute>⟧.atype ⟦<XorMappedAddress as Attribute>⟧.value
-        ⟦<XorMappedAddress as AttributeFromRaw<'static>>⟧.reads_ref
-        ⟦<XorMappedAddress as AttributeFromRaw<'static>>⟧.reads attribute
+        ⟦<XorMappedAddress as AttributeFromRaw<'a>>⟧.reads_ref
+        ⟦<XorMappedAddress as AttributeFromRaw<'a>>⟧.reads attribute
         (λ read. IsInRange (written_mapped_addr read)
         → written_mapped_addr read ≡ written_mapped_addr attribute) }
     ensures error_code { (attribute : ErrorCode) → IsReadBackInMemory
         ⟦<ErrorCode as Attribute>⟧.atype ⟦<ErrorCode as Attribute>⟧.value
-        ⟦<ErrorCode as AttributeFromRaw<'static>>⟧.reads_ref
-        ⟦<ErrorCode as AttributeFromRaw<'static>>⟧.reads attribute
+        ⟦<ErrorCode as AttributeFromRaw<'a>>⟧.reads_ref
+        ⟦<ErrorCode as AttributeFromRaw<'a>>⟧.reads attribute
         (IsError (error_code attribute) (error_reason attribute)) }
     ensures unknown_attributes { (attribute : UnknownAttributes) → AreTypes (listed attribute) →
         IsReadBackInMemory
         ⟦<UnknownAttributes as Attribute>⟧.atype ⟦<UnknownAttributes as Attribute>⟧.value
-        ⟦<UnknownAttributes as AttributeFromRaw<'static>>⟧.reads_ref
-        ⟦<UnknownAttributes as AttributeFromRaw<'static>>⟧.reads attribute
+        ⟦<UnknownAttributes as AttributeFromRaw<'a>>⟧.reads_ref
+        ⟦<UnknownAttributes as AttributeFromRaw<'a>>⟧.reads attribute
         (λ read. AreTypes (listed read) → listed read ≡ listed attribute) }
     ensures password_algorithm { (attribute : PasswordAlgorithm) → IsReadBack
         ⟦<PasswordAlgorithm as Attribute>⟧.atype ⟦<PasswordAlgorithm as Attribute>⟧.value
-        ⟦<PasswordAlgorithm as AttributeFromRaw<'static>>⟧.reads_ref
-        ⟦<PasswordAlgorithm as AttributeFromRaw<'static>>⟧.reads attribute
+        ⟦<PasswordAlgorithm as AttributeFromRaw<'a>>⟧.reads_ref
+        ⟦<PasswordAlgorithm as AttributeFromRaw<'a>>⟧.reads attribute
         (λ read. held_algorithm read ≡ held_algorithm attribute) }
     // at least one algorithm
     ensures password_algorithms { (attribute : PasswordAlgorithms) →
         0 < length (held_algorithms attribute) → IsReadBackInMemory
         ⟦<PasswordAlgorithms as Attribute>⟧.atype ⟦<PasswordAlgorithms as Attribute>⟧.value
-        ⟦<PasswordAlgorithms as AttributeFromRaw<'static>>⟧.reads_ref
-        ⟦<PasswordAlgorithms as AttributeFromRaw<'static>>⟧.reads attribute
+        ⟦<PasswordAlgorithms as AttributeFromRaw<'a>>⟧.reads_ref
+        ⟦<PasswordAlgorithms as AttributeFromRaw<'a>>⟧.reads attribute
         (λ read. held_algorithms read ≡ held_algorithms attribute) }
 {}

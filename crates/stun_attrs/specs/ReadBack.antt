@@ -30,3 +30,16 @@ abbrev pub IsReadBackInMemory : {A : Type 0} → (A → ℕ) → (A → List ℕ
 IsReadBackInMemory atype value reads_ref reads attribute Same =
     AnswersOwn atype value reads_ref reads attribute
     (λ result. MatchResult result Same (λ e. e ≡ OutOfMemory))
+
+-- the value has one reading: whatever reading its encoding may return is Ok of one that is the same
+abbrev pub HasOneReading : {A : Type 0} → (A → List ℕ) → (List ℕ → Result A StunParseError → Type 0)
+    → A → (A → Type 0) → Type 0
+HasOneReading {A} bytes reads_value value Same =
+    (result : Result A StunParseError) → reads_value (bytes value) result → IsOkAnd result Same
+
+-- the same, unless out of memory
+abbrev pub HasOneReadingInMemory : {A : Type 0} → (A → List ℕ)
+    → (List ℕ → Result A StunParseError → Type 0) → A → (A → Type 0) → Type 0
+HasOneReadingInMemory {A} bytes reads_value value Same =
+    (result : Result A StunParseError) → reads_value (bytes value) result
+    → MatchResult result Same (λ e. e ≡ OutOfMemory)

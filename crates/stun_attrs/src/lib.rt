@@ -21,5 +21,5 @@ pub use encoding::{EncodeValue, copy_to_start, to_owned_raw, write_attribute, wr
 pub use owned::owned_attribute;
 pub use printed::print_malformed;
 pub use raw::RawAttribute;
-pub use typed::{ReadValue, TypedAttribute, is_read_back};
+pub use typed::{ReadValue, TypedAttribute};
 pub use walk::attribute_at;

@@ -60,14 +60,6 @@ fn read_typed<A: TypedAttribute + ReadValue>(
     A::read_value(alloc, raw.value().as_bytes())
 }
 
-/// The type and the value of an attribute, which are those that `to_raw` has, are read as the value
-/// is.
-pub fn is_read_back<A: TypedAttribute + ReadValue>()
-    ensures { (attribute : A) (result : Result A StunParseError)
-        → ReadsTyped A.NUMBER A.reads_value A.NUMBER (A.bytes attribute) result
-        → A.reads_value (A.bytes attribute) result }
-{}
-
 impl<A: TypedAttribute> Attribute for A {
     ghost atype = { λ _. A.NUMBER };
 

@@ -56,30 +56,30 @@ pub fn userhash_is_read_back()
 /// (`reads_ref` and `reads` of [`AttributeFromRaw`]) for the type and the value of an attribute,
 /// which are what is written of it, is `Ok` of an attribute that holds the same. The lengths, and
 /// that a checksum is bytes, hold of every value of the Rust types.
-pub fn integrity_types_are_read_back()
+pub fn integrity_types_are_read_back<'a>()
     ensures message_integrity { (attribute : MessageIntegrity) →
         length (sha1_hmac attribute) ≡ 20 → IsReadBack
         ⟦<MessageIntegrity as Attribute>⟧.atype ⟦<MessageIntegrity as Attribute>⟧.value
-        ⟦<MessageIntegrity as AttributeFromRaw<'static>>⟧.reads_ref
-        ⟦<MessageIntegrity as AttributeFromRaw<'static>>⟧.reads attribute
+        ⟦<MessageIntegrity as AttributeFromRaw<'a>>⟧.reads_ref
+        ⟦<MessageIntegrity as AttributeFromRaw<'a>>⟧.reads attribute
         (λ read. sha1_hmac read ≡ sha1_hmac attribute) }
     ensures message_integrity_sha256 { (attribute : MessageIntegritySha256) →
         16 ≤ length (sha256_hmac attribute) → length (sha256_hmac attribute) ≤ 32
         → length (sha256_hmac attribute) % 4 ≡ 0 → IsReadBack
         ⟦<MessageIntegritySha256 as Attribute>⟧.atype ⟦<MessageIntegritySha256 as Attribute>⟧.value
-        ⟦<MessageIntegritySha256 as AttributeFromRaw<'static>>⟧.reads_ref
-        ⟦<MessageIntegritySha256 as AttributeFromRaw<'static>>⟧.reads attribute
+        ⟦<MessageIntegritySha256 as AttributeFromRaw<'a>>⟧.reads_ref
+        ⟦<MessageIntegritySha256 as AttributeFromRaw<'a>>⟧.reads attribute
         (λ read. sha256_hmac read ≡ sha256_hmac attribute) }
     ensures fingerprint { (attribute : Fingerprint) →
         length (checksum_bytes attribute) ≡ 4 → IsBytes (checksum_bytes attribute) → IsReadBack
         ⟦<Fingerprint as Attribute>⟧.atype ⟦<Fingerprint as Attribute>⟧.value
-        ⟦<Fingerprint as AttributeFromRaw<'static>>⟧.reads_ref
-        ⟦<Fingerprint as AttributeFromRaw<'static>>⟧.reads attribute
+        ⟦<Fingerprint as AttributeFromRaw<'a>>⟧.reads_ref
+        ⟦<Fingerprint as AttributeFromRaw<'a>>⟧.reads attribute
         (λ read. checksum_bytes read ≡ checksum_bytes attribute) }
     ensures userhash { (attribute : Userhash) →
         length (hash_bytes attribute) ≡ 32 → IsReadBack
         ⟦<Userhash as Attribute>⟧.atype ⟦<Userhash as Attribute>⟧.value
-        ⟦<Userhash as AttributeFromRaw<'static>>⟧.reads_ref
-        ⟦<Userhash as AttributeFromRaw<'static>>⟧.reads attribute
+        ⟦<Userhash as AttributeFromRaw<'a>>⟧.reads_ref
+        ⟦<Userhash as AttributeFromRaw<'a>>⟧.reads attribute
         (λ read. hash_bytes read ≡ hash_bytes attribute) }
 {}

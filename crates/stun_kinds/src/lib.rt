@@ -18,7 +18,7 @@ pub use empty::EmptyAttribute;
 pub use fields::{FieldsAttribute, FieldsKind};
 pub use kind::AttributeKind;
 pub use laws::{
-    address_attribute_is_read_back, bytes_are_read_back, fields_are_read_back,
+    address_attribute_is_read_back, bytes_are_read_back, empty_is_read_back, fields_are_read_back,
     number_attribute_is_read_back, number_is_read_back,
 };
 pub use number::NumberAttribute;

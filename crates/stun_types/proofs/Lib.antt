@@ -1,3 +1,5 @@
 mod RepliesLemmas
+pub mod ReadingBackLemmas
+pub mod ShownLemmas
 pub mod ShownTypesLemmas
 pub mod TableLemmas

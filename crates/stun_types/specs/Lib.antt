@@ -1,5 +1,6 @@
 pub mod Message
 pub mod ReadTypes
+pub mod ReadingBack
 pub mod Registered
 pub mod Replies
 pub mod Shown

@@ -6,7 +6,7 @@ mod understood;
 pub use crate::show::AttributeDisplay;
 pub use stun_attrs::{
     Attribute, AttributeFromRaw, AttributeStaticType, AttributeWrite, BorrowValue, EncodeValue,
-    RawAttribute, ReadValue, TypedAttribute, is_read_back,
+    RawAttribute, ReadValue, TypedAttribute,
 };
 pub use stun_base::{AttributeHeader, AttributeType, pad_attribute_len};
 pub use stun_kinds::{

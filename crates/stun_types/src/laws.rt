@@ -21,51 +21,51 @@ use stun_integrity::{Fingerprint, MessageIntegrity, MessageIntegritySha256, User
 /// Each of the fifteen types is read under its own number (RFC 8489, section 18.3), by the rule of
 /// its own value: whatever `from_raw_ref` and `from_raw` may return (`reads_ref` and `reads` of
 /// [`AttributeFromRaw`]). A text has its own greatest length.
-pub fn types_are_read()
+pub fn types_are_read<'a>()
     ensures username { IsReadBy USERNAME (ReadsText username_max)
-        ⟦<Username as AttributeFromRaw<'static>>⟧.reads_ref
-        ⟦<Username as AttributeFromRaw<'static>>⟧.reads }
+        ⟦<Username as AttributeFromRaw<'a>>⟧.reads_ref
+        ⟦<Username as AttributeFromRaw<'a>>⟧.reads }
     ensures realm { IsReadBy REALM (ReadsText text_max)
-        ⟦<Realm as AttributeFromRaw<'static>>⟧.reads_ref
-        ⟦<Realm as AttributeFromRaw<'static>>⟧.reads }
+        ⟦<Realm as AttributeFromRaw<'a>>⟧.reads_ref
+        ⟦<Realm as AttributeFromRaw<'a>>⟧.reads }
     ensures nonce { IsReadBy NONCE (ReadsText text_max)
-        ⟦<Nonce as AttributeFromRaw<'static>>⟧.reads_ref
-        ⟦<Nonce as AttributeFromRaw<'static>>⟧.reads }
+        ⟦<Nonce as AttributeFromRaw<'a>>⟧.reads_ref
+        ⟦<Nonce as AttributeFromRaw<'a>>⟧.reads }
     ensures software { IsReadBy SOFTWARE (ReadsText text_max)
-        ⟦<Software as AttributeFromRaw<'static>>⟧.reads_ref
-        ⟦<Software as AttributeFromRaw<'static>>⟧.reads }
+        ⟦<Software as AttributeFromRaw<'a>>⟧.reads_ref
+        ⟦<Software as AttributeFromRaw<'a>>⟧.reads }
     ensures alternate_domain { IsReadBy ALTERNATE_DOMAIN (ReadsText 65535)
-        ⟦<AlternateDomain as AttributeFromRaw<'static>>⟧.reads_ref
-        ⟦<AlternateDomain as AttributeFromRaw<'static>>⟧.reads }
+        ⟦<AlternateDomain as AttributeFromRaw<'a>>⟧.reads_ref
+        ⟦<AlternateDomain as AttributeFromRaw<'a>>⟧.reads }
     ensures alternate_server { IsReadBy ALTERNATE_SERVER (ReadsAddress server_addr)
-        ⟦<AlternateServer as AttributeFromRaw<'static>>⟧.reads_ref
-        ⟦<AlternateServer as AttributeFromRaw<'static>>⟧.reads }
+        ⟦<AlternateServer as AttributeFromRaw<'a>>⟧.reads_ref
+        ⟦<AlternateServer as AttributeFromRaw<'a>>⟧.reads }
     // the address as it is written, which is XORed
     ensures xor_mapped_address { IsReadBy XOR_MAPPED_ADDRESS (ReadsAddress written_mapped_addr)
-        ⟦<XorMappedAddress as AttributeFromRaw<'static>>⟧.reads_ref
-        ⟦<XorMappedAddress as AttributeFromRaw<'static>>⟧.reads }
+        ⟦<XorMappedAddress as AttributeFromRaw<'a>>⟧.reads_ref
+        ⟦<XorMappedAddress as AttributeFromRaw<'a>>⟧.reads }
     ensures error_code { IsReadBy ERROR_CODE ReadsError
-        ⟦<ErrorCode as AttributeFromRaw<'static>>⟧.reads_ref
-        ⟦<ErrorCode as AttributeFromRaw<'static>>⟧.reads }
+        ⟦<ErrorCode as AttributeFromRaw<'a>>⟧.reads_ref
+        ⟦<ErrorCode as AttributeFromRaw<'a>>⟧.reads }
     ensures unknown_attributes { IsReadBy UNKNOWN_ATTRIBUTES ReadsTypes
-        ⟦<UnknownAttributes as AttributeFromRaw<'static>>⟧.reads_ref
-        ⟦<UnknownAttributes as AttributeFromRaw<'static>>⟧.reads }
+        ⟦<UnknownAttributes as AttributeFromRaw<'a>>⟧.reads_ref
+        ⟦<UnknownAttributes as AttributeFromRaw<'a>>⟧.reads }
     ensures password_algorithm { IsReadBy PASSWORD_ALGORITHM ReadsAlgorithm
-        ⟦<PasswordAlgorithm as AttributeFromRaw<'static>>⟧.reads_ref
-        ⟦<PasswordAlgorithm as AttributeFromRaw<'static>>⟧.reads }
+        ⟦<PasswordAlgorithm as AttributeFromRaw<'a>>⟧.reads_ref
+        ⟦<PasswordAlgorithm as AttributeFromRaw<'a>>⟧.reads }
     ensures password_algorithms { IsReadBy PASSWORD_ALGORITHMS ReadsAlgorithms
-        ⟦<PasswordAlgorithms as AttributeFromRaw<'static>>⟧.reads_ref
-        ⟦<PasswordAlgorithms as AttributeFromRaw<'static>>⟧.reads }
+        ⟦<PasswordAlgorithms as AttributeFromRaw<'a>>⟧.reads_ref
+        ⟦<PasswordAlgorithms as AttributeFromRaw<'a>>⟧.reads }
     ensures message_integrity { IsReadBy MESSAGE_INTEGRITY ReadsIntegrity
-        ⟦<MessageIntegrity as AttributeFromRaw<'static>>⟧.reads_ref
-        ⟦<MessageIntegrity as AttributeFromRaw<'static>>⟧.reads }
+        ⟦<MessageIntegrity as AttributeFromRaw<'a>>⟧.reads_ref
+        ⟦<MessageIntegrity as AttributeFromRaw<'a>>⟧.reads }
     ensures message_integrity_sha256 { IsReadBy MESSAGE_INTEGRITY_SHA256 ReadsIntegritySha256
-        ⟦<MessageIntegritySha256 as AttributeFromRaw<'static>>⟧.reads_ref
-        ⟦<MessageIntegritySha256 as AttributeFromRaw<'static>>⟧.reads }
+        ⟦<MessageIntegritySha256 as AttributeFromRaw<'a>>⟧.reads_ref
+        ⟦<MessageIntegritySha256 as AttributeFromRaw<'a>>⟧.reads }
     ensures fingerprint { IsReadBy FINGERPRINT ReadsFingerprint
-        ⟦<Fingerprint as AttributeFromRaw<'static>>⟧.reads_ref
-        ⟦<Fingerprint as AttributeFromRaw<'static>>⟧.reads }
+        ⟦<Fingerprint as AttributeFromRaw<'a>>⟧.reads_ref
+        ⟦<Fingerprint as AttributeFromRaw<'a>>⟧.reads }
     ensures userhash { IsReadBy USERHASH ReadsUserhash
-        ⟦<Userhash as AttributeFromRaw<'static>>⟧.reads_ref
-        ⟦<Userhash as AttributeFromRaw<'static>>⟧.reads }
+        ⟦<Userhash as AttributeFromRaw<'a>>⟧.reads_ref
+        ⟦<Userhash as AttributeFromRaw<'a>>⟧.reads }
 {}

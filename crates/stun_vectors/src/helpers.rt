@@ -13,9 +13,9 @@ use stun_types::message::{
 use stun_types::prelude::*;
 use test_messages::{header, short_term};
 use user_examples::{
-    Blob, WriteFixed, add_by_match, add_if_short, add_or_return, header_behind_adds,
-    nominate_sixteen, overwrite, software_behind, software_in_slice, software_message,
-    steps_in_array, validates_own,
+    Blob, Note, WriteFixed, add_by_match, add_if_short, add_or_return, header_behind_adds,
+    hops_there_and_back, nominate_sixteen, note_there_and_back, overwrite, software_behind,
+    software_in_slice, software_message, steps_in_array, validates_own,
 };
 
 /// The binding request with the transaction ID 1000 and the SOFTWARE `stun-types`, and four bytes
@@ -109,6 +109,28 @@ fn overwrites_what_is_written(rt: HostRuntime) -> Result<(), Fail> {
     assert!(rt; message.has_attribute(AttributeType(0x0025)));
     let bytes = message.finish();
     assert!(rt; bytes.as_slice() == [0x44; 84].as_slice());
+    Ok(())
+}
+
+/// The binding request with the transaction ID 1000 and a note of three bytes.
+const NOTED: [u8; 28] = [
+    0x00, 0x01, 0x00, 0x08, 0x21, 0x12, 0xA4, 0x42, 0x00, 0x00, 0x00, 0x00, 0x00, 0x00, 0x00, 0x00,
+    0x00, 0x00, 0x03, 0xE8, 0x88, 0x53, 0x00, 0x03, 0x01, 0x02, 0x03, 0x00,
+];
+
+/// Whether a note of three bytes is read from the bytes that it was written into.
+fn reads_a_note(alloc: Global, bytes: &mut Vec<u8>) -> Result<bool, Fail> {
+    let note = Note::new(&[1, 2, 3])?;
+    let read = note_there_and_back(alloc, TransactionId::from(1000), &note, bytes)?;
+    Ok(read.data() == [1, 2, 3])
+}
+
+#[test]
+fn reads_what_it_writes(rt: HostRuntime) -> Result<(), Fail> {
+    assert!(rt; hops_there_and_back(rt.alloc(), TransactionId::from(1000), 0x1234) == Ok(0x1234));
+    let mut bytes = Vec::new(rt.alloc());
+    assert!(rt; reads_a_note(rt.alloc(), &mut bytes)?);
+    assert!(rt; bytes.as_slice() == NOTED.as_slice());
     Ok(())
 }
 

@@ -1,5 +1,6 @@
 pub mod MyValue
 pub mod Whose
 pub mod Room
+pub mod Hops
 pub mod InSlice
 pub mod Noted
