@@ -1,5 +1,5 @@
 -- How an attribute is shown with a registry.
-use Rattle.std.specs.Prelude.{◌≡◌, ℕ, List, [], ◌++◌, Option, Some, None, is_some, Result, Ok, Err, IfOk, IfErr, String, ◌⊎◌, if◌then◌else◌}
+use Rattle.std.specs.Prelude.{◌≡◌, ℕ, List, [], ◌++◌, length, Option, Some, None, is_some, Result, Ok, Err, IfOk, IfErr, String, ◌⊎◌, if◌then◌else◌}
 use Rattle.std.specs.String.{string_bytes}
 use Rattle.std.specs.Borrow.{Bor, MutBor}
 use Rattle.std.specs.declared.alloc.Global.{Global}
@@ -13,12 +13,20 @@ use Rattle.stun_base.specs.Data.{is_borrowed}
 use Rattle.stun_attrs.specs.declared.raw.RawAttribute.{RawAttribute}
 use Rattle.stun_attrs.specs.Raw.{raw_type, raw_data, raw_value}
 use Rattle.stun_attrs.specs.PrintedAttributes.{attribute_text, malformed_text}
+use Rattle.stun_text.specs.declared.slice.TextTooLong.{TextTooLong}
+use Rattle.stun_text.specs.Slices.{laid_over, text_answer}
 use Rattle.stun_types.specs.declared.show.registry.Registry.{Registry}
+use Rattle.stun_types.specs.declared.show.written.ShowTextError.{ShowTextError}
+use Rattle.stun_types.specs.declared.show.written.ShowTextError.TheVariants.{Failed, TooLong}
 use Rattle.stun_types.specs.Registered.{registered_display}
+
+-- the text of an attribute by itself
+abbrev pub own_text : RawAttribute → List ℕ
+own_text raw = attribute_text (raw_type raw) (raw_value raw) (is_borrowed (raw_data raw))
 
 -- what plain `Display` prints of an attribute
 abbrev pub displayed : RawAttribute → Option (List ℕ)
-displayed raw = Some (attribute_text (raw_type raw) (raw_value raw) (is_borrowed (raw_data raw)))
+displayed raw = Some (own_text raw)
 
 -- the function that prints the attributes of a type: none for a type that has a typed attribute
 abbrev pub display_of : {F : Type 0} {g : _} → Registry F g → ℕ → Option F
@@ -52,6 +60,26 @@ ShowsBy took prints raw before result after =
     × (result ≡ Err fmt_error) × (after ≡ before))
     ⊎ ((text : List ℕ) × Gives prints raw (Ok tt) text
     × WritesOnOk took before result text after)
+
+-- what writing a text to a slice answers
+abbrev pub written_answer : Result ℕ TextTooLong → Result ℕ ShowTextError
+written_answer (Ok length) = Ok length
+written_answer (Err e) = Err (TooLong e)
+
+-- a text is written to a slice, as much of it as there is room for
+abbrev pub WritesText : List ℕ → List ℕ → Result ℕ ShowTextError → List ℕ → Type 0
+WritesText text before result after =
+    (result ≡ written_answer (text_answer (length text) (length before)))
+    × (after ≡ laid_over text before)
+
+-- writing to a slice by the function: if it refuses, so does this, and the slice stays; and if it
+-- accepts, the text that it left is written
+abbrev pub WritesBy : Prints → RawAttribute
+    → List ℕ → Result ℕ ShowTextError → List ℕ → Type 0
+WritesBy prints raw before result after =
+    ((left : List ℕ) × Gives prints raw (Err fmt_error) left
+    × (result ≡ Err Failed) × (after ≡ before))
+    ⊎ ((text : List ℕ) × Gives prints raw (Ok tt) text × WritesText text before result after)
 
 -- what is printed of an attribute for which no function is registered; of another one nothing is
 -- said

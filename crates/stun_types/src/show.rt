@@ -7,11 +7,13 @@ mod reading;
 mod registry;
 mod shown;
 mod table;
+mod written;
 
 pub use printer::AttributeDisplay;
 pub use reading::print_read;
 pub use registry::Registry;
 pub use shown::Shown;
+pub use written::ShowTextError;
 
 /// Registers a function that prints the attributes of a type of a user's own: it reads one, by
 /// [`AttributeFromRaw::from_raw_ref`](crate::attribute::AttributeFromRaw::from_raw_ref), and prints

@@ -6,9 +6,10 @@ use std::fmt;
 use std::fmt::Write;
 use std::process::Abort;
 use std::test::Fail;
+use stun_types::TextTooLong;
 use stun_types::attribute::{AttributeType, RawAttribute};
 use stun_types::message::{Method, StunWriteError};
-use stun_types::show::{Registry, Shown};
+use stun_types::show::{Registry, ShowTextError, Shown};
 
 /// Numbers and the names that are registered for them in turn, a number, and the name that it then
 /// has.
@@ -145,6 +146,43 @@ fn shows_by_registered_functions(rt: HostRuntime) -> Result<(), Fail> {
             Some(text) => assert!(rt; shows(rt.alloc(), &shown, text)?, "{text}"),
             None => assert!(rt; is_refused(&shown)),
         }
+    }
+    Ok(())
+}
+
+/// Whether this text is written into a slice that has room, and as much of it as fits into one that
+/// is a byte too short; if there is no text, whether the call fails and leaves the slice as it was.
+fn writes(shown: &Shown<'_, '_>, expected: Option<&str>) -> bool {
+    let (mut to, before) = ([b'.'; 100], [b'.'; 100]);
+    let Some(text) = expected else {
+        return shown.write_text(&mut to) == Err(ShowTextError::Failed) && to == before;
+    };
+    let length = text.len();
+    if shown.write_text(&mut to) != Ok(length) || !to.starts_with(text.as_bytes()) {
+        return false;
+    }
+    let (Some(b'.'), Some((_last, start))) = (to.get(length), text.as_bytes().split_last()) else {
+        return false;
+    };
+    let mut short = before;
+    let Some(to) = short.get_mut(..start.len()) else {
+        return false;
+    };
+    shown.write_text(to) == Err(ShowTextError::TooLong(TextTooLong { length }))
+        && short.starts_with(start)
+        && short.get(start.len()) == Some(&b'.')
+}
+
+#[test]
+fn writes_what_is_shown(rt: HostRuntime) -> Result<(), Fail> {
+    let registry = registry(rt.alloc())?;
+    for &(atype, value, expected) in &SHOWN {
+        let raw = RawAttribute::new(AttributeType(atype), value)?;
+        let shown = Shown {
+            registry: &registry,
+            raw: &raw,
+        };
+        assert!(rt; writes(&shown, expected), "{atype}");
     }
     Ok(())
 }

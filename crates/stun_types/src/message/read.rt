@@ -213,7 +213,7 @@ impl Message<'_> {
 /// The class, the method, the transaction ID, and the attributes that the message shows, each as it
 /// is printed by itself: `Message(class: Request, method: 1(0x1: BINDING), transaction: 0x7392,
 /// attributes: [29(0x1d: PASSWORD-ALGORITHM): SHA256])`. It walks the attributes once, and
-/// takes no memory.
+/// takes no memory. The contract promises this text for a plain `{}` alone.
 impl fmt::Display for Message<'_> {
     ghost use Rattle.std.specs.Prelude.{Some};
     ghost use Rattle.stun_read.specs.PrintedMessages.{message_text};

@@ -1,6 +1,7 @@
 use super::own::own_or;
 use super::printer::{AttributeDisplay, Printer};
 use super::table::Table;
+use super::written::{ShowTextError, answer, write_made};
 use std::alloc::Global;
 use std::fmt;
 use stun_attrs::{Attribute, RawAttribute};
@@ -28,7 +29,7 @@ impl Registry {
     ghost use Rattle.std.specs.Option.{option_map};
     ghost use Rattle.std.specs.Fmt.{DisplaysOnOk};
     ghost use Rattle.stun_attrs.specs.Raw.{raw_type};
-    ghost use Rattle.stun_types.specs.Shown.{displayed, display_of, ShowsBy};
+    ghost use Rattle.stun_types.specs.Shown.{displayed, display_of, own_text, ShowsBy, WritesBy, WritesText};
     ghost use Rattle.stun_types.specs.Registered.{registered_name, registered_method_name, registered_display, AddsName, AddsMethodName, AddsDisplay, IsUnchanged, name_of, method_name_of};
 
     /// A registry with no entry, which grows in memory from `alloc`.
@@ -166,6 +167,33 @@ impl Registry {
                 let text = printer.text(self.alloc, raw)?;
                 f.write_str(&text)
             }
+        }
+    }
+
+    /// Writes the text that [`Registry::show`] prints of an attribute, in UTF-8, at the start of `to`,
+    /// and returns how many bytes it has. The bytes of `to` after the text stay as they were.
+    ///
+    /// If a function is registered for the type, it makes the text first, in memory from the
+    /// allocator of the registry. Otherwise no memory is taken. If the text was made and `to` has
+    /// room, the call succeeds.
+    ///
+    /// # Errors
+    ///
+    /// - `Failed` if the function answers `fmt::Error`: `to` stays as it was;
+    /// - `TooLong` with the length of the text if that is longer than `to`: a slice of that length
+    ///   has room. `to` then holds the first bytes of the text, as many as it has room for, and a
+    ///   character may be cut at its end.
+    pub fn write_text(&self, raw: &RawAttribute<'_>, to: &mut [u8]) -> Result<usize, ShowTextError>
+        ensures { MatchOption (display_of self.now (raw_type raw.now))
+            (WritesText (own_text raw.now) to.old result to.new)
+            (λ imp. WritesBy (AttributeDisplay.post imp) raw.now to.old result to.new) }
+    {
+        match self.printer_of(raw.get_type()) {
+            None => answer(raw.write_text(to)),
+            Some(printer) => match printer.text(self.alloc, raw) {
+                Ok(text) => write_made(&text, to),
+                Err(_) => Err(ShowTextError::Failed),
+            },
         }
     }
 }

@@ -1,4 +1,6 @@
+use super::printer::AttributeDisplay;
 use super::registry::Registry;
+use super::written::ShowTextError;
 use std::fmt;
 use stun_attrs::RawAttribute;
 
@@ -11,6 +13,27 @@ pub struct Shown<'r, 'a> {
     pub raw: &'r RawAttribute<'a>,
 }
 
+impl Shown<'_, '_> {
+    ghost use Rattle.std.specs.Prelude.{MatchOption};
+    ghost use Rattle.stun_attrs.specs.Raw.{raw_type};
+    ghost use Rattle.stun_types.specs.Shown.{display_of, own_text, WritesBy, WritesText};
+
+    /// Writes the text at the start of `to`, by [`Registry::write_text`].
+    ///
+    /// # Errors
+    ///
+    /// Those of [`Registry::write_text`].
+    pub fn write_text(&self, to: &mut [u8]) -> Result<usize, ShowTextError>
+        ensures { MatchOption (display_of self.now.registry.now (raw_type self.now.raw.now))
+            (WritesText (own_text self.now.raw.now) to.old result to.new)
+            (λ imp. WritesBy (AttributeDisplay.post imp) self.now.raw.now
+            to.old result to.new) }
+    {
+        self.registry.write_text(self.raw, to)
+    }
+}
+
+/// The text that [`Registry::show`] prints, for a plain `{}`: no width, no precision and no `{:#}`.
 impl fmt::Display for Shown<'_, '_> {
     ghost use Rattle.stun_types.specs.Shown.{shown_text};
 

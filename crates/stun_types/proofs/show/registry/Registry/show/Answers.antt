@@ -1,11 +1,9 @@
-use Rattle.std.proofs.Common.{rules, ◌≡◌, Option, Some, MatchOption, inl, inr, refl, sym, ◌∙◌, ap}
+use Rattle.std.proofs.Common.{rules, inl, inr, refl, sym, ◌∙◌, ap}
 use Rattle.std.specs.Option.{option_map}
 use Rattle.stun_attrs.specs.Raw.{raw_type}
 use Rattle.stun_types.specs.Shown.{display_of}
+use Rattle.stun_types.proofs.ShownLemmas.{at_some}
 use Rattle.stun_types.proofs.show.registry.Registry.show.Goals as goal
-
-at_some : {A : Type 0} (P : Type 0) (Q : A → Type 0) (o : Option A) (x : A) → o ≡ Some x → Q x → MatchOption o P Q
-at_some P Q o x is q = rw is q
 
 -- the registered function made a text, and that was written
 pub returns-in_ok-text-in-Some : goal.returns-in_ok-text-in-Some
