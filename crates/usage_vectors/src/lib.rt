@@ -56,13 +56,14 @@ pub fn retransmissions_are_right()
 
 /// Priorities of RFC 8445, section 5.1.2.1: the PRIORITY in RFC 5769, section 2.1, and those of a host
 /// candidate and a server-reflexive candidate in RFC 8839. The types of the attributes of ICE in that
-/// message.
+/// message. A type preference is refused before a component.
 pub fn priorities_are_right()
     ensures check { candidate_priority 110 1 1 ≡ 0x6E0001FF }
     ensures host { candidate_priority 126 65535 1 ≡ 2130706431 }
     ensures reflexive { candidate_priority 100 65535 1 ≡ 1694498815 }
     ensures types { map (λ a. a.type) (shown sample_request) ≡ SOFTWARE ∷ PRIORITY ∷ ICE_CONTROLLED ∷ USERNAME ∷ MESSAGE_INTEGRITY ∷ FINGERPRINT ∷ [] }
     ensures above { priority_fault 127 65535 1 ≡ Some (OutOfRange 127 0 126) }
+    ensures both { priority_fault 127 65535 0 ≡ Some (OutOfRange 127 0 126) }
 {}
 
 /// Nonces with and without a nonce cookie (RFC 8489, sections 9.2 and 18.1): the one of RFC 8656,
@@ -167,12 +168,10 @@ pub fn streams_are_right()
     ensures data_too_long { stream_fault (room_of ChannelDataToo 11) padded_data ≡ Some (TooLong 12) }
 {}
 
-/// Which refusal comes first if two apply: of a type preference and a component that are no such, that
-/// of the type preference; of a response that a transaction begins with, that it is no request; of a
-/// request that was sent too often and too late, that it was sent too often; and of an error response
-/// without a code that shows an unknown attribute, that attribute.
+/// Which refusal comes first if two apply: of a response that a transaction begins with, that it is no
+/// request; of a request that was sent too often and too late, that it was sent too often; and of an
+/// error response without a code that shows an unknown attribute, that attribute.
 pub fn first_refusals_are_right()
-    ensures preference { priority_fault 127 65535 0 ≡ Some (OutOfRange 127 0 126) }
     ensures unsigned_response { (key : IntegrityKey) → begin_fault (ShortTerm key) unsigned_error ≡ Some NotARequest }
     ensures signed_response { begin_fault Unprotected ipv4_response ≡ Some NotARequest }
     ensures too_often { (parts : TransactionParts) → parts.mechanism ≡ None → parts.sha1 ≡ false → parts.sha256 ≡ false → nat_lt (requests_in (plan_in parts)) parts.sent ≡ true → parts_fault parts ≡ Some SentTooOften }

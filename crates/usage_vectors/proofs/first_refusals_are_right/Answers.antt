@@ -2,10 +2,6 @@ use Rattle.std.proofs.Common.{refl}
 use Rattle.usage_vectors.proofs.Computing.{computing}
 use Rattle.usage_vectors.proofs.first_refusals_are_right.Goals as goal
 
-pub returns-clause-preference : goal.returns-clause-preference
-unfolding computing
-returns-clause-preference c = refl
-
 pub returns-clause-unsigned_response : goal.returns-clause-unsigned_response
 unfolding computing
 returns-clause-unsigned_response c = λ key. refl
