@@ -12,10 +12,11 @@ ghost use Rattle.stun_authentication.specs.Writing.{Lengthens, Finishes};
 use crate::Challenge;
 use crate::writing::{add_bytes, sign_and_print};
 use std::alloc::Global;
+use stun_keys::keys::key_of_texts;
 use stun_types::attribute::{
     AttributeStaticType, Nonce, PasswordAlgorithm, PasswordAlgorithms, Realm, Userhash, Username,
 };
-use stun_types::message::{IntegrityKey, LongTermKeyCredentials, StunWriteError};
+use stun_types::message::{IntegrityKey, StunWriteError};
 use stun_types::prelude::*;
 use stun_values::{USERNAME_MAX, write_algorithm};
 
@@ -57,15 +58,8 @@ pub fn key_for(
         (record { name = name.now; password = password.now }))) }
     ensures err { IfErr result (λ e. e ≡ StunWriteError.OutOfMemory) }
 {
-    let name = String::from_str(alloc, name).map_err(|_| StunWriteError::OutOfMemory)?;
-    let realm = String::from_str(alloc, challenge.realm()).map_err(
-        |_| StunWriteError::OutOfMemory,
-    )?;
-    // (last: from here on its copies overwrite themselves)
-    let password = String::from_str(alloc, password).map_err(|_| StunWriteError::OutOfMemory)?;
-    let credentials = LongTermKeyCredentials::new(name, password, realm);
     let algorithm = challenge.password_algorithm().as_integrity();
-    let key = credentials.make_key(alloc, algorithm)?;
+    let key = key_of_texts(alloc, name, challenge.realm(), password, algorithm)?;
     Ok(key.for_both())
 }
 

@@ -9,6 +9,7 @@ ghost use Rattle.stun_authentication.specs.Logins.{is_login, users_of};
 
 use crate::{Identity, LongTermKeys, ShortTermKeys};
 use std::alloc::{AllocError, Global};
+use stun_keys::keys::{key_of_bytes, key_of_texts, prepare_key};
 use stun_types::attribute::{PasswordAlgorithmValue, Userhash};
 use stun_types::message::{IntegrityKey, LongTermCredentials};
 
@@ -94,10 +95,7 @@ impl ShortTermKeys for Logins<'_> {
         let Some(user) = self.user(Identity::Name(username), "") else {
             return Ok(None);
         };
-        match IntegrityKey::new(alloc, user.password().as_bytes(), None) {
-            Ok(key) => Ok(Some(key)),
-            Err(_) => Err(AllocError),
-        }
+        Ok(Some(key_of_bytes(alloc, user.password().as_bytes(), None)?))
     }
 }
 
@@ -116,18 +114,11 @@ impl LongTermKeys for Logins<'_> {
         let Some(user) = self.user(user, realm) else {
             return Ok(None);
         };
-        let realm = String::from_str(alloc, realm)?;
-        let Ok(credentials) = user.to_key(alloc, realm) else {
-            return Err(AllocError);
-        };
-        let Ok(key) = credentials.make_key(alloc, algorithm.as_integrity()) else {
-            return Err(AllocError);
-        };
+        let (name, password) = (user.username(), user.password());
+        let key = key_of_texts(alloc, name, realm, password, algorithm.as_integrity())?;
         let mut key = key.for_both();
         // (the request is validated with it, and then the reply is signed)
-        match key.prepare(alloc) {
-            Ok(()) => Ok(Some(key)),
-            Err(_) => Err(AllocError),
-        }
+        prepare_key(alloc, &mut key)?;
+        Ok(Some(key))
     }
 }

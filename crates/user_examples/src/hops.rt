@@ -1,10 +1,9 @@
 //! An attribute of a user's own that is written, and read from what was written.
 
-ghost use Rattle.std.specs.Prelude.{◌≡◌, None, IfOk, MatchResult, length};
+ghost use Rattle.std.specs.Prelude.{◌≡◌, None, IfOk, length};
 ghost use Rattle.stun_grammar.specs.Adding.{add_refusal, IsAddAnswer};
 ghost use Rattle.stun_grammar.specs.Steps.{add};
 ghost use Rattle.stun_write.specs.Writers.{Adds, Allocates};
-ghost use Rattle.stun_grammar.specs.declared.error.StunParseError.TheVariants.{OutOfMemory};
 ghost use Rattle.stun_grammar.specs.Numbers.{be16};
 ghost use Rattle.stun_grammar.specs.Parsing.{parse_fault};
 ghost use Rattle.stun_kinds.specs.Kinds.{number_of};
@@ -14,9 +13,7 @@ ghost use Rattle.user_examples.specs.Hops.{HOPS};
 use std::alloc::Global;
 use stun_base::binding_request;
 use stun_types::attribute::{AttributeKind, NumberAttribute};
-use stun_types::message::{
-    Message, MessageWriteVec, StunParseError, StunWriteError, TransactionId,
-};
+use stun_types::message::{Message, MessageWriteVec, StunWriteError, TransactionId};
 use stun_types::prelude::*;
 use stun_types::{
     added_is_shown, number_attribute_is_read_back, number_is_read_back, typed_is_read_back,
@@ -78,17 +75,14 @@ pub fn hops_there_and_back(
     alloc: Global,
     id: TransactionId,
     hops: u16,
-) -> Result<u16, StunParseError>
-    ensures { MatchResult result (λ read. read ≡ hops) (λ e. e ≡ OutOfMemory) }
+) -> Result<u16, StunWriteError>
+    ensures { IfOk result (λ read. read ≡ hops) }
 {
     // the laws by which a number is read back, then its attribute, then what adds wrote of it
     number_is_read_back();
     number_attribute_is_read_back::<HopsKind, u16>();
     typed_is_read_back::<Hops>();
-    let bytes = match write_hops(alloc, id, &Hops::new(hops)) {
-        Ok(bytes) => bytes,
-        Err(_) => return Err(StunParseError::OutOfMemory),
-    };
+    let bytes = write_hops(alloc, id, &Hops::new(hops))?;
     let message = Message::from_bytes(&bytes)?;
     let read: Hops = message.attribute(alloc)?;
     Ok(read.value())

@@ -1,10 +1,9 @@
 //! An attribute whose value is part of the message that it is read from.
 
-ghost use Rattle.std.specs.Prelude.{◌≡◌, ◌<◌, ◌^◌, None, Err, IfOk, IsOkAnd, MatchOption, MatchResult, length};
+ghost use Rattle.std.specs.Prelude.{◌≡◌, ◌<◌, ◌^◌, None, Err, IfOk, IsOkAnd, MatchOption, length};
 ghost use Rattle.stun_grammar.specs.Adding.{add_refusal, IsAddAnswer};
 ghost use Rattle.stun_grammar.specs.Steps.{add};
 ghost use Rattle.stun_write.specs.Writers.{Adds, Allocates};
-ghost use Rattle.stun_grammar.specs.declared.error.StunParseError.TheVariants.{OutOfMemory};
 ghost use Rattle.stun_grammar.specs.Parsing.{parse_fault};
 ghost use Rattle.stun_kinds.specs.Kinds.{bytes_of};
 ghost use Rattle.stun_types.specs.ReadingBack.{ShowsFirst};
@@ -93,23 +92,20 @@ fn write_note(alloc: Global, id: TransactionId, note: &Note<'_>) -> Result<Vec<u
 ///
 /// # Errors
 ///
-/// `OutOfMemory` alone.
+/// `TooLarge` if the note is too long for a message, and `OutOfMemory`.
 pub fn note_there_and_back<'b>(
     alloc: Global,
     id: TransactionId,
     note: &Note<'_>,
     bytes: &'b mut Vec<u8>,
-) -> Result<Note<'b>, StunParseError>
-    ensures { MatchResult result
-        (λ read. bytes_of read ≡ bytes_of note.now) (λ e. e ≡ OutOfMemory) }
+) -> Result<Note<'b>, StunWriteError>
+    ensures { IfOk result (λ read. bytes_of read ≡ bytes_of note.now) }
 {
     // the laws by which bytes are read back, and then what adds wrote of them
     bytes_are_read_back::<NoteKind>();
     shown_is_read_back::<Note<'b>>();
-    *bytes = match write_note(alloc, id, note) {
-        Ok(written) => written,
-        Err(_) => return Err(StunParseError::OutOfMemory),
-    };
+    let written = write_note(alloc, id, note)?;
+    *bytes = written;
     let message = Message::from_bytes(bytes)?;
-    message.attribute(alloc)
+    Ok(message.attribute(alloc)?)
 }
