@@ -14,6 +14,7 @@ mod note;
 mod overwritten;
 mod request;
 mod room;
+mod two_writers;
 mod whose;
 mod write_fixed;
 
@@ -29,5 +30,6 @@ pub use note::{Note, NoteKind, note_of};
 pub use overwritten::overwrite;
 pub use request::software_message;
 pub use room::{UseCandidate, nominate_sixteen};
+pub use two_writers::in_both;
 pub use whose::validates_own;
 pub use write_fixed::WriteFixed;
