@@ -122,7 +122,7 @@ const NOTED: [u8; 28] = [
 fn reads_a_note(alloc: Global, bytes: &mut Vec<u8>) -> Result<bool, Fail> {
     let note = Note::new(&[1, 2, 3])?;
     let read = note_there_and_back(alloc, TransactionId::from(1000), &note, bytes)?;
-    Ok(read.data() == [1, 2, 3])
+    Ok(read.data() == [1, 2, 3].as_slice())
 }
 
 #[test]
