@@ -2,6 +2,7 @@
 use Rattle.std.specs.Prelude.{◌≡◌, ℕ, true, List, ◌∷◌, [], Option, Some}
 use Rattle.stun_grammar.specs.declared.integrity_algorithm.IntegrityAlgorithm.{IntegrityAlgorithm}
 use Rattle.stun_grammar.specs.AttributeTypes.{USERNAME, NONCE, PASSWORD_ALGORITHMS}
+use Rattle.stun_keys.specs.Keys.{serves}
 use Rattle.stun_values.specs.declared.algorithm.PasswordAlgorithmValue.{PasswordAlgorithmValue}
 use Rattle.stun_values.specs.Algorithms.{algorithms_encoding}
 use Rattle.stun_authentication.specs.declared.long_term.Hashing.{Hashing}
@@ -9,26 +10,30 @@ use Rattle.stun_authentication.specs.declared.long_term.Hashing.TheVariants.{Cho
 use Rattle.stun_authentication.specs.declared.policy.Policy.{Policy}
 use Rattle.stun_authentication.specs.Identities.{Who, value_of, identity_of}
 use Rattle.stun_authentication.specs.Lists.{first_listed}
-use Rattle.stun_authentication.specs.Lookups.{Known, valid}
+use Rattle.stun_authentication.specs.Lookups.{UserKey, Known, valid}
 use Rattle.stun_authentication.specs.LongTerm.{hashing_of, password_algorithm, reply_algorithm}
 use Rattle.stun_authentication.specs.Policies.{is_taken, is_long_enough}
 
--- d is a user's, by short-term credentials: the key is that of its USERNAME, the HMAC is long
--- enough, and d has the FINGERPRINT that the usage uses
-pub record IsUsers (policy : Policy) (keys : List ℕ → Option (List ℕ)) (d key : List ℕ)
+-- d is a user's, by short-term credentials: the key is that of its USERNAME, and works with the
+-- algorithm of the HMAC, which serves the policy; the HMAC is long enough, and d has the FINGERPRINT
+-- that the usage uses
+pub record IsUsers (policy : Policy) (keys : List ℕ → Option UserKey) (d : List ℕ) (key : UserKey)
     (a : IntegrityAlgorithm) : Type 0 where
   pub user : List ℕ
   pub named : value_of d USERNAME ≡ Some user
   pub known : keys user ≡ Some key
+  pub works : serves key.made_for a ≡ true
+  pub counts : serves policy.algorithm a ≡ true
   pub long_enough : is_long_enough policy a d ≡ true
   pub taken : is_taken policy d ≡ true
 
 -- d is a user's, by long-term credentials: the nonce is valid; the key is that of its USERNAME or
--- USERHASH in the server's realm, by the password algorithm that it is processed with; this is one
--- of those that were sent with the nonce, if it isn't MD5 by default; the reply is signed by the
--- algorithm that goes with it; the HMAC is long enough, and d has the FINGERPRINT that the usage uses
+-- USERHASH in the server's realm, by the password algorithm that it is processed with, and works with
+-- the algorithm of the HMAC, which serves the policy; the password algorithm is one of those that
+-- were sent with the nonce, if it isn't MD5 by default; the reply is signed by the algorithm that
+-- goes with it; the HMAC is long enough, and d has the FINGERPRINT that the usage uses
 pub record IsLogin (policy : Policy) (realm : List ℕ) (nonces : List ℕ → Known)
-    (keys : Who → List ℕ → PasswordAlgorithmValue → Option (List ℕ)) (d key : List ℕ)
+    (keys : Who → List ℕ → PasswordAlgorithmValue → Option UserKey) (d : List ℕ) (key : UserKey)
     (a reply : IntegrityAlgorithm) : Type 0 where
   pub user : Who
   pub identified : identity_of d ≡ Some user
@@ -42,6 +47,8 @@ pub record IsLogin (policy : Policy) (realm : List ℕ) (nonces : List ℕ → K
       → (value_of d PASSWORD_ALGORITHMS ≡ Some (algorithms_encoding sent))
       × (first_listed (algorithm ∷ []) (algorithms_encoding sent) ≡ Some algorithm)
   pub known : keys user realm (password_algorithm hashing) ≡ Some key
+  pub works : serves key.made_for a ≡ true
+  pub counts : serves policy.algorithm a ≡ true
   pub reply_by : reply_algorithm hashing ≡ reply
   pub long_enough : is_long_enough policy a d ≡ true
   pub taken : is_taken policy d ≡ true

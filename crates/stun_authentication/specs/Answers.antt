@@ -1,5 +1,5 @@
 -- What a server answers to a message that it authenticates.
-use Rattle.std.specs.Prelude.{◌≡◌, ℕ, List, None, codes}
+use Rattle.std.specs.Prelude.{◌≡◌, ℕ, List, codes}
 use Rattle.stun_grammar.specs.declared.integrity_algorithm.IntegrityAlgorithm.{IntegrityAlgorithm}
 use Rattle.stun_base.specs.declared.message_type.MessageClass.{MessageClass}
 use Rattle.stun_base.specs.declared.message_type.MessageClass.TheVariants.{Request}
@@ -9,11 +9,12 @@ use Rattle.stun_authentication.specs.declared.answer.Refusal.{Refusal}
 use Rattle.stun_authentication.specs.declared.answer.Refusal.TheVariants.{BadRequest, Unauthenticated, StaleNonce}
 use Rattle.stun_authentication.specs.declared.answer.Authentication.{Authentication}
 use Rattle.stun_authentication.specs.declared.answer.Authentication.TheVariants.{Accepted as AcceptedBy, Refused, Discarded, NotARequest}
+use Rattle.stun_authentication.specs.Lookups.{UserKey}
 
--- accepted, by a key and the algorithm whose HMAC was right, with the algorithm that the reply is
--- signed by; refused; dropped; or none that the mechanism authenticates at a server
+-- accepted, by the user's key and the algorithm whose HMAC was right, with the algorithm that the
+-- reply is signed by; refused; dropped; or none that the mechanism authenticates at a server
 pub data Decision : Type 0 where
-  accept : (key : List ℕ) → (algorithm reply_algorithm : IntegrityAlgorithm) → Decision
+  accept : (key : UserKey) → (algorithm reply_algorithm : IntegrityAlgorithm) → Decision
   refuse : Refusal → Decision
   discard : Decision
   not_a_request : Decision
@@ -31,9 +32,9 @@ refusal_reason Unauthenticated = codes "Unauthenticated"
 refusal_reason StaleNonce = codes "Stale Nonce"
 
 -- an answer reports a decision
-pub record TellsAccept (key : List ℕ) (algorithm reply_algorithm : IntegrityAlgorithm)
+pub record TellsAccept (key : UserKey) (algorithm reply_algorithm : IntegrityAlgorithm)
     (accepted : Accepted) : Type 0 where
-  pub key_is : IsKey None key accepted.key
+  pub key_is : IsKey key.made_for key.bytes accepted.key
   pub algorithm_is : accepted.algorithm ≡ algorithm
   pub reply_is : accepted.reply_algorithm ≡ reply_algorithm
 

@@ -28,6 +28,11 @@ abbrev pub first_named : List PasswordAlgorithmValue → List ℕ → Option Pas
 first_named wanted value =
     option_and_then (λ entry. named_by wanted entry.type entry.value) (first_attribute value)
 
+-- the one that a PASSWORD-ALGORITHM names (section 14.12): its value is one entry, and nothing
+-- follows; without parameters an entry has four bytes
+abbrev pub sole_named : List PasswordAlgorithmValue → List ℕ → Option PasswordAlgorithmValue
+sole_named wanted value = if length value == 4 then first_named wanted value else None
+
 -- the first of these entries that names one
 unfoldable pub first_among : List PasswordAlgorithmValue → List Attribute
     → Option PasswordAlgorithmValue

@@ -21,8 +21,8 @@ use Rattle.stun_authentication.specs.declared.policy.Policy.{Policy}
 use Rattle.stun_authentication.specs.Answers.{Decision, accept, refuse, discard, not_a_request}
 use Rattle.stun_authentication.specs.Cookies.{promises_algorithms}
 use Rattle.stun_authentication.specs.Identities.{Who, who, value_of, identity_of}
-use Rattle.stun_authentication.specs.Lists.{both, first_named, first_listed}
-use Rattle.stun_authentication.specs.Lookups.{Known, valid, invalid}
+use Rattle.stun_authentication.specs.Lists.{both, sole_named, first_listed}
+use Rattle.stun_authentication.specs.Lookups.{UserKey, Known, valid, stale, unknown}
 use Rattle.stun_authentication.specs.Policies.{is_taken, is_signed, proof_of}
 
 -- ---- By which password algorithm a request is processed
@@ -35,21 +35,22 @@ password_algorithm (Chosen algorithm) = algorithm
 -- whether a list is the one that was sent with the nonce; of one that isn't valid, no list is known
 abbrev pub is_sent : Known → List ℕ → Bool
 is_sent (valid algorithms) list = pointwise nat_eq list (algorithms_encoding algorithms)
-is_sent invalid list = true
+is_sent stale list = true
+is_sent unknown list = true
 
 -- the algorithm that a PASSWORD-ALGORITHM names, if it is on the list, and the list was sent
 abbrev pub chosen : Known → (one list : List ℕ) → Option PasswordAlgorithmValue
 chosen state one list =
     if is_sent state list then
-    option_and_then (λ algorithm. first_listed (algorithm ∷ []) list) (first_named both one)
+    option_and_then (λ algorithm. first_listed (algorithm ∷ []) list) (sole_named both one)
     else None
 
 -- how a request is processed that shows these: both attributes, or none
 abbrev pub by_both : Known → (one list : Option (List ℕ)) → Option Hashing
-by_both state None None = Some AsThoughMd5
+by_both _ None None = Some AsThoughMd5
 by_both state (Some one) (Some list) = option_map (λ a. Chosen a) (chosen state one list)
-by_both state None (Some list) = None
-by_both state (Some one) None = None
+by_both _ None (Some list) = None
+by_both _ (Some one) None = None
 
 -- how d is processed, with this nonce; None if it is a bad request
 abbrev pub hashing_of : Known → List ℕ → List ℕ → Option Hashing
@@ -86,17 +87,19 @@ reply_algorithm (Chosen algorithm) = Sha256
 -- the sixth: the nonce
 abbrev pub by_nonce : Known → Decision → Decision
 by_nonce (valid algorithms) accepted = accepted
-by_nonce invalid accepted = refuse StaleNonce
+by_nonce stale accepted = refuse StaleNonce
+by_nonce unknown accepted = refuse StaleNonce
 
--- the fifth: the HMAC under the user's key
-abbrev pub by_hmac : Policy → Known → Hashing → List ℕ → List ℕ → Decision
+-- the fifth: the HMAC under the user's key. A request with no integrity attribute that counts for
+-- the key is unsigned, and is refused as in the first
+abbrev pub by_hmac : Policy → Known → Hashing → UserKey → List ℕ → Decision
 by_hmac policy state hashing key d =
     option_map_or (λ algorithm. by_nonce state (accept key algorithm (reply_algorithm hashing)))
     (proof_of policy key d) (refuse Unauthenticated)
 
 -- the fourth: the user, whose key is made with the server's realm
 abbrev pub by_user : Policy → List ℕ
-    → (keys : Who → List ℕ → PasswordAlgorithmValue → Option (List ℕ))
+    → (keys : Who → List ℕ → PasswordAlgorithmValue → Option UserKey)
     → Known → Who → Hashing → List ℕ → Decision
 by_user policy realm keys state user hashing d =
     option_map_or (λ key. by_hmac policy state hashing key d)
@@ -104,7 +107,7 @@ by_user policy realm keys state user hashing d =
 
 -- the third: the password algorithms
 abbrev pub by_algorithms : Policy → List ℕ
-    → (keys : Who → List ℕ → PasswordAlgorithmValue → Option (List ℕ))
+    → (keys : Who → List ℕ → PasswordAlgorithmValue → Option UserKey)
     → Known → Named → List ℕ → Decision
 by_algorithms policy realm keys state names d =
     option_map_or (λ hashing. by_user policy realm keys state names.user hashing d)
@@ -112,14 +115,14 @@ by_algorithms policy realm keys state names d =
 
 -- the second: USERNAME or USERHASH, REALM and NONCE
 abbrev pub by_names : Policy → List ℕ → (nonces : List ℕ → Known)
-    → (keys : Who → List ℕ → PasswordAlgorithmValue → Option (List ℕ)) → List ℕ → Decision
+    → (keys : Who → List ℕ → PasswordAlgorithmValue → Option UserKey) → List ℕ → Decision
 by_names policy realm nonces keys d =
     option_map_or (λ names. by_algorithms policy realm keys (nonces names.nonce) names d)
     (names_of d) (refuse BadRequest)
 
 -- the first: an integrity attribute that counts
 abbrev pub by_attribute : Policy → List ℕ → (nonces : List ℕ → Known)
-    → (keys : Who → List ℕ → PasswordAlgorithmValue → Option (List ℕ)) → List ℕ → Decision
+    → (keys : Who → List ℕ → PasswordAlgorithmValue → Option UserKey) → List ℕ → Decision
 by_attribute policy realm nonces keys d =
     if is_signed policy d then by_names policy realm nonces keys d else refuse Unauthenticated
 
@@ -137,13 +140,13 @@ needs_key policy nonces d =
 
 -- the class: the mechanism protects requests alone (section 9.2)
 abbrev pub by_class : Policy → List ℕ → (nonces : List ℕ → Known)
-    → (keys : Who → List ℕ → PasswordAlgorithmValue → Option (List ℕ)) → List ℕ → Decision
+    → (keys : Who → List ℕ → PasswordAlgorithmValue → Option UserKey) → List ℕ → Decision
 by_class policy realm nonces keys d =
     if is_request (class_of (type_field d)) then by_attribute policy realm nonces keys d
     else not_a_request
 
 -- what becomes of d: before all checks, it has the FINGERPRINT that the usage uses (section 6.3)
 abbrev pub long_term : Policy → List ℕ → (nonces : List ℕ → Known)
-    → (keys : Who → List ℕ → PasswordAlgorithmValue → Option (List ℕ)) → List ℕ → Decision
+    → (keys : Who → List ℕ → PasswordAlgorithmValue → Option UserKey) → List ℕ → Decision
 long_term policy realm nonces keys d =
     if is_taken policy d then by_class policy realm nonces keys d else discard

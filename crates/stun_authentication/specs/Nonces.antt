@@ -15,7 +15,7 @@ use Rattle.stun_authentication.specs.declared.nonces.Freshness.TheVariants.{Fres
 use Rattle.stun_authentication.specs.declared.nonces.NonceMaker.{NonceMaker}
 use Rattle.stun_authentication.specs.declared.nonces.NoncesOf.{NoncesOf}
 use Rattle.stun_authentication.specs.Cookies.{cookie}
-use Rattle.stun_authentication.specs.Lookups.{Known, valid, invalid}
+use Rattle.stun_authentication.specs.Lookups.{Known, valid, stale, unknown}
 
 -- ---- Bytes in hexadecimal
 
@@ -56,6 +56,10 @@ minting secret features window = record { secret = secret; features = features; 
 abbrev pub minting_of : NonceMaker → Minting
 minting_of maker = minting (key_bytes maker.secret) maker.features maker.window
 
+-- how many bytes a secret has at least: of a shorter one the nonces can be guessed
+abbrev pub secret_min : ℕ
+secret_min = 16
+
 -- what the HMAC covers. The cookie is covered, so that a nonce whose features were changed on the
 -- way is unknown (RFC 8489, section 9.2.1); place is the address and port that it was sent to, as
 -- the value of a MAPPED-ADDRESS
@@ -92,8 +96,8 @@ freshness minting now place nonce =
 -- as `authenticate_long_term` asks for it, if these algorithms are sent with each nonce
 abbrev pub known_as : List PasswordAlgorithmValue → Freshness → Known
 known_as algorithms Fresh = valid algorithms
-known_as algorithms Stale = invalid
-known_as algorithms Unknown = invalid
+known_as algorithms Stale = stale
+known_as algorithms Unknown = unknown
 
 -- the nonces of a maker at a time, for one client
 abbrev pub state_of : NoncesOf → List ℕ → Known

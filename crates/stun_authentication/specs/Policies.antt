@@ -1,6 +1,6 @@
 -- Which messages are taken, which integrity attributes count, and whether they are right (RFC 8489,
 -- sections 6.3, 7, 9.1.3, 9.2.4 and 14.6).
-use Rattle.std.specs.Prelude.{◌≡◌, ℕ, Bool, true, false, ◌||◌, List, length, Option, Some, None, is_some, Result, Ok, Err, nat_le, if◌then◌else◌}
+use Rattle.std.specs.Prelude.{◌≡◌, ℕ, Bool, true, false, ◌||◌, List, length, Option, Some, None, is_some, Result, Ok, Err, nat_le, if◌then◌else◌, option_and_then}
 use Rattle.std.specs.Option.{option_map_or}
 use Rattle.stun_grammar.specs.declared.error.ValidateError.{ValidateError}
 use Rattle.stun_grammar.specs.declared.integrity_algorithm.IntegrityAlgorithm.{IntegrityAlgorithm}
@@ -8,9 +8,10 @@ use Rattle.stun_grammar.specs.declared.integrity_algorithm.IntegrityAlgorithm.Th
 use Rattle.stun_grammar.specs.AttributeTypes.{MESSAGE_INTEGRITY, MESSAGE_INTEGRITY_SHA256, FINGERPRINT}
 use Rattle.stun_grammar.specs.Verdicts.{type_of_algorithm, is_checked_type, verdict}
 use Rattle.stun_keys.specs.declared.keys.integrity_key.IntegrityKey.{IntegrityKey}
-use Rattle.stun_keys.specs.Keys.{IsKey}
+use Rattle.stun_keys.specs.Keys.{serves, IsKey}
 use Rattle.stun_read.specs.LookingUp.{nth}
 use Rattle.stun_authentication.specs.declared.policy.Policy.{Policy}
+use Rattle.stun_authentication.specs.Lookups.{UserKey}
 
 -- whether d shows a FINGERPRINT
 abbrev pub is_fingerprinted : List ℕ → Bool
@@ -24,12 +25,29 @@ is_taken policy d = if policy.fingerprint then is_fingerprinted d else true
 abbrev pub shows_integrity : IntegrityAlgorithm → List ℕ → Bool
 shows_integrity algorithm d = is_some (nth d (type_of_algorithm algorithm) 0)
 
+-- which algorithms two choices of one or both (None) have in common; none if they have none
+abbrev pub common : (one other : Option IntegrityAlgorithm) → Option (Option IntegrityAlgorithm)
+common None other = Some other
+common (Some algorithm) other = if serves other algorithm then Some (Some algorithm) else None
+
 -- whether d shows that of the algorithm that serves, or of one of both
 abbrev pub shows_served : Option IntegrityAlgorithm → List ℕ → Bool
 shows_served None d = shows_integrity Sha1 d || shows_integrity Sha256 d
 shows_served (Some algorithm) d = shows_integrity algorithm d
 
--- whether d shows an integrity attribute that counts
+-- which algorithms serve both the policy and a key that was made for one, or works with both (None):
+-- one of them or both; none if there is none
+abbrev pub counted : Policy → (made_for : Option IntegrityAlgorithm)
+    → Option (Option IntegrityAlgorithm)
+counted policy made_for = common policy.algorithm made_for
+
+-- whether d shows an integrity attribute that counts with a key: its algorithm serves the policy, and
+-- the key
+abbrev pub is_signed_for : Policy → (made_for : Option IntegrityAlgorithm) → List ℕ → Bool
+is_signed_for policy made_for d =
+    option_map_or (λ served. shows_served served d) (counted policy made_for) false
+
+-- whether d shows one that counts with some key
 abbrev pub is_signed : Policy → List ℕ → Bool
 is_signed policy d = shows_served policy.algorithm d
 
@@ -44,10 +62,11 @@ has_least_length shortest Sha256 d =
 abbrev pub is_long_enough : Policy → IntegrityAlgorithm → List ℕ → Bool
 is_long_enough policy algorithm d = has_least_length policy.shortest algorithm d
 
--- what a validation of d answers with a key: of the attribute that counts, and of
+-- what a validation of d answers with a key, by the algorithms that count: of their attribute, and of
 -- MESSAGE-INTEGRITY-SHA256 if both do
-abbrev pub validated : Policy → List ℕ → List ℕ → Result IntegrityAlgorithm ValidateError
-validated policy key d = verdict (is_checked_type policy.algorithm) (λ _. key) d
+abbrev pub validated : (served : Option IntegrityAlgorithm) → List ℕ → List ℕ
+    → Result IntegrityAlgorithm ValidateError
+validated served key d = verdict (is_checked_type served) (λ _. key) d
 
 -- the algorithm that it answers, where the HMAC has at least so many bytes
 abbrev pub proved_at : (shortest : ℕ) → List ℕ → Result IntegrityAlgorithm ValidateError
@@ -62,12 +81,15 @@ abbrev pub proved_by : Policy → List ℕ → Result IntegrityAlgorithm Validat
 proved_by policy d answer = proved_at policy.shortest d answer
 
 -- the algorithm whose HMAC in d is right under the key, if it counts
-abbrev pub proof_of : Policy → List ℕ → List ℕ → Option IntegrityAlgorithm
-proof_of policy key d = proved_by policy d (validated policy key d)
+abbrev pub proof_of : Policy → UserKey → List ℕ → Option IntegrityAlgorithm
+proof_of policy key d =
+    option_and_then (λ served. proved_by policy d (validated served key.bytes d))
+    (counted policy key.made_for)
 
--- the algorithm, and a key with these bytes that works with both; or there is neither
-abbrev pub Proves : List ℕ → Option IntegrityAlgorithm → Option (IntegrityKey × IntegrityAlgorithm)
+-- the algorithm, and the same key; or there is neither
+abbrev pub Proves : UserKey → Option IntegrityAlgorithm → Option (IntegrityKey × IntegrityAlgorithm)
     → Type 0
 Proves key None found = found ≡ None
-Proves key (Some algorithm) (Some found) = IsKey None key found.0 × (found.1 ≡ algorithm)
+Proves key (Some algorithm) (Some found) =
+    IsKey key.made_for key.bytes found.0 × (found.1 ≡ algorithm)
 Proves key (Some algorithm) None = ⊥

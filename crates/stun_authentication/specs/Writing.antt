@@ -1,16 +1,17 @@
 -- What adding attributes to a message that is written returns and writes, and how it is finished: it
 -- is signed, and gets a FINGERPRINT (RFC 8489, sections 7, 9.1.3 and 9.2.4).
-use Rattle.std.specs.Prelude.{◌≡◌, ◌⊎◌, ℕ, Bool, true, false, List, [], ◌∷◌, ◌++◌, length, map, Option, None, Some, Result, MatchResult, OnOk}
+use Rattle.std.specs.Prelude.{◌≡◌, ◌⊎◌, ℕ, Bool, true, false, List, [], ◌∷◌, ◌++◌, length, map, Option, None, Some, Result, Err, MatchResult, MatchOption, OnOk, if◌then◌else◌}
 use Rattle.std.specs.List.{list_any}
 use Rattle.std.specs.Option.{option_or}
 use Rattle.stun_grammar.specs.declared.error.StunWriteError.{StunWriteError}
-use Rattle.stun_grammar.specs.declared.error.StunWriteError.TheVariants.{OutOfMemory}
+use Rattle.stun_grammar.specs.declared.error.StunWriteError.TheVariants.{OutOfMemory, IntegrityFailed}
 use Rattle.stun_grammar.specs.declared.integrity_algorithm.IntegrityAlgorithm.{IntegrityAlgorithm}
 use Rattle.stun_grammar.specs.Adding.{grown_length, room_refusal}
 use Rattle.stun_grammar.specs.Attributes.{Attribute}
 use Rattle.stun_grammar.specs.AttributeTypes.{is_ending}
 use Rattle.stun_grammar.specs.Steps.{sign, finger, with_step}
 use Rattle.stun_grammar.specs.Writing.{message_encoding}
+use Rattle.stun_keys.specs.Keys.{serves}
 use Rattle.stun_write.specs.Writers.{Writer}
 
 -- ---- What doesn't fit
@@ -57,6 +58,11 @@ pub record Lengthens (result : Result (Unit {0}) StunWriteError) (old new : Writ
 
 -- ---- The end of a message
 
+-- why a key doesn't sign by an algorithm: it was made for the other one
+abbrev pub signing_refusal : (made_for : Option IntegrityAlgorithm) → IntegrityAlgorithm
+    → Option StunWriteError
+signing_refusal made_for algorithm = if serves made_for algorithm then None else Some IntegrityFailed
+
 -- attributes, and after them the integrity attribute of an algorithm under a key
 abbrev pub signed : ℕ → ℕ → List Attribute → IntegrityAlgorithm → List ℕ → List Attribute
 signed kind id before algorithm key = with_step kind id before (sign algorithm key)
@@ -86,3 +92,11 @@ pub record Finishes {T : Type 0} (result : Result T StunWriteError) (old new : W
       → OnOk result (new.bytes ≡ message_encoding kind id (finish kind id before))
   pub answer : IsUnended old → FailsFor (no_room old.greatest (length old.bytes) more) result
   pub greatest : new.greatest ≡ old.greatest
+
+-- the same by a key and an algorithm; or the key was made for the other one, and nothing is written
+abbrev pub FinishesBy : {T : Type 0} → (made_for : Option IntegrityAlgorithm) → IntegrityAlgorithm
+    → Result T StunWriteError → (old new : Writer) → (ℕ → ℕ → List Attribute → List Attribute)
+    → List ℕ → Type 0
+FinishesBy made_for algorithm result old new finish more =
+    MatchOption (signing_refusal made_for algorithm) (Finishes result old new finish more)
+    (λ e. (result ≡ Err e) × (new ≡ old))

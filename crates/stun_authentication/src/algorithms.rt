@@ -5,7 +5,7 @@ ghost use Rattle.std.specs.Cmp.Lexicographic.{pointwise};
 ghost use Rattle.stun_attrs.specs.Raw.{raw_type, raw_value, Finds};
 ghost use Rattle.stun_grammar.specs.Chains.{first_attribute};
 ghost use Rattle.stun_values.specs.Algorithms.{algorithm_number, algorithms_encoding};
-ghost use Rattle.stun_authentication.specs.Lists.{numbered, named_by, first_named, first_listed};
+ghost use Rattle.stun_authentication.specs.Lists.{numbered, named_by, first_named, sole_named, first_listed};
 
 use stun_attrs::{RawAttribute, attribute_at};
 use stun_types::attribute::{Attribute, PasswordAlgorithmValue};
@@ -68,14 +68,25 @@ fn entry_at<'a>(value: &'a [u8], offset: usize) -> Option<(RawAttribute<'a>, usi
 }
 
 /// The one of these algorithms that the first entry of a value names.
-pub(crate) fn first_named(
-    wanted: &[PasswordAlgorithmValue],
-    value: &[u8],
-) -> Option<PasswordAlgorithmValue>
+fn first_named(wanted: &[PasswordAlgorithmValue], value: &[u8]) -> Option<PasswordAlgorithmValue>
     ensures { result ≡ first_named wanted.now value.now }
 {
     let (entry, _behind) = entry_at(value, 0)?;
     named_by(wanted, &entry)
+}
+
+/// The one of these algorithms that a PASSWORD-ALGORITHM names: its value is one entry, four bytes
+/// without parameters.
+pub(crate) fn sole_named(
+    wanted: &[PasswordAlgorithmValue],
+    value: &[u8],
+) -> Option<PasswordAlgorithmValue>
+    ensures { result ≡ sole_named wanted.now value.now }
+{
+    if value.len() != 4 {
+        return None;
+    }
+    first_named(wanted, value)
 }
 
 /// The first entry of a value that names one of these algorithms. Entries of other algorithms, and

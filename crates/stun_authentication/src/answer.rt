@@ -13,7 +13,7 @@ use stun_types::message::{IntegrityAlgorithm, IntegrityKey, Message, MessageClas
 /// signed.
 #[derive(Debug, Drop)]
 pub struct Accepted {
-    /// The key of the user, which works with both algorithms: the reply is signed with it.
+    /// The key of the user, as the look-up returned it: the reply is signed with it.
     pub key: IntegrityKey,
     /// The algorithm whose HMAC in the message was right.
     pub algorithm: IntegrityAlgorithm,

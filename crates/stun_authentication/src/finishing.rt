@@ -2,8 +2,8 @@
 
 ghost use Rattle.std.specs.Prelude.{◌∷◌};
 ghost use Rattle.stun_grammar.specs.Hmac.{digest_length};
-ghost use Rattle.stun_keys.specs.Keys.{key_bytes};
-ghost use Rattle.stun_authentication.specs.Writing.{Finishes, finished, signed, print_sizes};
+ghost use Rattle.stun_keys.specs.Keys.{key_algorithm, key_bytes};
+ghost use Rattle.stun_authentication.specs.Writing.{FinishesBy, finished, signed, print_sizes};
 
 use crate::Accepted;
 use crate::writing::finish;
@@ -18,6 +18,7 @@ impl Accepted {
     ///
     /// # Errors
     ///
+    /// `IntegrityFailed` if the key was made for the other algorithm; nothing is written then.
     /// `OutOfMemory` if an allocation failed. Else, if the message isn't signed yet and has no
     /// FINGERPRINT, the first of the two that doesn't fit decides: `TooSmall` or `TooLarge`, as for
     /// `add_message_integrity_with_key`. What was written before an error stays.
@@ -49,7 +50,8 @@ impl Accepted {
         write: &mut B,
     ) -> Result<(), StunWriteError>
         ensures { let a = self.now.reply_algorithm in let key = key_bytes self.now.key in
-            Finishes result (B.state write.old) (B.state write.new)
+            FinishesBy (key_algorithm self.now.key) a result
+            (B.state write.old) (B.state write.new)
             (λ kind id before. finished fingerprint kind id (signed kind id before a key))
             (digest_length a ∷ print_sizes fingerprint) }
     {

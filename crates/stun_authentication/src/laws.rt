@@ -1,11 +1,13 @@
 //! Laws of authentication. Each function does nothing: its contract is the law.
 
-ghost use Rattle.std.specs.Prelude.{◌≡◌, ◌≢◌, ◌<◌, ◌≤◌, ◌+◌, ◌^◌, ℕ, ◌++◌, List, length, true, Option, Some, None};
+ghost use Rattle.std.specs.Prelude.{◌≡◌, ◌&&◌, ◌≢◌, ◌<◌, ◌≤◌, ◌+◌, ◌^◌, ℕ, ◌++◌, List, length, true, false, Option, Some, None, IsSomeAnd};
+ghost use Rattle.std.specs.Option.{option_map_or};
 ghost use Rattle.std.specs.List.{AllByRecursion};
 ghost use Rattle.stun_grammar.specs.declared.integrity_algorithm.IntegrityAlgorithm.{IntegrityAlgorithm};
 ghost use Rattle.stun_grammar.specs.Accepting.{IsAuthentic, IsAuthenticThrough};
 ghost use Rattle.stun_grammar.specs.Numbers.{IsBytes};
 ghost use Rattle.stun_grammar.specs.Parsing.{parse_fault};
+ghost use Rattle.stun_grammar.specs.Verdicts.{is_checked_type};
 ghost use Rattle.stun_values.specs.declared.algorithm.PasswordAlgorithmValue.{PasswordAlgorithmValue};
 ghost use Rattle.stun_authentication.specs.declared.cookie.SecurityFeatures.{SecurityFeatures};
 ghost use Rattle.stun_authentication.specs.declared.policy.Policy.{Policy};
@@ -16,8 +18,9 @@ ghost use Rattle.stun_authentication.specs.Accepted.{IsUsers, IsLogin};
 ghost use Rattle.stun_authentication.specs.Answers.{accept};
 ghost use Rattle.stun_authentication.specs.Cookies.{cookie, security_features};
 ghost use Rattle.stun_authentication.specs.Identities.{Who};
-ghost use Rattle.stun_authentication.specs.Lookups.{Known};
+ghost use Rattle.stun_authentication.specs.Lookups.{Known, UserKey};
 ghost use Rattle.stun_authentication.specs.LongTerm.{long_term};
+ghost use Rattle.stun_authentication.specs.Policies.{counted};
 ghost use Rattle.stun_authentication.specs.ShortTerm.{short_term};
 
 /// A nonce that begins with a nonce cookie has the features of that cookie, whatever follows.
@@ -26,41 +29,54 @@ pub fn cookie_is_read()
         → security_features (cookie features ++ more) ≡ Some features }
 {}
 
+/// An integrity attribute counts with a user's key exactly if its type is one of those that the policy
+/// looks at, and one of those that a validation with the key looks at.
+#[tactic(auto, using(crate::proofs::CountedLemmas::common_types))]
+pub fn what_counts_serves_both()
+    ensures { (policy : Policy) (made_for : Option IntegrityAlgorithm) (atype : ℕ)
+        → option_map_or (λ served. is_checked_type served atype) (counted policy made_for) false
+        ≡ (is_checked_type policy.algorithm atype && is_checked_type made_for atype) }
+{}
+
 /// A message that is accepted is its sender's: type, transaction ID and what is shown are authentic
 /// under the key of the user whom the look-up names, by the algorithm that was answered. If only
-/// one algorithm serves, this holds of what is shown through its integrity attribute. The key is the
-/// one that the look-up has for the user whom the message names, its HMAC is as long as the policy
-/// asks, and under long-term credentials its nonce is valid, and its password algorithm is one of
-/// those that were sent with the nonce, unless it is processed as though with MD5.
+/// one algorithm serves both the policy and the key, this holds of what is shown through its
+/// integrity attribute. The key is the one that the look-up has for the user whom the message names,
+/// it works with the algorithm that was answered, and this one serves the policy; its HMAC is as long
+/// as the policy asks, and under long-term credentials its nonce is valid, and its password algorithm
+/// is one of those that were sent with the nonce, unless it is processed as though with MD5.
 pub fn accepted_is_authentic()
-    ensures users { (policy : Policy) (keys : List ℕ → Option (List ℕ)) (d key : List ℕ)
-        (a reply : IntegrityAlgorithm)
+    ensures users { (policy : Policy) (keys : List ℕ → Option UserKey) (d : List ℕ)
+        (key : UserKey) (a reply : IntegrityAlgorithm)
         → short_term policy keys d ≡ accept key a reply → IsUsers policy keys d key a }
     ensures login { (policy : Policy) (realm : List ℕ) (nonces : List ℕ → Known)
-        (keys : Who → List ℕ → PasswordAlgorithmValue → Option (List ℕ)) (d key : List ℕ)
-        (a reply : IntegrityAlgorithm)
+        (keys : Who → List ℕ → PasswordAlgorithmValue → Option UserKey) (d : List ℕ)
+        (key : UserKey) (a reply : IntegrityAlgorithm)
         → long_term policy realm nonces keys d ≡ accept key a reply
         → IsLogin policy realm nonces keys d key a reply }
-    ensures short_term { (policy : Policy) (keys : List ℕ → Option (List ℕ)) (d key : List ℕ)
-        (a reply : IntegrityAlgorithm)
+    ensures short_term { (policy : Policy) (keys : List ℕ → Option UserKey) (d : List ℕ)
+        (key : UserKey) (a reply : IntegrityAlgorithm)
         → IsBytes d → parse_fault d ≡ None → short_term policy keys d ≡ accept key a reply
-        → IsAuthenticThrough policy.algorithm (λ _. key) d a }
+        → IsSomeAnd (counted policy key.made_for)
+        (λ served. IsAuthenticThrough served (λ _. key.bytes) d a) }
     ensures long_term { (policy : Policy) (realm : List ℕ) (nonces : List ℕ → Known)
-        (keys : Who → List ℕ → PasswordAlgorithmValue → Option (List ℕ)) (d key : List ℕ)
-        (a reply : IntegrityAlgorithm)
+        (keys : Who → List ℕ → PasswordAlgorithmValue → Option UserKey) (d : List ℕ)
+        (key : UserKey) (a reply : IntegrityAlgorithm)
         → IsBytes d → parse_fault d ≡ None
         → long_term policy realm nonces keys d ≡ accept key a reply
-        → IsAuthenticThrough policy.algorithm (λ _. key) d a }
+        → IsSomeAnd (counted policy key.made_for)
+        (λ served. IsAuthenticThrough served (λ _. key.bytes) d a) }
     // if both algorithms serve, of the whole message
-    ensures short_term_whole { (policy : Policy) (keys : List ℕ → Option (List ℕ))
-        (d key : List ℕ) (a reply : IntegrityAlgorithm)
-        → IsBytes d → parse_fault d ≡ None → policy.algorithm ≡ None
-        → short_term policy keys d ≡ accept key a reply → IsAuthentic (λ _. key) d a }
+    ensures short_term_whole { (policy : Policy) (keys : List ℕ → Option UserKey) (d : List ℕ)
+        (key : UserKey) (a reply : IntegrityAlgorithm)
+        → IsBytes d → parse_fault d ≡ None → counted policy key.made_for ≡ Some None
+        → short_term policy keys d ≡ accept key a reply → IsAuthentic (λ _. key.bytes) d a }
     ensures long_term_whole { (policy : Policy) (realm : List ℕ) (nonces : List ℕ → Known)
-        (keys : Who → List ℕ → PasswordAlgorithmValue → Option (List ℕ)) (d key : List ℕ)
-        (a reply : IntegrityAlgorithm)
-        → IsBytes d → parse_fault d ≡ None → policy.algorithm ≡ None
-        → long_term policy realm nonces keys d ≡ accept key a reply → IsAuthentic (λ _. key) d a }
+        (keys : Who → List ℕ → PasswordAlgorithmValue → Option UserKey) (d : List ℕ)
+        (key : UserKey) (a reply : IntegrityAlgorithm)
+        → IsBytes d → parse_fault d ≡ None → counted policy key.made_for ≡ Some None
+        → long_term policy realm nonces keys d ≡ accept key a reply
+        → IsAuthentic (λ _. key.bytes) d a }
 {}
 
 /// A nonce of a [`NonceMaker`](crate::NonceMaker) has 93 bytes, which are characters that a NONCE may

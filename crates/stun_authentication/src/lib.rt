@@ -92,12 +92,15 @@ pub use codes::{is_challenge, response_code, shown_code};
 pub use cookie::{SecurityFeatures, nonce_cookie, security_features};
 pub use demand::{Demand, Mismatch};
 pub use identity::Identity;
-pub use laws::{accepted_is_authentic, cookie_is_read, nonces_are_texts, nonces_are_timed};
+pub use laws::{
+    accepted_is_authentic, cookie_is_read, nonces_are_texts, nonces_are_timed,
+    what_counts_serves_both,
+};
 pub use login::{answer_challenge, key_for};
 pub use logins::Logins;
 pub use long_term::authenticate_long_term;
 pub use lookups::{KnownNonce, LongTermKeys, Nonces, ShortTermKeys};
-pub use nonces::{Freshness, NonceMaker, NoncesOf};
+pub use nonces::{Freshness, NonceMaker, NoncesOf, SECRET_MIN, SecretError};
 pub use policy::{Policy, has_least_length};
 pub use refusing::{refuse_long_term, refuse_short_term};
 pub use retry::{challenge_of, is_bid_down};

@@ -10,7 +10,7 @@ ghost use Rattle.stun_authentication.specs.Requests.{identity, identity_attribut
 ghost use Rattle.stun_authentication.specs.Writing.{Lengthens, Finishes};
 
 use crate::Challenge;
-use crate::writing::{add_bytes, finish};
+use crate::writing::{add_bytes, sign_and_print};
 use std::alloc::Global;
 use stun_types::attribute::{
     AttributeStaticType, Nonce, PasswordAlgorithm, PasswordAlgorithms, Realm, Userhash, Username,
@@ -212,6 +212,6 @@ pub fn answer_challenge<B: MessageWrite>(
     }
     let key = key_for(alloc, challenge, name, password)?;
     add_credentials(challenge, name, write)?;
-    finish(&key, challenge.integrity_algorithm(), fingerprint, write)?;
+    sign_and_print(&key, challenge.integrity_algorithm(), fingerprint, write)?;
     Ok(key)
 }

@@ -16,6 +16,9 @@ use stun_types::message::{IntegrityKey, LongTermCredentials};
 /// a few users; a server with many implements [`ShortTermKeys`] or [`LongTermKeys`] over its own
 /// store.
 ///
+/// A user with an empty password has no key: an OpaqueString has at least one character (RFC 8265,
+/// section 4.2). The keys of the others work with both integrity algorithms.
+///
 /// Names and passwords are compared and digested as they are: no function applies the OpaqueString
 /// profile (RFC 8265) to them.
 ///
@@ -41,7 +44,7 @@ impl<'a> Logins<'a> {
     ghost use Rattle.std.specs.Prelude.{◌≡◌, find};
     ghost use Rattle.std.specs.Option.{option_copied};
     ghost use Rattle.stun_authentication.specs.Identities.{who};
-    ghost use Rattle.stun_authentication.specs.Logins.{is_login, users_of};
+    ghost use Rattle.stun_authentication.specs.Logins.{is_login, users_of, user_meant};
 
     /// Returns the look-up of these users. If two have the same name, the first counts.
     pub fn new(users: &'a [LongTermCredentials]) -> Self
@@ -50,8 +53,19 @@ impl<'a> Logins<'a> {
         Logins { users }
     }
 
-    /// The first user that an identity names.
+    /// The user whom an identity names, if they have a password.
     fn user(&self, identity: Identity<'_>, realm: &str) -> Option<&'a LongTermCredentials>
+        ensures { option_copied result ≡ user_meant self.now (who identity.entry) realm.now }
+    {
+        let user = self.first(identity, realm)?;
+        if user.password().is_empty() {
+            return None;
+        }
+        Some(user)
+    }
+
+    /// The first user that an identity names.
+    fn first(&self, identity: Identity<'_>, realm: &str) -> Option<&'a LongTermCredentials>
         ensures { option_copied result
             ≡ find (is_login (who identity.entry) realm.now) (users_of self.now) }
     {
@@ -106,9 +120,10 @@ impl LongTermKeys for Logins<'_> {
         let Ok(credentials) = user.to_key(alloc, realm) else {
             return Err(AllocError);
         };
-        let Ok(mut key) = credentials.make_key(alloc, algorithm.as_integrity()) else {
+        let Ok(key) = credentials.make_key(alloc, algorithm.as_integrity()) else {
             return Err(AllocError);
         };
+        let mut key = key.for_both();
         // (the request is validated with it, and then the reply is signed)
         match key.prepare(alloc) {
             Ok(()) => Ok(Some(key)),

@@ -2,14 +2,13 @@
 
 ghost use Rattle.std.specs.Prelude.{◌≡◌, false, IfOk, IsOk, is_some};
 ghost use Rattle.std.specs.Option.{option_map};
-ghost use Rattle.stun_keys.specs.Keys.{key_bytes};
 ghost use Rattle.stun_types.specs.Message.{message_bytes};
 ghost use Rattle.stun_authentication.specs.Answers.{Tells};
 ghost use Rattle.stun_authentication.specs.Identities.{who};
-ghost use Rattle.stun_authentication.specs.Lookups.{known};
+ghost use Rattle.stun_authentication.specs.Lookups.{key_held, known};
 ghost use Rattle.stun_authentication.specs.LongTerm.{names_of, named, is_sent, chosen, hashing_of, password_algorithm, reply_algorithm, by_nonce, by_hmac, by_user, by_algorithms, by_names, by_attribute, by_class, needs_key, long_term};
 
-use crate::algorithms::{BOTH, first_listed, first_named, is_encoding_of};
+use crate::algorithms::{BOTH, first_listed, is_encoding_of, sole_named};
 use crate::cookie::security_features;
 use crate::identity::{identity_of, value_of};
 use crate::{
@@ -91,7 +90,7 @@ fn chosen(state: KnownNonce<'_>, one: &[u8], list: &[u8]) -> Option<PasswordAlgo
     if !is_sent(state, list) {
         return None;
     }
-    let algorithm = first_named(&BOTH, one)?;
+    let algorithm = sole_named(&BOTH, one)?;
     first_listed(&[algorithm], list)
 }
 
@@ -120,7 +119,7 @@ fn by_hmac(
     hashing: Hashing,
     key: IntegrityKey,
 ) -> Authentication
-    ensures { Tells (by_hmac policy (known state.entry) hashing (key_bytes key)
+    ensures { Tells (by_hmac policy (known state.entry) hashing (key_held key)
         (message_bytes request.now)) result }
 {
     let Some((key, algorithm)) = policy.proof_of(key, request) else {
@@ -133,6 +132,27 @@ fn by_hmac(
             reply_algorithm: hashing.reply_algorithm(),
         }),
         KnownNonce::Stale | KnownNonce::Unknown => Authentication::Refused(Refusal::StaleNonce),
+    }
+}
+
+/// The checks from the fourth on.
+#[tactic(auto, using(crate::proofs::ProvesLemmas::long_user))]
+fn by_user<K: LongTermKeys>(
+    alloc: Global,
+    request: &Message<'_>,
+    realm: &str,
+    policy: Policy,
+    state: KnownNonce<'_>,
+    user: Identity<'_>,
+    hashing: Hashing,
+    keys: &K,
+) -> Result<Authentication, AllocError>
+    ensures { IfOk result (Tells (by_user policy realm.now (K.key_of keys.now)
+        (known state.entry) (who user.entry) hashing (message_bytes request.now))) }
+{
+    match keys.key(alloc, user, realm, hashing.password_algorithm())? {
+        Some(key) => Ok(by_hmac(request, policy, state, hashing, key)),
+        None => Ok(Authentication::Refused(Refusal::Unauthenticated)),
     }
 }
 
@@ -154,10 +174,9 @@ fn by_algorithms<K: LongTermKeys>(
     let Some(hashing) = hashing_of(state, names.nonce, request) else {
         return Ok(Authentication::Refused(Refusal::BadRequest));
     };
-    match keys.key(alloc, names.user, realm, hashing.password_algorithm())? {
-        Some(key) => Ok(by_hmac(request, policy, state, hashing, key)),
-        None => Ok(Authentication::Refused(Refusal::Unauthenticated)),
-    }
+    by_user(
+        alloc, request, realm, policy, state, names.user, hashing, keys,
+    )
 }
 
 /// Authenticates a request by long-term credentials, in the order of RFC 8489, section 9.2.4. The
@@ -171,11 +190,15 @@ fn by_algorithms<K: LongTermKeys>(
 ///   with 400.
 /// - If the nonce promises PASSWORD-ALGORITHMS ([`security_features`]), and the request shows
 ///   PASSWORD-ALGORITHM or PASSWORD-ALGORITHMS, it must show both, the list must be the one that
-///   was sent with the nonce, and the algorithm on that list: else it is refused with 400. It is
-///   processed with that algorithm; in every other case as though with MD5.
+///   was sent with the nonce, and the algorithm on that list: else it is refused with 400. A
+///   PASSWORD-ALGORITHM names an algorithm by four bytes: neither MD5 nor SHA-256 has parameters, so
+///   with more bytes it names none (`PasswordAlgorithm` reads the first four). It is processed with
+///   that algorithm; in every other case as though with MD5.
 /// - If `keys` has no key for the user, it is refused with 401.
 /// - If its last integrity attribute that counts isn't the HMAC under the key, or has fewer
-///   bytes than the policy asks for, it is refused with 401, as for an unknown user.
+///   bytes than the policy asks for, it is refused with 401, as for an unknown user. If the key was
+///   made for one algorithm, only that one's integrity attribute counts: without it, the request is
+///   refused with 401, like an unsigned one.
 /// - If the nonce isn't valid, it is refused with 438. It is looked at last: a wrong password
 ///   with a stale nonce is 401.
 /// - Otherwise it is accepted, with the key. The reply is signed by MESSAGE-INTEGRITY-SHA256 alone,

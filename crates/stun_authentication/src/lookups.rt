@@ -4,7 +4,7 @@
 ghost use Rattle.std.specs.Prelude.{◌≡◌, ℕ, List, Option, IfOk};
 ghost use Rattle.stun_values.specs.declared.algorithm.PasswordAlgorithmValue.{PasswordAlgorithmValue};
 ghost use Rattle.stun_authentication.specs.Identities.{Who, who};
-ghost use Rattle.stun_authentication.specs.Lookups.{IsKeyOf, Known, known};
+ghost use Rattle.stun_authentication.specs.Lookups.{IsKeyOf, Known, UserKey, known};
 
 use crate::Identity;
 use std::alloc::{AllocError, Global};
@@ -13,11 +13,11 @@ use stun_types::message::IntegrityKey;
 
 /// A look-up of the keys of short-term credentials by user name.
 pub trait ShortTermKeys {
-    ghost key_of: { Self → List ℕ → Option (List ℕ) };
+    ghost key_of: { Self → List ℕ → Option UserKey };
 
     /// The key of a user, the password (RFC 8489, section 9.1.1), or `None` if there is no such
-    /// user. `username` is the value of a USERNAME. The algorithm that the key was made for doesn't
-    /// matter.
+    /// user. `username` is the value of a USERNAME. A key that was made for one algorithm counts
+    /// for that one alone: the integrity attribute of the other counts as absent.
     ///
     /// # Errors
     ///
@@ -41,12 +41,14 @@ pub trait ShortTermKeys {
 
 /// A look-up of the keys of long-term credentials by user, realm and password algorithm.
 pub trait LongTermKeys {
-    ghost key_of: { Self → Who → List ℕ → PasswordAlgorithmValue → Option (List ℕ) };
+    ghost key_of: { Self → Who → List ℕ → PasswordAlgorithmValue → Option UserKey };
 
     /// Returns the key of a user in a realm, by an algorithm: the MD5 or the SHA-256 of
     /// `username:realm:password` (RFC 8489, sections 9.2.2 and 18.5.1); or `None` if there is no
-    /// such user, or the server knows no users by USERHASH. The algorithm that the key was made for
-    /// doesn't matter.
+    /// such user, or the server knows no users by USERHASH. The password
+    /// algorithm isn't the algorithm of the HMAC: a key by either works with both integrity
+    /// algorithms if [`IntegrityKey::for_both`] makes it so. A key that was made for one, as
+    /// `make_key` makes it, counts for that one alone, and signs no reply by the other.
     ///
     /// # Errors
     ///

@@ -14,6 +14,10 @@ use stun_integrity::same_bytes;
 use stun_types::attribute::{Nonce, PasswordAlgorithmValue};
 use stun_types::message::{IntegrityKey, StunWriteError};
 use stun_values::{address_length, write_address};
+use thiserror::Error;
+
+/// How many bytes the secret of a [`NonceMaker`] has at least.
+pub const SECRET_MIN: usize = 16;
 
 /// How many bytes a nonce of a [`NonceMaker`] has.
 const LENGTH: usize = 93;
@@ -55,6 +59,14 @@ pub struct NonceMaker {
     secret: IntegrityKey,
     features: SecurityFeatures,
     window: u64,
+}
+
+/// Why a secret makes no nonces.
+#[derive(Clone, Copy, Debug, PartialEq, Eq, Error)]
+pub enum SecretError {
+    /// It has fewer than 16 bytes, so that somebody could guess it and make the server's nonces.
+    #[error("the secret has fewer than 16 bytes")]
+    TooShort,
 }
 
 /// What a server knows of a nonce that it may have made.
@@ -144,23 +156,37 @@ fn covered<'a>(cookie: &'a [u8], time: &'a [u8; 8], place: &'a [u8]) -> [&'a [u8
 }
 
 impl NonceMaker {
-    ghost use Rattle.std.specs.Prelude.{◌≡◌, IfOk, IfErr};
+    ghost use Rattle.std.specs.Prelude.{◌≡◌, ◌≤◌, ◌<◌, IfOk, IfErr, MatchResult, length};
     ghost use Rattle.stun_attributes.specs.Texts.{text_bytes};
     ghost use Rattle.stun_keys.specs.Keys.{key_bytes};
     ghost use Rattle.stun_values.specs.Addresses.{address_value};
-    ghost use Rattle.stun_authentication.specs.Nonces.{minted, minted_mac, minting, minting_of, freshness, aged, state_of, known_as};
+    ghost use Rattle.stun_authentication.specs.Nonces.{secret_min, minted, minted_mac, minting, minting_of, freshness, aged, state_of, known_as};
 
     /// A maker with this secret: at least 32 random bytes that nobody else knows
     /// ([`IntegrityKey::new`]). `features` are what its nonces say of the server, and
     /// `window` is for how many seconds a nonce is valid.
-    pub fn new(secret: IntegrityKey, features: SecurityFeatures, window: u64) -> Self
-        ensures { minting_of result ≡ minting (key_bytes secret) features window }
+    ///
+    /// # Errors
+    ///
+    /// `TooShort` if the secret has fewer than 16 bytes ([`SECRET_MIN`]).
+    pub fn new(
+        secret: IntegrityKey,
+        features: SecurityFeatures,
+        window: u64,
+    ) -> Result<Self, SecretError>
+        ensures { MatchResult result
+            (λ maker. (secret_min ≤ length (key_bytes secret))
+            × (minting_of maker ≡ minting (key_bytes secret) features window))
+            (λ e. (length (key_bytes secret) < secret_min) × (e ≡ SecretError.TooShort)) }
     {
-        NonceMaker {
+        if secret.as_bytes().len() < SECRET_MIN {
+            return Err(SecretError::TooShort);
+        }
+        Ok(NonceMaker {
             secret,
             features,
             window,
-        }
+        })
     }
 
     /// The HMAC of a nonce.

@@ -2,8 +2,9 @@
 
 ghost use Rattle.std.specs.Prelude.{◌≡◌};
 ghost use Rattle.stun_types.specs.Message.{message_bytes};
-ghost use Rattle.stun_keys.specs.Keys.{key_bytes, IsKey};
-ghost use Rattle.stun_authentication.specs.Policies.{has_least_length};
+ghost use Rattle.stun_keys.specs.Keys.{key_algorithm, key_bytes, IsKey};
+ghost use Rattle.stun_authentication.specs.Policies.{has_least_length, common, shows_served, proved_at};
+ghost use Rattle.stun_grammar.specs.Verdicts.{is_checked_type, verdict};
 
 use stun_types::attribute::{
     AttributeStaticType, Fingerprint, MessageIntegrity, MessageIntegritySha256,
@@ -27,7 +28,8 @@ use stun_types::message::{IntegrityAlgorithm, IntegrityKey, Message};
 #[derive(Clone, Copy, Debug, PartialEq, Eq)]
 pub struct Policy {
     /// The one algorithm that serves, or `None` if both do. The integrity attribute of an
-    /// algorithm that doesn't serve counts as absent.
+    /// algorithm that doesn't serve counts as absent, and so does that of an algorithm with which the
+    /// user's key doesn't work ([`IntegrityKey::serves`]).
     pub algorithm: Option<IntegrityAlgorithm>,
     /// The least length of the HMAC in a MESSAGE-INTEGRITY-SHA256, in bytes. A usage may say 16,
     /// 20, 24 or 28; otherwise it is 32 (RFC 8489, section 14.6).
@@ -74,6 +76,51 @@ pub fn has_least_length(
     }
 }
 
+/// Which algorithms serve one choice, of one algorithm or of both (`None`), and a key. `None` if none
+/// does.
+pub(crate) fn common_algorithms(
+    one: Option<IntegrityAlgorithm>,
+    key: &IntegrityKey,
+) -> Option<Option<IntegrityAlgorithm>>
+    ensures { result ≡ common one (key_algorithm key.now) }
+{
+    match one {
+        None => Some(key.algorithm()),
+        Some(algorithm) if key.serves(algorithm) => Some(Some(algorithm)),
+        Some(_) => None,
+    }
+}
+
+/// Whether a message shows an integrity attribute of the algorithm that serves, or of one of both.
+fn shows_served(served: Option<IntegrityAlgorithm>, message: &Message<'_>) -> bool
+    ensures { result ≡ shows_served served (message_bytes message.now) }
+{
+    match served {
+        Some(IntegrityAlgorithm::Sha1) => message.has_attribute(MessageIntegrity::TYPE),
+        Some(IntegrityAlgorithm::Sha256) => message.has_attribute(MessageIntegritySha256::TYPE),
+        None => {
+            message.has_attribute(MessageIntegrity::TYPE)
+                || message.has_attribute(MessageIntegritySha256::TYPE)
+        }
+    }
+}
+
+/// The algorithm whose HMAC in a message is right under a key, and has enough bytes.
+fn proved_by(
+    shortest: usize,
+    key: &IntegrityKey,
+    message: &Message<'_>,
+) -> Option<IntegrityAlgorithm>
+    ensures { let d = message_bytes message.now in
+        result ≡ proved_at shortest d
+        (verdict (is_checked_type (key_algorithm key.now)) (λ _. key_bytes key.now) d) }
+{
+    match message.validate_integrity_with_key(key) {
+        Ok(algorithm) if has_least_length(shortest, algorithm, message) => Some(algorithm),
+        _ => None,
+    }
+}
+
 impl Default for Policy {
     ghost use Rattle.std.specs.Prelude.{◌≡◌, None, false};
 
@@ -92,8 +139,9 @@ impl Default for Policy {
 impl Policy {
     ghost use Rattle.std.specs.Prelude.{◌≡◌};
     ghost use Rattle.stun_types.specs.Message.{message_bytes};
-    ghost use Rattle.stun_keys.specs.Keys.{key_bytes, IsKey};
-    ghost use Rattle.stun_authentication.specs.Policies.{is_fingerprinted, is_taken, is_signed, proof_of, Proves};
+    ghost use Rattle.stun_keys.specs.Keys.{key_algorithm, key_bytes, IsKey};
+    ghost use Rattle.stun_authentication.specs.Lookups.{key_held};
+    ghost use Rattle.stun_authentication.specs.Policies.{is_fingerprinted, is_taken, is_signed, is_signed_for, counted, proof_of, Proves};
 
     /// Whether a message is taken: with a FINGERPRINT, if the usage uses them.
     pub(crate) fn is_taken(self, message: &Message<'_>) -> bool
@@ -106,32 +154,35 @@ impl Policy {
     pub(crate) fn is_signed(self, message: &Message<'_>) -> bool
         ensures { result ≡ is_signed self (message_bytes message.now) }
     {
-        match self.algorithm {
-            Some(IntegrityAlgorithm::Sha1) => message.has_attribute(MessageIntegrity::TYPE),
-            Some(IntegrityAlgorithm::Sha256) => message.has_attribute(MessageIntegritySha256::TYPE),
-            None => {
-                message.has_attribute(MessageIntegrity::TYPE)
-                    || message.has_attribute(MessageIntegritySha256::TYPE)
-            }
+        shows_served(self.algorithm, message)
+    }
+
+    /// Whether a message shows an integrity attribute that counts with a key.
+    pub(crate) fn is_signed_for(self, key: &IntegrityKey, message: &Message<'_>) -> bool
+        ensures { result
+            ≡ is_signed_for self (key_algorithm key.now) (message_bytes message.now) }
+    {
+        match common_algorithms(self.algorithm, key) {
+            Some(served) => shows_served(served, message),
+            None => false,
         }
     }
 
-    /// The algorithm whose HMAC in a message is right under a key, if it counts; and the key,
-    /// which then works with both algorithms.
+    /// The algorithm whose HMAC in a message is right under a key, if it counts with that key; and
+    /// the key.
+    #[tactic(auto, using(crate::proofs::ProvesLemmas::none_counts, crate::proofs::ProvesLemmas::none_proved, crate::proofs::ProvesLemmas::one_proved))]
     pub(crate) fn proof_of(
         self,
         key: IntegrityKey,
         message: &Message<'_>,
     ) -> Option<(IntegrityKey, IntegrityAlgorithm)>
-        ensures { Proves (key_bytes key)
-            (proof_of self (key_bytes key) (message_bytes message.now)) result }
+        ensures { Proves (key_held key)
+            (proof_of self (key_held key) (message_bytes message.now)) result }
     {
-        let key = key.made_for(self.algorithm);
-        match message.validate_integrity_with_key(&key) {
-            Ok(algorithm) if has_least_length(self.shortest, algorithm, message) => {
-                Some((key.for_both(), algorithm))
-            }
-            _ => None,
-        }
+        let made_for = key.algorithm();
+        let served = common_algorithms(self.algorithm, &key)?;
+        let key = key.made_for(served);
+        let algorithm = proved_by(self.shortest, &key, message)?;
+        Some((key.made_for(made_for), algorithm))
     }
 }

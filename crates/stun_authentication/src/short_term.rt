@@ -1,10 +1,10 @@
 //! A server's checks by the short-term credential mechanism (RFC 8489, section 9.1.3).
 
 ghost use Rattle.std.specs.Prelude.{◌≡◌, ◌≢◌, false, IfOk, IsOk};
-ghost use Rattle.stun_keys.specs.Keys.{key_bytes};
 ghost use Rattle.stun_types.specs.Message.{message_bytes};
 ghost use Rattle.stun_authentication.specs.Answers.{Tells};
-ghost use Rattle.stun_authentication.specs.ShortTerm.{needs_key, short_term, by_class, by_attributes, by_user, by_hmac};
+ghost use Rattle.stun_authentication.specs.Lookups.{key_held};
+ghost use Rattle.stun_authentication.specs.ShortTerm.{needs_key, short_term, by_class, by_attributes, by_user, by_key, by_hmac};
 
 use crate::answer::rejected;
 use crate::identity::value_of;
@@ -14,8 +14,9 @@ use stun_types::attribute::{AttributeStaticType, Username};
 use stun_types::message::{IntegrityKey, Message};
 
 /// The third check: the HMAC.
+#[tactic(auto, using(crate::proofs::ProvesLemmas::short_accepted))]
 fn by_hmac(message: &Message<'_>, policy: Policy, key: IntegrityKey) -> Authentication
-    ensures { Tells (by_hmac policy (key_bytes key) (message_bytes message.now)) result }
+    ensures { Tells (by_hmac policy (key_held key) (message_bytes message.now)) result }
 {
     match policy.proof_of(key, message) {
         Some((key, algorithm)) => Authentication::Accepted(Accepted {
@@ -24,6 +25,34 @@ fn by_hmac(message: &Message<'_>, policy: Policy, key: IntegrityKey) -> Authenti
             reply_algorithm: algorithm,
         }),
         None => rejected(message, Refusal::Unauthenticated),
+    }
+}
+
+/// The same, unless the message is unsigned for this key.
+fn by_key(message: &Message<'_>, policy: Policy, key: IntegrityKey) -> Authentication
+    ensures { Tells (by_key policy (key_held key) (message_bytes message.now)) result }
+{
+    if !policy.is_signed_for(&key, message) {
+        return rejected(message, Refusal::BadRequest);
+    }
+    by_hmac(message, policy, key)
+}
+
+/// The second check, and those after it: the user.
+#[tactic(auto, using(crate::proofs::ProvesLemmas::short_user))]
+fn by_user<K: ShortTermKeys>(
+    alloc: Global,
+    message: &Message<'_>,
+    policy: Policy,
+    keys: &K,
+    username: &[u8],
+) -> Result<Authentication, AllocError>
+    ensures { IfOk result
+        (Tells (by_user policy (K.key_of keys.now) username.now (message_bytes message.now))) }
+{
+    match keys.key(alloc, username)? {
+        Some(key) => Ok(by_key(message, policy, key)),
+        None => Ok(rejected(message, Refusal::Unauthenticated)),
     }
 }
 
@@ -50,10 +79,7 @@ fn checked<K: ShortTermKeys>(
     let Some(username) = value_of(message, Username::TYPE) else {
         return Ok(rejected(message, Refusal::BadRequest));
     };
-    match keys.key(alloc, username)? {
-        Some(key) => Ok(by_hmac(message, policy, key)),
-        None => Ok(rejected(message, Refusal::Unauthenticated)),
-    }
+    by_user(alloc, message, policy, keys, username)
 }
 
 /// Authenticates a request or an indication by short-term credentials, in the order of RFC 8489,
@@ -64,6 +90,8 @@ fn checked<K: ShortTermKeys>(
 /// - Without an integrity attribute that counts (see [`Policy`]), or without USERNAME, it is
 ///   rejected as a bad request.
 /// - If `keys` has no key for the USERNAME, it is rejected as unauthenticated.
+/// - If the key was made for one algorithm, only that one's integrity attribute counts: without it,
+///   the message is rejected as a bad request, like an unsigned one.
 /// - If its last integrity attribute that counts isn't the HMAC under the key, or has fewer
 ///   bytes than the policy asks for, it is rejected as unauthenticated.
 /// - Otherwise it is accepted, with the key and the algorithm of that attribute: the reply is

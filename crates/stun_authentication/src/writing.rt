@@ -4,8 +4,8 @@ ghost use Rattle.std.specs.Prelude.{◌≡◌, ◌≤◌, ◌<◌, ◌^◌, ◌�
 ghost use Rattle.stun_grammar.specs.Attributes.{canonical};
 ghost use Rattle.stun_grammar.specs.AttributeTypes.{IsOrdinary};
 ghost use Rattle.stun_grammar.specs.Hmac.{digest_length};
-ghost use Rattle.stun_keys.specs.Keys.{key_bytes};
-ghost use Rattle.stun_authentication.specs.Writing.{Lengthens, Finishes, finished, signed, print_sizes};
+ghost use Rattle.stun_keys.specs.Keys.{key_algorithm, key_bytes};
+ghost use Rattle.stun_authentication.specs.Writing.{Lengthens, Finishes, FinishesBy, finished, signed, print_sizes};
 
 use stun_types::attribute::AttributeType;
 use stun_types::message::{IntegrityAlgorithm, IntegrityKey, StunWriteError};
@@ -51,8 +51,9 @@ pub(crate) fn add_print<B: MessageWrite>(wanted: bool, write: &mut B) -> Result<
     Ok(())
 }
 
-/// Signs a message, and adds a FINGERPRINT, if one is wanted.
-pub(crate) fn finish<B: MessageWrite>(
+/// Signs a message, whichever algorithm the key was made for, and adds a FINGERPRINT, if one is
+/// wanted.
+pub(crate) fn sign_and_print<B: MessageWrite>(
     key: &IntegrityKey,
     algorithm: IntegrityAlgorithm,
     fingerprint: bool,
@@ -68,4 +69,23 @@ pub(crate) fn finish<B: MessageWrite>(
         write.add_fingerprint()?;
     }
     Ok(())
+}
+
+/// Signs a message, unless the key was made for the other algorithm, and adds a FINGERPRINT, if one
+/// is wanted.
+pub(crate) fn finish<B: MessageWrite>(
+    key: &IntegrityKey,
+    algorithm: IntegrityAlgorithm,
+    fingerprint: bool,
+    write: &mut B,
+) -> Result<(), StunWriteError>
+    ensures { let bytes = key_bytes key.now in
+        FinishesBy (key_algorithm key.now) algorithm result (B.state write.old) (B.state write.new)
+        (λ kind id before. finished fingerprint kind id (signed kind id before algorithm bytes))
+        (digest_length algorithm ∷ print_sizes fingerprint) }
+{
+    if !key.serves(algorithm) {
+        return Err(StunWriteError::IntegrityFailed);
+    }
+    sign_and_print(key, algorithm, fingerprint, write)
 }

@@ -1,5 +1,5 @@
 -- A login by long-term credentials.
-use Rattle.std.proofs.Common.{◌≡◌, ℕ, ◌^◌, ◌<◌, Bool, true, false, eqb, List, [], ◌∷◌, ◌++◌, length, Option, Some, None, refl, sym, ap, subst, ◌∙◌, append_assoc, lit<, arith}
+use Rattle.std.proofs.Common.{◌≡◌, ℕ, ◌^◌, ◌<◌, Bool, true, false, eqb, List, [], ◌∷◌, ◌++◌, length, Option, Some, None, Ok, refl, sym, ap, subst, ◌∙◌, append_assoc, lit<, arith}
 use Rattle.std.specs.Prelude.{is_some, option_and_then, if◌then◌else◌}
 use Rattle.std.specs.List.{AllByRecursion, list_any}
 use Rattle.std.specs.Option.{option_map, option_map_or}
@@ -11,7 +11,7 @@ use Rattle.stun_grammar.specs.Chains.{placed}
 use Rattle.stun_grammar.specs.Headers.{type_field}
 use Rattle.stun_grammar.specs.ScannedOrder.{has}
 use Rattle.stun_grammar.specs.Showing.{shown}
-use Rattle.stun_grammar.specs.Verdicts.{type_of_algorithm, is_checked_type}
+use Rattle.stun_grammar.specs.Verdicts.{type_of_algorithm, is_checked_type, verdict}
 use Rattle.stun_grammar.specs.Writing.{message_encoding, IsWritable}
 use Rattle.stun_grammar.proofs.HmacLemmas.{digest_has_length}
 use Rattle.stun_grammar.proofs.WritingLemmas.{shown-message, type-message}
@@ -29,16 +29,16 @@ use Rattle.stun_authentication.specs.Answers.{accept, refuse, discard, not_a_req
 use Rattle.stun_authentication.specs.Challenges.{signing_by, signing_algorithm, selected}
 use Rattle.stun_authentication.specs.Cookies.{promises_algorithms}
 use Rattle.stun_authentication.specs.Identities.{Who, named, hashed, value_of, one_of, identity_of}
-use Rattle.stun_authentication.specs.Lookups.{Known, valid}
+use Rattle.stun_authentication.specs.Lookups.{UserKey, Known, valid}
 use Rattle.stun_authentication.specs.LongTerm.{Named, names_of, by_both, hashing_of, password_algorithm, reply_algorithm, by_nonce, by_hmac, by_user, by_algorithms, by_names, by_attribute, by_class, is_request, long_term}
 use Rattle.stun_authentication.specs.Policies.{is_taken, is_signed, proof_of}
 use Rattle.stun_logins.specs.Offers.{Offer, offered_list, sent_with, IsOffered, asked_of, Takes, IsShort}
-use Rattle.stun_logins.specs.Premises.{IsOwn, HasRoom, Serves, is_reserved}
+use Rattle.stun_logins.specs.Premises.{IsOwn, HasRoom, Serves, Works, is_reserved}
 use Rattle.stun_authentication.specs.Requests.{User, identity, identity_attribute, algorithm_attributes, credentials, user_key, retried_attributes, retried_request}
 use Rattle.stun_authentication.specs.Writing.{signed}
 use Rattle.stun_logins.proofs.EndedLemmas.{IsFirst, IsMissing, Ended, ended_none, ended_signed, ended_finished, value_there, value_missing, Signs, signs_here, signs_finished, print_unchecked, signs_validate, signs_found, no_print, print_taken}
 use Rattle.stun_logins.proofs.ListsLemmas.{chosen_is, unlisted_is}
-use Rattle.stun_logins.proofs.ProofLemmas.{is_wanted, is_served, proof_is}
+use Rattle.stun_logins.proofs.ProofLemmas.{is_wanted, is_served, proof_is, in_common}
 use Rattle.stun_logins.proofs.ShortTermLemmas.{once_writable, own_missing, signed_unprinted}
 use Rattle.stun_logins.proofs.WritableLemmas.{none_ends, lacks_reserved, any-append, IsAdded, adds, room_down}
 
@@ -175,7 +175,7 @@ processed first supported d before who realm nonce (Some xs) a s agrees takes = 
 
 -- ---- The rows of the server
 
-rows : (policy : Policy) (realm : List ℕ) (nonces : List ℕ → Known) (keys : Who → List ℕ → PasswordAlgorithmValue → Option (List ℕ)) (d : List ℕ) (who : Who) (told nonce key : List ℕ) (xs : List PasswordAlgorithmValue) (hashing : Hashing) (a : IntegrityAlgorithm)
+rows : (policy : Policy) (realm : List ℕ) (nonces : List ℕ → Known) (keys : Who → List ℕ → PasswordAlgorithmValue → Option UserKey) (d : List ℕ) (who : Who) (told nonce : List ℕ) (key : UserKey) (xs : List PasswordAlgorithmValue) (hashing : Hashing) (a : IntegrityAlgorithm)
     → is_taken policy d ≡ true → class_of (type_field d) ≡ Request → is_signed policy d ≡ true → identity_of d ≡ Some who → value_of d REALM ≡ Some told → value_of d NONCE ≡ Some nonce → nonces nonce ≡ valid xs
     → hashing_of (valid xs) nonce d ≡ Some hashing → keys who realm (password_algorithm hashing) ≡ Some key → proof_of policy key d ≡ Some a
     → long_term policy realm nonces keys d ≡ accept key a (reply_algorithm hashing)
@@ -191,17 +191,17 @@ rows policy realm nonces keys d who told nonce key xs hashing a taken class show
     ∙ ap (λ (o : Option Named). option_map_or (λ (n : Named). by_algorithms policy realm keys (nonces n.nonce) n d) o (refuse BadRequest)) names-are
     ∙ ap (λ (k : Known). by_algorithms policy realm keys k names d) state
     ∙ ap (λ (o : Option Hashing). option_map_or (λ (h : Hashing). by_user policy realm keys (valid xs) who h d) o (refuse BadRequest)) how
-    ∙ ap (λ (o : Option (List ℕ)). option_map_or (λ (k : List ℕ). by_hmac policy (valid xs) hashing k d) o (refuse Unauthenticated)) known
+    ∙ ap (λ (o : Option UserKey). option_map_or (λ (k : UserKey). by_hmac policy (valid xs) hashing k d) o (refuse Unauthenticated)) known
     ∙ ap (λ (o : Option IntegrityAlgorithm). option_map_or (λ (b : IntegrityAlgorithm). by_nonce (valid xs) (accept key b (reply_algorithm hashing))) o (refuse Unauthenticated)) right
 
-pub accepted : IsFirst → IsMissing → (policy : Policy) (nonces : List ℕ → Known) (keys : Who → List ℕ → PasswordAlgorithmValue → Option (List ℕ)) (offer : Offer) (supported : List PasswordAlgorithmValue) (algorithm : PasswordAlgorithmValue) (user : User) (fingerprint : Bool) (kind id : ℕ) (before : List Attribute)
+pub accepted : IsFirst → IsMissing → (policy : Policy) (nonces : List ℕ → Known) (keys : Who → List ℕ → PasswordAlgorithmValue → Option UserKey) (offer : Offer) (supported : List PasswordAlgorithmValue) (algorithm : PasswordAlgorithmValue) (user : User) (key : UserKey) (fingerprint : Bool) (kind id : ℕ) (before : List Attribute)
     → (let asked = asked_of offer algorithm in
     IsOffered nonces offer → Takes supported offer algorithm → IsShort offer user.name → class_of kind ≡ Request → IsOwn kind id before → HasRoom kind id (retried_attributes fingerprint asked user kind id before)
-    → keys (identity asked.anonymous offer.realm user.name) offer.realm algorithm ≡ Some (user_key asked user) → Serves policy (signing_algorithm asked) fingerprint
-    → long_term policy offer.realm nonces keys (retried_request fingerprint asked user kind id before) ≡ accept (user_key asked user) (signing_algorithm asked) (signing_algorithm asked))
-accepted first missing policy nonces keys offer supported algorithm user fingerprint kind id before offered takes short class own room known served =
+    → keys (identity asked.anonymous offer.realm user.name) offer.realm algorithm ≡ Some key → Works (user_key asked user) (signing_algorithm asked) key → Serves policy (signing_algorithm asked) fingerprint
+    → long_term policy offer.realm nonces keys (retried_request fingerprint asked user kind id before) ≡ accept key (signing_algorithm asked) (signing_algorithm asked))
+accepted first missing policy nonces keys offer supported algorithm user key fingerprint kind id before offered takes short class own room known works served =
     let asked = asked_of offer algorithm in
-    let key = user_key asked user in
+    let bytes = user_key asked user in
     let a = signing_algorithm asked in
     let who = identity asked.anonymous offer.realm user.name in
     let list = offered_list offer in
@@ -211,21 +211,23 @@ accepted first missing policy nonces keys offer supported algorithm user fingerp
     let d = message_encoding kind id all in
     let none = none_ends (types before) own.own in
     let plain : list_any is_ending (types xs) ≡ false = any-append is_ending before credits none (parts_plain who offer.realm offer.nonce list algorithm) in
-    let ended : Ended xs all = ended_finished fingerprint kind id xs (signed kind id xs a key) (ended_signed kind id xs xs a key (ended_none xs)) in
+    let ended : Ended xs all = ended_finished fingerprint kind id xs (signed kind id xs a bytes) (ended_signed kind id xs xs a bytes (ended_none xs)) in
     let so : IsWritable kind id xs = adds kind id before credits own.writable none
     (parts_added who offer.realm offer.nonce list algorithm (who_fits asked.anonymous offer.realm user.name short.name_fits) short.realm_fits short.nonce_fits short.list_fits)
     (room_down kind id xs ended.more (subst (HasRoom kind id) ended.whole room)) in
-    let writable : IsWritable kind id all = once_writable fingerprint kind id xs a key so plain room in
+    let writable : IsWritable kind id all = once_writable fingerprint kind id xs a bytes so plain room in
     let shows : Shows d before credits = record { more = ended.more; shows = shown-message kind id all writable ∙ ap (placed 20) ended.whole; own = own.own; ending = ended.ending } in
     let unsigned : has (type_of_algorithm a) (types xs) ≡ false = any-append (λ t. eqb t (type_of_algorithm a)) before credits (own_missing a (types before) own.own) (parts_unsigned a who offer.realm offer.nonce list algorithm) in
-    let wanted = is_checked_type policy.algorithm in
-    let signs : Signs kind id all wanted a key = signs_finished fingerprint kind id (signed kind id xs a key) wanted a key (print_unchecked policy.algorithm) (signs_here kind id xs wanted a key unsigned) in
-    let hmac = signs_found first kind id all wanted a key writable signs in
+    let both = in_common policy.algorithm key.made_for a served.counts works.works in
+    let wanted = is_checked_type both.served in
+    let signs : Signs kind id all wanted a bytes = signs_finished fingerprint kind id (signed kind id xs a bytes) wanted a bytes (print_unchecked both.served) (signs_here kind id xs wanted a bytes unsigned) in
+    let hmac = signs_found first kind id all wanted a bytes writable signs in
+    let right : verdict wanted (λ _. key.bytes) d ≡ Ok a = ap (λ (k : List ℕ). verdict wanted (λ _. k) d) works.bytes_are ∙ signs_validate kind id all wanted a bytes writable (is_wanted both.served a both.counts) signs in
     let how = processed first supported d before who offer.realm offer.nonce offer.algorithms algorithm shows offered.agrees takes in
     rows policy offer.realm nonces keys d who offer.realm offer.nonce key (sent_with offer.algorithms) how.hashing a
-    (print_taken first policy.fingerprint fingerprint kind id (signed kind id xs a key) writable (signed_unprinted kind id xs a key (no_print (types xs) plain)) served.printed)
+    (print_taken first policy.fingerprint fingerprint kind id (signed kind id xs a bytes) writable (signed_unprinted kind id xs a bytes (no_print (types xs) plain)) served.printed)
     (ap class_of (type-message kind id all writable.type_fits) ∙ class) (is_served policy.algorithm a d served.counts hmac)
     (who_there first missing d before who offer.realm offer.nonce list algorithm shows) (realm_there first d before who offer.realm offer.nonce list algorithm shows) (nonce_there first d before who offer.realm offer.nonce list algorithm shows)
     offered.known how.processed (ap (λ (x : PasswordAlgorithmValue). keys who offer.realm x) how.key_by ∙ known)
-    (proof_is policy a d key hmac served.shortest (signs_validate kind id all wanted a key writable (is_wanted policy.algorithm a served.counts) signs))
+    (proof_is policy a d key both.served both.which hmac served.shortest right)
     ∙ ap (λ (r : IntegrityAlgorithm). accept key a r) how.reply_by

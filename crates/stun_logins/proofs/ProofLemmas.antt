@@ -1,6 +1,6 @@
 -- Which integrity attribute counts, and that it is right.
-use Rattle.std.proofs.Common.{◌≡◌, ℕ, ◌≤◌, Bool, true, false, ◌||◌, List, length, Option, Some, None, Result, Ok, inl, inr, refl, ap, ◌∙◌}
-use Rattle.std.specs.Prelude.{◌⊎◌, is_some, nat_le, if◌then◌else◌}
+use Rattle.std.proofs.Common.{◌≡◌, ℕ, ◌≤◌, Bool, true, false, ◌||◌, List, length, Option, Some, None, Result, Ok, inl, inr, refl, sym, ap, subst, ◌∙◌}
+use Rattle.std.specs.Prelude.{◌⊎◌, is_some, nat_le, if◌then◌else◌, option_and_then}
 use Rattle.std.specs.Option.{option_map_or}
 use Rattle.std.proofs.lemmas.Bool.{le-leb}
 use Rattle.stun_grammar.specs.declared.error.ValidateError.{ValidateError}
@@ -12,7 +12,8 @@ use Rattle.stun_grammar.specs.Verdicts.{type_of_algorithm, is_checked_type, verd
 use Rattle.stun_keys.specs.Keys.{serves}
 use Rattle.stun_read.specs.LookingUp.{nth}
 use Rattle.stun_authentication.specs.declared.policy.Policy.{Policy}
-use Rattle.stun_authentication.specs.Policies.{shows_served, has_least_length, proved_by, proof_of}
+use Rattle.stun_authentication.specs.Lookups.{UserKey}
+use Rattle.stun_authentication.specs.Policies.{shows_served, has_least_length, common, counted, is_signed_for, validated, proved_by, proof_of}
 use Rattle.stun_transactions.specs.Guards.{signed_by, is_signed, signs_by}
 use Rattle.stun_logins.specs.Premises.{same_algorithm, checked}
 use Rattle.stun_logins.proofs.EndedLemmas.{HasHmac}
@@ -65,19 +66,45 @@ long_enough shortest Sha256 d h short =
     ap (λ (o : Option Shown). option_map_or (λ (x : Shown). nat_le shortest (length x.value)) o false) h.found
     ∙ ap (λ (n : ℕ). nat_le shortest n) h.size ∙ le-leb shortest 32 short
 
-pub proof_is : (policy : Policy) (a : IntegrityAlgorithm) (d key : List ℕ) → HasHmac d a → policy.shortest ≤ 32 → verdict (is_checked_type policy.algorithm) (λ _. key) d ≡ Ok a → proof_of policy key d ≡ Some a
-proof_is policy a d key h short ok =
-    ap (λ (r : Result IntegrityAlgorithm ValidateError). proved_by policy d r) ok
-    ∙ ap (λ (b : Bool). if b then Some a else None) (long_enough policy.shortest a d h short)
-
--- ---- For a client
-
 pub key_counts : (made_for : Option IntegrityAlgorithm) (a : IntegrityAlgorithm) → serves made_for a ≡ true → Counts made_for a
 key_counts None a e = inl refl
 key_counts (Some Sha1) Sha1 e = inr refl
 key_counts (Some Sha1) Sha256 e = absurd cc
 key_counts (Some Sha256) Sha1 e = absurd cc
 key_counts (Some Sha256) Sha256 e = inr refl
+
+pub proof_is : (policy : Policy) (a : IntegrityAlgorithm) (d : List ℕ) (key : UserKey) (served : Option IntegrityAlgorithm) → counted policy key.made_for ≡ Some served → HasHmac d a → policy.shortest ≤ 32 → verdict (is_checked_type served) (λ _. key.bytes) d ≡ Ok a → proof_of policy key d ≡ Some a
+proof_is policy a d key served which h short ok =
+    ap (λ (o : Option (Option IntegrityAlgorithm)). option_and_then (λ (m : Option IntegrityAlgorithm). proved_by policy d (validated m key.bytes d)) o) which
+    ∙ ap (λ (r : Result IntegrityAlgorithm ValidateError). proved_by policy d r) ok
+    ∙ ap (λ (b : Bool). if b then Some a else None) (long_enough policy.shortest a d h short)
+
+-- a message shows an integrity attribute that counts with a key
+pub signed_for : (policy : Policy) (made_for served : Option IntegrityAlgorithm) (a : IntegrityAlgorithm) (d : List ℕ) → counted policy made_for ≡ Some served → Counts served a → HasHmac d a → is_signed_for policy made_for d ≡ true
+signed_for policy made_for served a d which counts h =
+    ap (λ (o : Option (Option IntegrityAlgorithm)). option_map_or (λ (m : Option IntegrityAlgorithm). shows_served m d) o false) which ∙ is_served served a d counts h
+
+-- what two choices have in common counts for each
+pub one_counts : (one other served : Option IntegrityAlgorithm) (a : IntegrityAlgorithm) → common one other ≡ Some served → Counts served a → Counts one a
+one_counts None other served a e counts = inl refl
+one_counts (Some b) other served a e counts = by_test (serves other b) e
+  where
+    by_test : (works : Bool) → (if works then Some (Some b) else None) ≡ Some served → Counts (Some b) a
+    by_test true found = let same : Some b ≡ served = cc in subst (λ (m : Option IntegrityAlgorithm). Counts m a) (sym same) counts
+    by_test false found = absurd cc
+
+-- an algorithm that counts for a choice, and that a key works with, counts for what they have in
+-- common
+pub record InCommon (one other : Option IntegrityAlgorithm) (a : IntegrityAlgorithm) : Type 0 where
+  pub served : Option IntegrityAlgorithm
+  pub which : common one other ≡ Some served
+  pub counts : Counts served a
+
+pub in_common : (one other : Option IntegrityAlgorithm) (a : IntegrityAlgorithm) → Counts one a → serves other a ≡ true → InCommon one other a
+in_common one other a (inl e) works = subst (λ (m : Option IntegrityAlgorithm). InCommon m other a) (sym e) (record { served = other; which = refl; counts = key_counts other a works })
+in_common one other a (inr e) works = subst (λ (m : Option IntegrityAlgorithm). InCommon m other a) (sym e) (record { served = Some a; which = ap (λ (b : Bool). if b then Some (Some a) else None) works; counts = inr refl })
+
+-- ---- For a client
 
 pub signs_is : (a : IntegrityAlgorithm) (d : List ℕ) → HasHmac d a → signs_by (signed_by d) a ≡ true
 signs_is Sha1 d h = ap (λ (o : Option Shown). is_some o) h.found

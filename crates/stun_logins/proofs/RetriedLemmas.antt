@@ -1,7 +1,8 @@
 -- A request that answers the challenge of a response by which it was refused.
-use Rattle.std.proofs.Common.{◌≡◌, ℕ, ◌^◌, ◌<◌, Bool, true, List, [], length, Option, Some, Result, Ok, sym, ap, subst, ◌∙◌}
-use Rattle.std.specs.Prelude.{find}
+use Rattle.std.proofs.Common.{◌≡◌, ℕ, ◌^◌, ◌<◌, Bool, true, List, [], ◌∷◌, length, Option, None, Some, Result, Ok, refl, sym, ap, subst, ◌∙◌, arith}
+use Rattle.std.specs.Prelude.{◌≢◌, ◌==◌, find, option_and_then, if◌then◌else◌}
 use Rattle.std.specs.Option.{option_map}
+use Rattle.std.proofs.lemmas.Bool.{ne_eqb}
 use Rattle.stun_grammar.specs.Attributes.{Attribute}
 use Rattle.stun_base.specs.declared.message_type.MessageClass.TheVariants.{Request, Error as ErrorClass}
 use Rattle.stun_base.specs.MessageTypes.{class_of}
@@ -17,11 +18,11 @@ use Rattle.stun_authentication.specs.declared.demand.Demand.{Demand}
 use Rattle.stun_authentication.specs.Answers.{accept}
 use Rattle.stun_authentication.specs.Challenges.{Asked, challenge_of, signing_algorithm}
 use Rattle.stun_authentication.specs.Identities.{Who, named}
-use Rattle.stun_authentication.specs.Logins.{is_login, users_of, long_term_key_of, short_term_key_of}
+use Rattle.stun_authentication.specs.Logins.{is_login, users_of, with_password, long_term_key_of, short_term_key_of}
 use Rattle.stun_authentication.specs.LongTerm.{long_term}
-use Rattle.stun_authentication.specs.Lookups.{Known}
+use Rattle.stun_authentication.specs.Lookups.{UserKey, key_made, Known}
 use Rattle.stun_logins.specs.Offers.{Offer, IsOffered, IsLawful, Takes, IsShort, Retries, asked_of, asks, offer_of, refused, refused_attributes}
-use Rattle.stun_logins.specs.Premises.{IsOwn, HasRoom, Serves}
+use Rattle.stun_logins.specs.Premises.{IsOwn, HasRoom, Serves, Works}
 use Rattle.stun_authentication.specs.Requests.{User, user_of, identity, user_key, retried_attributes, retried_request}
 use Rattle.stun_logins.proofs.ChallengeLemmas.{challenge_read, text_short}
 use Rattle.stun_logins.proofs.EndedLemmas.{IsFirst, IsMissing}
@@ -32,35 +33,44 @@ ok_is a b r one two =
     let same : (let x : Result Asked NoRetry = Ok a in x) ≡ Ok b = sym one ∙ two in cc
 
 -- for whatever the client was asked, if that is what the offer asks
-of_asked : IsFirst → IsMissing → (policy : Policy) (nonces : List ℕ → Known) (keys : Who → List ℕ → PasswordAlgorithmValue → Option (List ℕ)) (offer : Offer) (supported : List PasswordAlgorithmValue) (algorithm : PasswordAlgorithmValue) (asked : Asked) (user : User) (fingerprint : Bool) (kind id : ℕ) (before : List Attribute)
+of_asked : IsFirst → IsMissing → (policy : Policy) (nonces : List ℕ → Known) (keys : Who → List ℕ → PasswordAlgorithmValue → Option UserKey) (offer : Offer) (supported : List PasswordAlgorithmValue) (algorithm : PasswordAlgorithmValue) (asked : Asked) (user : User) (key : UserKey) (fingerprint : Bool) (kind id : ℕ) (before : List Attribute)
     → asked_of offer algorithm ≡ asked → IsOffered nonces offer → Takes supported offer algorithm → IsShort offer user.name → class_of kind ≡ Request → IsOwn kind id before → HasRoom kind id (retried_attributes fingerprint asked user kind id before)
-    → keys (identity asked.anonymous asked.realm user.name) asked.realm asked.algorithm ≡ Some (user_key asked user) → Serves policy (signing_algorithm asked) fingerprint
-    → long_term policy offer.realm nonces keys (retried_request fingerprint asked user kind id before) ≡ accept (user_key asked user) (signing_algorithm asked) (signing_algorithm asked)
-of_asked first missing policy nonces keys offer supported algorithm asked user fingerprint kind id before same offered takes short class own =
-    subst (λ (x : Asked). HasRoom kind id (retried_attributes fingerprint x user kind id before) → keys (identity x.anonymous x.realm user.name) x.realm x.algorithm ≡ Some (user_key x user) → Serves policy (signing_algorithm x) fingerprint
-    → long_term policy offer.realm nonces keys (retried_request fingerprint x user kind id before) ≡ accept (user_key x user) (signing_algorithm x) (signing_algorithm x)) same
-    (accepted first missing policy nonces keys offer supported algorithm user fingerprint kind id before offered takes short class own)
+    → keys (identity asked.anonymous asked.realm user.name) asked.realm asked.algorithm ≡ Some key → Works (user_key asked user) (signing_algorithm asked) key → Serves policy (signing_algorithm asked) fingerprint
+    → long_term policy offer.realm nonces keys (retried_request fingerprint asked user kind id before) ≡ accept key (signing_algorithm asked) (signing_algorithm asked)
+of_asked first missing policy nonces keys offer supported algorithm asked user key fingerprint kind id before same offered takes short class own =
+    subst (λ (x : Asked). HasRoom kind id (retried_attributes fingerprint x user kind id before) → keys (identity x.anonymous x.realm user.name) x.realm x.algorithm ≡ Some key → Works (user_key x user) (signing_algorithm x) key → Serves policy (signing_algorithm x) fingerprint
+    → long_term policy offer.realm nonces keys (retried_request fingerprint x user kind id before) ≡ accept key (signing_algorithm x) (signing_algorithm x)) same
+    (accepted first missing policy nonces keys offer supported algorithm user key fingerprint kind id before offered takes short class own)
 
-pub retried : IsFirst → IsMissing → (policy : Policy) (nonces : List ℕ → Known) (keys : Who → List ℕ → PasswordAlgorithmValue → Option (List ℕ)) (refusal : Refusal) (demand : Demand) (supported : List PasswordAlgorithmValue) (algorithm : PasswordAlgorithmValue) (tried seen : Option (List ℕ)) (print : Bool) (other number : ℕ) (asked : Asked) (user : User) (fingerprint : Bool) (kind id : ℕ) (before : List Attribute)
+pub retried : IsFirst → IsMissing → (policy : Policy) (nonces : List ℕ → Known) (keys : Who → List ℕ → PasswordAlgorithmValue → Option UserKey) (refusal : Refusal) (demand : Demand) (supported : List PasswordAlgorithmValue) (algorithm : PasswordAlgorithmValue) (tried seen : Option (List ℕ)) (print : Bool) (other number : ℕ) (asked : Asked) (user : User) (key : UserKey) (fingerprint : Bool) (kind id : ℕ) (before : List Attribute)
     → (let offer = offer_of demand in
     asks refusal ≡ true → other < 2 ^ 14 → number < 2 ^ 96 → class_of other ≡ ErrorClass → IsLawful offer → IsOffered nonces offer → Takes supported offer algorithm → Retries tried seen refusal offer → HasRoom other number (refused_attributes print other number refusal demand)
     → challenge_of supported tried seen (refused print other number refusal demand) ≡ Ok asked → length user.name < 2 ^ 16 → class_of kind ≡ Request → IsOwn kind id before → HasRoom kind id (retried_attributes fingerprint asked user kind id before)
-    → keys (identity asked.anonymous asked.realm user.name) asked.realm asked.algorithm ≡ Some (user_key asked user) → Serves policy (signing_algorithm asked) fingerprint
-    → long_term policy offer.realm nonces keys (retried_request fingerprint asked user kind id before) ≡ accept (user_key asked user) (signing_algorithm asked) (signing_algorithm asked))
-retried first missing policy nonces keys refusal demand supported algorithm tried seen print other number asked user fingerprint kind id before asking kind_fits id_fits error lawful offered takes retries fits read name_fits class own =
+    → keys (identity asked.anonymous asked.realm user.name) asked.realm asked.algorithm ≡ Some key → Works (user_key asked user) (signing_algorithm asked) key → Serves policy (signing_algorithm asked) fingerprint
+    → long_term policy offer.realm nonces keys (retried_request fingerprint asked user kind id before) ≡ accept key (signing_algorithm asked) (signing_algorithm asked))
+retried first missing policy nonces keys refusal demand supported algorithm tried seen print other number asked user key fingerprint kind id before asking kind_fits id_fits error lawful offered takes retries fits read name_fits class own =
     let offer = offer_of demand in
     let same : asked_of offer algorithm ≡ asked = ok_is (asked_of offer algorithm) asked (challenge_of supported tried seen (refused print other number refusal demand))
     (challenge_read first missing refusal demand supported algorithm tried seen print other number asking kind_fits id_fits error lawful offered.agrees takes retries fits) read in
-    of_asked first missing policy nonces keys offer supported algorithm asked user fingerprint kind id before same offered takes
+    of_asked first missing policy nonces keys offer supported algorithm asked user key fingerprint kind id before same offered takes
     (record { realm_fits = text_short offer.realm lawful.realm_is; nonce_fits = text_short offer.nonce lawful.nonce_is; list_fits = lawful.list_fits; name_fits = name_fits }) class own
 
 -- ---- The keys that users by name and password have
 
+-- a user with a password that isn't empty has one
+has_password : (password : List ℕ) (user : LongTermCredentials) → password ≢ [] → (if length password == 0 then None else Some user) ≡ Some user
+has_password [] user there = absurd (there refl)
+has_password (c ∷ password) user there = rw (ne_eqb (length (c ∷ password)) 0 (λ e. omega (arith, e))) refl
+
 pub long_keys : (logins : Logins) (login : LongTermCredentials) (asked : Asked)
     → (let user = user_of login in
     let who = identity asked.anonymous asked.realm user.name in
-    find (is_login who asked.realm) (users_of logins) ≡ Some login → long_term_key_of logins who asked.realm asked.algorithm ≡ Some (user_key asked user))
-long_keys logins login asked e = ap (option_map (λ (user : LongTermCredentials). long_term_key (integrity_of asked.algorithm) (login_username user) asked.realm (login_password user))) e
+    find (is_login who asked.realm) (users_of logins) ≡ Some login → user.password ≢ [] → long_term_key_of logins who asked.realm asked.algorithm ≡ Some (key_made None (user_key asked user)))
+long_keys logins login asked e there =
+    ap (λ (o : Option LongTermCredentials). option_map (λ (user : LongTermCredentials). key_made None (long_term_key (integrity_of asked.algorithm) (login_username user) asked.realm (login_password user))) (option_and_then with_password o)) e
+    ∙ ap (option_map (λ (user : LongTermCredentials). key_made None (long_term_key (integrity_of asked.algorithm) (login_username user) asked.realm (login_password user)))) (has_password (login_password login) login there)
 
-pub short_keys : (logins : Logins) (login : LongTermCredentials) → (let user = user_of login in find (is_login (named user.name) []) (users_of logins) ≡ Some login → short_term_key_of logins user.name ≡ Some user.password)
-short_keys logins login e = ap (option_map (λ (user : LongTermCredentials). login_password user)) e
+pub short_keys : (logins : Logins) (login : LongTermCredentials) → (let user = user_of login in find (is_login (named user.name) []) (users_of logins) ≡ Some login → user.password ≢ [] → short_term_key_of logins user.name ≡ Some (key_made None user.password))
+short_keys logins login e there =
+    ap (λ (o : Option LongTermCredentials). option_map (λ (user : LongTermCredentials). key_made None (login_password user)) (option_and_then with_password o)) e
+    ∙ ap (option_map (λ (user : LongTermCredentials). key_made None (login_password user))) (has_password (login_password login) login there)

@@ -24,14 +24,15 @@ use Rattle.stun_authentication.specs.declared.answer.Refusal.TheVariants.{BadReq
 use Rattle.stun_authentication.specs.declared.policy.Policy.{Policy}
 use Rattle.stun_authentication.specs.Answers.{accept, discard, not_a_request}
 use Rattle.stun_authentication.specs.Identities.{value_of}
-use Rattle.stun_authentication.specs.Policies.{is_taken, is_signed, proof_of}
-use Rattle.stun_authentication.specs.ShortTerm.{reject, by_hmac, by_user, by_attributes, by_class, short_term}
+use Rattle.stun_authentication.specs.Lookups.{UserKey}
+use Rattle.stun_authentication.specs.Policies.{is_taken, is_signed, is_signed_for, counted, proof_of}
+use Rattle.stun_authentication.specs.ShortTerm.{reject, by_hmac, by_key, by_user, by_attributes, by_class, short_term}
 use Rattle.stun_transactions.specs.Guards.{validated}
 use Rattle.stun_logins.specs.Premises.{IsOwn, IsOpen, IsNamed, IsPrinted, HasRoom, WorksAs, checked, is_reserved}
 use Rattle.stun_authentication.specs.Requests.{signed_by_each, short_term_attributes, short_term_request}
 use Rattle.stun_authentication.specs.Writing.{signed, finished, signed_reply}
 use Rattle.stun_logins.proofs.EndedLemmas.{IsFirst, Ended, ended_none, ended_signed, ended_finished, value_there, Signs, signs_here, signs_signed, signs_finished, print_unchecked, signs_validate, signs_found, reply_validates, no_print, print_taken}
-use Rattle.stun_logins.proofs.ProofLemmas.{some_is, same_is, checked_counts, is_wanted, is_served, proof_is, key_counts}
+use Rattle.stun_logins.proofs.ProofLemmas.{some_is, same_is, checked_counts, is_wanted, is_served, proof_is, signed_for, one_counts, key_counts}
 use Rattle.stun_logins.proofs.WritableLemmas.{none_ends, lacks_reserved, any-append, types-append, one_more, adds, room_down}
 use Rattle.stun_authentication.proofs.TypesLemmas.{free, free_append}
 
@@ -159,31 +160,34 @@ is_request fingerprint sent counts a kind id before name key own named room whic
     not_user Sha1 = refl
     not_user Sha256 = refl
 
-rows : (policy : Policy) (keys : List ℕ → Option (List ℕ)) (d name key : List ℕ) (a : IntegrityAlgorithm) → is_taken policy d ≡ true → is_response (class_of (type_field d)) ≡ false → is_signed policy d ≡ true → value_of d USERNAME ≡ Some name → keys name ≡ Some key
-    → proof_of policy key d ≡ Some a → short_term policy keys d ≡ accept key a a
-rows policy keys d name key a taken response shows user known right =
+rows : (policy : Policy) (keys : List ℕ → Option UserKey) (d name : List ℕ) (key : UserKey) (a : IntegrityAlgorithm) → is_taken policy d ≡ true → is_response (class_of (type_field d)) ≡ false → is_signed policy d ≡ true → value_of d USERNAME ≡ Some name → keys name ≡ Some key
+    → is_signed_for policy key.made_for d ≡ true → proof_of policy key d ≡ Some a → short_term policy keys d ≡ accept key a a
+rows policy keys d name key a taken response shows user known signs right =
     ap (λ (b : Bool). if b then by_class policy keys d else discard) taken
     ∙ ap (λ (b : Bool). if b then not_a_request else by_attributes policy keys d) response
     ∙ ap (λ (b : Bool). if b then option_map_or (λ (u : List ℕ). by_user policy keys u d) (value_of d USERNAME) (reject d BadRequest) else reject d BadRequest) shows
     ∙ ap (λ (o : Option (List ℕ)). option_map_or (λ (u : List ℕ). by_user policy keys u d) o (reject d BadRequest)) user
-    ∙ ap (λ (o : Option (List ℕ)). option_map_or (λ (k : List ℕ). by_hmac policy k d) o (reject d Unauthenticated)) known
+    ∙ ap (λ (o : Option UserKey). option_map_or (λ (k : UserKey). by_key policy k d) o (reject d Unauthenticated)) known
+    ∙ ap (λ (b : Bool). if b then by_hmac policy key d else reject d BadRequest) signs
     ∙ ap (λ (o : Option IntegrityAlgorithm). option_map_or (λ (b : IntegrityAlgorithm). accept key b b) o (reject d Unauthenticated)) right
 
-pub accepted : IsFirst → (policy : Policy) (keys : List ℕ → Option (List ℕ)) (sent : Option IntegrityAlgorithm) (a : IntegrityAlgorithm) (fingerprint : Bool) (kind id : ℕ) (before : List Attribute) (name key : List ℕ)
-    → is_response (class_of kind) ≡ false → IsOwn kind id before → IsNamed name → HasRoom kind id (short_term_attributes fingerprint sent kind id before name key)
-    → keys name ≡ Some key → checked policy.algorithm sent ≡ Some a → policy.shortest ≤ 32 → IsPrinted policy.fingerprint fingerprint
-    → short_term policy keys (short_term_request fingerprint sent kind id before name key) ≡ accept key a a
-accepted first policy keys sent a fingerprint kind id before name key response own named room known which short printed =
-    let all = short_term_attributes fingerprint sent kind id before name key in
+pub accepted : IsFirst → (policy : Policy) (keys : List ℕ → Option UserKey) (sent served : Option IntegrityAlgorithm) (a : IntegrityAlgorithm) (fingerprint : Bool) (kind id : ℕ) (before : List Attribute) (name : List ℕ) (key : UserKey)
+    → is_response (class_of kind) ≡ false → IsOwn kind id before → IsNamed name → HasRoom kind id (short_term_attributes fingerprint sent kind id before name key.bytes)
+    → keys name ≡ Some key → counted policy key.made_for ≡ Some served → checked served sent ≡ Some a → policy.shortest ≤ 32 → IsPrinted policy.fingerprint fingerprint
+    → short_term policy keys (short_term_request fingerprint sent kind id before name key.bytes) ≡ accept key a a
+accepted first policy keys sent served a fingerprint kind id before name key response own named room known common which short printed =
+    let bytes = key.bytes in
+    let all = short_term_attributes fingerprint sent kind id before name bytes in
     let d = message_encoding kind id all in
     let user = canonical USERNAME name in
-    let r = is_request fingerprint sent policy.algorithm a kind id before name key own named room which in
-    let counts = checked_counts policy.algorithm sent a which in
-    let hmac = signs_found first kind id all (is_checked_type policy.algorithm) a key r.writable r.signs in
-    rows policy keys d name key a (print_taken first policy.fingerprint fingerprint kind id (signed_by_each sent kind id (before ++ user ∷ []) key) r.writable (each_unprinted sent kind id (before ++ user ∷ []) key (no_print (types (before ++ user ∷ [])) (any-append is_ending before (user ∷ []) (none_ends (types before) own.own) refl))) printed)
-    (ap (λ (t : ℕ). is_response (class_of t)) (type-message kind id all r.writable.type_fits) ∙ response) (is_served policy.algorithm a d counts hmac)
+    let r = is_request fingerprint sent served a kind id before name bytes own named room which in
+    let counts = checked_counts served sent a which in
+    let hmac = signs_found first kind id all (is_checked_type served) a bytes r.writable r.signs in
+    rows policy keys d name key a (print_taken first policy.fingerprint fingerprint kind id (signed_by_each sent kind id (before ++ user ∷ []) bytes) r.writable (each_unprinted sent kind id (before ++ user ∷ []) bytes (no_print (types (before ++ user ∷ [])) (any-append is_ending before (user ∷ []) (none_ends (types before) own.own) refl))) printed)
+    (ap (λ (t : ℕ). is_response (class_of t)) (type-message kind id all r.writable.type_fits) ∙ response) (is_served policy.algorithm a d (one_counts policy.algorithm key.made_for served a common counts) hmac)
     (value_there first d before r.behind user (shown-message kind id all r.writable ∙ ap (placed 20) r.whole) (lacks_reserved USERNAME (types before) refl own.own)) known
-    (proof_is policy a d key hmac short (signs_validate kind id all (is_checked_type policy.algorithm) a key r.writable (is_wanted policy.algorithm a counts) r.signs))
+    (signed_for policy key.made_for served a d common counts hmac)
+    (proof_is policy a d key served common hmac short (signs_validate kind id all (is_checked_type served) a bytes r.writable (is_wanted served a counts) r.signs))
 
 -- ---- The reply
 

@@ -19,7 +19,6 @@ use Rattle.stun_grammar.specs.Writing.{message_encoding}
 use Rattle.stun_grammar.proofs.WritingLemmas.{parse-message, shown-message}
 use Rattle.stun_base.specs.MessageTypes.{method_of}
 use Rattle.stun_keys.specs.declared.keys.integrity_key.IntegrityKey.{IntegrityKey}
-use Rattle.stun_keys.specs.Keys.{key_bytes, IsKey, serves}
 use Rattle.stun_types.specs.Replies.{responds_to, is_answer_to}
 use Rattle.stun_authentication.specs.Challenges.{list_of, is_bid_down}
 use Rattle.stun_authentication.specs.Codes.{is_challenge, is_code, response_code}
@@ -38,7 +37,7 @@ use Rattle.stun_transactions.specs.declared.terms.Terms.{Terms}
 use Rattle.stun_transactions.specs.declared.usage.Usage.{Usage}
 use Rattle.stun_transactions.specs.Usages.{lacks_fingerprint}
 use Rattle.stun_authentication.specs.Policies.{proved_at}
-use Rattle.stun_transactions.specs.Guards.{guard_fault, signed_by, is_signed, signs_by, is_unsigned_bad_request, validated, matched_by, proof_of, short_term_fault, long_term_fault, mechanism_fault, IsStoredAs}
+use Rattle.stun_transactions.specs.Guards.{guard_fault, signed_by, is_signed, signs_by, is_unsigned_bad_request, validated, matched_by, proof_of, short_term_fault, long_term_fault, mechanism_fault}
 use Rattle.stun_transactions.specs.Outcomes.{is_open}
 use Rattle.stun_transactions.specs.Receiving.{content, claim_of, discarded, received_outcome}
 use Rattle.stun_transactions.specs.Terms.{AreTerms, is_answer}
@@ -165,24 +164,15 @@ heard_as terms state understood r d plan protection usage a are ongoing parses a
     it.kept
     ∙ ap (λ (o : Option IntegrityAlgorithm). content o understood d) it.proof
 
--- a long-term key that is kept works with both algorithms
-kept_works : (k kept : IntegrityKey) (a : IntegrityAlgorithm) (key : List ℕ) → IsKey None (key_bytes k) kept → key_bytes k ≡ key → WorksAs key a kept
-kept_works k kept a key is same = record { bytes_are = is.bytes_are ∙ same; works = ap (λ (o : Option IntegrityAlgorithm). serves o a) is.algorithm_is }
-
-kept_long : (p : Protection) (k : IntegrityKey) (usage : Usage) (by : Signed) (a : IntegrityAlgorithm) (key d : List ℕ) → IsStoredAs (P.LongTerm k) p → key_bytes k ≡ key → ((kept : IntegrityKey) → WorksAs key a kept → IsTaken (P.LongTerm kept) usage by d a) → IsTaken p usage by d a
-kept_long P.Unprotected k usage by a key d is same then_taken = absurd is
-kept_long P.FirstLongTerm k usage by a key d is same then_taken = absurd is
-kept_long (P.ShortTerm kept) k usage by a key d is same then_taken = absurd is
-kept_long (P.LongTerm kept) k usage by a key d is same then_taken = then_taken kept (kept_works k kept a key is same)
-
 pub long_heard : IsFirst → IsMissing → (a : IntegrityAlgorithm) (print : Bool) (kind id : ℕ) (xs : List Attribute) (r key : List ℕ) (k : IntegrityKey) (plan : Plan) (usage : Usage) (terms : Terms) (state : RetransmissionState) (understood : List AttributeType)
-    → key_bytes k ≡ key → AreTerms r plan (P.LongTerm k) usage terms → is_open state ≡ true → IsOpen kind id xs → has NONCE (types xs) ≡ false → HasRoom kind id (finished print kind id (signed kind id xs a key)) → Suits usage print
+    → WorksAs key a k → AreTerms r plan (P.LongTerm k) usage terms → is_open state ≡ true → IsOpen kind id xs → has NONCE (types xs) ≡ false → HasRoom kind id (finished print kind id (signed kind id xs a key)) → Suits usage print
     → is_answer_to r (signed_reply print kind id xs a key) ≡ true → received_outcome terms state understood (signed_reply print kind id xs a key) ≡ content (Some a) understood (signed_reply print kind id xs a key)
-long_heard first missing a print kind id xs r key k plan usage terms state understood same are ongoing plain none room suits answers =
+long_heard first missing a print kind id xs r key k plan usage terms state understood works are ongoing plain none room suits answers =
     let d = signed_reply print kind id xs a key in
     heard_as terms state understood r d plan (P.LongTerm k) usage a are ongoing (parse-message kind id (finished print kind id (signed kind id xs a key)) (once_writable print kind id xs a key plain.writable plain.ordinary room)) answers
     (subst (λ (u : Usage). IsTaken terms.protection u terms.signed d a) (sym are.usage_is)
-    (kept_long terms.protection k usage terms.signed a key d are.protection_is same (λ kept works. long_taken first missing a print kind id xs key kept usage terms.signed works plain none room suits)))
+    (subst (λ (p : Protection). IsTaken p usage terms.signed d a) (sym are.protection_is)
+    (long_taken first missing a print kind id xs key k usage terms.signed works plain none room suits)))
 
 -- the same of a short-term key, which is kept as it is
 pub short_heard : (a : IntegrityAlgorithm) (print : Bool) (kind id : ℕ) (xs : List Attribute) (r key : List ℕ) (k : IntegrityKey) (plan : Plan) (usage : Usage) (terms : Terms) (state : RetransmissionState) (understood : List AttributeType)

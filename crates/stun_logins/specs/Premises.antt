@@ -10,6 +10,7 @@ use Rattle.stun_grammar.specs.Writing.{message_encoding, greatest_length, IsWrit
 use Rattle.stun_keys.specs.declared.keys.integrity_key.IntegrityKey.{IntegrityKey}
 use Rattle.stun_keys.specs.Keys.{key_bytes, key_algorithm, serves}
 use Rattle.stun_authentication.specs.declared.policy.Policy.{Policy}
+use Rattle.stun_authentication.specs.Lookups.{UserKey}
 use Rattle.stun_transactions.specs.declared.usage.Usage.{Usage}
 
 -- the types of the attributes that say who a client is, and what it was asked to copy
@@ -48,7 +49,7 @@ same_algorithm Sha1 Sha256 = false
 same_algorithm Sha256 Sha1 = false
 same_algorithm Sha256 Sha256 = true
 
--- the algorithm of the integrity attribute that a server checks, by which ones count for it, and
+-- the algorithm of the integrity attribute that is checked, by which ones count, and
 -- which ones a request has (None: both); none if they don't meet
 abbrev pub checked : (counts sent : Option IntegrityAlgorithm) → Option IntegrityAlgorithm
 checked None None = Some Sha256
@@ -72,6 +73,11 @@ pub record Serves (policy : Policy) (algorithm : IntegrityAlgorithm) (fingerprin
 pub record Suits (usage : Usage) (fingerprint : Bool) : Type 0 where
   pub shortest : usage.shortest ≤ 32
   pub printed : IsPrinted usage.fingerprint fingerprint
+
+-- a user's key with these bytes, that works with an algorithm
+pub record Works (bytes : List ℕ) (algorithm : IntegrityAlgorithm) (key : UserKey) : Type 0 where
+  pub bytes_are : key.bytes ≡ bytes
+  pub works : serves key.made_for algorithm ≡ true
 
 -- a key with these bytes, that works with an algorithm
 pub record WorksAs (key : List ℕ) (algorithm : IntegrityAlgorithm) (stored : IntegrityKey) : Type 0 where

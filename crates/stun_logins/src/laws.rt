@@ -1,6 +1,6 @@
 //! Laws of logins. Each function does nothing: its contract is the law.
 
-ghost use Rattle.std.specs.Prelude.{◌≡◌, ◌≤◌, ◌<◌, ◌+◌, ◌^◌, ◌++◌, ◌∷◌, ℕ, Bool, true, false, List, [], Option, Some, None, Ok, is_some, length, find};
+ghost use Rattle.std.specs.Prelude.{◌≡◌, ◌≢◌, ◌≤◌, ◌<◌, ◌+◌, ◌^◌, ◌++◌, ◌∷◌, ℕ, Bool, true, false, List, [], Option, Some, None, Ok, is_some, length, find};
 ghost use Rattle.stun_grammar.specs.declared.integrity_algorithm.IntegrityAlgorithm.{IntegrityAlgorithm};
 ghost use Rattle.stun_grammar.specs.Attributes.{Attribute};
 ghost use Rattle.stun_grammar.specs.Writing.{IsWritable};
@@ -24,10 +24,10 @@ ghost use Rattle.stun_keys.specs.declared.keys.long_term.LongTermCredentials.{Lo
 ghost use Rattle.stun_authentication.specs.declared.logins.Logins.{Logins};
 ghost use Rattle.stun_authentication.specs.Logins.{is_login, users_of, long_term_key_of, short_term_key_of};
 ghost use Rattle.stun_authentication.specs.LongTerm.{long_term};
-ghost use Rattle.stun_authentication.specs.Lookups.{Known};
+ghost use Rattle.stun_authentication.specs.Lookups.{UserKey, key_made, Known};
+ghost use Rattle.stun_authentication.specs.Policies.{counted};
 ghost use Rattle.stun_authentication.specs.Nonces.{Minting, known_as, minted, freshness};
 ghost use Rattle.stun_grammar.specs.declared.attribute_type.AttributeType.{AttributeType};
-ghost use Rattle.stun_keys.specs.Keys.{key_bytes};
 ghost use Rattle.stun_types.specs.Replies.{is_answer_to};
 ghost use Rattle.stun_transactions.specs.declared.retransmission.RetransmissionState.{RetransmissionState};
 ghost use Rattle.stun_transactions.specs.declared.plan.Plan.{Plan};
@@ -40,7 +40,7 @@ ghost use Rattle.stun_logins.specs.Example.{IsMet};
 ghost use Rattle.stun_logins.specs.Offers.{Offer, IsOffered, sent_with, IsLawful, Takes, IsShort, Retries, asked_of, asks, offer_of, refused, refused_attributes};
 ghost use Rattle.stun_authentication.specs.Requests.{User, user_of, identity, user_key, retried_attributes, retried_request, short_term_attributes, short_term_request};
 ghost use Rattle.stun_authentication.specs.Writing.{signed, finished, signed_reply};
-ghost use Rattle.stun_logins.specs.Premises.{IsOwn, IsOpen, IsNamed, IsPrinted, HasRoom, Serves, Suits, WorksAs, checked};
+ghost use Rattle.stun_logins.specs.Premises.{IsOwn, IsOpen, IsNamed, IsPrinted, HasRoom, Serves, Suits, Works, WorksAs, checked};
 
 use stun_authentication::{cookie_is_read, nonces_are_timed};
 use stun_types::shown_is_found;
@@ -68,33 +68,34 @@ pub fn challenge_is_read()
 /// A server offers a realm, a nonce that it knows as valid, and a list of password algorithms or
 /// none, as the nonce's cookie says. A client takes one of the algorithms, and writes what it is
 /// asked for after attributes of its own, for a user whose key the server has in that realm by that
-/// algorithm. The request is accepted as that user's, with that key. A reply that is signed with the
+/// algorithm, and which works with the algorithm of the HMAC. The request is accepted as that user's, with that key. A reply that is signed with the
 /// key, by the algorithm of the decision, is authentic for the client's transaction, which returns it
 /// with that algorithm, unless it shows an attribute that isn't understood or is an error without a
 /// code.
 pub fn login_is_accepted()
     ensures accepted { (policy : Policy) (nonces : List ℕ → Known)
-        (keys : Who → List ℕ → PasswordAlgorithmValue → Option (List ℕ))
+        (keys : Who → List ℕ → PasswordAlgorithmValue → Option UserKey)
         (offer : Offer) (supported : List PasswordAlgorithmValue)
-        (algorithm : PasswordAlgorithmValue) (user : User) (fingerprint : Bool) (kind id : ℕ)
-        (before : List Attribute)
+        (algorithm : PasswordAlgorithmValue) (user : User) (key : UserKey) (fingerprint : Bool)
+        (kind id : ℕ) (before : List Attribute)
         → let asked = asked_of offer algorithm in
         IsOffered nonces offer → Takes supported offer algorithm → IsShort offer user.name
         → class_of kind ≡ Request → IsOwn kind id before
         → HasRoom kind id (retried_attributes fingerprint asked user kind id before)
         → keys (identity asked.anonymous offer.realm user.name) offer.realm algorithm
-        ≡ Some (user_key asked user)
+        ≡ Some key → Works (user_key asked user) (signing_algorithm asked) key
         → Serves policy (signing_algorithm asked) fingerprint
         → long_term policy offer.realm nonces keys
         (retried_request fingerprint asked user kind id before)
-        ≡ accept (user_key asked user) (signing_algorithm asked) (signing_algorithm asked) }
+        ≡ accept key (signing_algorithm asked) (signing_algorithm asked) }
     // the same if the client reads the challenge of the response by which the server refused it
     ensures retried { (policy : Policy) (nonces : List ℕ → Known)
-        (keys : Who → List ℕ → PasswordAlgorithmValue → Option (List ℕ))
+        (keys : Who → List ℕ → PasswordAlgorithmValue → Option UserKey)
         (refusal : Refusal) (demand : Demand) (supported : List PasswordAlgorithmValue)
         (algorithm : PasswordAlgorithmValue) (tried seen : Option (List ℕ)) (print : Bool)
         (other number : ℕ)
-        (asked : Asked) (user : User) (fingerprint : Bool) (kind id : ℕ) (before : List Attribute)
+        (asked : Asked) (user : User) (key : UserKey) (fingerprint : Bool) (kind id : ℕ)
+        (before : List Attribute)
         → let offer = offer_of demand in
         asks refusal ≡ true → other < 2 ^ 14 → number < 2 ^ 96 → class_of other ≡ ErrorClass
         → IsLawful offer → IsOffered nonces offer → Takes supported offer algorithm
@@ -104,17 +105,17 @@ pub fn login_is_accepted()
         → length user.name < 2 ^ 16 → class_of kind ≡ Request → IsOwn kind id before
         → HasRoom kind id (retried_attributes fingerprint asked user kind id before)
         → keys (identity asked.anonymous asked.realm user.name) asked.realm asked.algorithm
-        ≡ Some (user_key asked user)
+        ≡ Some key → Works (user_key asked user) (signing_algorithm asked) key
         → Serves policy (signing_algorithm asked) fingerprint
         → long_term policy offer.realm nonces keys
         (retried_request fingerprint asked user kind id before)
-        ≡ accept (user_key asked user) (signing_algorithm asked) (signing_algorithm asked) }
+        ≡ accept key (signing_algorithm asked) (signing_algorithm asked) }
     // with a transaction of a request r that was begun with the key, and waits for a response to it
     ensures heard { (a : IntegrityAlgorithm) (fingerprint : Bool) (kind id : ℕ)
         (answer : List Attribute) (r key : List ℕ) (k : IntegrityKey) (plan : Plan) (usage : Usage)
         (terms : Terms) (state : RetransmissionState) (understood : List AttributeType)
         → let reply = signed_reply fingerprint kind id answer a key in
-        key_bytes k ≡ key → AreTerms r plan (Protection.LongTerm k) usage terms
+        WorksAs key a k → AreTerms r plan (Protection.LongTerm k) usage terms
         → is_open state ≡ true → IsOpen kind id answer → has NONCE (types answer) ≡ false
         → HasRoom kind id (finished fingerprint kind id (signed kind id answer a key))
         → Suits usage fingerprint → is_answer_to r reply ≡ true
@@ -124,18 +125,20 @@ pub fn login_is_accepted()
 }
 
 /// The keys of users by name and password are those that the client makes: if the first user that a
-/// request names is this one, the server has the key of the name and password. Of two users with one
+/// request names is this one, and has a password that isn't empty, the server has the key of the name
+/// and password, and it works with both integrity algorithms. Of two users with one
 /// name, or with names of equal hash, the first counts.
 pub fn logins_have_keys()
     ensures long_term { (logins : Logins) (login : LongTermCredentials) (asked : Asked)
         → let user = user_of login in
         let who = identity asked.anonymous asked.realm user.name in
-        find (is_login who asked.realm) (users_of logins) ≡ Some login
-        → long_term_key_of logins who asked.realm asked.algorithm ≡ Some (user_key asked user) }
+        find (is_login who asked.realm) (users_of logins) ≡ Some login → user.password ≢ []
+        → long_term_key_of logins who asked.realm asked.algorithm
+        ≡ Some (key_made None (user_key asked user)) }
     ensures short_term { (logins : Logins) (login : LongTermCredentials)
         → let user = user_of login in
-        find (is_login (named user.name) []) (users_of logins) ≡ Some login
-        → short_term_key_of logins user.name ≡ Some user.password }
+        find (is_login (named user.name) []) (users_of logins) ≡ Some login → user.password ≢ []
+        → short_term_key_of logins user.name ≡ Some (key_made None user.password) }
 {}
 
 /// A login by short-term credentials is accepted, and its reply is taken.
@@ -146,15 +149,17 @@ pub fn logins_have_keys()
 /// authentic for the client's transaction, which returns it with that algorithm, unless it shows an
 /// attribute that isn't understood or is an error without a code.
 pub fn short_term_login_is_accepted()
-    ensures accepted { (policy : Policy) (keys : List ℕ → Option (List ℕ))
-        (sent : Option IntegrityAlgorithm) (a : IntegrityAlgorithm) (fingerprint : Bool)
-        (kind id : ℕ) (before : List Attribute) (name key : List ℕ)
+    ensures accepted { (policy : Policy) (keys : List ℕ → Option UserKey)
+        (sent served : Option IntegrityAlgorithm) (a : IntegrityAlgorithm) (fingerprint : Bool)
+        (kind id : ℕ) (before : List Attribute) (name : List ℕ) (key : UserKey)
         → is_response (class_of kind) ≡ false
         → IsOwn kind id before → IsNamed name
-        → HasRoom kind id (short_term_attributes fingerprint sent kind id before name key)
-        → keys name ≡ Some key → checked policy.algorithm sent ≡ Some a → policy.shortest ≤ 32
+        → HasRoom kind id (short_term_attributes fingerprint sent kind id before name key.bytes)
+        → keys name ≡ Some key → counted policy key.made_for ≡ Some served
+        → checked served sent ≡ Some a → policy.shortest ≤ 32
         → IsPrinted policy.fingerprint fingerprint
-        → short_term policy keys (short_term_request fingerprint sent kind id before name key)
+        → short_term policy keys
+        (short_term_request fingerprint sent kind id before name key.bytes)
         ≡ accept key a a }
     // with a transaction of that request that was begun with the key, and waits for a response to it
     ensures heard { (sent counts : Option IntegrityAlgorithm) (a : IntegrityAlgorithm)

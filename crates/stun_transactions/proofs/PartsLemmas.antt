@@ -1,12 +1,14 @@
 -- The parts of a transaction: they and its key are all of it, and none of a transaction's are refused.
-use Rattle.std.proofs.Common.{◌≡◌, ℕ, ◌+◌, ◌<◌, ◌≤◌, Bool, true, false, List, None, Some, refl, sym, ap, subst, ◌∙◌, inl, inr, arith}
+use Rattle.std.proofs.Common.{◌≡◌, ℕ, ◌+◌, ◌<◌, ◌≤◌, Bool, true, false, List, Option, None, Some, refl, sym, ap, subst, ◌∙◌, inl, inr, arith}
 use Rattle.std.specs.Prelude.{not, ◌&&◌, is_some, nat_lt, if◌then◌else◌}
 use Rattle.std.specs.Duration.{as_nanos}
+use Rattle.std.specs.Option.{option_or}
 use Rattle.std.specs.declared.time.Duration.{Duration}
 use Rattle.std.proofs.lemmas.Bool.{cases_Bool, le-ltb, ltb-false, ltb-true}
 use Rattle.stun_grammar.specs.Headers.{type_field}
 use Rattle.stun_base.specs.declared.transport.TransportType.{TransportType}
 use Rattle.stun_base.specs.MessageTypes.{class_of}
+use Rattle.stun_keys.specs.Keys.{key_algorithm}
 use Rattle.stun_transactions.specs.declared.schedule.Schedule.{Schedule}
 use Rattle.stun_transactions.specs.declared.retransmission.RetransmissionState.{RetransmissionState}
 use Rattle.stun_transactions.specs.declared.retransmission.Action.{Action}
@@ -22,13 +24,14 @@ use Rattle.stun_transactions.specs.declared.parts.PartsError.{PartsError}
 use Rattle.stun_transactions.specs.declared.parts.PartsError.TheVariants.{SignedOtherwise, SentTooOften, SentTooLate}
 use Rattle.stun_transactions.specs.declared.parts.TransactionParts.{TransactionParts}
 use Rattle.stun_transactions.specs.declared.terms.BeginError.{BeginError}
+use Rattle.stun_transactions.specs.declared.terms.BeginError.TheVariants.{KeyForOneAlgorithm as BeginKeyForOne}
 use Rattle.stun_transactions.specs.declared.transaction.Transaction.{Transaction}
 use Rattle.stun_transactions.specs.Schedules.{requests_in}
 use Rattle.stun_transactions.specs.Retransmissions.{later, ended_by, stopped_by, Polls}
-use Rattle.stun_transactions.specs.Guards.{signed_by, is_signed, protects, IsStoredAs}
+use Rattle.stun_transactions.specs.Guards.{signed_by, is_signed, protects, has_key_for_one}
 use Rattle.stun_transactions.specs.Outcomes.{after}
 use Rattle.stun_authentication.specs.LongTerm.{is_request}
-use Rattle.stun_transactions.specs.Terms.{mismatch, begin_fault}
+use Rattle.stun_transactions.specs.Terms.{mismatch, request_fault, key_misfit, begin_fault}
 use Rattle.stun_transactions.specs.Transactions.{terms_of, state_of, Begins}
 use Rattle.stun_transactions.specs.Parts.{plan_in, state_in, at_state, mechanism_of, key_in, parts_of, key_of, signs, is_signed_otherwise, parts_fault, key_fault, whole_fault}
 
@@ -140,19 +143,25 @@ ended parts end none = elim (cases_Bool (is_some parts.end)) [ inl there ↦ rw 
 pub stopped : (parts : TransactionParts) → parts_fault parts ≡ None → parts_fault (at_state parts (stopped_by (state_in parts))) ≡ None
 stopped parts none = elim (cases_Bool (is_some parts.end)) [ inl there ↦ rw there none | inr away ↦ rw away none ]
 
--- what is kept of a protection
-record Kept (protection kept : Protection) : Type 0 where
-  mechanism : signs (mechanism_of kept) ≡ protects protection
-  key : key_fault (mechanism_of kept) (key_in kept) ≡ None
+-- what holds of a protection whose key serves its mechanism
+record Kept (protection : Protection) : Type 0 where
+  mechanism : signs (mechanism_of protection) ≡ protects protection
+  key : key_fault (mechanism_of protection) (key_in protection) ≡ None
 
-kept_is : (protection kept : Protection) → IsStoredAs protection kept → Kept protection kept
-kept_is FirstLongTerm kept is = subst (Kept FirstLongTerm) (sym is) (record { mechanism = refl; key = refl })
-kept_is Unprotected kept is = subst (Kept Unprotected) (sym is) (record { mechanism = refl; key = refl })
-kept_is (ShortTerm key) kept is = subst (Kept (ShortTerm key)) (sym is) (record { mechanism = refl; key = refl })
-kept_is (LongTerm key) (LongTerm kept) is = record { mechanism = refl; key = rw is.algorithm_is refl }
-kept_is (LongTerm key) Unprotected is = absurd is
-kept_is (LongTerm key) FirstLongTerm is = absurd is
-kept_is (LongTerm key) (ShortTerm kept) is = absurd is
+no_misfit : (for_one : Bool) → (if for_one then Some BeginKeyForOne else None) ≡ None → for_one ≡ false
+no_misfit true free = absurd cc
+no_misfit false free = refl
+
+kept_is : (protection : Protection) → key_misfit protection ≡ None → Kept protection
+kept_is FirstLongTerm free = record { mechanism = refl; key = refl }
+kept_is Unprotected free = record { mechanism = refl; key = refl }
+kept_is (ShortTerm key) free = record { mechanism = refl; key = refl }
+kept_is (LongTerm key) free = record { mechanism = refl; key = rw (no_misfit (is_some (key_algorithm key)) free) refl }
+
+-- neither the request is refused, nor the key
+neither : (one other : Option BeginError) → option_or one other ≡ None → (one ≡ None) × (other ≡ None)
+neither None other free = (refl, free)
+neither (Some e) other free = absurd cc
 
 matching : (protected signed : Bool) → mismatch protected signed ≡ None → protected ≡ signed
 matching true true e = refl
@@ -173,10 +182,12 @@ pub begins : (r : List ℕ) (schedule : Schedule) (transport : TransportType) (p
 begins r schedule transport protection usage now transaction free so =
     let terms = terms_of transaction in
     let parts = parts_of transaction in
-    let kept = kept_is protection terms.protection so.terms.protection_is in
-    let same : protects protection ≡ is_signed (signed_by r) = matching (protects protection) (is_signed (signed_by r)) (unrefused (is_request (class_of (type_field r))) (protects protection) (is_signed (signed_by r)) _ free) in
+    let parted = neither (request_fault (protects protection) r) (key_misfit protection) free in
+    let kept = subst Kept (sym so.terms.protection_is) (kept_is protection parted.1) in
+    let protected : protects terms.protection ≡ protects protection = ap protects so.terms.protection_is in
+    let same : protects protection ≡ is_signed (signed_by r) = matching (protects protection) (is_signed (signed_by r)) (unrefused (is_request (class_of (type_field r))) (protects protection) (is_signed (signed_by r)) _ parted.0) in
     let shown : is_signed terms.signed ≡ is_signed (signed_by r) = ap is_signed so.terms.signed_is in
-    let mechanism : signs parts.mechanism ≡ is_signed terms.signed = kept.mechanism ∙ same ∙ sym shown in
+    let mechanism : signs parts.mechanism ≡ is_signed terms.signed = kept.mechanism ∙ protected ∙ same ∙ sym shown in
     let signed : is_signed_otherwise parts ≡ false = ap (λ (b : Bool). if b then not (is_signed terms.signed) else is_signed terms.signed) mechanism ∙ agree (is_signed terms.signed) in
     let sent : parts.sent ≡ 0 = ap (λ (c : RetransmissionState). c.sent) so.state in
     let moment : as_nanos parts.last ≡ as_nanos parts.clock = ap (λ (c : RetransmissionState). as_nanos c.last) so.state ∙ sym (ap (λ (c : RetransmissionState). as_nanos c.clock) so.state) in

@@ -49,14 +49,13 @@ protects FirstLongTerm = false
 protects (ShortTerm key) = true
 protects (LongTerm key) = true
 
--- what is stored of a protection, to validate responses: a long-term key works with both algorithms
--- (section 9.2.5)
-abbrev pub IsStoredAs : Protection → Protection → Type 0
-IsStoredAs Unprotected stored = stored ≡ Unprotected
-IsStoredAs FirstLongTerm stored = stored ≡ FirstLongTerm
-IsStoredAs (ShortTerm key) stored = stored ≡ ShortTerm key
-IsStoredAs (LongTerm key) (LongTerm stored) = IsKey None (key_bytes key) stored
-IsStoredAs (LongTerm key) _ = ⊥
+-- whether the key is a long-term one that was made for one integrity algorithm: a response may be
+-- signed by either (section 9.2.5)
+abbrev pub has_key_for_one : Protection → Bool
+has_key_for_one Unprotected = false
+has_key_for_one FirstLongTerm = false
+has_key_for_one (ShortTerm key) = false
+has_key_for_one (LongTerm key) = is_some (key_algorithm key)
 
 -- the same protection: by the same mechanism, with a key of the same bytes that was made for the
 -- same algorithm

@@ -1,5 +1,6 @@
 -- What a transaction is begun with.
 use Rattle.std.specs.Prelude.{◌≡◌, ℕ, Bool, true, false, List, Option, None, Some, if◌then◌else◌}
+use Rattle.std.specs.Option.{option_or}
 use Rattle.stun_grammar.specs.Headers.{type_field, id_field}
 use Rattle.stun_base.specs.MessageTypes.{class_of, method_of}
 use Rattle.stun_types.specs.Replies.{responds_to}
@@ -9,8 +10,8 @@ use Rattle.stun_transactions.specs.declared.guard.Protection.{Protection}
 use Rattle.stun_transactions.specs.declared.usage.Usage.{Usage}
 use Rattle.stun_transactions.specs.declared.terms.Terms.{Terms}
 use Rattle.stun_transactions.specs.declared.terms.BeginError.{BeginError}
-use Rattle.stun_transactions.specs.declared.terms.BeginError.TheVariants.{NotARequest, NotSigned, Signed}
-use Rattle.stun_transactions.specs.Guards.{signed_by, is_signed, protects, IsStoredAs, HasSameKey}
+use Rattle.stun_transactions.specs.declared.terms.BeginError.TheVariants.{NotARequest, NotSigned, Signed, KeyForOneAlgorithm}
+use Rattle.stun_transactions.specs.Guards.{signed_by, is_signed, protects, has_key_for_one, HasSameKey}
 
 -- why no transaction begins by whether a credential is to protect the request, and whether it is
 -- signed
@@ -20,11 +21,19 @@ mismatch false true = Some Signed
 mismatch true true = None
 mismatch false false = None
 
+-- why no transaction begins with r as its request, by the request
+abbrev pub request_fault : (protects : Bool) → List ℕ → Option BeginError
+request_fault protects r =
+    if is_request (class_of (type_field r)) then mismatch protects (is_signed (signed_by r))
+    else Some NotARequest
+
+-- the same by the key
+abbrev pub key_misfit : Protection → Option BeginError
+key_misfit protection = if has_key_for_one protection then Some KeyForOneAlgorithm else None
+
 -- why no transaction begins with r as its request
 abbrev pub begin_fault : Protection → List ℕ → Option BeginError
-begin_fault protection r =
-    if is_request (class_of (type_field r)) then mismatch (protects protection) (is_signed (signed_by r))
-    else Some NotARequest
+begin_fault protection r = option_or (request_fault (protects protection) r) (key_misfit protection)
 
 -- the terms of the request r
 pub record AreTerms (r : List ℕ) (plan : Plan) (protection : Protection) (usage : Usage)
@@ -33,7 +42,7 @@ pub record AreTerms (r : List ℕ) (plan : Plan) (protection : Protection) (usag
   pub method_is : terms.method ≡ method_of (type_field r)
   pub id_is : terms.id ≡ id_field r
   pub signed_is : terms.signed ≡ signed_by r
-  pub protection_is : IsStoredAs protection terms.protection
+  pub protection_is : terms.protection ≡ protection
   pub usage_is : terms.usage ≡ usage
 
 -- the same terms: those of the same request, protected by the same key

@@ -29,8 +29,8 @@ pub enum Protection {
     /// The request is signed by a short-term credential (section 9.1). A key that was made for one
     /// algorithm validates by that algorithm's attribute alone, a key with no algorithm by either.
     ShortTerm(IntegrityKey),
-    /// It is signed by a long-term credential (section 9.2). Whatever the key was made for, a
-    /// response validates by either attribute (section 9.2.5).
+    /// It is signed by a long-term credential (section 9.2). A response validates by either attribute
+    /// (section 9.2.5), so the key works with both algorithms, as [`IntegrityKey::for_both`] makes it.
     LongTerm(IntegrityKey),
 }
 
@@ -142,17 +142,16 @@ fn long_term_fault(authentic: bool, message: &Message<'_>) -> Option<Discard>
 impl Protection {
     ghost use Rattle.std.specs.Prelude.{◌≡◌, true, None, Some, IfErr, OnOk, MatchResult};
     ghost use Rattle.stun_types.specs.Message.{message_bytes};
-    ghost use Rattle.stun_transactions.specs.Guards.{proof_of, mechanism_fault, guard_fault, protects, IsStoredAs, HasSameKey, has_prepared_key};
+    ghost use Rattle.stun_transactions.specs.Guards.{proof_of, mechanism_fault, guard_fault, protects, has_key_for_one, HasSameKey, has_prepared_key};
     ghost use Rattle.stun_transactions.specs.Parts.{mechanism_of, key_in, key_fault};
 
-    /// What a transaction keeps of it, to validate responses: a long-term key works with both
-    /// algorithms (RFC 8489, section 9.2.5).
-    pub(crate) fn for_responses(self) -> Protection
-        ensures { IsStoredAs self result }
+    /// Whether its key is a long-term one that was made for one integrity algorithm.
+    pub(crate) fn has_key_for_one(&self) -> bool
+        ensures { result ≡ has_key_for_one self.now }
     {
         match self {
-            Protection::LongTerm(key) => Protection::LongTerm(key.for_both()),
-            other => other,
+            Protection::LongTerm(key) => key.algorithm().is_some(),
+            Protection::Unprotected | Protection::FirstLongTerm | Protection::ShortTerm(_) => false,
         }
     }
 

@@ -4,7 +4,8 @@ ghost use Rattle.std.specs.Prelude.{◌≡◌, None, Some, MatchResult};
 ghost use Rattle.stun_base.specs.MessageTypes.{class_of};
 ghost use Rattle.stun_grammar.specs.Headers.{type_field};
 ghost use Rattle.stun_types.specs.Message.{message_bytes};
-ghost use Rattle.stun_transactions.specs.Terms.{begin_fault, AreTerms, is_answer};
+ghost use Rattle.stun_transactions.specs.Guards.{signed_by};
+ghost use Rattle.stun_transactions.specs.Terms.{request_fault, begin_fault, AreTerms, is_answer};
 
 use crate::guard::{Protection, Signed, signed_by};
 use crate::plan::Plan;
@@ -47,6 +48,10 @@ pub enum BeginError {
     /// No credential is to protect the request, but it shows an integrity attribute.
     #[error("the request is signed")]
     Signed,
+    /// The key of a long-term credential was made for one integrity algorithm, and a response may be
+    /// signed by either (RFC 8489, section 9.2.5); `IntegrityKey::for_both` makes it one for both.
+    #[error("the long-term key is for one algorithm")]
+    KeyForOneAlgorithm,
 }
 
 /// The terms on which a transaction is begun: how long it waits, and what its request is.
@@ -58,6 +63,24 @@ pub struct Terms {
     pub(crate) signed: Signed,
     pub(crate) protection: Protection,
     pub(crate) usage: Usage,
+}
+
+/// Which integrity attributes a request shows, if it is one, and is signed exactly if a credential
+/// protects it.
+fn check_request(request: &Message<'_>, protects: bool) -> Result<Signed, BeginError>
+    ensures { let r = message_bytes request.now in MatchResult result
+        (λ signed. (request_fault protects r ≡ None) × (signed ≡ signed_by r))
+        (λ e. request_fault protects r ≡ Some e) }
+{
+    let signed = signed_by(request);
+    if !request.has_class(MessageClass::Request) {
+        return Err(BeginError::NotARequest);
+    }
+    match (protects, signed.is_signed()) {
+        (true, false) => Err(BeginError::NotSigned),
+        (false, true) => Err(BeginError::Signed),
+        (true, true) | (false, false) => Ok(signed),
+    }
 }
 
 impl Terms {
@@ -77,22 +100,18 @@ impl Terms {
             × AreTerms (message_bytes request.now) plan protection usage terms)
             (λ e. begin_fault protection (message_bytes request.now) ≡ Some e) }
     {
-        let signed = signed_by(request);
-        if !request.has_class(MessageClass::Request) {
-            return Err(BeginError::NotARequest);
+        let signed = check_request(request, protection.protects())?;
+        if protection.has_key_for_one() {
+            return Err(BeginError::KeyForOneAlgorithm);
         }
-        match (protection.protects(), signed.is_signed()) {
-            (true, false) => Err(BeginError::NotSigned),
-            (false, true) => Err(BeginError::Signed),
-            (true, true) | (false, false) => Ok(Terms {
-                plan,
-                method: request.method(),
-                id: request.transaction_id(),
-                signed,
-                protection: protection.for_responses(),
-                usage,
-            }),
-        }
+        Ok(Terms {
+            plan,
+            method: request.method(),
+            id: request.transaction_id(),
+            signed,
+            protection,
+            usage,
+        })
     }
 
     /// Whether a message is a response with the method and the transaction ID of the request.

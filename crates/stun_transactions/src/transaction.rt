@@ -76,8 +76,9 @@ impl Transaction {
     ///
     /// # Errors
     ///
-    /// `NotARequest` if the message has another class; else `NotSigned` if a credential is to
-    /// protect it and it shows no integrity attribute, `Signed` if none is to and it shows one.
+    /// The first of these that applies: `NotARequest` if the message has another class; `NotSigned` if
+    /// a credential is to protect it and it shows no integrity attribute, `Signed` if none is to and it
+    /// shows one; `KeyForOneAlgorithm` if the key of a long-term credential was made for one.
     pub fn new(
         request: &Message<'_>,
         schedule: Schedule,

@@ -13,7 +13,7 @@ use stun_types::message::{
 use stun_types::prelude::*;
 use test_messages::{header, short_term};
 use user_examples::{
-    Blob, Hops, Note, WriteFixed, add_by_match, add_if_short, add_or_return, header_behind_adds,
+    Blob, Note, WriteFixed, add_by_match, add_if_short, add_or_return, header_behind_adds,
     hops_there_and_back, nominate_sixteen, note_there_and_back, overwrite, software_behind,
     software_in_slice, software_message, steps_in_array, validates_own,
 };
@@ -127,8 +127,7 @@ fn reads_a_note(alloc: Global, bytes: &mut Vec<u8>) -> Result<bool, Fail> {
 
 #[test]
 fn reads_what_it_writes(rt: HostRuntime) -> Result<(), Fail> {
-    let hops = hops_there_and_back(rt.alloc(), TransactionId::from(1000), &Hops::new(0x1234))?;
-    assert!(rt; hops.value() == 0x1234);
+    assert!(rt; hops_there_and_back(rt.alloc(), TransactionId::from(1000), 0x1234) == Ok(0x1234));
     let mut bytes = Vec::new(rt.alloc());
     assert!(rt; reads_a_note(rt.alloc(), &mut bytes)?);
     assert!(rt; bytes.as_slice() == NOTED.as_slice());

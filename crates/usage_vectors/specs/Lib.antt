@@ -1,1 +1,3 @@
 pub mod TurnMessages
+pub mod Streams
+pub mod Reasons

@@ -3,19 +3,36 @@
 //! contracts state.
 #![tactic(auto)]
 
-ghost use Rattle.std.specs.Prelude.{◌≡◌, ◌-◌, true, false, [], ◌∷◌, ◌++◌, codes, map, slice_range, replicate, None, Some};
+ghost use Rattle.std.specs.Prelude.{◌≡◌, ◌-◌, true, false, [], ◌∷◌, ◌++◌, codes, map, slice_range, replicate, None, Some, nat_lt};
 ghost use Rattle.stun_grammar.specs.declared.error.StunWriteError.TheVariants.{OutOfRange};
 ghost use Rattle.stun_grammar.specs.AttributeTypes.{SOFTWARE, USERNAME, MESSAGE_INTEGRITY, FINGERPRINT};
 ghost use Rattle.stun_grammar.specs.Showing.{shown};
 ghost use Rattle.stun_base.specs.declared.transport.AddressFamily.TheVariants.{IPV6};
 ghost use Rattle.stun_values.specs.Addresses.{address_in, IsXored};
-ghost use Rattle.standard_vectors.specs.Messages.{sample_request};
+ghost use Rattle.standard_vectors.specs.Messages.{sample_request, ipv4_response};
 ghost use Rattle.standard_vectors.specs.Parameters.{user_name, realm, user_hash as printed_hash};
 ghost use Rattle.standard_vectors.specs.Right.{IsRead};
 ghost use Rattle.stun_integrity.specs.Userhash.{user_hash};
+ghost use Rattle.stun_attributes.specs.DefaultReasons.{default_reason};
+ghost use Rattle.stun_keys.specs.declared.keys.integrity_key.IntegrityKey.{IntegrityKey};
 ghost use Rattle.stun_authentication.specs.Cookies.{security_features, cookie};
 ghost use Rattle.stun_transactions.specs.Rows.{moments, row_end, row_wait};
-ghost use Rattle.ice_attrs.specs.Ice.{PRIORITY, USE_CANDIDATE, ICE_CONTROLLED, ICE_CONTROLLING, candidate_priority, priority_fault};
+ghost use Rattle.stun_transactions.specs.Parts.{plan_in, parts_fault};
+ghost use Rattle.stun_transactions.specs.Receiving.{content};
+ghost use Rattle.stun_transactions.specs.Schedules.{requests_in};
+ghost use Rattle.stun_transactions.specs.Terms.{begin_fault};
+ghost use Rattle.stun_transactions.specs.declared.guard.Protection.TheVariants.{Unprotected, ShortTerm};
+ghost use Rattle.stun_transactions.specs.declared.parts.PartsError.TheVariants.{SentTooOften};
+ghost use Rattle.stun_transactions.specs.declared.parts.TransactionParts.{TransactionParts};
+ghost use Rattle.stun_transactions.specs.declared.received.Failure.TheVariants.{UnknownAttribute, NoErrorCode};
+ghost use Rattle.stun_transactions.specs.declared.received.Outcome.TheVariants.{Failed};
+ghost use Rattle.stun_transactions.specs.declared.terms.BeginError.TheVariants.{NotARequest};
+ghost use Rattle.stun_framing.specs.declared.carries.Carries.TheVariants.{Messages, ChannelDataToo};
+ghost use Rattle.stun_framing.specs.declared.error.StreamFault.TheVariants.{NotStun, NotPadded, TooLong};
+ghost use Rattle.stun_framing.specs.Framing.{room_of, stated_length, IsCut, stream_fault};
+ghost use Rattle.stun_framing.specs.Streams.{begun};
+ghost use Rattle.stun_framing.specs.Runs.{left_by, yielded};
+ghost use Rattle.ice_attrs.specs.Ice.{PRIORITY, USE_CANDIDATE, ICE_CONTROLLED, ICE_CONTROLLING, candidate_priority, priority_fault, candidates_priority, pair_fault};
 ghost use Rattle.turn_attrs.specs.declared.channel_data.ChannelDataError.TheVariants.{NotChannelData, Truncated, TooLarge};
 ghost use Rattle.turn_attrs.specs.declared.protocols.Protocol.TheVariants.{Stun, Zrtp, Dtls, TurnChannel, Rtp};
 ghost use Rattle.turn_basics.specs.TurnBasics.{LIFETIME, XOR_PEER_ADDRESS, DATA};
@@ -24,6 +41,8 @@ ghost use Rattle.turn_attrs.specs.Channels.{channel_in, channel_field, data_leng
 ghost use Rattle.turn_attrs.specs.ChannelMessages.{channel_fault};
 ghost use Rattle.turn_attrs.specs.Protocols.{protocol};
 ghost use Rattle.usage_vectors.specs.TurnMessages.{allocate_success, allocate_success_id, allocate_success_attributes, channel_bind, channel_bind_id, channel_bind_attributes, data_indication, data_indication_id, data_indication_attributes, relayed, peer, peer_ipv6};
+ghost use Rattle.usage_vectors.specs.Streams.{with_channels, padded_data, whole_stream, pieces, unsigned_error};
+ghost use Rattle.usage_vectors.specs.Reasons.{all_codes, all_reasons};
 
 /// The times at which a request is sent if RTO is 500 ms, Rc 7 and Rm 16, as RFC 8489, section 6.2.1,
 /// prints them, and the waits between them.
@@ -37,13 +56,14 @@ pub fn retransmissions_are_right()
 
 /// Priorities of RFC 8445, section 5.1.2.1: the PRIORITY in RFC 5769, section 2.1, and those of a host
 /// candidate and a server-reflexive candidate in RFC 8839. The types of the attributes of ICE in that
-/// message.
+/// message. A type preference is refused before a component.
 pub fn priorities_are_right()
     ensures check { candidate_priority 110 1 1 ≡ 0x6E0001FF }
     ensures host { candidate_priority 126 65535 1 ≡ 2130706431 }
     ensures reflexive { candidate_priority 100 65535 1 ≡ 1694498815 }
     ensures types { map (λ a. a.type) (shown sample_request) ≡ SOFTWARE ∷ PRIORITY ∷ ICE_CONTROLLED ∷ USERNAME ∷ MESSAGE_INTEGRITY ∷ FINGERPRINT ∷ [] }
     ensures above { priority_fault 127 65535 1 ≡ Some (OutOfRange 127 0 126) }
+    ensures both { priority_fault 127 65535 0 ≡ Some (OutOfRange 127 0 126) }
 {}
 
 /// Nonces with and without a nonce cookie (RFC 8489, sections 9.2 and 18.1): the one of RFC 8656,
@@ -112,4 +132,49 @@ pub fn first_bytes_are_right()
     ensures channel { protocol 64 ≡ Some TurnChannel }
     ensures channels { protocol 79 ≡ Some TurnChannel }
     ensures rtp { protocol 191 ≡ Some Rtp }
+{}
+
+/// Priorities of pairs (RFC 8445, section 6.1.2.3), computed by Python of those of a host candidate and
+/// a server-reflexive one in RFC 8839, of the PRIORITY in RFC 5769, section 2.1, and of the least and
+/// the greatest priority.
+pub fn pair_priorities_are_right()
+    ensures controlling_higher { candidates_priority 2130706431 1694498815 ≡ 7277816997797167103 }
+    ensures controlled_higher { candidates_priority 1694498815 2130706431 ≡ 7277816997797167102 }
+    ensures equal { candidates_priority 2130706431 2130706431 ≡ 9151314442783293438 }
+    ensures check { candidates_priority 1845494271 1694498815 ≡ 7277816997226742783 }
+    ensures greatest_and_least { candidates_priority 2147483647 1 ≡ 8589934591 }
+    ensures least_and_greatest { candidates_priority 1 2147483647 ≡ 8589934590 }
+    ensures not_0 { pair_fault 1 0 ≡ Some (OutOfRange 0 1 2147483647) }
+    ensures below_2_31 { pair_fault 2147483648 0 ≡ Some (OutOfRange 2147483648 1 2147483647) }
+{}
+
+/// The reason phrases of RFC 8489, section 14.8 (RFC 5389's for 401), of RFC 8656, section 19, of
+/// RFC 6062, section 6.3, and of RFC 8445, section 20.2; and of codes that have none there.
+pub fn reasons_are_right()
+    ensures { map default_reason all_codes ≡ all_reasons }
+{}
+
+/// A stream with messages of RFC 5769 and ChannelData among them, in the layout of RFC 8656, section
+/// 12.4, with the padding of section 12.5: how it is cut, what pieces of it yield, and what ends it.
+pub fn streams_are_right()
+    ensures cut { IsCut with_channels whole_stream (sample_request ∷ padded_data ∷ ipv4_response ∷ []) [] }
+    ensures yields { yielded (begun with_channels) pieces ≡ sample_request ∷ padded_data ∷ ipv4_response ∷ [] }
+    ensures left { left_by (begun with_channels) pieces ≡ record { room = with_channels; offset = 200; pending = []; message = Some ipv4_response; error = None } }
+    ensures length { stated_length padded_data ≡ 12 }
+    ensures data_alone { stream_fault (room_of Messages 200) padded_data ≡ Some NotStun }
+    ensures beyond_channels { stream_fault with_channels (0x50 ∷ []) ≡ Some NotStun }
+    ensures not_padded { stream_fault with_channels (0x00 ∷ 0x01 ∷ 0x00 ∷ 0x06 ∷ []) ≡ Some (NotPadded 6) }
+    ensures too_long { stream_fault (room_of Messages 107) sample_request ≡ Some (TooLong 108) }
+    ensures data_too_long { stream_fault (room_of ChannelDataToo 11) padded_data ≡ Some (TooLong 12) }
+{}
+
+/// Which refusal comes first if two apply: of a response that a transaction begins with, that it is no
+/// request; of a request that was sent too often and too late, that it was sent too often; and of an
+/// error response without a code that shows an unknown attribute, that attribute.
+pub fn first_refusals_are_right()
+    ensures unsigned_response { (key : IntegrityKey) → begin_fault (ShortTerm key) unsigned_error ≡ Some NotARequest }
+    ensures signed_response { begin_fault Unprotected ipv4_response ≡ Some NotARequest }
+    ensures too_often { (parts : TransactionParts) → parts.mechanism ≡ None → parts.sha1 ≡ false → parts.sha256 ≡ false → nat_lt (requests_in (plan_in parts)) parts.sent ≡ true → parts_fault parts ≡ Some SentTooOften }
+    ensures unknown { content None [] unsigned_error ≡ Failed (UnknownAttribute (record { 0 = 0x7FFF })) }
+    ensures understood { content None (record { 0 = 0x7FFF } ∷ []) unsigned_error ≡ Failed NoErrorCode }
 {}

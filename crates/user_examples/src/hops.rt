@@ -1,12 +1,14 @@
 //! An attribute of a user's own that is written, and read from what was written.
 
-ghost use Rattle.std.specs.Prelude.{◌≡◌, ◌≤◌, [], ◌∷◌, None, IfErr, IfOk, MatchResult, OnOk};
+ghost use Rattle.std.specs.Prelude.{◌≡◌, None, IfOk, MatchResult, length};
+ghost use Rattle.stun_grammar.specs.Adding.{add_refusal, IsAddAnswer};
+ghost use Rattle.stun_grammar.specs.Steps.{add};
+ghost use Rattle.stun_write.specs.Writers.{Adds, Allocates};
 ghost use Rattle.stun_grammar.specs.declared.error.StunParseError.TheVariants.{OutOfMemory};
-ghost use Rattle.stun_grammar.specs.Attributes.{canonical};
 ghost use Rattle.stun_grammar.specs.Numbers.{be16};
 ghost use Rattle.stun_grammar.specs.Parsing.{parse_fault};
 ghost use Rattle.stun_kinds.specs.Kinds.{number_of};
-ghost use Rattle.stun_types.specs.ReadingBack.{Holds, ShowsFirst};
+ghost use Rattle.stun_types.specs.ReadingBack.{ShowsFirst};
 ghost use Rattle.user_examples.specs.Hops.{HOPS};
 
 use std::alloc::Global;
@@ -41,6 +43,19 @@ impl AttributeKind for HopsKind {
     }
 }
 
+/// Adds the attribute.
+fn add_hops<B: MessageWrite>(hops: &Hops, message: &mut B) -> Result<(), StunWriteError>
+    ensures answer { IsAddAnswer
+        (add_refusal (add HOPS (be16 (number_of hops.now)))
+        (B.state message.old).types (length (B.state message.old).bytes)
+        (B.state message.old).greatest)
+        (Allocates (B.state message.old) (length (be16 (number_of hops.now)))) result }
+    ensures adds { Adds result (B.state message.old) (B.state message.new) HOPS
+        (be16 (number_of hops.now)) }
+{
+    message.add_attribute(hops)
+}
+
 /// Writes a binding request with this transaction ID and this attribute into a vector.
 fn write_hops(alloc: Global, id: TransactionId, hops: &Hops) -> Result<Vec<u8>, StunWriteError>
     ensures parses { IfOk result (λ bytes. parse_fault bytes.items ≡ None) }
@@ -49,12 +64,12 @@ fn write_hops(alloc: Global, id: TransactionId, hops: &Hops) -> Result<Vec<u8>, 
     // the law by which what adds write parses, and shows each attribute
     added_is_shown();
     let mut message = Message::builder(binding_request(), id, MessageWriteVec::new(alloc))?;
-    message.add_attribute(hops)?;
+    add_hops(hops, &mut message)?;
     Ok(message.finish())
 }
 
-/// Writes a binding request with this transaction ID and this attribute, parses it, and reads the
-/// attribute from it: it is the one that was given. The message is gone when the function returns.
+/// Writes a binding request with this transaction ID and this number of hops, parses it, and reads
+/// the number from it: it is the one that was given. The message is gone when the function returns.
 ///
 /// # Errors
 ///
@@ -62,18 +77,19 @@ fn write_hops(alloc: Global, id: TransactionId, hops: &Hops) -> Result<Vec<u8>, 
 pub fn hops_there_and_back(
     alloc: Global,
     id: TransactionId,
-    hops: &Hops,
-) -> Result<Hops, StunParseError>
-    ensures { MatchResult result (λ read. read ≡ hops.now) (λ e. e ≡ OutOfMemory) }
+    hops: u16,
+) -> Result<u16, StunParseError>
+    ensures { MatchResult result (λ read. read ≡ hops) (λ e. e ≡ OutOfMemory) }
 {
     // the laws by which a number is read back, then its attribute, then what adds wrote of it
     number_is_read_back();
     number_attribute_is_read_back::<HopsKind, u16>();
     typed_is_read_back::<Hops>();
-    let bytes = match write_hops(alloc, id, hops) {
+    let bytes = match write_hops(alloc, id, &Hops::new(hops)) {
         Ok(bytes) => bytes,
         Err(_) => return Err(StunParseError::OutOfMemory),
     };
     let message = Message::from_bytes(&bytes)?;
-    message.attribute(alloc)
+    let read: Hops = message.attribute(alloc)?;
+    Ok(read.value())
 }

@@ -1,9 +1,12 @@
 //! An attribute whose value is part of the message that it is read from.
 
-ghost use Rattle.std.specs.Prelude.{◌≡◌, true, None, Err, IfOk, IsOkAnd, MatchOption, MatchResult};
+ghost use Rattle.std.specs.Prelude.{◌≡◌, ◌<◌, ◌^◌, None, Err, IfOk, IsOkAnd, MatchOption, MatchResult, length};
+ghost use Rattle.stun_grammar.specs.Adding.{add_refusal, IsAddAnswer};
+ghost use Rattle.stun_grammar.specs.Steps.{add};
+ghost use Rattle.stun_write.specs.Writers.{Adds, Allocates};
 ghost use Rattle.stun_grammar.specs.declared.error.StunParseError.TheVariants.{OutOfMemory};
 ghost use Rattle.stun_grammar.specs.Parsing.{parse_fault};
-ghost use Rattle.stun_kinds.specs.Kinds.{bytes_of, bytes_are_borrowed};
+ghost use Rattle.stun_kinds.specs.Kinds.{bytes_of};
 ghost use Rattle.stun_types.specs.ReadingBack.{ShowsFirst};
 ghost use Rattle.stun_types.specs.Message.{message_bytes};
 ghost use Rattle.stun_read.specs.LookingUp.{nth};
@@ -58,6 +61,20 @@ pub fn note_of<'a>(alloc: Global, message: &Message<'a>) -> Result<Note<'a>, Stu
     message.attribute(alloc)
 }
 
+/// Adds the note.
+fn add_note<B: MessageWrite>(note: &Note<'_>, message: &mut B) -> Result<(), StunWriteError>
+    ensures answer { IsAddAnswer
+        (add_refusal (add NOTE (bytes_of note.now))
+        (B.state message.old).types (length (B.state message.old).bytes)
+        (B.state message.old).greatest)
+        (Allocates (B.state message.old) (length (bytes_of note.now))) result }
+    ensures adds { Adds result (B.state message.old) (B.state message.new) NOTE
+        (bytes_of note.now) }
+    ensures short { length (bytes_of note.now) < 2 ^ 16 }
+{
+    message.add_attribute(note)
+}
+
 /// Writes a binding request with this transaction ID and this note into a vector.
 fn write_note(alloc: Global, id: TransactionId, note: &Note<'_>) -> Result<Vec<u8>, StunWriteError>
     ensures parses { IfOk result (λ bytes. parse_fault bytes.items ≡ None) }
@@ -66,12 +83,13 @@ fn write_note(alloc: Global, id: TransactionId, note: &Note<'_>) -> Result<Vec<u
     // the law by which what adds write parses, and shows each attribute
     added_is_shown();
     let mut message = Message::builder(binding_request(), id, MessageWriteVec::new(alloc))?;
-    message.add_attribute(note)?;
+    add_note(note, &mut message)?;
     Ok(message.finish())
 }
 
 /// Writes a binding request with this transaction ID and this note into `bytes`, instead of what is
-/// there, and reads the note from them. What it returns borrows `bytes`, and is what was written.
+/// there, and reads the note from them: it has the bytes of the one that was given, and borrows them
+/// for as long as `bytes` is borrowed.
 ///
 /// # Errors
 ///
@@ -83,8 +101,7 @@ pub fn note_there_and_back<'b>(
     bytes: &'b mut Vec<u8>,
 ) -> Result<Note<'b>, StunParseError>
     ensures { MatchResult result
-        (λ read. (bytes_of read ≡ bytes_of note.now) × (bytes_are_borrowed read ≡ true))
-        (λ e. e ≡ OutOfMemory) }
+        (λ read. bytes_of read ≡ bytes_of note.now) (λ e. e ≡ OutOfMemory) }
 {
     // the laws by which bytes are read back, and then what adds wrote of them
     bytes_are_read_back::<NoteKind>();

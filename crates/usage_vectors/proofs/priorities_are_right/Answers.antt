@@ -21,3 +21,7 @@ returns-clause-types c = refl
 pub returns-clause-above : goal.returns-clause-above
 unfolding computing
 returns-clause-above c = refl
+
+pub returns-clause-both : goal.returns-clause-both
+unfolding computing
+returns-clause-both c = refl

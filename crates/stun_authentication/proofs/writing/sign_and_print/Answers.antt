@@ -3,7 +3,7 @@ use Rattle.stun_grammar.specs.Hmac.{digest_length}
 use Rattle.stun_write.specs.Writers.{Allocates}
 use Rattle.stun_keys.specs.Keys.{key_bytes}
 use Rattle.stun_authentication.proofs.FinishingLemmas.{sign_step, finger_step, unsigned, only_signed, both_steps, after_error, as_asked}
-use Rattle.stun_authentication.proofs.writing.finish.Goals as goal
+use Rattle.stun_authentication.proofs.writing.sign_and_print.Goals as goal
 
 pub returns-in_err-add_message_integrity_with_key : goal.returns-in_err-add_message_integrity_with_key
 returns-in_err-add_message_integrity_with_key g c =

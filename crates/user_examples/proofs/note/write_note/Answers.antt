@@ -1,0 +1,17 @@
+use Rattle.std.proofs.Common.{rules, arith, [], refl, ap, ◌∙◌}
+use Rattle.stun_grammar.specs.Parsing.{parse_fault}
+use Rattle.user_examples.proofs.note.write_note.Goals as goal
+
+pub returns-clause-parses : goal.returns-clause-parses
+returns-clause-parses c =
+    let law = c.added_is_shown.ensures in
+    let begun = law.begun _ _ _ _ c.in_ok-message.ensures.begun in
+    let added = law.added _ _ _ _ _ [] _ _ begun (search rules) (omega arith) c.in_ok-add_note.ensures.short c.in_ok-add_note.ensures.answer c.in_ok-add_note.ensures.adds refl in
+    ap parse_fault c.finish.ensures ∙ (law.shown _ _ _ [] [] _ _ added refl).0
+
+pub returns-clause-shows : goal.returns-clause-shows
+returns-clause-shows c =
+    let law = c.added_is_shown.ensures in
+    let begun = law.begun _ _ _ _ c.in_ok-message.ensures.begun in
+    let added = law.added _ _ _ _ _ [] _ _ begun (search rules) (omega arith) c.in_ok-add_note.ensures.short c.in_ok-add_note.ensures.answer c.in_ok-add_note.ensures.adds refl in
+    rw (c.finish.ensures) (law.shown _ _ _ [] [] _ _ added refl).1
