@@ -29,8 +29,8 @@ pub fn cookie_is_read()
         → security_features (cookie features ++ more) ≡ Some features }
 {}
 
-/// An integrity attribute counts with a user's key exactly if its type is one of those that the policy
-/// looks at, and one of those that a validation with the key looks at.
+/// An integrity attribute counts with a user's key exactly if its type is one of those that the
+/// policy looks at, and one of those that a validation with the key looks at.
 #[tactic(auto, using(crate::proofs::CountedLemmas::common_types))]
 pub fn what_counts_serves_both()
     ensures { (policy : Policy) (made_for : Option IntegrityAlgorithm) (atype : ℕ)

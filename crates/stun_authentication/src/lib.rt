@@ -32,7 +32,7 @@
 //! rng.fill_bytes(&mut secret);
 //! let features = SecurityFeatures { password_algorithms: true, username_anonymity: false };
 //! let secret = IntegrityKey::new(alloc, &secret, None)?;
-//! let maker = NonceMaker::new(secret, features, 600);
+//! let maker = NonceMaker::new(secret, features, 600)?;
 //! let algorithms = [PasswordAlgorithmValue::SHA256, PasswordAlgorithmValue::MD5];
 //! let (now, client): (u64, SocketAddr) = (1000, "192.0.2.1:32853".parse()?);
 //!

@@ -240,7 +240,7 @@ fn by_algorithms<K: LongTermKeys>(
 /// let mut rng: StdRng = make_rng(&rt)?;
 /// rng.fill_bytes(&mut secret);
 /// let secret = IntegrityKey::new(alloc, &secret, None)?;
-/// let maker = NonceMaker::new(secret, SecurityFeatures::default(), 600);
+/// let maker = NonceMaker::new(secret, SecurityFeatures::default(), 600)?;
 /// let client: SocketAddr = "192.0.2.1:32853".parse()?;
 /// let nonces = maker.nonces(1000, client, &[]);
 /// let (policy, logins) = (Policy::default(), Logins::new(&users));

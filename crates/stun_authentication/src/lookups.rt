@@ -15,9 +15,9 @@ use stun_types::message::IntegrityKey;
 pub trait ShortTermKeys {
     ghost key_of: { Self → List ℕ → Option UserKey };
 
-    /// The key of a user, the password (RFC 8489, section 9.1.1), or `None` if there is no such
-    /// user. `username` is the value of a USERNAME. A key that was made for one algorithm counts
-    /// for that one alone: the integrity attribute of the other counts as absent.
+    /// Returns the key of a user, the password (RFC 8489, section 9.1.1), or `None` if there is no
+    /// such user. `username` is the value of a USERNAME. A key that was made for one algorithm
+    /// counts for that one alone: the integrity attribute of the other counts as absent.
     ///
     /// # Errors
     ///

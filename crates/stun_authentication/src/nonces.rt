@@ -16,7 +16,7 @@ use stun_types::message::{IntegrityKey, StunWriteError};
 use stun_values::{address_length, write_address};
 use thiserror::Error;
 
-/// How many bytes the secret of a [`NonceMaker`] has at least.
+/// The least length of the secret of a [`NonceMaker`], in bytes.
 pub const SECRET_MIN: usize = 16;
 
 /// How many bytes a nonce of a [`NonceMaker`] has.
@@ -44,7 +44,7 @@ const LENGTH: usize = 93;
 /// let mut rng: StdRng = make_rng(&rt)?;
 /// rng.fill_bytes(&mut secret);
 /// let secret = IntegrityKey::new(alloc, &secret, None)?;
-/// let maker = NonceMaker::new(secret, SecurityFeatures::default(), 600);
+/// let maker = NonceMaker::new(secret, SecurityFeatures::default(), 600)?;
 /// let client: SocketAddr = "192.0.2.1:32853".parse()?;
 /// let nonce = maker.make(alloc, 1000, &client)?;
 /// let bytes = nonce.nonce().as_bytes();
@@ -64,7 +64,8 @@ pub struct NonceMaker {
 /// Why a secret makes no nonces.
 #[derive(Clone, Copy, Debug, PartialEq, Eq, Error)]
 pub enum SecretError {
-    /// It has fewer than 16 bytes, so that somebody could guess it and make the server's nonces.
+    /// The secret has fewer than 16 bytes, so that somebody could guess it and make the server's
+    /// nonces.
     #[error("the secret has fewer than 16 bytes")]
     TooShort,
 }
@@ -162,9 +163,9 @@ impl NonceMaker {
     ghost use Rattle.stun_values.specs.Addresses.{address_value};
     ghost use Rattle.stun_authentication.specs.Nonces.{secret_min, minted, minted_mac, minting, minting_of, freshness, aged, state_of, known_as};
 
-    /// A maker with this secret: at least 32 random bytes that nobody else knows
-    /// ([`IntegrityKey::new`]). `features` are what its nonces say of the server, and
-    /// `window` is for how many seconds a nonce is valid.
+    /// Returns a maker with this secret: at least 32 random bytes that nobody else knows
+    /// ([`IntegrityKey::new`]). `features` are what its nonces say of the server, and `window` is
+    /// for how many seconds a nonce is valid.
     ///
     /// # Errors
     ///
@@ -287,7 +288,7 @@ impl NonceMaker {
     /// rng.fill_bytes(&mut secret);
     /// let secret = IntegrityKey::new(alloc, &secret, None)?;
     /// let features = SecurityFeatures { password_algorithms: true, username_anonymity: false };
-    /// let maker = NonceMaker::new(secret, features, 600);
+    /// let maker = NonceMaker::new(secret, features, 600)?;
     /// let client: SocketAddr = "192.0.2.1:32853".parse()?;
     /// let nonce = maker.make(alloc, 1000, &client)?;
     /// let both = [PasswordAlgorithmValue::MD5, PasswordAlgorithmValue::SHA256];

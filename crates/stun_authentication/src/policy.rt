@@ -27,9 +27,9 @@ use stun_types::message::{IntegrityAlgorithm, IntegrityKey, Message};
 /// ```
 #[derive(Clone, Copy, Debug, PartialEq, Eq)]
 pub struct Policy {
-    /// The one algorithm that serves, or `None` if both do. The integrity attribute of an
-    /// algorithm that doesn't serve counts as absent, and so does that of an algorithm with which the
-    /// user's key doesn't work ([`IntegrityKey::serves`]).
+    /// The one integrity algorithm that serves, or `None` if both do. The integrity attribute of an
+    /// algorithm that doesn't serve counts as absent, and so does that of an algorithm with which
+    /// the user's key doesn't work ([`IntegrityKey::serves`]).
     pub algorithm: Option<IntegrityAlgorithm>,
     /// The least length of the HMAC in a MESSAGE-INTEGRITY-SHA256, in bytes. A usage may say 16,
     /// 20, 24 or 28; otherwise it is 32 (RFC 8489, section 14.6).

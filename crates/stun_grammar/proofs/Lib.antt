@@ -4,6 +4,7 @@ pub mod HeadersLemmas
 pub mod AttributesLemmas
 pub mod ChainsLemmas
 pub mod PrefixesLemmas
+pub mod PrefixesGrownLemmas
 pub mod ShownOrderLemmas
 pub mod ShownOrderCutLemmas
 pub mod ScannedOrderLemmas
@@ -20,6 +21,7 @@ pub mod CarryingLemmas
 pub mod CarryingExactLemmas
 pub mod StepsSignedLemmas
 pub mod StepsLemmas
+pub mod StepsGrownLemmas
 pub mod AddingLemmas
 pub mod AddingRefusedLemmas
 pub mod OriginLemmas

@@ -145,13 +145,13 @@ not_ending t e =
     or_from (eqb t MESSAGE_INTEGRITY) (sha256_barred t) (flip MESSAGE_INTEGRITY t parts.0) (not_sha256 t parts.1)
 
 -- the types that a step may not follow
-abbrev is_barred : Step → ℕ → Bool
+abbrev pub is_barred : Step → ℕ → Bool
 is_barred (add type value) t = is_ending t
 is_barred (sign Sha1 key) t = is_ending t
 is_barred (sign Sha256 key) t = sha256_barred t
 is_barred finger t = is_print t
 
-none_bars : (step : Step) (ts : List ℕ) → find (λ t. has t (barring_types step)) ts ≡ None → list_any (is_barred step) ts ≡ false
+pub none_bars : (step : Step) (ts : List ℕ) → find (λ t. has t (barring_types step)) ts ≡ None → list_any (is_barred step) ts ≡ false
 none_bars (add type value) ts e = weaker (λ t. has t (barring_types (add type value))) is_ending ts not_ending (find_nothing (λ t. has t (barring_types (add type value))) ts e)
 none_bars (sign Sha1 key) ts e = weaker (λ t. has t (barring_types (sign Sha1 key))) is_ending ts not_ending (find_nothing (λ t. has t (barring_types (sign Sha1 key))) ts e)
 none_bars (sign Sha256 key) ts e = weaker (λ t. has t (barring_types (sign Sha256 key))) sha256_barred ts not_sha256 (find_nothing (λ t. has t (barring_types (sign Sha256 key))) ts e)
@@ -165,12 +165,19 @@ types_push xs a = map-append (λ x. x.type) xs (a ∷ [])
 ordinary_print : (x : ℕ) → is_ending x ≡ false → is_print x ≡ false
 ordinary_print x e = (or_parts (eqb x MESSAGE_INTEGRITY_SHA256) (is_print x) (or_parts (eqb x MESSAGE_INTEGRITY) _ e).1).1
 
-step_ordered : (message : List ℕ) (step : Step) (ks : List ℕ) → in_order ks ≡ true → list_any (is_barred step) ks ≡ false → IsOrdinaryStep step → in_order (ks ++ (appended_by step message).type ∷ []) ≡ true
+pub step_ordered : (message : List ℕ) (step : Step) (ks : List ℕ) → in_order ks ≡ true → list_any (is_barred step) ks ≡ false → IsOrdinaryStep step → in_order (ks ++ (appended_by step message).type ∷ []) ≡ true
 unfolding appended_by
 step_ordered message (add type value) ks ordered none plain = push_ordinary ks type none (is_ending-ordinary type plain.0 plain.1 plain.2)
 step_ordered message (sign Sha1 key) ks ordered none plain = push_integrity ks none
 step_ordered message (sign Sha256 key) ks ordered none plain = push_sha256 ks ordered none
 step_ordered message finger ks ordered none plain = push_fingerprint ks ordered none
+
+-- a step that may follow these types follows no FINGERPRINT
+pub none_prints : (step : Step) (ts : List ℕ) → list_any (is_barred step) ts ≡ false → has FINGERPRINT ts ≡ false
+none_prints (add t v) ts none = weaker is_ending is_print ts ordinary_print none
+none_prints (sign Sha1 key) ts none = weaker is_ending is_print ts ordinary_print none
+none_prints (sign Sha256 key) ts none = weaker sha256_barred is_print ts (λ x e. (or_parts (eqb x MESSAGE_INTEGRITY_SHA256) (is_print x) e).1) none
+none_prints finger ts none = none
 
 -- a message without a FINGERPRINT has none that does not match
 without : (type id : ℕ) (xs : List Attribute) (a : Attribute) → list_any is_print (types xs) ≡ false → is_print a.type ≡ false
@@ -182,9 +189,9 @@ without type id xs a none one =
 step_right : (type id : ℕ) (xs : List Attribute) (step : Step) → list_any (is_barred step) (types xs) ≡ false → IsOrdinaryStep step
     → first_fingerprint_fault (message_encoding type id (with_step type id xs step)) (placed 20 (with_step type id xs step)) ≡ None
 unfolding appended_by
-step_right type id xs (add t v) none plain = without type id xs _ (weaker is_ending is_print (types xs) ordinary_print none) (ordinary_print t (is_ending-ordinary t plain.0 plain.1 plain.2))
-step_right type id xs (sign Sha1 key) none plain = without type id xs _ (weaker is_ending is_print (types xs) ordinary_print none) refl
-step_right type id xs (sign Sha256 key) none plain = without type id xs _ (weaker sha256_barred is_print (types xs) (λ x e. (or_parts (eqb x MESSAGE_INTEGRITY_SHA256) (is_print x) e).1) none) refl
+step_right type id xs (add t v) none plain = without type id xs _ (none_prints (add t v) (types xs) none) (ordinary_print t (is_ending-ordinary t plain.0 plain.1 plain.2))
+step_right type id xs (sign Sha1 key) none plain = without type id xs _ (none_prints (sign Sha1 key) (types xs) none) refl
+step_right type id xs (sign Sha256 key) none plain = without type id xs _ (none_prints (sign Sha256 key) (types xs) none) refl
 step_right type id xs finger none plain = right_where_computed type id xs [] none
 
 -- the length of the message with one more step

@@ -135,7 +135,7 @@ fingerprint_same : (type id : ℕ) (before behind : List Attribute)
 unfolding fingerprint_value
 fingerprint_same type id before behind = ap (λ (c : List ℕ). be32 (bit_xor (crc c) 0x5354554E)) (encoding_same type id before behind 8)
 
-right_passes : (d : List ℕ) (offset : ℕ) → fingerprint_fault d offset (fingerprint_value d offset) ≡ None
+pub right_passes : (d : List ℕ) (offset : ℕ) → fingerprint_fault d offset (fingerprint_value d offset) ≡ None
 unfolding fingerprint_fault fingerprint_value
 right_passes d offset =
     let value = be32 (bit_xor (crc (message_before d offset 8)) 0x5354554E) in

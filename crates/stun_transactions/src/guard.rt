@@ -29,8 +29,9 @@ pub enum Protection {
     /// The request is signed by a short-term credential (section 9.1). A key that was made for one
     /// algorithm validates by that algorithm's attribute alone, a key with no algorithm by either.
     ShortTerm(IntegrityKey),
-    /// It is signed by a long-term credential (section 9.2). A response validates by either attribute
-    /// (section 9.2.5), so the key works with both algorithms, as [`IntegrityKey::for_both`] makes it.
+    /// The request is signed by a long-term credential (section 9.2). A response validates by
+    /// either attribute (section 9.2.5), so the key works with both algorithms, as
+    /// [`IntegrityKey::for_both`] makes it.
     LongTerm(IntegrityKey),
 }
 

@@ -1,5 +1,5 @@
 -- What accepted adds write is held, shown and read back.
-use Rattle.std.proofs.Common.{◌≡◌, ℕ, ◌^◌, ◌<◌, false, List, [], ◌∷◌, ◌++◌, length, Option, None, Some, Result, Ok, Err, refl, sym, ap, subst, ◌∙◌, arith}
+use Rattle.std.proofs.Common.{◌≡◌, ℕ, ◌^◌, ◌<◌, false, List, [], ◌∷◌, ◌++◌, length, Option, None, Some, Result, Ok, Err, refl, sym, ap, subst, ◌∙◌}
 use Rattle.std.specs.Prelude.{IsOk, IsOkAnd}
 use Rattle.std.proofs.lemmas.List.{map-append}
 use Rattle.stun_grammar.specs.declared.attribute_type.AttributeType.{AttributeType}
@@ -12,7 +12,7 @@ use Rattle.stun_grammar.specs.Chains.{Shown}
 use Rattle.stun_grammar.specs.Parsing.{parse_fault}
 use Rattle.stun_grammar.specs.ScannedOrder.{has}
 use Rattle.stun_grammar.specs.Steps.{add, appended_by}
-use Rattle.stun_grammar.specs.Writing.{message_encoding, IsWritable}
+use Rattle.stun_grammar.specs.Writing.{message_encoding}
 use Rattle.stun_grammar.proofs.AddingLemmas.{message_more}
 use Rattle.stun_grammar.proofs.AddingRefusedLemmas.{accepted_by_any}
 use Rattle.stun_grammar.proofs.StepsLemmas.{step_writable, none_writable}

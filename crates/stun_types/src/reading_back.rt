@@ -52,9 +52,10 @@ pub fn shown_is_read_back<'a, A: AttributeFromRaw<'a> + AttributeStaticType>()
     shown_is_found();
 }
 
-/// As [`shown_is_read_back`], for a [`TypedAttribute`], an attribute of a user's own too: the result
-/// is one that reading its value may return. If the value has one reading (`HasOneReading`), which
-/// the laws of each kind say, the result is `Ok` of that attribute.
+/// A [`TypedAttribute`], one of a user's own too, that a message shows first of its type is read as
+/// [`shown_is_read_back`] says: the result is one that reading its value may return. If the value
+/// has one reading (`HasOneReading`), which the laws of each kind say, the result is `Ok` of that
+/// attribute.
 pub fn typed_is_read_back<'a, A: TypedAttribute + ReadValue>()
     ensures reads { (d : List ℕ) (attribute : A) (result : Result A StunParseError)
         → ShowsFirst A.NUMBER (A.bytes attribute) d

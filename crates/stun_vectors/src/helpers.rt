@@ -14,8 +14,8 @@ use stun_types::prelude::*;
 use test_messages::{header, short_term};
 use user_examples::{
     Blob, Note, WriteFixed, add_by_match, add_if_short, add_or_return, header_behind_adds,
-    hops_there_and_back, nominate_sixteen, note_there_and_back, overwrite, software_behind,
-    software_in_slice, software_message, steps_in_array, validates_own,
+    hops_there_and_back, in_both, nominate_sixteen, note_there_and_back, overwrite,
+    software_behind, software_in_slice, software_message, steps_in_array, validates_own,
 };
 
 /// The binding request with the transaction ID 1000 and the SOFTWARE `stun-types`, and four bytes
@@ -122,7 +122,7 @@ const NOTED: [u8; 28] = [
 fn reads_a_note(alloc: Global, bytes: &mut Vec<u8>) -> Result<bool, Fail> {
     let note = Note::new(&[1, 2, 3])?;
     let read = note_there_and_back(alloc, TransactionId::from(1000), &note, bytes)?;
-    Ok(read.data() == [1, 2, 3])
+    Ok(read.data() == [1, 2, 3].as_slice())
 }
 
 #[test]
@@ -259,5 +259,25 @@ fn writes_a_borrowed_value_into_an_array(rt: HostRuntime) -> Result<(), Fail> {
     assert!(rt; write.data().starts_with(&BORROWED));
     let read = Message::from_bytes(write.data())?;
     assert!(rt; read.validate_integrity_with_key(&key) == Ok(IntegrityAlgorithm::Sha256));
+    Ok(())
+}
+
+#[test]
+fn writes_into_both(rt: HostRuntime) -> Result<(), Fail> {
+    let software = Software::new(rt.alloc(), "stun-types")?;
+    let (mut verdicts, mut others) = ([Ok(()); 1], [Ok(()); 1]);
+    let mut buf = [0xFF; 40];
+    let both = in_both(
+        rt.alloc(),
+        binding_request(),
+        TransactionId::from(1000),
+        &[Step::Add(&software)],
+        &mut verdicts,
+        &mut others,
+        &mut buf,
+    )?;
+    assert!(rt; verdicts == [Ok(())] && others == [Ok(())]);
+    assert!(rt; both.0.as_slice() == &IN_FORTY[..36] && both.1 == 36);
+    assert!(rt; buf == IN_FORTY);
     Ok(())
 }

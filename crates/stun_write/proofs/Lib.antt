@@ -1,7 +1,9 @@
 mod WrittenTypesLemmas
 mod KeptHeadersLemmas
 mod RunsLemmas
+mod RunsAgreeLemmas
 mod ListedLemmas
 mod ResumingLemmas
 mod ResumedLemmas
 mod ResumedAddsLemmas
+mod ResumedParsesLemmas

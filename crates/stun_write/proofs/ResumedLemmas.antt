@@ -49,11 +49,11 @@ nothing_left offset r none e = elim (cases_eq (length r) 0) [
 ]
 
 -- whole attributes, and nothing else
-record IsWhole (b : List ℕ) : Type 0 where
+pub record IsWhole (b : List ℕ) : Type 0 where
   pub spelled : b ≡ encodings (chain b)
   pub each : AllByRecursion IsAttribute (chain b)
 
-is_whole : (offset : ℕ) (b : List ℕ) → IsBytes b → fault offset (rest b) ≡ None → IsWhole b
+pub is_whole : (offset : ℕ) (b : List ℕ) → IsBytes b → fault offset (rest b) ≡ None → IsWhole b
 is_whole offset b bytes e =
     let is = chain_exists b bytes in
     let behind : IsBytes (rest b) = IsBytes-behind (encodings (chain b)) (rest b) (subst IsBytes is.whole bytes) in
@@ -65,16 +65,23 @@ is_whole offset b bytes e =
     record { spelled = is.whole ∙ ap (λ (r : List ℕ). encodings (chain b) ++ r) nil ∙ append-nil (encodings (chain b)); each = is.each }
 
 -- with one more attribute they are whole attributes again
-record Grown (b : List ℕ) (a : Attribute) : Type 0 where
+pub record Grown (b : List ℕ) (a : Attribute) : Type 0 where
   pub chain_is : chain (b ++ encoding a) ≡ chain b ++ a ∷ []
   pub rest_is : rest (b ++ encoding a) ≡ []
+  pub whole : IsWhole (b ++ encoding a)
 
-grown : (b : List ℕ) (a : Attribute) → IsWhole b → IsAttribute a → Grown b a
+pub grown : (b : List ℕ) (a : Attribute) → IsWhole b → IsAttribute a → Grown b a
 grown b a whole is =
     let spelled : b ++ encoding a ≡ encodings (chain b ++ a ∷ []) =
     ap (λ (x : List ℕ). x ++ encoding a) whole.spelled ∙ sym (flat_map-append encoding (chain b) (a ∷ []) ∙ ap (λ (x : List ℕ). encodings (chain b) ++ x) (append-nil (encoding a))) in
-    let read = chain-encodings (chain b ++ a ∷ []) (AllByRecursion-append IsAttribute (chain b) (a ∷ []) whole.each (is, tt)) in
-    record { chain_is = ap chain spelled ∙ read.0; rest_is = ap rest spelled ∙ read.1 }
+    let each = AllByRecursion-append IsAttribute (chain b) (a ∷ []) whole.each (is, tt) in
+    let read = chain-encodings (chain b ++ a ∷ []) each in
+    let chain_is : chain (b ++ encoding a) ≡ chain b ++ a ∷ [] = ap chain spelled ∙ read.0 in
+    record {
+      chain_is = chain_is;
+      rest_is = ap rest spelled ∙ read.1;
+      whole = record { spelled = spelled ∙ ap encodings (sym chain_is); each = subst (AllByRecursion IsAttribute) (sym chain_is) each };
+    }
 
 nothing_behind : (offset : ℕ) (r : List ℕ) → r ≡ [] → fault offset r ≡ None
 unfolding fault
@@ -89,7 +96,7 @@ field_appended [] type value long fits = absurd (omega (arith, long))
 field_appended (a ∷ []) type value long fits = absurd (omega (arith, long))
 field_appended (a ∷ b ∷ message) type value long fits = number-be16 (grown_length (length (a ∷ b ∷ message)) (length value) - 20) (omega (arith, fits))
 
-frame_appended : (message : List ℕ) (type : ℕ) (value : List ℕ) → type < 2 ^ 16 → length value < 2 ^ 16 → frame_fault message ≡ None → grown_length (length message) (length value) ≤ greatest_length
+pub frame_appended : (message : List ℕ) (type : ℕ) (value : List ℕ) → type < 2 ^ 16 → length value < 2 ^ 16 → frame_fault message ≡ None → grown_length (length message) (length value) ≤ greatest_length
     → frame_fault (appended message type value) ≡ None
 frame_appended message type value t v framed fits =
     let begun = header_there message (frame_there message framed) in

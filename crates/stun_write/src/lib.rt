@@ -24,7 +24,7 @@ pub use adds::MessageWriteExt;
 pub use among::{first_among, is_among};
 pub use append::{append_attribute, append_encoded, append_value};
 pub use begin::{begin_message, begin_message_into, write_message_header};
-pub use laws::{appended_resumes, begun_resumes};
+pub use laws::{appended_resumes, begun_resumes, resumed_parses, writers_agree};
 pub use resume_point::ResumePoint;
 pub use slice::MessageWriteMutSlice;
 pub use steps::{Step, write_steps, write_steps_into};

@@ -1,10 +1,12 @@
 //! Whether a writer can resume a message in a slice.
 
-ghost use Rattle.std.specs.Prelude.{◌≡◌, length, take, MatchResult, Some};
+ghost use Rattle.std.specs.Prelude.{◌≡◌, length, take, MatchResult, Some, None};
+ghost use Rattle.stun_grammar.specs.Parsing.{parse_fault};
 ghost use Rattle.stun_write.specs.Resuming.{resume_fault};
 
 use crate::listed::Listed;
 use stun_base::StunParseError;
+use stun_read::check_message;
 
 /// The point at which a writer can resume the message in the first bytes of a slice, as
 /// [`ResumePoint::check`] found; [`MessageWriteMutSlice::resume_at`] makes that writer.
@@ -37,6 +39,8 @@ impl ResumePoint {
     /// assert_eq!(rt; ResumePoint::check(slice, 24).err(), Some(longer));
     /// ```
     ///
+    /// Whether the message parses too, [`ResumePoint::check_message`] checks.
+    ///
     /// # Errors
     ///
     /// As for [`MessageWriteMutSlice::resume`].
@@ -56,5 +60,40 @@ impl ResumePoint {
         }
         let listed = Listed::check(&slice[..written])?;
         Ok(ResumePoint { written, listed })
+    }
+
+    /// Checks that the message at this point parses, as `Message::from_bytes` does: up to the first
+    /// attribute that is out of order, no FINGERPRINT is wrong. [`ResumePoint::check`] looks at
+    /// neither the order nor a FINGERPRINT.
+    ///
+    /// A message without a FINGERPRINT parses, and so does one to which something was added (the
+    /// law `resumed_parses`), since no attribute is added after a FINGERPRINT.
+    ///
+    /// It walks the attributes once more, and reads the bytes before a FINGERPRINT again for their
+    /// checksum. It takes no memory.
+    ///
+    /// ```
+    /// let point = ResumePoint::check(buf, written)?;
+    /// point.check_message(buf)?;
+    /// ```
+    ///
+    /// # Requires
+    ///
+    /// `self` is what [`ResumePoint::check`] returned of `slice`, and `slice` is as it was then.
+    ///
+    /// # Errors
+    ///
+    /// As for `Message::from_bytes` of those bytes: of a message that can be resumed only
+    /// `FingerprintMismatch`, or `Truncated` or `TooLarge` if the value of a FINGERPRINT has not
+    /// four bytes.
+    #[tactic(auto, using(crate::proofs::ResumedAddsLemmas::within, crate::proofs::ResumedAddsLemmas::size))]
+    pub fn check_message(self, slice: &[u8]) -> Result<(), StunParseError>
+        requires { IsPointOf self slice.now }
+        ensures { MatchResult result
+            (λ _. parse_fault (take (resumed_length self) slice.now) ≡ None)
+            (λ e. parse_fault (take (resumed_length self) slice.now) ≡ Some e) }
+    {
+        check_message(&slice[..self.written])?;
+        Ok(())
     }
 }

@@ -4,3 +4,4 @@ mod RequestsLemmas
 mod MyValueLemmas
 mod WhoseLemmas
 mod BehindLemmas
+mod TwoWritersLemmas

@@ -1,6 +1,8 @@
 //! Adding to a message in a slice of the caller's.
 
-ghost use Rattle.std.specs.Prelude.{◌≡◌, ◌++◌, Ok, Err, Some, None, OnOk, OnErr, IfSome, MatchOption, length, take, drop};
+ghost use Rattle.std.specs.Prelude.{◌≡◌, ◌++◌, Ok, Err, Some, None, OnOk, OnErr, IfOk, IfSome, MatchOption, length, take, drop};
+ghost use Rattle.stun_grammar.specs.Numbers.{IsBytes};
+ghost use Rattle.stun_grammar.specs.Parsing.{parse_fault};
 ghost use Rattle.stun_grammar.specs.WriteErrors.{write_error};
 ghost use Rattle.stun_grammar.specs.Steps.{add};
 ghost use Rattle.stun_grammar.specs.Adding.{appended, grown_length, add_refusal};
@@ -10,9 +12,14 @@ ghost use Rattle.stun_write.specs.Resuming.{message_types, resume_fault};
 use crate::in_slice::add_software;
 use std::alloc::Global;
 use stun_types::attribute::Software;
-use stun_types::message::write::ResumePoint;
+use stun_types::message::write::{ResumePoint, resumed_parses};
 use stun_types::message::{MessageWriteMutSlice, StunWriteError};
 use stun_types::prelude::*;
+
+/// That each is a byte.
+fn are_bytes(slice: &[u8])
+    ensures { IsBytes slice.now }
+{}
 
 /// Adds this SOFTWARE to the message in the first `written` bytes of `buf`, and returns how long it
 /// is then. The bytes after it stay as they were. It takes no memory.
@@ -41,9 +48,13 @@ pub fn software_behind(
     ensures added { OnOk result (buf.new
         ≡ appended (take written buf.old) 0x8022 (text_bytes software.now)
         ++ drop (grown_length written (length (text_bytes software.now))) buf.old) }
+    // and that it is a message, whether or not it parsed before
+    ensures parses { IfOk result (λ n. parse_fault (take n buf.new) ≡ None) }
     ensures same { OnErr result (buf.new ≡ buf.old) }
 {
     let point = ResumePoint::check(buf, written)?;
+    are_bytes(buf);
+    resumed_parses();
     let mut message = MessageWriteMutSlice::resume_at(alloc, buf, point);
     let answer = add_software(software, &mut message);
     let written = message.finish();

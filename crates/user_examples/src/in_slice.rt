@@ -1,6 +1,6 @@
 //! Writing a message into a slice of the caller's.
 
-ghost use Rattle.std.specs.Prelude.{◌≡◌, ◌+◌, ◌<◌, ◌≤◌, ◌⊎◌, [], ◌∷◌, ◌++◌, Ok, Err, OnOk, OnErr, length, drop};
+ghost use Rattle.std.specs.Prelude.{◌≡◌, ◌+◌, ◌^◌, ◌<◌, ◌≤◌, ◌⊎◌, [], ◌∷◌, ◌++◌, Ok, Err, OnOk, OnErr, length, drop};
 ghost use Rattle.stun_grammar.specs.Attributes.{canonical, attribute_length};
 ghost use Rattle.stun_grammar.specs.Writing.{message_encoding};
 ghost use Rattle.stun_grammar.specs.Steps.{add};
@@ -30,6 +30,7 @@ pub(crate) fn add_software<B: MessageWrite>(
         (text_bytes software.now)) }
     ensures same { OnErr result (IsUnchanged (B.state message.old) (B.state message.new)) }
     ensures slice_name { (B.state message.new).slice_name ≡ (B.state message.old).slice_name }
+    ensures short { length (text_bytes software.now) < 2 ^ 16 }
 {
     message.add_attribute(software)
 }

@@ -15,6 +15,7 @@ mod note;
 mod overwritten;
 mod request;
 mod room;
+mod two_writers;
 mod whose;
 mod write_fixed;
 
@@ -31,5 +32,6 @@ pub use note::{Note, NoteKind, note_of, note_there_and_back};
 pub use overwritten::overwrite;
 pub use request::software_message;
 pub use room::{UseCandidate, nominate_sixteen};
+pub use two_writers::in_both;
 pub use whose::validates_own;
 pub use write_fixed::WriteFixed;

@@ -3,5 +3,5 @@
 pub use stun_write::{
     MessageWrite, MessageWriteExt, MessageWriteMutSlice, MessageWriteVec, ResumePoint, Step,
     append_attribute, append_encoded, append_value, appended_resumes, begun_resumes, first_among,
-    is_among, write_message_header, write_steps, write_steps_into,
+    is_among, resumed_parses, write_message_header, write_steps, write_steps_into, writers_agree,
 };
