@@ -23,6 +23,7 @@ use stun_authentication::{
     authenticate_long_term, authenticate_short_term,
 };
 use stun_integrity::same_bytes;
+use stun_keys::keys::key_of_bytes;
 use stun_types::attribute::PasswordAlgorithmValue;
 use stun_types::message::Message;
 use stun_types::message::keys::IntegrityKey;
@@ -81,10 +82,7 @@ fn copy_of(alloc: Global, key: Option<&IntegrityKey>) -> Result<Option<Integrity
     ensures { IfOk result (IsKeyOf (borrowed_of key.entry)) }
 {
     match key {
-        Some(key) => match key.clone(alloc) {
-            Ok(copy) => Ok(Some(copy)),
-            Err(_) => Err(AllocError),
-        },
+        Some(key) => Ok(Some(key_of_bytes(alloc, key.as_bytes(), key.algorithm())?)),
         None => Ok(None),
     }
 }
@@ -265,7 +263,7 @@ fn tell(
             *out = in_c(&answer, used);
             plain(codes::OK)
         }
-        Err(_) => {
+        Err(AllocError) => {
             *out = UNDECIDED;
             plain(codes::OUT_OF_MEMORY)
         }

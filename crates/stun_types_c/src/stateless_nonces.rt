@@ -13,9 +13,10 @@ use crate::call_result::{CallResult, plain, write_result};
 use crate::codes;
 use crate::refusals::{deliver, features_of};
 use crate::shared_key::SharedKey;
-use std::alloc::Global;
+use std::alloc::{AllocError, Global};
 use std::net::SocketAddr;
 use stun_authentication::{Freshness, NonceMaker, SECRET_MIN, SecurityFeatures};
+use stun_keys::keys::key_of_bytes;
 use stun_types::message::keys::IntegrityKey;
 
 /// A maker of nonces with a copy of a secret.
@@ -34,8 +35,9 @@ fn maker_of(
     if secret.as_bytes().len() < SECRET_MIN {
         return Err(plain(codes::BAD_ARGUMENT));
     }
-    let Ok(copy) = secret.clone(alloc) else {
-        return Err(plain(codes::OUT_OF_MEMORY));
+    let copy = match key_of_bytes(alloc, secret.as_bytes(), secret.algorithm()) {
+        Ok(copy) => copy,
+        Err(AllocError) => return Err(plain(codes::OUT_OF_MEMORY)),
     };
     match NonceMaker::new(copy, features, window) {
         Ok(maker) => Ok(maker),
