@@ -707,7 +707,8 @@ typedef struct {
 } stun_types_authentication;
 
 /* Authenticates a message by short-term credentials (RFC 8489, section 9.1.3). key is that of the
-   user whom its USERNAME names, and holds none if there is no such user: find the USERNAME first.
+   user whom its USERNAME names, and holds none if there is no such user: find the USERNAME first. If it
+   was made for one integrity attribute, the other counts as absent.
    The errors of stun_types_parse. BAD_ARGUMENT: the policy. Allocates: OUT_OF_MEMORY. */
 STUN_TYPES_NODISCARD STUN_TYPES_NONNULL((3, 4, 5))
 stun_types_answer stun_types_authenticate_short_term(const uint8_t *bytes, size_t length,
@@ -725,7 +726,9 @@ typedef STUN_TYPES_ENUM(stun_types_nonce_state) {
 /* Authenticates a request by long-term credentials (RFC 8489, section 9.2.4). nonce_state is what the
    server knows of its NONCE, and algorithms are the password algorithms that it sent with a valid
    one. md5_key and sha256_key are the keys, in the server's realm, of the user whom its USERNAME or
-   USERHASH names, by either password algorithm; one that holds none says that there is no such user.
+   USERHASH names, by either password algorithm; one that holds none says that there is no such user. If
+   a key was made for one integrity attribute, the other counts as absent. A PASSWORD-ALGORITHM with
+   octets after its four is refused with 400, since neither algorithm has parameters.
    The errors of stun_types_parse. BAD_ARGUMENT: the policy, the state, a password algorithm, or more
    than 16 of them. Allocates: OUT_OF_MEMORY. */
 STUN_TYPES_NODISCARD STUN_TYPES_NONNULL((3, 7, 8, 9))
@@ -742,8 +745,9 @@ stun_types_answer stun_types_authenticate_long_term(const uint8_t *bytes, size_t
    the reply_algorithm, with the key that accepted, and adds a FINGERPRINT if fingerprint is true. A
    reply has one if its request has one (section 7). key is that of the short-term credential, or the
    one by MD5; sha256_key is used if password_algorithm is STUN_TYPES_PASSWORD_SHA256. BAD_ARGUMENT: the
-   authentication is no acceptance. NO_KEY. Then both attributes are added as by their own calls: if the
-   FINGERPRINT is refused, the message stays signed, and *written counts that. */
+   authentication is no acceptance, or the key was made for the integrity attribute that isn't the
+   reply's. NO_KEY. Then both attributes are added as by their own calls: if the FINGERPRINT is refused,
+   the message stays signed, and *written counts that. */
 STUN_TYPES_NODISCARD STUN_TYPES_NONNULL((3, 4, 5, 6))
 stun_types_answer stun_types_finish_reply(uint8_t *room, size_t size, size_t *written,
                                           const stun_types_authentication *authentication,
@@ -805,7 +809,7 @@ bool stun_types_security_features(const void *nonce, size_t nonce_length, uint32
    It is valid for this client alone, for window seconds: the nonce doesn't contain the window, so pass
    the same one to stun_types_judge_nonce. The secret, which only the server knows, is a key of at least
    32 random bytes (stun_types_key_from_bytes, for STUN_TYPES_INTEGRITY_ANY).
-   BAD_ARGUMENT: another sum of features, or the family of the address. NO_KEY: there is no secret.
+   BAD_ARGUMENT: another sum of features, the family of the address, or a secret of fewer than 16 bytes. NO_KEY: there is no secret.
    TOO_SMALL. Allocates: OUT_OF_MEMORY. */
 STUN_TYPES_NODISCARD STUN_TYPES_NONNULL((1, 5, 8))
 stun_types_answer stun_types_make_nonce(const stun_types_key *secret, uint32_t features,
@@ -1014,7 +1018,8 @@ stun_types_answer stun_types_key_for(stun_types_key *key, const uint8_t *respons
    same attributes, so keep the response until another challenge comes. Nothing allocates.
    The errors, before anything is written: BAD_ARGUMENT: a password algorithm, or more than 16 of them.
    Those of stun_types_parse; NOT_A_CHALLENGE, BID_DOWN, INCOMPLETE, NO_ALGORITHM. INVALID_DATA: the
-   user isn't UTF-8. TOO_LARGE: it has more than 513 bytes. NO_KEY. Then each attribute is added as by
+   user isn't UTF-8. TOO_LARGE: it has more than 513 bytes. NO_KEY. BAD_ARGUMENT: the key was made for
+   the integrity attribute by which the request isn't signed. Then each attribute is added as by
    its own call, and *written counts it. The first one that is refused ends the call with that error:
    begin the request anew, in a larger room if that was too small. */
 STUN_TYPES_NODISCARD STUN_TYPES_NONNULL((3, 10))

@@ -144,7 +144,7 @@ static void test_servers_with_credentials(void) {
     static const stun_types_authentication accepted = {
         STUN_TYPES_ACCEPTED, (stun_types_code)0, STUN_TYPES_INTEGRITY_SHA1, STUN_TYPES_INTEGRITY_SHA1,
         (stun_types_password)0, 0};
-    stun_types_key *key = password_key(text("pass"));
+    stun_types_key *key = password_key(text("a secret of the server"));
     stun_types_nonce_state *state = NEW(stun_types_nonce_state);
     size_t *written = NEW(size_t);
     const slice request = hex(REQUEST);

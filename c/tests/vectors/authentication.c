@@ -10,7 +10,7 @@ enum { ROOM = 2000, ALGORITHMS = 20 };
 
 static const char realm[] = "example.org";
 
-/* The users of the server. */
+/* The users of the server. A user whose password is empty, as carol's is, makes no key. */
 static const struct {
     const char *name, *password;
 } users[] = {{"alice", "wonderland"}, {"bob", "builder"}};
@@ -55,26 +55,59 @@ static size_t user_of(slice message) {
     return COUNT(users);
 }
 
-/* The policy of `ALGORITHM:LENGTH` or `ALGORITHM:LENGTH:fingerprint`. */
-static stun_types_policy call_policy(void) {
+/* The policy of `ALGORITHM:LENGTH`, with `:fingerprint`, `:key-sha1` or `:key-sha256` after it, and what
+   the keys of the users were made for. */
+static stun_types_policy call_policy(stun_types_integrity *made_for) {
     char *word = call_word();
     char *algorithm = next_part(&word, ':');
     char *length = word == NULL ? NULL : next_part(&word, ':');
     stun_types_policy policy = {STUN_TYPES_INTEGRITY_ANY, 0, 0, 0};
+    *made_for = STUN_TYPES_INTEGRITY_ANY;
     if (length == NULL) {
         answer_unknown();
         return policy;
     }
     policy.algorithm = algorithm_of(algorithm);
     policy.shortest = (uint32_t)strtoul(length, NULL, 10);
-    policy.fingerprint = word != NULL;
+    while (word != NULL) {
+        char *part = next_part(&word, ':');
+        if (strcmp(part, "fingerprint") == 0) policy.fingerprint = 1;
+        else if (strncmp(part, "key-", 4) == 0) *made_for = algorithm_of(part + 4);
+        else answer_unknown();
+    }
     return policy;
+}
+
+/* The same key, made for an integrity algorithm. */
+static stun_types_answer made_for_one(stun_types_key *key, stun_types_integrity algorithm) {
+    uint8_t bytes[100];
+    size_t length = 0;
+    stun_types_integrity before;
+    if (algorithm == STUN_TYPES_INTEGRITY_ANY) return OK_ANSWER;
+    ANSWERS(stun_types_key_bytes(key, bytes, sizeof bytes, &length, &before), OK_ANSWER);
+    CHECK(before == STUN_TYPES_INTEGRITY_ANY);
+    return stun_types_key_from_bytes(key, bytes, length, algorithm);
 }
 
 /* The keys of a user: the short-term one, or the two long-term ones. */
 typedef struct {
     stun_types_key first, sha256;
 } user_keys;
+
+/* Answers with a reply that is signed, or that the key doesn't sign it: then nothing is written. */
+static void answer_signed(draft *to, const stun_types_authentication *decision,
+                          const user_keys *keys) {
+    size_t before = to->written;
+    stun_types_answer answer = stun_types_finish_reply(to->room, to->size, &to->written, decision,
+                                                       &keys->first, &keys->sha256, true);
+    if (answer.code == STUN_TYPES_BAD_ARGUMENT) {
+        CHECK(to->written == before && is_untouched(to->room + before, to->size - before));
+        answer_text("cannot-sign");
+        return;
+    }
+    ANSWERS(answer, OK_ANSWER);
+    answer_draft(to);
+}
 
 /* The reply to a request that is accepted: an address, or the error 420. */
 static void answer_accepted(slice request, const stun_types_authentication *decision,
@@ -96,10 +129,7 @@ static void answer_accepted(slice request, const stun_types_authentication *deci
                                            STUN_TYPES_ATTRIBUTE_XOR_MAPPED_ADDRESS, &source),
                 OK_ANSWER);
     else ANSWERS(draft_unknown(&to, unknown, count), OK_ANSWER);
-    ANSWERS(stun_types_finish_reply(to.room, to.size, &to.written, decision, &keys->first,
-                                    &keys->sha256, true),
-            OK_ANSWER);
-    answer_draft(&to);
+    answer_signed(&to, decision, keys);
 }
 
 /* Writes the reply to a request that is refused, in a room of this size. That of long-term
@@ -159,7 +189,8 @@ static bool has_decided(stun_types_answer answer, const stun_types_authenticatio
 }
 
 static void short_term(void) {
-    stun_types_policy policy = call_policy();
+    stun_types_integrity made_for;
+    stun_types_policy policy = call_policy(&made_for);
     slice message = call_octets();
     size_t user = user_of(message);
     user_keys keys = {STUN_TYPES_NO_KEY_YET, STUN_TYPES_NO_KEY_YET};
@@ -169,6 +200,7 @@ static void short_term(void) {
         keep_secret(text(users[user].password));
         answer = stun_types_key_short_term(&keys.first, users[user].password,
                                            strlen(users[user].password));
+        if (answer.code == STUN_TYPES_OK) answer = made_for_one(&keys.first, made_for);
     }
     if (is_taken(answer)
         && has_decided(stun_types_authenticate_short_term(message.bytes, message.length, &policy,
@@ -198,7 +230,8 @@ static stun_types_nonce_state nonce_state(slice message, slice fresh, slice stal
 }
 
 static void long_term(void) {
-    stun_types_policy policy = call_policy();
+    stun_types_integrity made_for;
+    stun_types_policy policy = call_policy(&made_for);
     slice fresh = call_octets(), stale = call_octets(), message = call_octets();
     size_t user = user_of(message);
     user_keys keys = {STUN_TYPES_NO_KEY_YET, STUN_TYPES_NO_KEY_YET};
@@ -210,6 +243,8 @@ static void long_term(void) {
         answer = make_long_term(&keys.first, user, STUN_TYPES_PASSWORD_MD5);
         if (answer.code == STUN_TYPES_OK)
             answer = make_long_term(&keys.sha256, user, STUN_TYPES_PASSWORD_SHA256);
+        if (answer.code == STUN_TYPES_OK) answer = made_for_one(&keys.first, made_for);
+        if (answer.code == STUN_TYPES_OK) answer = made_for_one(&keys.sha256, made_for);
     }
     if (is_taken(answer)
         && has_decided(stun_types_authenticate_long_term(
@@ -291,6 +326,27 @@ static stun_types_answer answer_with(draft *to, size_t size, slice response,
                                        supported, count, "user", 4, key, true);
 }
 
+/* A key that was made for the other algorithm answers no challenge, and nothing is written. */
+static void check_other_key(slice response, const uint16_t *supported, size_t count) {
+    stun_types_challenge asked;
+    stun_types_key key = STUN_TYPES_NO_KEY_YET;
+    stun_types_answer made;
+    draft to;
+    if (stun_types_challenge_of(response.bytes, response.length, supported, count, false, NULL, 0, false,
+                                &asked).code != STUN_TYPES_OK)
+        return;
+    made = stun_types_key_from_bytes(&key, "key", 3,
+                                     asked.integrity_algorithm == STUN_TYPES_INTEGRITY_SHA1
+                                         ? STUN_TYPES_INTEGRITY_SHA256
+                                         : STUN_TYPES_INTEGRITY_SHA1);
+    if (made.code == STUN_TYPES_OK) {
+        ANSWERS(answer_with(&to, ROOM, response, supported, count, &key),
+                PLAIN(STUN_TYPES_BAD_ARGUMENT));
+        CHECK(to.written == 20 && is_untouched(to.room + 20, to.size - 20));
+    }
+    stun_types_key_free(&key);
+}
+
 static void answer_challenge(void) {
     uint16_t supported[ALGORITHMS];
     size_t count = algorithms_of(call_word(), supported);
@@ -298,6 +354,7 @@ static void answer_challenge(void) {
     stun_types_key key = STUN_TYPES_NO_KEY_YET;
     draft to, small;
     keep_secret(text("pass"));
+    check_other_key(response, supported, count);
     if (is_taken(stun_types_key_for(&key, response.bytes, response.length, supported, count, "user", 4,
                                     "pass", 4))) {
         ANSWERS(answer_with(&to, ROOM, response, supported, count, &key), OK_ANSWER);
@@ -421,13 +478,20 @@ static bool call_maker(nonce_maker *maker) {
     return make_key(&maker->secret, secret, STUN_TYPES_INTEGRITY_ANY);
 }
 
+/* Whether a call was taken, or its secret was too short. */
+static bool has_secret(stun_types_answer answer) {
+    if (answer.code != STUN_TYPES_BAD_ARGUMENT) return is_taken(answer);
+    answer_text("!TooShort");
+    return false;
+}
+
 static void make_nonce(void) {
     nonce_maker by;
     uint8_t *nonce = room(STUN_TYPES_NONCE_LENGTH);
     size_t *written = NEW(size_t);
     if (call_maker(&by)
-        && is_taken(stun_types_make_nonce(&by.secret, by.features, by.window, by.now, &by.client,
-                                          nonce, STUN_TYPES_NONCE_LENGTH, written))) {
+        && has_secret(stun_types_make_nonce(&by.secret, by.features, by.window, by.now, &by.client,
+                                            nonce, STUN_TYPES_NONCE_LENGTH, written))) {
         CHECK(*written == STUN_TYPES_NONCE_LENGTH);
         answer_octets(nonce, *written);
     }
@@ -440,8 +504,8 @@ static void freshness(void) {
     slice nonce = call_octets();
     stun_types_nonce_state *state = NEW(stun_types_nonce_state);
     if (is_made
-        && is_taken(stun_types_judge_nonce(&by.secret, by.features, by.window, by.now, &by.client,
-                                           nonce.bytes, nonce.length, state)))
+        && has_secret(stun_types_judge_nonce(&by.secret, by.features, by.window, by.now, &by.client,
+                                             nonce.bytes, nonce.length, state)))
         answer_text(*state == STUN_TYPES_NONCE_VALID   ? "fresh"
                     : *state == STUN_TYPES_NONCE_STALE ? "stale"
                                                        : "unknown");

@@ -21,6 +21,7 @@ typedef struct {
 static struct {
     stun_types_transport transport;
     stun_types_protection protection;
+    stun_types_integrity made_for;
     stun_types_schedule schedule;
     slice key, request;
     event events[EVENTS];
@@ -47,9 +48,14 @@ static stun_types_schedule schedule_of(char *word) {
     return schedule;
 }
 
-/* Whether a transaction has begun. C has one code for a schedule with a 0 and for one too long. */
+/* Whether a transaction has begun. C has one code for a schedule with a 0 and for one too long, and for
+   a wrong argument and a key that was made for one algorithm. */
 static bool has_begun(stun_types_answer result, const stun_types_schedule *schedule) {
     bool is_zero = schedule->rto == 0 || schedule->requests == 0 || schedule->last_wait == 0;
+    if (result.code == STUN_TYPES_BAD_ARGUMENT && script.made_for != STUN_TYPES_INTEGRITY_ANY) {
+        answer_text("!KeyForOneAlgorithm");
+        return false;
+    }
     if (result.code != STUN_TYPES_OUT_OF_RANGE) return is_taken(result);
     CHECK(is_same_answer(result, PLAIN(STUN_TYPES_OUT_OF_RANGE)));
     answer_text(is_zero ? "!Zero" : "!TooLong");
@@ -196,7 +202,7 @@ static void run(void) {
     bool goes_on;
     bool is_protected = script.protection == STUN_TYPES_SHORT_TERM ||
                         script.protection == STUN_TYPES_LONG_TERM;
-    if (is_protected && !make_key(&key, script.key, STUN_TYPES_INTEGRITY_ANY)) return;
+    if (is_protected && !make_key(&key, script.key, script.made_for)) return;
     result = stun_types_transaction_begin(&transaction, script.request.bytes, script.request.length,
                                         &script.schedule, script.transport, script.protection,
                                         &key, 0);
@@ -214,12 +220,14 @@ static void run(void) {
 static void read_mechanism(char *word) {
     const char *part = next_part(&word, ':');
     script.protection = STUN_TYPES_UNPROTECTED;
+    script.made_for = STUN_TYPES_INTEGRITY_ANY;
     if (part == NULL) answer_unknown();
     else if (strcmp(part, "first") == 0) script.protection = STUN_TYPES_FIRST_LONG_TERM;
     else if (strcmp(part, "short") == 0) script.protection = STUN_TYPES_SHORT_TERM;
     else if (strcmp(part, "long") == 0) script.protection = STUN_TYPES_LONG_TERM;
     while ((part = next_part(&word, ':')) != NULL)
         if (strcmp(part, "fingerprint") == 0) script.schedule.fingerprint = 1;
+        else if (strncmp(part, "key-", 4) == 0) script.made_for = algorithm_of(part + 4);
         else script.schedule.shortest = (uint32_t)strtoul(part, NULL, 10);
 }
 

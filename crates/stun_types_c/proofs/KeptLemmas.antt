@@ -3,6 +3,7 @@ use Rattle.std.proofs.Common.{◌≡◌, ℕ, zero, suc, ◌+◌, ◌-◌, ◌/�
 use Rattle.std.specs.Prelude.{is_some, nat_lt, min, not, ◌&&◌, ◌==◌, if◌then◌else◌}
 use Rattle.std.specs.Int.{from_bool}
 use Rattle.std.specs.Duration.{as_nanos}
+use Rattle.std.specs.Option.{option_or}
 use Rattle.std.specs.declared.time.Duration.{Duration}
 use Rattle.std.proofs.Math.Nat.{mul-div_cancel, min-eq_left}
 use Rattle.std.proofs.lemmas.Bool.{cases_Bool, ltb-true, ltb-false, le-ltb}
@@ -18,6 +19,7 @@ use Rattle.stun_transactions.specs.declared.retransmission.TransactionEnd.TheVar
 use Rattle.stun_transactions.specs.declared.guard.Protection.{Protection}
 use Rattle.stun_transactions.specs.declared.guard.Protection.TheVariants.{Unprotected, FirstLongTerm, ShortTerm, LongTerm}
 use Rattle.stun_transactions.specs.declared.guard.Signed.{Signed}
+use Rattle.stun_transactions.specs.declared.terms.BeginError.{BeginError}
 use Rattle.stun_transactions.specs.declared.terms.BeginError.TheVariants.{NotARequest}
 use Rattle.stun_transactions.specs.declared.parts.PartsError.{PartsError}
 use Rattle.stun_transactions.specs.declared.parts.PartsError.TheVariants.{SignedOtherwise, SentTooOften, SentTooLate}
@@ -33,9 +35,9 @@ use Rattle.stun_transactions.specs.Retransmissions.{later, ended_by, stopped_by,
 use Rattle.stun_transactions.specs.Outcomes.{after}
 use Rattle.stun_transactions.specs.Parts.{plan_in, state_in, at_state, mechanism_of, signs, parts_of, is_signed_otherwise, parts_fault}
 use Rattle.stun_transactions.specs.Schedules.{requests_over, requests_in}
-use Rattle.stun_transactions.specs.Guards.{signed_by, is_signed, protects, IsStoredAs}
+use Rattle.stun_transactions.specs.Guards.{signed_by, is_signed, protects}
 use Rattle.stun_authentication.specs.LongTerm.{is_request}
-use Rattle.stun_transactions.specs.Terms.{mismatch, begin_fault}
+use Rattle.stun_transactions.specs.Terms.{mismatch, request_fault, key_misfit, begin_fault}
 use Rattle.stun_transactions.specs.Transactions.{terms_of, state_of, Begins}
 use Rattle.stun_types_c.specs.declared.call_result.CallResult.{CallResult}
 use Rattle.stun_types_c.specs.declared.transactions.KeptTransaction.{KeptTransaction}
@@ -348,14 +350,10 @@ gone_on old new same = rw same refl
 
 -- ---- A transaction that begins
 
-same_mechanism : (by kept : Protection) → IsStoredAs by kept → mechanism_of kept ≡ mechanism_of by
-same_mechanism Unprotected kept is = ap mechanism_of is
-same_mechanism FirstLongTerm kept is = ap mechanism_of is
-same_mechanism (ShortTerm key) kept is = ap mechanism_of is
-same_mechanism (LongTerm key) (LongTerm kept) is = refl
-same_mechanism (LongTerm key) Unprotected is = absurd is
-same_mechanism (LongTerm key) FirstLongTerm is = absurd is
-same_mechanism (LongTerm key) (ShortTerm kept) is = absurd is
+-- the request isn't refused
+by_request : (one other : Option BeginError) → option_or one other ≡ None → one ≡ None
+by_request None other free = refl
+by_request (Some e) other free = absurd cc
 
 -- a request that is no fault is signed exactly if it is protected
 as_signed : (request signed : Bool) (by : Protection) → (if request then mismatch (protects by) signed else Some NotARequest) ≡ None → (if signs (mechanism_of by) then not signed else signed) ≡ false
@@ -375,9 +373,10 @@ pub begun_keeps : (d : List ℕ) (waits : Waits) (transport protection now : ℕ
 begun_keeps d waits transport protection now schedule usage over by moment transaction scheduled named moves protected at free begins =
     let parts = parts_of transaction in
     let state = state_of transaction in
-    let mechanism = same_mechanism by (terms_of transaction).protection begins.terms.protection_is in
+    let mechanism : mechanism_of (terms_of transaction).protection ≡ mechanism_of by = ap mechanism_of begins.terms.protection_is in
+    let request = by_request (request_fault (protects by) d) (key_misfit by) free in
     let signed : is_signed_otherwise parts ≡ false =
-    rw (mechanism, begins.terms.signed_is) (as_signed (is_request (class_of (type_field d))) (is_signed (signed_by d)) by free) in
+    rw (mechanism, begins.terms.signed_is) (as_signed (is_request (class_of (type_field d))) (is_signed (signed_by d)) by request) in
     let sent : parts.sent ≡ 0 = ap (λ (c : RetransmissionState). c.sent) begins.state in
     let same : as_nanos parts.last ≡ as_nanos parts.clock = ap (λ (c : RetransmissionState). as_nanos c.last) begins.state ∙ sym (ap (λ (c : RetransmissionState). as_nanos c.clock) begins.state) in
     record {

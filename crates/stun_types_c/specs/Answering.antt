@@ -16,7 +16,7 @@ use Rattle.stun_types_c.specs.Codes.{OK, TOO_LARGE, BAD_ARGUMENT, NO_KEY}
 use Rattle.stun_types_c.specs.Credentials.{texts_refusal, WithTexts}
 use Rattle.stun_types_c.specs.PasswordAlgorithms.{password_algorithms_named}
 use Rattle.stun_types_c.specs.Steps.{Then, AddsEach, Ends}
-use Rattle.stun_types_c.specs.Writing.{Written}
+use Rattle.stun_types_c.specs.Writing.{Written, serving_answer}
 
 -- what is asked for, or why the request isn't sent again, in C's numbers
 abbrev pub in_answer : Result Asked NoRetry → Result Asked CallResult
@@ -64,7 +64,7 @@ abbrev pub AddsAnswer : Asked → (name : List ℕ) → (fingerprint : Bool) →
 AddsAnswer asked name fingerprint key =
     Then (AddsEach (credentials asked name)) (Ends fingerprint (signing_algorithm asked) key)
 
--- the same by what C passes
+-- the same by what C passes; nothing is written if the key was made for the other algorithm
 abbrev pub AnswersChallenge : (numbers d name : List ℕ) → (fingerprint : Bool)
     → Option IntegrityKey → CallResult → Written
     → Written → Type 0
@@ -73,6 +73,8 @@ AnswersChallenge numbers d name fingerprint held result old new =
     (λ asked. MatchOption (name_answer name)
     (MatchOption held
     (Refuses (plain NO_KEY) result old new)
-    (λ key. AddsAnswer asked name fingerprint (key_bytes key) result old new))
+    (λ key. MatchOption (serving_answer key (signing_algorithm asked))
+    (AddsAnswer asked name fingerprint (key_bytes key) result old new)
+    (λ answer. Refuses answer result old new)))
     (λ answer. Refuses answer result old new))
     (λ answer. Refuses answer result old new)

@@ -8,7 +8,7 @@ use Rattle.stun_grammar.specs.Parsing.{parse_fault}
 use Rattle.stun_keys.specs.declared.keys.integrity_key.IntegrityKey.{IntegrityKey}
 use Rattle.stun_authentication.specs.declared.policy.Policy.{Policy}
 use Rattle.stun_authentication.specs.Answers.{Decision, accept, refuse, discard, not_a_request, refusal_code}
-use Rattle.stun_authentication.specs.Lookups.{Known}
+use Rattle.stun_authentication.specs.Lookups.{UserKey, Known}
 use Rattle.stun_authentication.specs.LongTerm.{long_term}
 use Rattle.stun_authentication.specs.ShortTerm.{short_term}
 use Rattle.stun_types_c.specs.declared.call_result.CallResult.{CallResult}
@@ -21,7 +21,7 @@ use Rattle.stun_types_c.specs.CallResults.{plain, parse_result}
 use Rattle.stun_types_c.specs.Keys.{algorithm_named, number_of}
 use Rattle.stun_types_c.specs.PasswordAlgorithms.{password_algorithms_named}
 use Rattle.stun_types_c.specs.Usages.{shortest_named}
-use Rattle.stun_types_c.specs.Users.{bytes_of, borrowed_bytes, long_term_key_of, nonce_in}
+use Rattle.stun_types_c.specs.Users.{held_of, borrowed_of, long_term_key_of, nonce_in}
 
 -- ---- What C passes
 
@@ -49,7 +49,7 @@ nonce_named state numbers = option_and_then (nonce_in state) (password_algorithm
 -- what becomes of d, by the one key that C holds; none if it passes no policy
 abbrev pub by_short_term : CountedIntegrity → Option IntegrityKey → List ℕ → Option Decision
 by_short_term counted key d =
-    option_map (λ policy. short_term policy (λ user. bytes_of key) d) (policy_named counted)
+    option_map (λ policy. short_term policy (λ user. held_of key) d) (policy_named counted)
 
 -- the same by the keys of both password algorithms; none if it knows no state of the nonce. The
 -- realm makes the keys, and C has made them
@@ -58,7 +58,7 @@ abbrev pub by_long_term : CountedIntegrity → Option Known → (md5 sha256 : Op
 by_long_term counted nonce md5 sha256 d =
     option_and_then (λ policy. option_map (λ known.
     long_term policy [] (λ shown. known)
-    (λ user realm. long_term_key_of (bytes_of md5) (bytes_of sha256)) d) nonce)
+    (λ user realm. long_term_key_of (held_of md5) (held_of sha256)) d) nonce)
     (policy_named counted)
 
 -- ---- What is reported to C
@@ -76,29 +76,29 @@ undecided = record {
 
 -- the number of the password algorithm of a key that accepted: it is the one by MD5, which C has, or
 -- else the other
-abbrev pub password_used : (md5 : Option (List ℕ)) → (key : List ℕ) → ℕ
+abbrev pub password_used : (md5 : Option UserKey) → (key : List ℕ) → ℕ
 password_used md5 key =
-    if option_map_or (λ made. pointwise nat_eq made key) md5 false then 1 else 2
+    if option_map_or (λ made. pointwise nat_eq made.bytes key) md5 false then 1 else 2
 
 -- the same of what a user has: under long-term credentials the key by MD5, if there is one. It is 0
 -- under short-term credentials
-abbrev pub number_used : Option (Option (List ℕ)) → (key : List ℕ) → ℕ
+abbrev pub number_used : Option (Option UserKey) → (key : List ℕ) → ℕ
 number_used None key = 0
 number_used (Some md5) key = password_used md5 key
 
-abbrev pub used_in : KeyUsed → Option (Option (List ℕ))
+abbrev pub used_in : KeyUsed → Option (Option UserKey)
 used_in ShortTerm = None
-used_in (LongTerm md5) = Some (borrowed_bytes md5)
+used_in (LongTerm md5) = Some (borrowed_of md5)
 
 -- a decision in C's numbers: accepted, refused, dropped or not authenticated. The number of the
 -- password algorithm depends on the key
-abbrev pub in_c : (used : Option (Option (List ℕ))) → Decision → Authenticated
+abbrev pub in_c : (used : Option (Option UserKey)) → Decision → Authenticated
 in_c used (accept key algorithm reply) = record {
   kind = 1;
   error_code = 0;
   algorithm = number_of algorithm;
   reply_algorithm = number_of reply;
-  password_algorithm = number_used used key;
+  password_algorithm = number_used used key.bytes;
   reserved = 0;
 }
 in_c used (refuse refusal) = record undecided { kind = 2; error_code = refusal_code refusal }
@@ -106,14 +106,14 @@ in_c used discard = record undecided { kind = 3 }
 in_c used not_a_request = record undecided { kind = 4 }
 
 -- a decision is reported; or an allocation failed, and nothing is decided
-abbrev pub TellsDecision : (used : Option (Option (List ℕ))) → Decision → CallResult → (new : Authenticated)
+abbrev pub TellsDecision : (used : Option (Option UserKey)) → Decision → CallResult → (new : Authenticated)
     → Type 0
 TellsDecision used decision result new =
     ((result ≡ plain OK) × (new ≡ in_c used decision))
     ⊎ ((result ≡ plain OUT_OF_MEMORY) × (new ≡ undecided))
 
 -- authenticating d: why it is no message, or that C passed what is none, or the decision
-abbrev pub Authenticates : (used : Option (Option (List ℕ))) → Option Decision → List ℕ → CallResult
+abbrev pub Authenticates : (used : Option (Option UserKey)) → Option Decision → List ℕ → CallResult
     → (new : Authenticated) → Type 0
 Authenticates used decided d result new =
     MatchOption (parse_fault d)

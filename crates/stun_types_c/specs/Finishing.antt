@@ -9,7 +9,7 @@ use Rattle.stun_types_c.specs.CallResults.{plain, Refuses}
 use Rattle.stun_types_c.specs.Codes.{BAD_ARGUMENT, NO_KEY}
 use Rattle.stun_types_c.specs.Keys.{algorithm_named}
 use Rattle.stun_types_c.specs.Steps.{Ends}
-use Rattle.stun_types_c.specs.Writing.{Written}
+use Rattle.stun_types_c.specs.Writing.{Written, serving_answer}
 
 -- the algorithm that signs the reply, if C's numbers are those of an acceptance, whose spare word is 0
 abbrev pub signing_named : Authenticated → Option IntegrityAlgorithm
@@ -20,7 +20,8 @@ signing_named told =
 abbrev pub key_named : Authenticated → (first sha256 : Option IntegrityKey) → Option IntegrityKey
 key_named told first sha256 = if told.password_algorithm == 2 then sha256 else first
 
--- the reply is signed, and gets a FINGERPRINT, if one is wanted
+-- the reply is signed, unless the key was made for the other algorithm, and gets a FINGERPRINT, if one
+-- is wanted
 abbrev pub FinishesReply : Authenticated → (first sha256 : Option IntegrityKey) → (fingerprint : Bool)
     → CallResult → Written
     → Written → Type 0
@@ -29,4 +30,6 @@ FinishesReply told first sha256 fingerprint result old new =
     (Refuses (plain BAD_ARGUMENT) result old new)
     (λ algorithm. MatchOption (key_named told first sha256)
     (Refuses (plain NO_KEY) result old new)
-    (λ key. Ends fingerprint algorithm (key_bytes key) result old new))
+    (λ key. MatchOption (serving_answer key algorithm)
+    (Ends fingerprint algorithm (key_bytes key) result old new)
+    (λ answer. Refuses answer result old new)))

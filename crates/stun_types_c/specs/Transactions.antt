@@ -12,7 +12,7 @@ use Rattle.stun_grammar.specs.Numbers.{number}
 use Rattle.stun_grammar.specs.Parsing.{parse_fault}
 use Rattle.stun_base.specs.declared.transport.TransportType.{TransportType}
 use Rattle.stun_base.specs.declared.transport.TransportType.TheVariants.{Udp, Tcp}
-use Rattle.stun_base.specs.MessageTypes.{class_of, method_of}
+use Rattle.stun_base.specs.MessageTypes.{method_of}
 use Rattle.stun_keys.specs.declared.keys.integrity_key.IntegrityKey.{IntegrityKey}
 use Rattle.stun_keys.specs.Keys.{IsKey, key_bytes, key_algorithm}
 use Rattle.stun_transactions.specs.declared.retransmission.Action.{Action}
@@ -32,17 +32,16 @@ use Rattle.stun_transactions.specs.declared.received.Outcome.TheVariants.{NotFor
 use Rattle.stun_transactions.specs.declared.schedule.Schedule.{Schedule}
 use Rattle.stun_transactions.specs.declared.schedule.ScheduleError.{ScheduleError}
 use Rattle.stun_transactions.specs.declared.terms.BeginError.{BeginError}
-use Rattle.stun_transactions.specs.declared.terms.BeginError.TheVariants.{NotARequest, NotSigned, Signed}
+use Rattle.stun_transactions.specs.declared.terms.BeginError.TheVariants.{NotARequest, NotSigned, Signed, KeyForOneAlgorithm}
 use Rattle.stun_transactions.specs.declared.transaction.Transaction.{Transaction}
 use Rattle.stun_transactions.specs.declared.usage.Usage.{Usage}
 use Rattle.stun_transactions.specs.Retransmissions.{Polls, ended_by, stopped_by}
-use Rattle.stun_transactions.specs.Guards.{signed_by, is_signed}
+use Rattle.stun_transactions.specs.Guards.{signed_by}
 use Rattle.stun_transactions.specs.Outcomes.{after}
 use Rattle.stun_transactions.specs.Parts.{plan_in, state_in, at_state, signs, parts_of, key_of, parts_fault}
 use Rattle.stun_transactions.specs.Receiving.{received_outcome}
 use Rattle.stun_transactions.specs.Schedules.{schedule_fault, IsSchedule}
-use Rattle.stun_authentication.specs.LongTerm.{is_request}
-use Rattle.stun_transactions.specs.Terms.{mismatch}
+use Rattle.stun_transactions.specs.Terms.{request_fault}
 use Rattle.stun_transactions.specs.Transactions.{terms_of, state_of}
 use Rattle.stun_types_c.specs.declared.call_result.CallResult.{CallResult}
 use Rattle.stun_types_c.specs.declared.transactions.KeptTransaction.{KeptTransaction}
@@ -239,16 +238,12 @@ PollsKept now result old new =
 abbrev pub signed_in : List ℕ → ℕ
 signed_in d = signed_number (signed_by d).sha1 (signed_by d).sha256
 
--- why a message is no request, or is signed otherwise than it is to be protected
-abbrev pub request_fault : (protected : Bool) → List ℕ → Option BeginError
-request_fault protected d =
-    if is_request (class_of (type_field d)) then mismatch protected (is_signed (signed_by d))
-    else Some NotARequest
-
+-- what is answered if no transaction begins
 abbrev pub request_answer : BeginError → CallResult
 request_answer NotARequest = plain NOT_A_REQUEST
 request_answer NotSigned = plain NOT_SIGNED
 request_answer Signed = plain SIGNED
+request_answer KeyForOneAlgorithm = plain BAD_ARGUMENT
 
 -- why a key isn't that of a request that a mechanism protects: there is none; or the mechanism is the
 -- long-term one, whose key serves both integrity attributes (RFC 8489, section 9.2.5), and the key

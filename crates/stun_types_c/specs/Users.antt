@@ -1,39 +1,47 @@
 -- The one user and the one nonce that a server in C has looked up (RFC 8489, sections 9.1.3 and
 -- 9.2.4).
-use Rattle.std.specs.Prelude.{ℕ, Bool, true, false, List, take, Option, None, Some, nat_lt, ◌==◌, if◌then◌else◌}
+use Rattle.std.specs.Prelude.{ℕ, List, take, Option, None, Some, ◌==◌, if◌then◌else◌}
 use Rattle.std.specs.Borrow.{Bor}
 use Rattle.std.specs.Option.{option_map}
 use Rattle.stun_keys.specs.declared.keys.integrity_key.IntegrityKey.{IntegrityKey}
-use Rattle.stun_keys.specs.Keys.{key_bytes}
 use Rattle.stun_values.specs.declared.algorithm.PasswordAlgorithmValue.{PasswordAlgorithmValue}
 use Rattle.stun_values.specs.declared.algorithm.PasswordAlgorithmValue.TheVariants.{MD5, SHA256}
-use Rattle.stun_authentication.specs.Lookups.{Known, valid, invalid}
+use Rattle.stun_authentication.specs.Lookups.{UserKey, key_held, Known, valid, stale, unknown}
+use Rattle.stun_types_c.specs.declared.authentication.NonceState.{NonceState}
+use Rattle.stun_types_c.specs.declared.authentication.NonceState.TheVariants.{Valid, Stale, Unknown}
 use Rattle.stun_types_c.specs.declared.authentication.OneNonce.{OneNonce}
 
--- the bytes of a key, if there is one
-abbrev pub bytes_of : Option IntegrityKey → Option (List ℕ)
-bytes_of key = option_map key_bytes key
+-- a user's key, if C has one: its bytes, and the integrity algorithm that it was made for
+abbrev pub held_of : Option IntegrityKey → Option UserKey
+held_of key = option_map key_held key
 
 -- the same of a key that is borrowed
-abbrev pub borrowed_bytes : Option (Bor IntegrityKey) → Option (List ℕ)
-borrowed_bytes key = option_map (λ key. key_bytes key.now) key
+abbrev pub borrowed_of : Option (Bor IntegrityKey) → Option UserKey
+borrowed_of key = option_map (λ key. key_held key.now) key
 
 -- the one of a user's two keys that a password algorithm makes
-abbrev pub long_term_key_of : (md5 sha256 : Option (List ℕ)) → PasswordAlgorithmValue
-    → Option (List ℕ)
+abbrev pub long_term_key_of : (md5 sha256 : Option UserKey) → PasswordAlgorithmValue
+    → Option UserKey
 long_term_key_of md5 sha256 MD5 = md5
 long_term_key_of md5 sha256 SHA256 = sha256
 
 -- a nonce that is valid was sent with these algorithms
-abbrev pub known_nonce : Bool → List PasswordAlgorithmValue → Known
-known_nonce true sent = valid sent
-known_nonce false sent = invalid
+abbrev pub known_nonce : NonceState → List PasswordAlgorithmValue → Known
+known_nonce Valid sent = valid sent
+known_nonce Stale sent = stale
+known_nonce Unknown sent = unknown
 
 -- what is known of the one nonce
 abbrev pub known_of : OneNonce → Known
-known_of one = known_nonce one.is_valid (take one.sent.count one.sent.all)
+known_of one = known_nonce one.state (take one.sent.count one.sent.all)
 
--- what is known of a nonce in a state: 0 says that it is unknown, 1 that it is valid, and 2 that it
+-- the state of a nonce by its number: 0 says that it is unknown, 1 that it is valid, and 2 that it
 -- was valid once
+abbrev pub state_named : ℕ → Option NonceState
+state_named number =
+    if number == 0 then Some Unknown
+    else (if number == 1 then Some Valid else (if number == 2 then Some Stale else None))
+
+-- what is known of a nonce in a state
 abbrev pub nonce_in : ℕ → List PasswordAlgorithmValue → Option Known
-nonce_in state sent = if nat_lt 2 state then None else Some (known_nonce (state == 1) sent)
+nonce_in number sent = option_map (λ state. known_nonce state sent) (state_named number)

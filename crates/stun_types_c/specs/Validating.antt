@@ -2,7 +2,6 @@
 use Rattle.std.specs.Prelude.{◌≡◌, ◌⊎◌, ℕ, List, length, Option, None, Some, Result, Ok, Err, MatchOption, MatchResult, if◌then◌else◌}
 use Rattle.std.specs.Option.{option_map_or}
 use Rattle.stun_grammar.specs.declared.integrity_algorithm.IntegrityAlgorithm.{IntegrityAlgorithm}
-use Rattle.stun_grammar.specs.declared.integrity_algorithm.IntegrityAlgorithm.TheVariants.{Sha1, Sha256}
 use Rattle.stun_grammar.specs.declared.error.ValidateError.{ValidateError}
 use Rattle.stun_grammar.specs.AttributeTypes.{FINGERPRINT}
 use Rattle.stun_grammar.specs.Parsing.{parse_fault}
@@ -11,7 +10,7 @@ use Rattle.stun_keys.specs.declared.keys.integrity_key.IntegrityKey.{IntegrityKe
 use Rattle.stun_keys.specs.Keys.{key_bytes, key_algorithm}
 use Rattle.stun_read.specs.LookingUp.{nth}
 use Rattle.stun_authentication.specs.declared.policy.Policy.{Policy}
-use Rattle.stun_authentication.specs.Policies.{is_taken, has_least_length}
+use Rattle.stun_authentication.specs.Policies.{is_taken, has_least_length, common}
 use Rattle.stun_types_c.specs.declared.call_result.CallResult.{CallResult}
 use Rattle.stun_types_c.specs.declared.authentication.CountedIntegrity.{CountedIntegrity}
 use Rattle.stun_types_c.specs.declared.validating.Validated.{Validated}
@@ -65,17 +64,6 @@ ValidatesWith held d result new =
 
 -- ---- By a policy
 
--- whose attribute is checked by a policy that counts that of one algorithm, or both, with a key that
--- was made for one, or serves both; none if the key can't serve what counts
-abbrev pub checked_for : (counted made_for : Option IntegrityAlgorithm)
-    → Option (Option IntegrityAlgorithm)
-checked_for None made_for = Some made_for
-checked_for (Some algorithm) None = Some (Some algorithm)
-checked_for (Some Sha1) (Some Sha1) = Some (Some Sha1)
-checked_for (Some Sha256) (Some Sha256) = Some (Some Sha256)
-checked_for (Some Sha1) (Some Sha256) = None
-checked_for (Some Sha256) (Some Sha1) = None
-
 -- the verdict on d with a key, of the attribute that is checked
 abbrev pub verdict_of : (checked : Option IntegrityAlgorithm) → IntegrityKey → List ℕ
     → Result IntegrityAlgorithm ValidateError
@@ -95,10 +83,11 @@ policy_told shortest d (Ok algorithm) =
     if has_least_length shortest algorithm d then checked_in d algorithm else not_validated
 policy_told shortest d (Err e) = not_validated
 
--- the verdict of a key on d, which has the FINGERPRINT that the usage uses
+-- the verdict of a key on d, which has the FINGERPRINT that the usage uses, by the algorithms that
+-- serve both the policy and the key
 abbrev pub TellsByPolicy : Policy → IntegrityKey → List ℕ → CallResult → Validated → Type 0
 TellsByPolicy policy key d result new =
-    MatchOption (checked_for policy.algorithm (key_algorithm key))
+    MatchOption (common policy.algorithm (key_algorithm key))
     (Invalidates (plain BAD_ARGUMENT) result new)
     (λ checked.
     ((result ≡ policy_answer policy.shortest d (verdict_of checked key d))

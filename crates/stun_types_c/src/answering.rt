@@ -1,10 +1,9 @@
 //! A client's next request: what it carries of a challenge, and its key.
 
-ghost use Rattle.std.specs.Prelude.{◌≡◌, ◌≤◌, ◌∷◌, length, Some, None, Ok, Err, IfOk, IfErr, MatchResult};
+ghost use Rattle.std.specs.Prelude.{◌≡◌, ◌≤◌, ◌∷◌, length, Some, None, Ok, Err, MatchResult};
 ghost use Rattle.stun_grammar.specs.Attributes.{canonical};
 ghost use Rattle.stun_grammar.specs.AttributeTypes.{REALM as REALM_TYPE, NONCE as NONCE_TYPE};
-ghost use Rattle.stun_keys.specs.Keys.{IsKey, key_bytes, long_term_key, long_term_username, long_term_realm, long_term_password};
-ghost use Rattle.stun_values.specs.Algorithms.{integrity_of};
+ghost use Rattle.stun_keys.specs.Keys.{key_bytes};
 ghost use Rattle.stun_values.specs.TextValues.{username_max};
 ghost use Rattle.stun_authentication.specs.Challenges.{asked_by};
 ghost use Rattle.stun_authentication.specs.Requests.{identity, identity_attribute, algorithm_attributes, credentials};
@@ -16,19 +15,19 @@ use crate::call_result::{CallResult, counted, parse_result, plain};
 use crate::challenges::no_retry;
 use crate::codes;
 use crate::key_handle::KeyHandle;
-use crate::keys::{hold_made, long_term_of};
+use crate::keys::hold_made;
 use crate::password_algorithms::algorithms_of;
 use crate::shared_key::SharedKey;
 use crate::steps::{add_one, end};
 use crate::values::text_in;
 use std::alloc::Global;
-use stun_authentication::{Challenge, challenge_of};
+use stun_authentication::{Challenge, challenge_of, key_for};
 use stun_grammar::attribute_types::{
     NONCE, PASSWORD_ALGORITHM, PASSWORD_ALGORITHMS, REALM, USERHASH, USERNAME,
 };
 use stun_types::attribute::{PasswordAlgorithmValue, Userhash};
-use stun_types::message::keys::{IntegrityKey, LongTermKeyCredentials};
-use stun_types::message::{Message, StunWriteError};
+use stun_types::message::Message;
+use stun_types::message::keys::IntegrityKey;
 use stun_values::{USERNAME_MAX, write_algorithm};
 
 /// The challenge in a response, for a client that supports the algorithms of these numbers.
@@ -50,21 +49,6 @@ fn challenge_in<'a>(response: &'a [u8], supported: &[u16]) -> Result<Challenge<'
     }
 }
 
-/// The key of credentials by a password algorithm. It works with both integrity algorithms.
-fn make_key(
-    alloc: Global,
-    credentials: &LongTermKeyCredentials,
-    algorithm: PasswordAlgorithmValue,
-) -> Result<IntegrityKey, StunWriteError>
-    ensures ok { IfOk result (IsKey None (long_term_key (integrity_of algorithm)
-        (long_term_username credentials.now) (long_term_realm credentials.now)
-        (long_term_password credentials.now))) }
-    ensures err { IfErr result (λ e. e ≡ StunWriteError.OutOfMemory) }
-{
-    let key = credentials.make_key(alloc, algorithm.as_integrity())?;
-    Ok(key.for_both())
-}
-
 /// Puts the key that a challenge asks for into a handle.
 fn hold_key(
     alloc: Global,
@@ -76,12 +60,12 @@ fn hold_key(
     ensures { HoldsAsked (asked_by challenge.now) user.now password.now result
         (held_key key.old) (held_key key.new) }
 {
-    match long_term_of(alloc, user, challenge.realm().as_bytes(), password) {
-        Ok(credentials) => {
-            let made = make_key(alloc, &credentials, challenge.password_algorithm());
-            hold_made(alloc, key, made)
+    let realm = text_in(challenge.realm().as_bytes());
+    match (text_in(user), realm, text_in(password)) {
+        (Some(user), Some(_), Some(password)) => {
+            hold_made(alloc, key, key_for(alloc, challenge, user, password))
         }
-        Err(answer) => answer,
+        _ => plain(codes::INVALID_DATA),
     }
 }
 
@@ -260,6 +244,7 @@ pub extern "C" fn stun_types_answer_challenge(
         Err(answer) => return answer,
     };
     match key.key() {
+        Some(key) if !key.serves(challenge.integrity_algorithm()) => plain(codes::BAD_ARGUMENT),
         Some(key) => add_answer(room, written, &challenge, name, key, fingerprint),
         None => plain(codes::NO_KEY),
     }

@@ -8,7 +8,7 @@ ghost use Rattle.stun_authentication.specs.Lookups.{IsKeyOf};
 ghost use Rattle.stun_authentication.specs.LongTerm.{long_term};
 ghost use Rattle.stun_types.specs.Message.{message_bytes};
 ghost use Rattle.stun_types_c.specs.KeyHandles.{shared_key};
-ghost use Rattle.stun_types_c.specs.Users.{bytes_of, borrowed_bytes, long_term_key_of, known_of};
+ghost use Rattle.stun_types_c.specs.Users.{held_of, borrowed_of, long_term_key_of, known_of, state_named};
 ghost use Rattle.stun_types_c.specs.Authentication.{policy_named, nonce_named, password_used, number_used, used_in, in_c, by_short_term, by_long_term, undecided, TellsDecision, Authenticates};
 
 use crate::call_result::{CallResult, parse_result, plain};
@@ -78,7 +78,7 @@ struct OneUser<'a> {
 
 /// A copy of a key, if there is one.
 fn copy_of(alloc: Global, key: Option<&IntegrityKey>) -> Result<Option<IntegrityKey>, AllocError>
-    ensures { IfOk result (IsKeyOf (borrowed_bytes key.entry)) }
+    ensures { IfOk result (IsKeyOf (borrowed_of key.entry)) }
 {
     match key {
         Some(key) => match key.clone(alloc) {
@@ -90,9 +90,9 @@ fn copy_of(alloc: Global, key: Option<&IntegrityKey>) -> Result<Option<Integrity
 }
 
 impl ShortTermKeys for OneUser<'_> {
-    ghost use Rattle.stun_types_c.specs.Users.{borrowed_bytes};
+    ghost use Rattle.stun_types_c.specs.Users.{borrowed_of};
 
-    ghost key_of = { λ user _. borrowed_bytes user.md5 };
+    ghost key_of = { λ user _. borrowed_of user.md5 };
 
     fn key(&self, alloc: Global, _username: &[u8]) -> Result<Option<IntegrityKey>, AllocError> {
         copy_of(alloc, self.md5)
@@ -100,10 +100,10 @@ impl ShortTermKeys for OneUser<'_> {
 }
 
 impl LongTermKeys for OneUser<'_> {
-    ghost use Rattle.stun_types_c.specs.Users.{borrowed_bytes, long_term_key_of};
+    ghost use Rattle.stun_types_c.specs.Users.{borrowed_of, long_term_key_of};
 
     ghost key_of = { λ user _ _.
-        long_term_key_of (borrowed_bytes user.md5) (borrowed_bytes user.sha256) };
+        long_term_key_of (borrowed_of user.md5) (borrowed_of user.sha256) };
 
     fn key(
         &self,
@@ -119,10 +119,21 @@ impl LongTermKeys for OneUser<'_> {
     }
 }
 
+/// What a caller knows of a nonce.
+#[derive(Clone, Copy)]
+enum NonceState {
+    /// The server doesn't know it.
+    Unknown,
+    /// It is valid.
+    Valid,
+    /// It was valid once.
+    Stale,
+}
+
 /// What a caller knows of the one nonce that a request shows.
 #[derive(Drop)]
 struct OneNonce {
-    is_valid: bool,
+    state: NonceState,
     sent: FewAlgorithms,
 }
 
@@ -132,11 +143,23 @@ impl Nonces for OneNonce {
     ghost state_of = { λ one _. known_of one };
 
     fn nonce(&self, _nonce: &[u8]) -> KnownNonce<'_> {
-        if self.is_valid {
-            KnownNonce::Valid(self.sent.as_slice())
-        } else {
-            KnownNonce::Stale
+        match self.state {
+            NonceState::Valid => KnownNonce::Valid(self.sent.as_slice()),
+            NonceState::Stale => KnownNonce::Stale,
+            NonceState::Unknown => KnownNonce::Unknown,
         }
+    }
+}
+
+/// The state of a nonce, by its number.
+fn state_named(number: u32) -> Option<NonceState>
+    ensures { result ≡ state_named number }
+{
+    match number {
+        0 => Some(NonceState::Unknown),
+        1 => Some(NonceState::Valid),
+        2 => Some(NonceState::Stale),
+        _ => None,
     }
 }
 
@@ -146,13 +169,8 @@ fn nonce_of(state: u32, algorithms: &[u16]) -> Option<OneNonce>
     ensures { nonce_named state algorithms.now ≡ option_map known_of result }
 {
     let sent = algorithms_of(algorithms)?;
-    if state > 2 {
-        return None;
-    }
-    Some(OneNonce {
-        is_valid: state == 1,
-        sent,
-    })
+    let state = state_named(state)?;
+    Some(OneNonce { state, sent })
 }
 
 /// The policy of C's numbers.
@@ -176,7 +194,7 @@ pub(crate) fn policy_of(counted: &CountedIntegrity) -> Option<Policy>
 
 /// The password algorithm of a key that accepted, if the user has keys of both.
 fn password_used(md5: Option<&IntegrityKey>, key: &IntegrityKey) -> u32
-    ensures { result ≡ password_used (borrowed_bytes md5.entry) (key_bytes key.now) }
+    ensures { result ≡ password_used (borrowed_of md5.entry) (key_bytes key.now) }
 {
     match md5 {
         Some(made) if same_bytes(made.as_bytes(), key.as_bytes()) => 1,
@@ -256,7 +274,7 @@ fn tell(
 
 /// The key that a handle holds, if it holds one.
 fn key_in(key: &SharedKey) -> Option<&IntegrityKey>
-    ensures { borrowed_bytes result ≡ bytes_of (shared_key key.now) }
+    ensures { borrowed_of result ≡ held_of (shared_key key.now) }
 {
     key.key()
 }
@@ -298,7 +316,7 @@ fn long_term_decision(
     user: &OneUser<'_>,
 ) -> Result<Authentication, AllocError>
     ensures { IfOk result (Tells (long_term policy [] (λ _. known_of nonce.now)
-        (λ _ _. long_term_key_of (borrowed_bytes user.now.md5) (borrowed_bytes user.now.sha256))
+        (λ _ _. long_term_key_of (borrowed_of user.now.md5) (borrowed_of user.now.sha256))
         (message_bytes message.now))) }
 {
     authenticate_long_term(alloc, message, "", policy, nonce, user)
@@ -319,7 +337,7 @@ pub extern "C" fn stun_types_authenticate_long_term(
     ensures { let nonce = nonce_named nonce_state algorithms.now in
         let decided = by_long_term policy.now nonce (shared_key md5_key.now)
         (shared_key sha256_key.now) bytes.now in
-        Authenticates (Some (bytes_of (shared_key md5_key.now))) decided bytes.now result
+        Authenticates (Some (held_of (shared_key md5_key.now))) decided bytes.now result
         out.new }
 {
     *out = UNDECIDED;

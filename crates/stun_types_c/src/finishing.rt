@@ -60,6 +60,7 @@ pub extern "C" fn stun_types_finish_reply(
         return plain(codes::BAD_ARGUMENT);
     };
     match key_named(told, first, sha256) {
+        Some(key) if !key.serves(algorithm) => plain(codes::BAD_ARGUMENT),
         Some(key) => end(room, written, key, algorithm, fingerprint),
         None => plain(codes::NO_KEY),
     }

@@ -1,10 +1,12 @@
 //! Nonces that a server makes and recognizes without keeping any.
 
-ghost use Rattle.std.specs.Prelude.{◌≡◌, IfSome};
+ghost use Rattle.std.specs.Prelude.{◌≡◌, ◌⊎◌, None, Some, MatchResult};
 ghost use Rattle.stun_keys.specs.Keys.{key_bytes};
 ghost use Rattle.stun_authentication.specs.Nonces.{minting, minting_of};
 ghost use Rattle.stun_types_c.specs.KeyHandles.{shared_key};
-ghost use Rattle.stun_types_c.specs.StatelessNonces.{ByKey, ByMaker, Makes, Judges, state_number};
+ghost use Rattle.stun_types_c.specs.StatelessNonces.{ByKey, ByMaker, Makes, Judges, secret_answer, state_number};
+ghost use Rattle.stun_types_c.specs.CallResults.{plain};
+ghost use Rattle.stun_types_c.specs.Codes.{OUT_OF_MEMORY};
 
 use crate::address::{Address, socket_of};
 use crate::call_result::{CallResult, plain, write_result};
@@ -13,7 +15,7 @@ use crate::refusals::{deliver, features_of};
 use crate::shared_key::SharedKey;
 use std::alloc::Global;
 use std::net::SocketAddr;
-use stun_authentication::{Freshness, NonceMaker, SecurityFeatures};
+use stun_authentication::{Freshness, NonceMaker, SECRET_MIN, SecurityFeatures};
 use stun_types::message::keys::IntegrityKey;
 
 /// A maker of nonces with a copy of a secret.
@@ -22,12 +24,23 @@ fn maker_of(
     secret: &IntegrityKey,
     features: SecurityFeatures,
     window: u64,
-) -> Option<NonceMaker>
-    ensures { IfSome result
-        (λ maker. minting_of maker ≡ minting (key_bytes secret.now) features window) }
+) -> Result<NonceMaker, CallResult>
+    ensures { MatchResult result
+        (λ maker. (secret_answer (key_bytes secret.now) ≡ None)
+        × (minting_of maker ≡ minting (key_bytes secret.now) features window))
+        (λ answer. (secret_answer (key_bytes secret.now) ≡ Some answer)
+        ⊎ ((secret_answer (key_bytes secret.now) ≡ None) × (answer ≡ plain OUT_OF_MEMORY))) }
 {
-    let copy = secret.clone(alloc).ok()?;
-    Some(NonceMaker::new(copy, features, window))
+    if secret.as_bytes().len() < SECRET_MIN {
+        return Err(plain(codes::BAD_ARGUMENT));
+    }
+    let Ok(copy) = secret.clone(alloc) else {
+        return Err(plain(codes::OUT_OF_MEMORY));
+    };
+    match NonceMaker::new(copy, features, window) {
+        Ok(maker) => Ok(maker),
+        Err(_) => Err(plain(codes::BAD_ARGUMENT)),
+    }
 }
 
 /// Makes a nonce for a client by a secret.
@@ -45,8 +58,9 @@ fn make_by(
         (record { slice = room.old; count = written.old })
         (record { slice = room.new; count = written.new }) }
 {
-    let Some(maker) = maker_of(alloc, secret, features, window) else {
-        return plain(codes::OUT_OF_MEMORY);
+    let maker = match maker_of(alloc, secret, features, window) {
+        Ok(maker) => maker,
+        Err(answer) => return answer,
     };
     match maker.make(alloc, now, &client) {
         Ok(nonce) => deliver(nonce.nonce().as_bytes(), room, written),
@@ -107,8 +121,9 @@ fn judge_by(
     ensures { ByKey (Judges now nonce.now) secret.now features window client result
         state.old state.new }
 {
-    let Some(maker) = maker_of(alloc, secret, features, window) else {
-        return plain(codes::OUT_OF_MEMORY);
+    let maker = match maker_of(alloc, secret, features, window) {
+        Ok(maker) => maker,
+        Err(answer) => return answer,
     };
     *state = state_number(maker.freshness(now, &client, nonce));
     plain(codes::OK)

@@ -7,10 +7,10 @@ ghost use Rattle.stun_transactions.specs.declared.received.Outcome.{Outcome};
 ghost use Rattle.stun_transactions.specs.Outcomes.{outcome_of, after};
 ghost use Rattle.stun_transactions.specs.declared.guard.Protection.{Protection};
 ghost use Rattle.stun_transactions.specs.Parts.{state_in, at_state, mechanism_of, signs, parts_of, whole_fault};
-ghost use Rattle.stun_transactions.specs.Terms.{begin_fault};
+ghost use Rattle.stun_transactions.specs.Terms.{begin_fault, request_fault};
 ghost use Rattle.stun_transactions.specs.Transactions.{Begins};
 ghost use Rattle.stun_types_c.specs.KeyHandles.{shared_key};
-ghost use Rattle.stun_types_c.specs.Transactions.{transport_numbered, mechanism_numbered, end_number, number_of_end, IsAt, millis_of, waits_fault, Schedules, usage_named, TellsParts, Keeps, KeepsNone, AreSame, with_state, Ends, StopsKept, PollsKept, request_fault, request_answer, signed_in, begun_in_c, BeginsKept, discard_kind, claim_number, proof_number, outcome_in_c, key_answer, Copies, IsOutcome, ReceivesKept};
+ghost use Rattle.stun_types_c.specs.Transactions.{transport_numbered, mechanism_numbered, end_number, number_of_end, IsAt, millis_of, waits_fault, Schedules, usage_named, TellsParts, Keeps, KeepsNone, AreSame, with_state, Ends, StopsKept, PollsKept, request_answer, signed_in, begun_in_c, BeginsKept, discard_kind, claim_number, proof_number, outcome_in_c, key_answer, Copies, IsOutcome, ReceivesKept};
 
 use crate::call_result::{CallResult, parse_result, plain};
 use crate::codes;

@@ -3,11 +3,12 @@
 ghost use Rattle.std.specs.Prelude.{◌≡◌, ◌⊎◌, Ok, Err, MatchOption};
 ghost use Rattle.stun_keys.specs.Keys.{key_algorithm};
 ghost use Rattle.stun_types.specs.Message.{message_bytes};
+ghost use Rattle.stun_authentication.specs.Policies.{common};
 ghost use Rattle.stun_types_c.specs.Codes.{BAD_ARGUMENT, OUT_OF_MEMORY};
 ghost use Rattle.stun_types_c.specs.CallResults.{plain};
 ghost use Rattle.stun_types_c.specs.Credentials.{ValidatesShortTerm, ValidatesLongTerm};
 ghost use Rattle.stun_types_c.specs.KeyHandles.{shared_key};
-ghost use Rattle.stun_types_c.specs.Validating.{hmac_length, checked_in, checked_for, verdict_of, policy_answer, policy_told, TellsVerdict, ValidatesWith, ValidatesKey, ValidatesBy};
+ghost use Rattle.stun_types_c.specs.Validating.{hmac_length, checked_in, verdict_of, policy_answer, policy_told, TellsVerdict, ValidatesWith, ValidatesKey, ValidatesBy};
 
 use crate::authentication::{CountedIntegrity, policy_of};
 use crate::call_result::{
@@ -121,7 +122,7 @@ fn verdict_by(
     counted: Option<IntegrityAlgorithm>,
     key: &IntegrityKey,
 ) -> Result<Result<IntegrityAlgorithm, ValidateError>, CallResult>
-    ensures { MatchOption (checked_for counted (key_algorithm key.now))
+    ensures { MatchOption (common counted (key_algorithm key.now))
         (result ≡ Err (plain BAD_ARGUMENT))
         (λ checked. (result ≡ Ok (verdict_of checked key.now (message_bytes message.now)))
         ⊎ (result ≡ Err (plain OUT_OF_MEMORY))) }

@@ -219,7 +219,7 @@ fn nonces(alloc: Global) -> Result<NonceMaker, Fail> {
         password_algorithms: true,
         username_anonymity: false,
     };
-    Ok(NonceMaker::new(secret, features, 600))
+    Ok(NonceMaker::new(secret, features, 600)?)
 }
 
 /// The address that it relays.

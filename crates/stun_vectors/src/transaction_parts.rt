@@ -42,7 +42,7 @@ fn key(
 /// A transaction of the signed request that was sent at 3 s and at 4 s, taken apart.
 fn parted(alloc: Global) -> Result<(TransactionParts, Option<IntegrityKey>), Fail> {
     let request = Message::from_bytes(&REQUEST_SHA1)?;
-    let secret = IntegrityKey::new(alloc, b"secret", Some(IntegrityAlgorithm::Sha1))?;
+    let secret = IntegrityKey::new(alloc, b"secret", None)?;
     let protection = Protection::LongTerm(secret);
     let begun = Duration::from_secs(3);
     let schedule = Schedule::new(1000, 7, 16)?;

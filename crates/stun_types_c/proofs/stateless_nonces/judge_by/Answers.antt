@@ -6,4 +6,4 @@ use Rattle.stun_types_c.proofs.stateless_nonces.judge_by.Goals as goal
 
 pub returns : goal.returns
 returns c =
-    inl (c.plain-2.ensures, c.state_number.ensures ∙ ap state_number (c.freshness.ensures ∙ ap (λ (m : Minting). freshness m c.args.now (address_value c.args.client) c.args.nonce.now) c.in-Some.ensures))
+    rw c.in-Ok.ensures.0 (inl (c.plain.ensures, c.state_number.ensures ∙ ap state_number (c.freshness.ensures ∙ ap (λ (m : Minting). freshness m c.args.now (address_value c.args.client) c.args.nonce.now) c.in-Ok.ensures.1)))
