@@ -88,8 +88,9 @@ pub enum StunWriteError {
     /// MESSAGE-INTEGRITY-SHA256 (0x001C) or FINGERPRINT (0x8028).
     #[error("An attribute of this type is added by a method of its own")]
     EndingType(AttributeType),
-    /// The bytes cannot be the value of an integrity attribute. An error of reading that has no
-    /// counterpart here is converted to this one.
+    /// The bytes cannot be the value of an integrity attribute, or the key was made for another
+    /// algorithm than the one that signs. An error of reading that has no counterpart here is
+    /// converted to this one.
     #[error("Failed to compute integrity")]
     IntegrityFailed,
     /// A number is out of its range.
