@@ -12,7 +12,8 @@ use stun_values::{PasswordAlgorithmValue, print_algorithm, read_one, write_algor
 /// PASSWORD-ALGORITHM: the algorithm that a client chose for its password (RFC 8489, section
 /// 14.12).
 ///
-/// Its value is the number of the algorithm in two bytes, big-endian, and two zeros.
+/// Its value is the number of the algorithm in two bytes, big-endian, and two zeros. Reading
+/// ignores what follows these four bytes; a server that authenticates a request refuses it.
 ///
 /// # Examples
 ///

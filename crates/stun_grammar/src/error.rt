@@ -96,8 +96,9 @@ pub enum StunWriteError {
         /// How many there are.
         actual: usize,
     },
-    /// The bytes cannot be the value of an integrity attribute. An error of reading that has no
-    /// counterpart here is converted to this one.
+    /// The bytes cannot be the value of an integrity attribute, or the key was made for another
+    /// algorithm than the one that signs. An error of reading that has no counterpart here is
+    /// converted to this one.
     #[error("Failed to compute integrity")]
     IntegrityFailed,
     /// A number is below the least one allowed, or above the greatest.

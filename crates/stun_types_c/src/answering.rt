@@ -60,8 +60,9 @@ fn hold_key(
     ensures { HoldsAsked (asked_by challenge.now) user.now password.now result
         (held_key key.old) (held_key key.new) }
 {
-    match (text_in(user), text_in(password)) {
-        (Some(user), Some(password)) => {
+    let realm = text_in(challenge.realm().as_bytes());
+    match (text_in(user), realm, text_in(password)) {
+        (Some(user), Some(_), Some(password)) => {
             hold_made(alloc, key, key_for(alloc, challenge, user, password))
         }
         _ => plain(codes::INVALID_DATA),

@@ -10,7 +10,9 @@ use stun_grammar::StunWriteError;
 /// Short-term credentials: a password that is valid for a limited time (RFC 8489, section 9.1).
 ///
 /// The password is used as it is: no function applies SASLprep (RFC 4013) or the OpaqueString
-/// profile (RFC 8265) to it. A caller whose passwords need it prepares them before.
+/// profile (RFC 8265) to it. A caller whose passwords need it prepares them before. An empty
+/// password is taken, as RFC 2104 takes an empty key: everybody knows it, and that profile refuses
+/// it (section 4.2), so test for it before.
 ///
 /// The password's memory is overwritten before it is freed, and `{:?}` doesn't print it.
 #[derive(Debug, PartialEq, Eq, Drop)]
