@@ -5,7 +5,7 @@ use ice_attrs::{
     CheckUsername, IceControlled, IceControlling, Priority, Role, RoleDecision, Ufrag,
     UseCandidate, decide_role,
 };
-use std::alloc::Global;
+use std::alloc::{AllocError, Global};
 use std::net::SocketAddr;
 use stun_authentication::{
     Authentication, Logins, Policy, authenticate_short_term, refuse_short_term,
