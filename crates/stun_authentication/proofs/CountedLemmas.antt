@@ -1,5 +1,5 @@
 -- Which algorithm a validation answers by, and what it serves.
-use Rattle.std.proofs.Common.{◌≡◌, ℕ, Bool, true, false, cond, eqb, ◌||◌, List, [], ◌∷◌, Option, Some, None, Ok, refl, sym, ap, subst, ◌∙◌}
+use Rattle.std.proofs.Common.{◌≡◌, ℕ, Bool, true, false, cond, eqb, ◌||◌, List, [], ◌∷◌, Option, Some, None, Ok, refl, sym, subst, ◌∙◌}
 use Rattle.std.specs.Prelude.{◌&&◌, find, reverse, if◌then◌else◌}
 use Rattle.std.specs.Option.{option_map_or}
 use Rattle.std.proofs.lemmas.Bool.{eqb-true}
@@ -7,7 +7,7 @@ use Rattle.stun_grammar.specs.Chains.{Shown}
 use Rattle.stun_grammar.specs.declared.integrity_algorithm.IntegrityAlgorithm.{IntegrityAlgorithm}
 use Rattle.stun_grammar.specs.declared.integrity_algorithm.IntegrityAlgorithm.TheVariants.{Sha1, Sha256}
 use Rattle.stun_grammar.specs.Showing.{shown}
-use Rattle.stun_grammar.specs.Verdicts.{algorithm_of, is_checked_type, verdict}
+use Rattle.stun_grammar.specs.Verdicts.{is_checked_type, verdict}
 use Rattle.stun_grammar.proofs.AuthenticLemmas.{wanted_algorithm}
 use Rattle.stun_grammar.proofs.VerdictsLemmas.{accepted}
 use Rattle.stun_keys.specs.Keys.{serves}

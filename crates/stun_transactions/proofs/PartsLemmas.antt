@@ -28,7 +28,7 @@ use Rattle.stun_transactions.specs.declared.terms.BeginError.TheVariants.{KeyFor
 use Rattle.stun_transactions.specs.declared.transaction.Transaction.{Transaction}
 use Rattle.stun_transactions.specs.Schedules.{requests_in}
 use Rattle.stun_transactions.specs.Retransmissions.{later, ended_by, stopped_by, Polls}
-use Rattle.stun_transactions.specs.Guards.{signed_by, is_signed, protects, has_key_for_one}
+use Rattle.stun_transactions.specs.Guards.{signed_by, is_signed, protects}
 use Rattle.stun_transactions.specs.Outcomes.{after}
 use Rattle.stun_authentication.specs.LongTerm.{is_request}
 use Rattle.stun_transactions.specs.Terms.{mismatch, request_fault, key_misfit, begin_fault}

@@ -72,9 +72,15 @@ impl ResumePoint {
     /// It walks the attributes once more, and reads the bytes before a FINGERPRINT again for their
     /// checksum. It takes no memory.
     ///
+    /// # Examples
+    ///
     /// ```
-    /// let point = ResumePoint::check(buf, written)?;
-    /// point.check_message(buf)?;
+    /// use stun_types::message::{ResumePoint, StunParseError};
+    ///
+    /// // A message whose FINGERPRINT is wrong can be resumed, and doesn't parse.
+    /// let slice = b"\x00\x01\x00\x08\x21\x12\xA4\x42abcdefghijkl\x80\x28\x00\x04\0\0\0\0";
+    /// let point = ResumePoint::check(slice, 28)?;
+    /// assert_eq!(rt; point.check_message(slice), Err(StunParseError::FingerprintMismatch));
     /// ```
     ///
     /// # Requires
