@@ -99,7 +99,7 @@ impl IntegrityKey {
     /// A server that keeps no passwords makes the keys of long-term credentials by it: for `Sha1`
     /// of the MD5 of `username:realm:password`, 16 bytes, and for `Sha256` of its SHA-256, 32 bytes
     /// (RFC 8489, sections 9.2.2 and 18.5.1). With an algorithm the key counts for that one alone,
-    /// also where a server authenticates a request with it. How many bytes there are is not tested:
+    /// also if a server authenticates a request with it. How many bytes there are is not tested:
     /// everybody knows the empty key, so don't make one of an empty password.
     ///
     /// # Errors
