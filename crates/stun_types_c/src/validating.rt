@@ -1,6 +1,6 @@
 //! Validating messages.
 
-ghost use Rattle.std.specs.Prelude.{◌≡◌, ◌⊎◌, Ok, Err, MatchOption};
+ghost use Rattle.std.specs.Prelude.{◌≡◌, ◌⊎◌, Some, Ok, Err, IfOk, MatchOption};
 ghost use Rattle.stun_keys.specs.Keys.{key_algorithm};
 ghost use Rattle.stun_types.specs.Message.{message_bytes};
 ghost use Rattle.stun_authentication.specs.Policies.{common};
@@ -115,6 +115,20 @@ pub extern "C" fn stun_types_validate(
     }
 }
 
+/// The verdict on a message of a copy of a key that is made for one algorithm.
+fn verdict_for(
+    alloc: Global,
+    message: &Message<'_>,
+    key: &IntegrityKey,
+    algorithm: IntegrityAlgorithm,
+) -> Result<Result<IntegrityAlgorithm, ValidateError>, AllocError>
+    ensures { IfOk result (λ verdict.
+        verdict ≡ verdict_of (Some algorithm) key.now (message_bytes message.now)) }
+{
+    let copy = key_of_bytes(alloc, key.as_bytes(), Some(algorithm))?;
+    Ok(message.validate_integrity_with_key(&copy))
+}
+
 /// The verdict of a key on a message, of the attribute that counts: by the algorithm of a policy, or
 /// by both.
 fn verdict_by(
@@ -134,12 +148,10 @@ fn verdict_by(
         | (Some(IntegrityAlgorithm::Sha256), Some(IntegrityAlgorithm::Sha256)) => {
             Ok(message.validate_integrity_with_key(key))
         }
-        (Some(algorithm), None) => {
-            match key_of_bytes(alloc, key.as_bytes(), Some(algorithm)) {
-                Ok(copy) => Ok(message.validate_integrity_with_key(&copy)),
-                Err(AllocError) => Err(plain(codes::OUT_OF_MEMORY)),
-            }
-        }
+        (Some(algorithm), None) => match verdict_for(alloc, message, key, algorithm) {
+            Ok(verdict) => Ok(verdict),
+            Err(AllocError) => Err(plain(codes::OUT_OF_MEMORY)),
+        },
         (Some(_), Some(_)) => Err(plain(codes::BAD_ARGUMENT)),
     }
 }
