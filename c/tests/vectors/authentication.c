@@ -11,12 +11,12 @@ enum { ALGORITHMS = 20, LONG = 65536, ROOM = ANY_ROOM };
 
 static const char realm[] = "example.org";
 
-/* The users of the server, and carol's password. A user whose password is empty, as david's is, makes
-   no key. */
+/* The users of the server, and carol's password. Nobody makes a key of an empty password, as david's
+   is, so he is none of them. */
 static char long_password[LONG + 1];
 static const struct {
     const char *name, *password;
-} users[] = {{"alice", "wonderland"}, {"bob", "builder"}, {"carol", long_password}, {"david", ""}};
+} users[] = {{"alice", "wonderland"}, {"bob", "builder"}, {"carol", long_password}};
 
 /* The password algorithms that the server sends. */
 static const uint16_t offered[] = {STUN_TYPES_PASSWORD_SHA256, STUN_TYPES_PASSWORD_MD5};
