@@ -1,6 +1,6 @@
 //! The request, and what its response says.
 
-ghost use Rattle.std.specs.Prelude.{◌≡◌, None, Some, IfOk};
+ghost use Rattle.std.specs.Prelude.{◌≡◌, None, Some, IfOk, IfErr};
 ghost use Rattle.stun_grammar.specs.Names.{BINDING};
 ghost use Rattle.stun_base.specs.declared.message_type.MessageClass.TheVariants.{Request};
 ghost use Rattle.stun_base.specs.MessageTypes.{type_of};
@@ -50,7 +50,8 @@ fn binding_request() -> MessageType
 /// The binding request that nobody signs. The error says that an allocation failed.
 #[tactic(auto, unfolding(stun_grammar::specs::Sending::body_from))]
 fn unsigned(alloc: Global, id: TransactionId) -> Result<Vec<u8>, RunError>
-    ensures { IfOk result (λ text. text.items ≡ request_by id None) }
+    ensures ok { IfOk result (λ text. text.items ≡ request_by id None) }
+    ensures err { IfErr result (λ e. e ≡ RunError.NoMemory) }
 {
     match Message::builder(binding_request(), id, MessageWriteVec::new(alloc)) {
         Ok(write) => Ok(write.finish()),
@@ -62,7 +63,8 @@ fn unsigned(alloc: Global, id: TransactionId) -> Result<Vec<u8>, RunError>
 /// the server takes (RFC 8489, section 9.1.2). The error says that an allocation failed: a message
 /// of one user name and two HMACs is refused nothing.
 fn signed(alloc: Global, id: TransactionId, login: &Login) -> Result<Vec<u8>, RunError>
-    ensures { IfOk result (λ text. text.items ≡ request_by id (Some login.now)) }
+    ensures ok { IfOk result (λ text. text.items ≡ request_by id (Some login.now)) }
+    ensures err { IfErr result (λ e. e ≡ RunError.NoMemory) }
 {
     let mut verdicts = [Ok(()); 3];
     let steps: [Step<'_, &dyn AttributeWrite>; 3] = [
@@ -80,7 +82,8 @@ fn signed(alloc: Global, id: TransactionId, login: &Login) -> Result<Vec<u8>, Ru
 
 /// The binding request of a query. The error says that an allocation failed.
 pub fn request(alloc: Global, query: &Query) -> Result<Vec<u8>, RunError>
-    ensures { IfOk result (λ text. text.items ≡ request query.now) }
+    ensures ok { IfOk result (λ text. text.items ≡ request query.now) }
+    ensures err { IfErr result (λ e. e ≡ RunError.NoMemory) }
 {
     match &query.login {
         None => unsigned(alloc, query.id),
@@ -100,7 +103,8 @@ fn protection(login: Option<Login>) -> Protection
 
 /// A transaction that has begun, after its first poll.
 fn polled(mut transaction: Transaction) -> Result<Transaction, RunError>
-    ensures { IfOk result (IsPolled transaction) }
+    ensures ok { IfOk result (IsPolled transaction) }
+    ensures err { IfErr result (λ e. e ≡ RunError.NoMemory) }
 {
     match transaction.poll(Duration::ZERO) {
         Action::Send => Ok(transaction),
@@ -110,7 +114,8 @@ fn polled(mut transaction: Transaction) -> Result<Transaction, RunError>
 
 /// A transaction of the request, which is sent.
 fn sent(bytes: &[u8], login: Option<Login>) -> Result<Transaction, RunError>
-    ensures { IfOk result (IsSent bytes.now login) }
+    ensures ok { IfOk result (IsSent bytes.now login) }
+    ensures err { IfErr result (λ e. e ≡ RunError.NoMemory) }
 {
     let Ok(request) = Message::from_bytes(bytes) else {
         return Err(RunError::NoMemory);
@@ -149,7 +154,8 @@ pub fn read_response(
     query: Query,
     datagram: &[u8],
 ) -> Result<BindingResult, RunError>
-    ensures { IfOk result (Tells query datagram.now) }
+    ensures ok { IfOk result (Tells query datagram.now) }
+    ensures err { IfErr result (λ e. e ≡ RunError.NoMemory) }
 {
     let bytes = request(alloc, &query)?;
     let mut transaction = sent(&bytes, query.login)?;
