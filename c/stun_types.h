@@ -81,7 +81,7 @@ typedef STUN_TYPES_ENUM(stun_types_status) {
     STUN_TYPES_NO_KEY = 14,              /* the key holds none */
     STUN_TYPES_NOT_PADDED = 15,          /* actual: a length field that is no multiple of 4 */
     STUN_TYPES_NOT_A_REQUEST = 16,       /* the message is no request */
-    STUN_TYPES_NOT_SIGNED = 17,          /* the request shows no integrity attribute, and needs one */
+    STUN_TYPES_NOT_SIGNED = 17,          /* the request needs an integrity attribute, for the key */
     STUN_TYPES_SIGNED = 18,              /* the request shows an integrity attribute, and needs none */
     STUN_TYPES_NOT_A_CHALLENGE = 19,     /* the response is no 401 and no 438 */
     STUN_TYPES_BID_DOWN = 20,            /* somebody may have taken out PASSWORD-ALGORITHMS */
@@ -881,8 +881,9 @@ typedef struct {
    credential that protects it, and isn't looked at otherwise. Nothing allocates.
    The errors of stun_types_parse; BAD_ARGUMENT: transport, protection, or schedule->shortest, which
    is none of 0, 16, 20, 24, 28 and 32; OUT_OF_RANGE, of no number: one of the schedule is 0, or they
-   are too large; NOT_A_REQUEST; NOT_SIGNED, SIGNED: against protection; NO_KEY; BAD_ARGUMENT: a key of
-   a long-term credential serves both integrity attributes, and this one was made for one. */
+   are too large; NOT_A_REQUEST; NOT_SIGNED, SIGNED: against protection; NO_KEY; NOT_SIGNED: the key of
+   a short-term credential works with no integrity attribute of the request; BAD_ARGUMENT: a key of a
+   long-term credential works with both integrity attributes, and this one was made for one. */
 STUN_TYPES_NODISCARD STUN_TYPES_NONNULL((1, 4, 7))
 stun_types_answer stun_types_transaction_begin(stun_types_transaction *transaction,
                                                const uint8_t *request, size_t length,
@@ -951,8 +952,8 @@ typedef struct {
 /* What received bytes are for the transaction (RFC 8489, sections 6.3.3, 6.3.4, 9.1.4 and 9.2.5).
    understood are the types below 0x8000 that the caller understands, but for those of RFC 8489, at
    most 64 of them. key is that which the transaction began with.
-   BAD_ARGUMENT: the transaction isn't one, or more types. NO_KEY, BAD_ARGUMENT: the key isn't one that
-   the transaction can have begun with. Allocates if a credential protects the request, for a copy
+   BAD_ARGUMENT: the transaction isn't one, or more types. NO_KEY, NOT_SIGNED, BAD_ARGUMENT: the key
+   isn't one that the transaction can have begun with. Allocates if a credential protects the request, for a copy
    of the key: OUT_OF_MEMORY. If the call fails, the transaction stays as it was. */
 STUN_TYPES_NODISCARD STUN_TYPES_NONNULL((1, 2, 7))
 stun_types_answer stun_types_transaction_receive(stun_types_transaction *transaction,

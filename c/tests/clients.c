@@ -54,7 +54,7 @@ static void test_moments(void) {
 static const struct {
     const char *name, *request;
     uint32_t transport, protection;
-    enum { NO_KEY, BOTH, ONE } key;
+    enum { NO_KEY, BOTH, ONE, OTHER } key;
     uint32_t code;
 } begun[] = {
     {"a key that isn't looked at", REQUEST, 1, 4, BOTH, STUN_TYPES_OK},
@@ -62,6 +62,9 @@ static const struct {
     {"long-term, without a key", REQUEST_SHA1, 1, 2, NO_KEY, STUN_TYPES_NO_KEY},
     {"short-term, a key for one algorithm", REQUEST_SHA1, 1, 1, ONE, STUN_TYPES_OK},
     {"long-term, a key for one algorithm", REQUEST_SHA1, 1, 2, ONE, STUN_TYPES_BAD_ARGUMENT},
+    {"short-term, a key for the other algorithm", REQUEST_SHA1, 1, 1, OTHER, STUN_TYPES_NOT_SIGNED},
+    {"long-term, a key for the other algorithm", REQUEST_SHA1, 1, 2, OTHER, STUN_TYPES_BAD_ARGUMENT},
+    {"short-term, unsigned, without a key", REQUEST, 1, 1, NO_KEY, STUN_TYPES_NOT_SIGNED},
     {"transport 0", REQUEST, 0, 4, NO_KEY, STUN_TYPES_BAD_ARGUMENT},
     {"another transport", REQUEST, 3, 4, NO_KEY, STUN_TYPES_BAD_ARGUMENT},
     {"the greatest transport", REQUEST, UINT32_MAX, 4, NO_KEY, STUN_TYPES_BAD_ARGUMENT},
@@ -82,7 +85,8 @@ static void test_begin(void) {
         transaction = NEW(stun_types_transaction);
         key = begun[i].key == NO_KEY ? no_key()
             : begun[i].key == BOTH   ? password_key(text("secret"))
-                                     : bytes_key(text("secret"), STUN_TYPES_INTEGRITY_SHA1);
+            : begun[i].key == ONE    ? bytes_key(text("secret"), STUN_TYPES_INTEGRITY_SHA1)
+                                     : bytes_key(text("secret"), STUN_TYPES_INTEGRITY_SHA256);
         ANSWERS(stun_types_transaction_begin(transaction, request.bytes, request.length, &DEFAULT,
                                              (stun_types_transport)begun[i].transport,
                                              (stun_types_protection)begun[i].protection, key, 0),
@@ -191,6 +195,14 @@ static void test_arguments(void) {
     key = bytes_key(text("secret"), STUN_TYPES_INTEGRITY_SHA1);
     bytes = hex(SUCCESS_SHA1);
     check_refused(transaction, key, bytes, hex(""), STUN_TYPES_BAD_ARGUMENT);
+    stun_types_key_free(key);
+    row("stun_types_transaction_receive", "short-term, a key that didn't sign the request");
+    key = bytes_key(text("secret"), STUN_TYPES_INTEGRITY_ANY);
+    transaction = sent(STUN_TYPES_SHORT_TERM, key);
+    stun_types_key_free(key);
+    key = bytes_key(text("secret"), STUN_TYPES_INTEGRITY_SHA256);
+    bytes = hex(SUCCESS_SHA1);
+    check_refused(transaction, key, bytes, hex(""), STUN_TYPES_NOT_SIGNED);
     stun_types_key_free(key);
     row("what is no transaction", "a spare word that isn't 0");
     transaction = begun_at(0);

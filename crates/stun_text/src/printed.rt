@@ -5,9 +5,10 @@ ghost use Rattle.stun_text.specs.Slices.{laid_over, text_answer};
 
 use crate::{TextSink, TextSlice, TextTooLong};
 
-/// A value that prints as a text: the text of `Display`, in pieces. [`write_text`] writes the text
-/// to a slice, and `print` to any [`TextSink`]; a formatter is one, so a body of `Display` is
-/// `self.print(f)`.
+/// A value that prints as a text, in pieces: the text of `Display` for a plain `{}`. [`write_text`]
+/// writes the text to a slice, and `print` to any [`TextSink`]; a formatter is one, so a body of
+/// `Display` is `self.print(f)`. Nothing is promised of a format with a width, a fill or other
+/// flags.
 ///
 /// In contracts `text` is the text.
 ///

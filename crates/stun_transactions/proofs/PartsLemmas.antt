@@ -24,11 +24,12 @@ use Rattle.stun_transactions.specs.declared.parts.PartsError.{PartsError}
 use Rattle.stun_transactions.specs.declared.parts.PartsError.TheVariants.{SignedOtherwise, SentTooOften, SentTooLate}
 use Rattle.stun_transactions.specs.declared.parts.TransactionParts.{TransactionParts}
 use Rattle.stun_transactions.specs.declared.terms.BeginError.{BeginError}
-use Rattle.stun_transactions.specs.declared.terms.BeginError.TheVariants.{KeyForOneAlgorithm as BeginKeyForOne}
+use Rattle.stun_transactions.specs.declared.terms.BeginError.TheVariants.{NotSigned, KeyForOneAlgorithm as BeginKeyForOne}
 use Rattle.stun_transactions.specs.declared.transaction.Transaction.{Transaction}
 use Rattle.stun_transactions.specs.Schedules.{requests_in}
 use Rattle.stun_transactions.specs.Retransmissions.{later, ended_by, stopped_by, Polls}
-use Rattle.stun_transactions.specs.Guards.{signed_by, is_signed, protects}
+use Rattle.stun_transactions.specs.declared.guard.Signed.{Signed}
+use Rattle.stun_transactions.specs.Guards.{signed_by, is_signed, is_signed_for, protects}
 use Rattle.stun_transactions.specs.Outcomes.{after}
 use Rattle.stun_authentication.specs.LongTerm.{is_request}
 use Rattle.stun_transactions.specs.Terms.{mismatch, request_fault, key_misfit, begin_fault}
@@ -143,20 +144,24 @@ ended parts end none = elim (cases_Bool (is_some parts.end)) [ inl there ↦ rw 
 pub stopped : (parts : TransactionParts) → parts_fault parts ≡ None → parts_fault (at_state parts (stopped_by (state_in parts))) ≡ None
 stopped parts none = elim (cases_Bool (is_some parts.end)) [ inl there ↦ rw there none | inr away ↦ rw away none ]
 
--- what holds of a protection whose key serves its mechanism
-record Kept (protection : Protection) : Type 0 where
+-- what holds of a protection whose key serves its mechanism, and signed the request
+record Kept (protection : Protection) (signed : Signed) : Type 0 where
   mechanism : signs (mechanism_of protection) ≡ protects protection
-  key : key_fault (mechanism_of protection) (key_in protection) ≡ None
+  key : key_fault (mechanism_of protection) signed (key_in protection) ≡ None
 
 no_misfit : (for_one : Bool) → (if for_one then Some BeginKeyForOne else None) ≡ None → for_one ≡ false
 no_misfit true free = absurd cc
 no_misfit false free = refl
 
-kept_is : (protection : Protection) → key_misfit protection ≡ None → Kept protection
-kept_is FirstLongTerm free = record { mechanism = refl; key = refl }
-kept_is Unprotected free = record { mechanism = refl; key = refl }
-kept_is (ShortTerm key) free = record { mechanism = refl; key = refl }
-kept_is (LongTerm key) free = record { mechanism = refl; key = rw (no_misfit (is_some (key_algorithm key)) free) refl }
+works : (for_it : Bool) → (if for_it then None else Some NotSigned) ≡ None → for_it ≡ true
+works true free = refl
+works false free = absurd cc
+
+kept_is : (protection : Protection) (signed : Signed) → key_misfit protection signed ≡ None → Kept protection signed
+kept_is FirstLongTerm signed free = record { mechanism = refl; key = refl }
+kept_is Unprotected signed free = record { mechanism = refl; key = refl }
+kept_is (ShortTerm key) signed free = record { mechanism = refl; key = rw (works (is_signed_for (key_algorithm key) signed) free) refl }
+kept_is (LongTerm key) signed free = record { mechanism = refl; key = rw (no_misfit (is_some (key_algorithm key)) free) refl }
 
 -- neither the request is refused, nor the key
 neither : (one other : Option BeginError) → option_or one other ≡ None → (one ≡ None) × (other ≡ None)
@@ -182,8 +187,9 @@ pub begins : (r : List ℕ) (schedule : Schedule) (transport : TransportType) (p
 begins r schedule transport protection usage now transaction free so =
     let terms = terms_of transaction in
     let parts = parts_of transaction in
-    let parted = neither (request_fault (protects protection) r) (key_misfit protection) free in
-    let kept = subst Kept (sym so.terms.protection_is) (kept_is protection parted.1) in
+    let parted = neither (request_fault (protects protection) r) (key_misfit protection (signed_by r)) free in
+    let by_key = subst (λ p. Kept p (signed_by r)) (sym so.terms.protection_is) (kept_is protection (signed_by r) parted.1) in
+    let kept = subst (λ s. Kept terms.protection s) (sym so.terms.signed_is) by_key in
     let protected : protects terms.protection ≡ protects protection = ap protects so.terms.protection_is in
     let same : protects protection ≡ is_signed (signed_by r) = matching (protects protection) (is_signed (signed_by r)) (unrefused (is_request (class_of (type_field r))) (protects protection) (is_signed (signed_by r)) _ parted.0) in
     let shown : is_signed terms.signed ≡ is_signed (signed_by r) = ap is_signed so.terms.signed_is in

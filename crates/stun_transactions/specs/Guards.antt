@@ -6,7 +6,7 @@ use Rattle.stun_grammar.specs.declared.integrity_algorithm.IntegrityAlgorithm.{I
 use Rattle.stun_grammar.specs.declared.integrity_algorithm.IntegrityAlgorithm.TheVariants.{Sha1, Sha256}
 use Rattle.stun_grammar.specs.Verdicts.{is_checked_type, verdict}
 use Rattle.stun_keys.specs.declared.keys.integrity_key.IntegrityKey.{IntegrityKey}
-use Rattle.stun_keys.specs.Keys.{key_bytes, key_algorithm, is_prepared, IsKey}
+use Rattle.stun_keys.specs.Keys.{key_bytes, key_algorithm, serves, is_prepared, IsKey}
 use Rattle.stun_authentication.specs.Challenges.{is_bid_down}
 use Rattle.stun_authentication.specs.Codes.{response_code, is_code, is_challenge}
 use Rattle.stun_authentication.specs.Policies.{shows_integrity, proved_at}
@@ -49,13 +49,10 @@ protects FirstLongTerm = false
 protects (ShortTerm key) = true
 protects (LongTerm key) = true
 
--- whether the key is a long-term one that was made for one integrity algorithm: a response may be
--- signed by either (section 9.2.5)
-abbrev pub has_key_for_one : Protection → Bool
-has_key_for_one Unprotected = false
-has_key_for_one FirstLongTerm = false
-has_key_for_one (ShortTerm key) = false
-has_key_for_one (LongTerm key) = is_some (key_algorithm key)
+-- whether there is one that a key made for an algorithm, or for both, works with
+abbrev pub is_signed_for : Option IntegrityAlgorithm → Signed → Bool
+is_signed_for algorithm signed =
+    (signed.sha1 && serves algorithm Sha1) || (signed.sha256 && serves algorithm Sha256)
 
 -- the same protection: by the same mechanism, with a key of the same bytes that was made for the
 -- same algorithm

@@ -14,6 +14,8 @@ use Rattle.stun_transactions.specs.declared.parts.PartsError.{PartsError}
 use Rattle.stun_transactions.specs.declared.parts.PartsError.TheVariants.{SignedOtherwise, SentTooOften, SentTooLate, NoKey, NoUseForKey, KeyForOneAlgorithm}
 use Rattle.stun_transactions.specs.declared.parts.TransactionParts.{TransactionParts}
 use Rattle.stun_transactions.specs.declared.transaction.Transaction.{Transaction}
+use Rattle.stun_transactions.specs.declared.guard.Signed.{Signed}
+use Rattle.stun_transactions.specs.Guards.{is_signed_for}
 use Rattle.stun_transactions.specs.Schedules.{requests_in}
 use Rattle.stun_transactions.specs.Transactions.{terms_of, state_of}
 
@@ -43,6 +45,10 @@ at_state parts state = record parts {
   stopped = state.stopped;
   end = state.end;
 }
+
+-- which integrity attributes its request shows
+abbrev pub signed_in : TransactionParts → Signed
+signed_in parts = record { sha1 = parts.sha1; sha256 = parts.sha256 }
 
 -- by which mechanism a request is protected, and with which key
 abbrev pub mechanism_of : Protection → Option Mechanism
@@ -101,19 +107,22 @@ parts_fault parts =
     else (if nat_lt (requests_in (plan_in parts)) parts.sent then Some SentTooOften
     else (if nat_lt (as_nanos parts.clock) (as_nanos parts.last) then Some SentTooLate else None))
 
--- why the key isn't that of a transaction whose request a mechanism protects, or none: a long-term
--- key works with both algorithms (RFC 8489, section 9.2.5)
-abbrev pub key_fault : Option Mechanism → Option IntegrityKey → Option PartsError
-key_fault None None = None
-key_fault None (Some key) = Some NoUseForKey
-key_fault (Some FirstLongTerm) None = None
-key_fault (Some FirstLongTerm) (Some key) = Some NoUseForKey
-key_fault (Some ShortTerm) None = Some NoKey
-key_fault (Some ShortTerm) (Some key) = None
-key_fault (Some LongTerm) None = Some NoKey
-key_fault (Some LongTerm) (Some key) =
+-- why the key isn't that of a transaction whose request a mechanism protects, or none, and shows
+-- these integrity attributes: a short-term key works with one of them, and a long-term key with both
+-- algorithms (RFC 8489, sections 9.1.2 and 9.2.5)
+abbrev pub key_fault : Option Mechanism → Signed → Option IntegrityKey → Option PartsError
+key_fault None signed None = None
+key_fault None signed (Some key) = Some NoUseForKey
+key_fault (Some FirstLongTerm) signed None = None
+key_fault (Some FirstLongTerm) signed (Some key) = Some NoUseForKey
+key_fault (Some ShortTerm) signed None = Some NoKey
+key_fault (Some ShortTerm) signed (Some key) =
+    if is_signed_for (key_algorithm key) signed then None else Some SignedOtherwise
+key_fault (Some LongTerm) signed None = Some NoKey
+key_fault (Some LongTerm) signed (Some key) =
     if is_some (key_algorithm key) then Some KeyForOneAlgorithm else None
 
 -- why no transaction has these parts and this key
 abbrev pub whole_fault : TransactionParts → Option IntegrityKey → Option PartsError
-whole_fault parts key = option_or (parts_fault parts) (key_fault parts.mechanism key)
+whole_fault parts key =
+    option_or (parts_fault parts) (key_fault parts.mechanism (signed_in parts) key)

@@ -1,17 +1,20 @@
 -- What a transaction is begun with.
-use Rattle.std.specs.Prelude.{◌≡◌, ℕ, Bool, true, false, List, Option, None, Some, if◌then◌else◌}
+use Rattle.std.specs.Prelude.{◌≡◌, ℕ, Bool, true, false, List, Option, None, Some, is_some, if◌then◌else◌}
 use Rattle.std.specs.Option.{option_or}
 use Rattle.stun_grammar.specs.Headers.{type_field, id_field}
 use Rattle.stun_base.specs.MessageTypes.{class_of, method_of}
 use Rattle.stun_types.specs.Replies.{responds_to}
 use Rattle.stun_authentication.specs.LongTerm.{is_request}
 use Rattle.stun_transactions.specs.declared.plan.Plan.{Plan}
+use Rattle.stun_keys.specs.Keys.{key_algorithm}
 use Rattle.stun_transactions.specs.declared.guard.Protection.{Protection}
+use Rattle.stun_transactions.specs.declared.guard.Protection.TheVariants.{Unprotected, FirstLongTerm, ShortTerm, LongTerm}
+use Rattle.stun_transactions.specs.declared.guard.Signed.{Signed as ShownIntegrity}
 use Rattle.stun_transactions.specs.declared.usage.Usage.{Usage}
 use Rattle.stun_transactions.specs.declared.terms.Terms.{Terms}
 use Rattle.stun_transactions.specs.declared.terms.BeginError.{BeginError}
 use Rattle.stun_transactions.specs.declared.terms.BeginError.TheVariants.{NotARequest, NotSigned, Signed, KeyForOneAlgorithm}
-use Rattle.stun_transactions.specs.Guards.{signed_by, is_signed, protects, has_key_for_one, HasSameKey}
+use Rattle.stun_transactions.specs.Guards.{signed_by, is_signed, is_signed_for, protects, HasSameKey}
 
 -- why no transaction begins by whether a credential is to protect the request, and whether it is
 -- signed
@@ -27,13 +30,21 @@ request_fault protects r =
     if is_request (class_of (type_field r)) then mismatch protects (is_signed (signed_by r))
     else Some NotARequest
 
--- the same by the key
-abbrev pub key_misfit : Protection → Option BeginError
-key_misfit protection = if has_key_for_one protection then Some KeyForOneAlgorithm else None
+-- the same by the key, if the request shows these integrity attributes: a short-term one works with
+-- none of them, so that it did not sign the request (RFC 8489, section 9.1.2); or a long-term one was
+-- made for one algorithm, and a response may be signed by either (section 9.2.5)
+abbrev pub key_misfit : Protection → ShownIntegrity → Option BeginError
+key_misfit Unprotected signed = None
+key_misfit FirstLongTerm signed = None
+key_misfit (ShortTerm key) signed =
+    if is_signed_for (key_algorithm key) signed then None else Some NotSigned
+key_misfit (LongTerm key) signed =
+    if is_some (key_algorithm key) then Some KeyForOneAlgorithm else None
 
 -- why no transaction begins with r as its request
 abbrev pub begin_fault : Protection → List ℕ → Option BeginError
-begin_fault protection r = option_or (request_fault (protects protection) r) (key_misfit protection)
+begin_fault protection r =
+    option_or (request_fault (protects protection) r) (key_misfit protection (signed_by r))
 
 -- the terms of the request r
 pub record AreTerms (r : List ℕ) (plan : Plan) (protection : Protection) (usage : Usage)

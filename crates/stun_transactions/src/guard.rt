@@ -3,7 +3,8 @@
 ghost use Rattle.std.specs.Prelude.{◌≡◌};
 ghost use Rattle.stun_types.specs.Message.{message_bytes};
 ghost use Rattle.stun_authentication.specs.Policies.{proved_at};
-ghost use Rattle.stun_transactions.specs.Guards.{signed_by, is_signed, signs_by, have_common, validated, matched_by, short_term_fault, long_term_fault};
+ghost use Rattle.stun_keys.specs.Keys.{key_algorithm};
+ghost use Rattle.stun_transactions.specs.Guards.{signed_by, is_signed, is_signed_for, signs_by, have_common, validated, matched_by, short_term_fault, long_term_fault};
 
 use crate::parting::check_key;
 use crate::parts::{Mechanism, PartsError};
@@ -27,7 +28,8 @@ pub enum Protection {
     /// attribute (section 9.2.5).
     FirstLongTerm,
     /// The request is signed by a short-term credential (section 9.1). A key that was made for one
-    /// algorithm validates by that algorithm's attribute alone, a key with no algorithm by either.
+    /// algorithm signs and validates by that algorithm's attribute alone, a key with no algorithm by
+    /// either.
     ShortTerm(IntegrityKey),
     /// The request is signed by a long-term credential (section 9.2). A response validates by
     /// either attribute (section 9.2.5), so the key works with both algorithms, as
@@ -50,6 +52,14 @@ impl Signed {
         ensures { result ≡ is_signed self }
     {
         self.sha1 || self.sha256
+    }
+
+    /// Whether there is one that a key works with.
+    pub(crate) fn is_signed_for(self, key: &IntegrityKey) -> bool
+        ensures { result ≡ is_signed_for (key_algorithm key.now) self }
+    {
+        (self.sha1 && key.serves(IntegrityAlgorithm::Sha1))
+            || (self.sha256 && key.serves(IntegrityAlgorithm::Sha256))
     }
 
     /// Whether there is that of an algorithm.
@@ -143,18 +153,8 @@ fn long_term_fault(authentic: bool, message: &Message<'_>) -> Option<Discard>
 impl Protection {
     ghost use Rattle.std.specs.Prelude.{◌≡◌, true, None, Some, IfErr, OnOk, MatchResult};
     ghost use Rattle.stun_types.specs.Message.{message_bytes};
-    ghost use Rattle.stun_transactions.specs.Guards.{proof_of, mechanism_fault, guard_fault, protects, has_key_for_one, HasSameKey, has_prepared_key};
+    ghost use Rattle.stun_transactions.specs.Guards.{proof_of, mechanism_fault, guard_fault, protects, HasSameKey, has_prepared_key};
     ghost use Rattle.stun_transactions.specs.Parts.{mechanism_of, key_in, key_fault};
-
-    /// Whether its key is a long-term one that was made for one integrity algorithm.
-    pub(crate) fn has_key_for_one(&self) -> bool
-        ensures { result ≡ has_key_for_one self.now }
-    {
-        match self {
-            Protection::LongTerm(key) => key.algorithm().is_some(),
-            Protection::Unprotected | Protection::FirstLongTerm | Protection::ShortTerm(_) => false,
-        }
-    }
 
     /// By which mechanism the request is protected, if by one, and with which key.
     pub(crate) fn into_parts(self) -> (Option<Mechanism>, Option<IntegrityKey>)
@@ -169,17 +169,18 @@ impl Protection {
         }
     }
 
-    /// The protection by a mechanism, or by none, with a key.
+    /// The protection of a request by a mechanism, or by none, with a key.
     pub(crate) fn from_parts(
         mechanism: Option<Mechanism>,
+        signed: Signed,
         key: Option<IntegrityKey>,
     ) -> Result<Protection, PartsError>
         ensures { MatchResult result
-            (λ protection. (key_fault mechanism key ≡ None)
+            (λ protection. (key_fault mechanism signed key ≡ None)
             × (mechanism_of protection ≡ mechanism) × (key_in protection ≡ key))
-            (λ e. key_fault mechanism key ≡ Some e) }
+            (λ e. key_fault mechanism signed key ≡ Some e) }
     {
-        check_key(mechanism, &key)?;
+        check_key(mechanism, signed, &key)?;
         match (mechanism, key) {
             (Some(Mechanism::FirstLongTerm), None) => Ok(Protection::FirstLongTerm),
             (Some(Mechanism::ShortTerm), Some(key)) => Ok(Protection::ShortTerm(key)),

@@ -3,6 +3,7 @@
 ghost use Rattle.std.specs.Prelude.{◌≡◌, None, Some, MatchResult};
 ghost use Rattle.stun_transactions.specs.Parts.{key_fault};
 
+use crate::guard::Signed;
 use crate::parts::{Mechanism, PartsError, TransactionParts};
 use crate::plan::Plan;
 use crate::retransmission::{Action, RetransmissionState, TransactionEnd};
@@ -13,7 +14,7 @@ impl TransactionParts {
     ghost use Rattle.std.specs.Prelude.{◌≡◌, None, Some, MatchResult, MatchOption, true, is_some, min};
     ghost use Rattle.std.specs.Duration.{as_nanos, max_nanos};
     ghost use Rattle.stun_transactions.specs.Retransmissions.{due, ended_by, stopped_by, Polls, TellsTime};
-    ghost use Rattle.stun_transactions.specs.Parts.{plan_in, state_in, at_state, is_signed_otherwise, parts_fault};
+    ghost use Rattle.stun_transactions.specs.Parts.{plan_in, state_in, signed_in, at_state, is_signed_otherwise, parts_fault};
 
     /// How long the transaction waits.
     pub(crate) fn plan(&self) -> Plan
@@ -36,6 +37,16 @@ impl TransactionParts {
             violated: self.violated,
             stopped: self.stopped,
             end: self.end,
+        }
+    }
+
+    /// The integrity attributes that the request shows.
+    pub(crate) fn signed(&self) -> Signed
+        ensures { result ≡ signed_in self.now }
+    {
+        Signed {
+            sha1: self.sha1,
+            sha256: self.sha256,
         }
     }
 
@@ -210,19 +221,27 @@ impl TransactionParts {
     }
 }
 
-/// Tests that a key is that of a transaction by a mechanism, or by none.
+/// Tests that a key is that of a transaction by a mechanism, or by none, whose request shows these
+/// integrity attributes.
 pub(crate) fn check_key(
     mechanism: Option<Mechanism>,
+    signed: Signed,
     key: &Option<IntegrityKey>,
 ) -> Result<(), PartsError>
-    ensures { MatchResult result (λ _. key_fault mechanism key.now ≡ None)
-        (λ e. key_fault mechanism key.now ≡ Some e) }
+    ensures { MatchResult result (λ _. key_fault mechanism signed key.now ≡ None)
+        (λ e. key_fault mechanism signed key.now ≡ Some e) }
 {
     match (mechanism, key) {
         (None | Some(Mechanism::FirstLongTerm), None) => Ok(()),
         (None | Some(Mechanism::FirstLongTerm), Some(_)) => Err(PartsError::NoUseForKey),
         (Some(Mechanism::ShortTerm | Mechanism::LongTerm), None) => Err(PartsError::NoKey),
-        (Some(Mechanism::ShortTerm), Some(_)) => Ok(()),
+        (Some(Mechanism::ShortTerm), Some(key)) => {
+            if signed.is_signed_for(key) {
+                Ok(())
+            } else {
+                Err(PartsError::SignedOtherwise)
+            }
+        }
         (Some(Mechanism::LongTerm), Some(key)) => match key.algorithm() {
             None => Ok(()),
             Some(_) => Err(PartsError::KeyForOneAlgorithm),

@@ -23,8 +23,8 @@ pub enum Mechanism {
 /// Why parts and a key make no transaction.
 #[derive(Clone, Copy, Debug, PartialEq, Eq, Error)]
 pub enum PartsError {
-    /// A credential protects the request and it shows no integrity attribute, or none does and it
-    /// shows one.
+    /// A credential protects the request and it shows no integrity attribute, or none that the key
+    /// of a short-term credential works with; or none does and it shows one.
     #[error("the request is signed otherwise than it is protected")]
     SignedOtherwise,
     /// The request was sent more often than the schedule says.

@@ -5,7 +5,7 @@ ghost use Rattle.stun_base.specs.MessageTypes.{class_of};
 ghost use Rattle.stun_grammar.specs.Headers.{type_field};
 ghost use Rattle.stun_types.specs.Message.{message_bytes};
 ghost use Rattle.stun_transactions.specs.Guards.{signed_by};
-ghost use Rattle.stun_transactions.specs.Terms.{request_fault, begin_fault, AreTerms, is_answer};
+ghost use Rattle.stun_transactions.specs.Terms.{request_fault, key_misfit, begin_fault, AreTerms, is_answer};
 
 use crate::guard::{Protection, Signed, signed_by};
 use crate::plan::Plan;
@@ -42,7 +42,8 @@ pub enum BeginError {
     /// The message that is to be sent is no request.
     #[error("the message is no request")]
     NotARequest,
-    /// A credential is to protect the request, but it shows no integrity attribute.
+    /// A credential is to protect the request, but it shows no integrity attribute, or none that
+    /// the key of a short-term credential works with.
     #[error("the request isn't signed")]
     NotSigned,
     /// No credential is to protect the request, but it shows an integrity attribute.
@@ -83,6 +84,20 @@ fn check_request(request: &Message<'_>, protects: bool) -> Result<Signed, BeginE
     }
 }
 
+/// Why a request with these integrity attributes isn't signed with the key that protects it, or the
+/// key isn't one for its mechanism.
+fn key_misfit(protection: &Protection, signed: Signed) -> Option<BeginError>
+    ensures { result ≡ key_misfit protection.now signed }
+{
+    match protection {
+        Protection::ShortTerm(key) if !signed.is_signed_for(key) => Some(BeginError::NotSigned),
+        Protection::LongTerm(key) if key.algorithm().is_some() => {
+            Some(BeginError::KeyForOneAlgorithm)
+        }
+        _ => None,
+    }
+}
+
 impl Terms {
     ghost use Rattle.std.specs.Prelude.{◌≡◌, None, Some, MatchResult};
     ghost use Rattle.stun_types.specs.Message.{message_bytes};
@@ -101,8 +116,8 @@ impl Terms {
             (λ e. begin_fault protection (message_bytes request.now) ≡ Some e) }
     {
         let signed = check_request(request, protection.protects())?;
-        if protection.has_key_for_one() {
-            return Err(BeginError::KeyForOneAlgorithm);
+        if let Some(misfit) = key_misfit(&protection, signed) {
+            return Err(misfit);
         }
         Ok(Terms {
             plan,

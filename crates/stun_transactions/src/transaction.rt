@@ -1,6 +1,6 @@
 //! A client's transaction.
 
-use crate::guard::{Protection, Signed};
+use crate::guard::Protection;
 use crate::judge::outcome;
 use crate::parts::{PartsError, TransactionParts};
 use crate::plan::Plan;
@@ -77,8 +77,9 @@ impl Transaction {
     /// # Errors
     ///
     /// The first of these that applies: `NotARequest` if the message has another class; `NotSigned` if
-    /// a credential is to protect it and it shows no integrity attribute, `Signed` if none is to and it
-    /// shows one; `KeyForOneAlgorithm` if the key of a long-term credential was made for one.
+    /// a credential is to protect it and it shows no integrity attribute, or none that the key of a
+    /// short-term credential works with, `Signed` if none is to and it shows one;
+    /// `KeyForOneAlgorithm` if the key of a long-term credential was made for one.
     pub fn new(
         request: &Message<'_>,
         schedule: Schedule,
@@ -186,7 +187,8 @@ impl Transaction {
     /// # Errors
     ///
     /// The first of these that applies: those of [`TransactionParts::check`], and then `NoKey`,
-    /// `NoUseForKey` and `KeyForOneAlgorithm`. The key is dropped then.
+    /// `NoUseForKey`, `SignedOtherwise` if the key of a short-term credential works with no integrity
+    /// attribute of the request, and `KeyForOneAlgorithm`. The key is dropped then.
     ///
     /// # Examples
     ///
@@ -219,15 +221,13 @@ impl Transaction {
             (λ e. whole_fault parts key ≡ Some e) }
     {
         parts.check()?;
-        let protection = Protection::from_parts(parts.mechanism, key)?;
+        let signed = parts.signed();
+        let protection = Protection::from_parts(parts.mechanism, signed, key)?;
         let terms = Terms {
             plan: parts.plan(),
             method: parts.method,
             id: parts.id,
-            signed: Signed {
-                sha1: parts.sha1,
-                sha256: parts.sha256,
-            },
+            signed,
             protection,
             usage: parts.usage,
         };

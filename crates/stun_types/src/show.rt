@@ -17,8 +17,8 @@ pub use written::ShowTextError;
 
 /// Registers a function that prints the attributes of a type of a user's own: it reads one, by
 /// [`AttributeFromRaw::from_raw_ref`](crate::attribute::AttributeFromRaw::from_raw_ref), and prints
-/// what was read, by `Display`. If reading refuses it prints the text of a malformed attribute,
-/// and if reading or printing finds no memory it returns `fmt::Error`.
+/// what was read, by its `Display` and a plain `{}`. If reading refuses it prints the text of a
+/// malformed attribute, and if reading or printing finds no memory it returns `fmt::Error`.
 ///
 /// It takes the registry and the Rust type, and returns what [`show::Registry::add_display_impl`]
 /// does. Call it in the body of a function that makes the registry itself and does not return it.

@@ -374,7 +374,7 @@ begun_keeps d waits transport protection now schedule usage over by moment trans
     let parts = parts_of transaction in
     let state = state_of transaction in
     let mechanism : mechanism_of (terms_of transaction).protection ≡ mechanism_of by = ap mechanism_of begins.terms.protection_is in
-    let request = by_request (request_fault (protects by) d) (key_misfit by) free in
+    let request = by_request (request_fault (protects by) d) (key_misfit by (signed_by d)) free in
     let signed : is_signed_otherwise parts ≡ false =
     rw (mechanism, begins.terms.signed_is) (as_signed (is_request (class_of (type_field d))) (is_signed (signed_by d)) by request) in
     let sent : parts.sent ≡ 0 = ap (λ (c : RetransmissionState). c.sent) begins.state in

@@ -7,6 +7,7 @@ mod XoredLemmas
 mod TypeListsLemmas
 mod CredentialsLemmas
 mod KeptLemmas
+mod CopiedKeysLemmas
 mod StandsLemmas
 mod AskedLemmas
 mod StepsLemmas

@@ -20,6 +20,7 @@ use Rattle.stun_transactions.specs.declared.retransmission.Action.TheVariants.{S
 use Rattle.stun_transactions.specs.declared.retransmission.RetransmissionState.{RetransmissionState}
 use Rattle.stun_transactions.specs.declared.retransmission.TransactionEnd.{TransactionEnd}
 use Rattle.stun_transactions.specs.declared.retransmission.TransactionEnd.TheVariants.{Answered, TimedOut, IntegrityViolated, Refused, Cancelled, TransportFailed}
+use Rattle.stun_transactions.specs.declared.guard.Signed.{Signed as ShownIntegrity}
 use Rattle.stun_transactions.specs.declared.parts.Mechanism.{Mechanism}
 use Rattle.stun_transactions.specs.declared.parts.Mechanism.TheVariants.{ShortTerm, FirstLongTerm, LongTerm}
 use Rattle.stun_transactions.specs.declared.parts.TransactionParts.{TransactionParts}
@@ -36,9 +37,9 @@ use Rattle.stun_transactions.specs.declared.terms.BeginError.TheVariants.{NotARe
 use Rattle.stun_transactions.specs.declared.transaction.Transaction.{Transaction}
 use Rattle.stun_transactions.specs.declared.usage.Usage.{Usage}
 use Rattle.stun_transactions.specs.Retransmissions.{Polls, ended_by, stopped_by}
-use Rattle.stun_transactions.specs.Guards.{signed_by}
+use Rattle.stun_transactions.specs.Guards.{signed_by, is_signed_for}
 use Rattle.stun_transactions.specs.Outcomes.{after}
-use Rattle.stun_transactions.specs.Parts.{plan_in, state_in, at_state, signs, parts_of, key_of, parts_fault}
+use Rattle.stun_transactions.specs.Parts.{plan_in, state_in, signed_in as signed_of, at_state, signs, parts_of, key_of, parts_fault}
 use Rattle.stun_transactions.specs.Receiving.{received_outcome}
 use Rattle.stun_transactions.specs.Schedules.{schedule_fault, IsSchedule}
 use Rattle.stun_transactions.specs.Terms.{request_fault}
@@ -245,16 +246,19 @@ request_answer NotSigned = plain NOT_SIGNED
 request_answer Signed = plain SIGNED
 request_answer KeyForOneAlgorithm = plain BAD_ARGUMENT
 
--- why a key isn't that of a request that a mechanism protects: there is none; or the mechanism is the
--- long-term one, whose key serves both integrity attributes (RFC 8489, section 9.2.5), and the key
--- was made for one of them
-abbrev pub key_answer : Option Mechanism → Option IntegrityKey → Option CallResult
-key_answer None held = None
-key_answer (Some FirstLongTerm) held = None
-key_answer (Some ShortTerm) None = Some (plain NO_KEY)
-key_answer (Some ShortTerm) (Some key) = None
-key_answer (Some LongTerm) None = Some (plain NO_KEY)
-key_answer (Some LongTerm) (Some key) =
+-- why a key isn't that of a request that a mechanism protects, and that shows these integrity
+-- attributes: there is none; or the mechanism is the short-term one, and the key works with none of
+-- them (RFC 8489, section 9.1.2); or it is the long-term one, whose key serves both (section 9.2.5),
+-- and the key was made for one
+abbrev pub key_answer : Option Mechanism → ShownIntegrity → Option IntegrityKey
+    → Option CallResult
+key_answer None signed held = None
+key_answer (Some FirstLongTerm) signed held = None
+key_answer (Some ShortTerm) signed None = Some (plain NO_KEY)
+key_answer (Some ShortTerm) signed (Some key) =
+    if is_signed_for (key_algorithm key) signed then None else Some (plain NOT_SIGNED)
+key_answer (Some LongTerm) signed None = Some (plain NO_KEY)
+key_answer (Some LongTerm) signed (Some key) =
     if is_some (key_algorithm key) then Some (plain BAD_ARGUMENT) else None
 
 -- why no transaction begins by a mechanism, or by none: by the schedule, the request or the key
@@ -263,7 +267,7 @@ abbrev pub terms_answer : Waits → Option Mechanism → Option IntegrityKey →
 terms_answer waits mechanism held d =
     if is_some (waits_fault waits) then Some (plain OUT_OF_RANGE)
     else option_or (option_map request_answer (request_fault (signs mechanism) d))
-    (key_answer mechanism held)
+    (key_answer mechanism (signed_by d) held)
 
 -- why none begins with the bytes d: they are no message, or a number has no meaning, or by the terms
 abbrev pub begin_answer : Waits → (transport protection : ℕ) → Option IntegrityKey → List ℕ
@@ -357,11 +361,12 @@ CopiesHeld true (Some held) made =
 CopiesHeld true None made = made ≡ Ok None
 CopiesHeld false held made = made ≡ Ok None
 
--- the same, or why the key that a handle holds isn't that of a transaction
-abbrev pub Copies : Option Mechanism → Option IntegrityKey → Result (Option IntegrityKey) CallResult
-    → Type 0
-Copies mechanism held made =
-    MatchOption (key_answer mechanism held) (CopiesHeld (signs mechanism) held made)
+-- the same, or why the key that a handle holds isn't that of the transaction of these parts
+abbrev pub Copies : TransactionParts → Option IntegrityKey
+    → Result (Option IntegrityKey) CallResult → Type 0
+Copies parts held made =
+    MatchOption (key_answer parts.mechanism (signed_of parts) held)
+    (CopiesHeld (signs parts.mechanism) held made)
     (λ answer. made ≡ Err answer)
 
 -- what the bytes d are for the transaction of these parts and this key
@@ -385,7 +390,7 @@ abbrev pub ReceivesWith : Option IntegrityKey → (understood d : List ℕ) → 
     → CallResult
     → ReceivedState → ReceivedState → Type 0
 ReceivesWith held understood d parts result old new =
-    (made : Result (Option IntegrityKey) CallResult) × Copies parts.mechanism held made
+    (made : Result (Option IntegrityKey) CallResult) × Copies parts held made
     × MatchResult made
     (λ key. (result ≡ plain OK) × ReceivesParts parts key (types_numbered understood) d old new)
     (λ answer. Ignores answer result old new)

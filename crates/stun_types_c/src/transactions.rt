@@ -4,13 +4,14 @@
 ghost use Rattle.std.specs.Prelude.{◌≡◌, ℕ, List, Option, true, is_some, IfSome, MatchOption, MatchResult, option_map};
 ghost use Rattle.stun_types.specs.Message.{message_bytes};
 ghost use Rattle.stun_transactions.specs.declared.received.Outcome.{Outcome};
+ghost use Rattle.stun_transactions.specs.Guards.{signed_by};
 ghost use Rattle.stun_transactions.specs.Outcomes.{outcome_of, after};
 ghost use Rattle.stun_transactions.specs.declared.guard.Protection.{Protection};
 ghost use Rattle.stun_transactions.specs.Parts.{state_in, at_state, mechanism_of, signs, parts_of, whole_fault};
 ghost use Rattle.stun_transactions.specs.Terms.{begin_fault, request_fault};
 ghost use Rattle.stun_transactions.specs.Transactions.{Begins};
 ghost use Rattle.stun_types_c.specs.KeyHandles.{shared_key};
-ghost use Rattle.stun_types_c.specs.Transactions.{transport_numbered, mechanism_numbered, end_number, number_of_end, IsAt, millis_of, waits_fault, Schedules, usage_named, TellsParts, Keeps, KeepsNone, AreSame, with_state, Ends, StopsKept, PollsKept, request_answer, signed_in, begun_in_c, BeginsKept, discard_kind, claim_number, proof_number, outcome_in_c, key_answer, Copies, IsOutcome, ReceivesKept};
+ghost use Rattle.stun_types_c.specs.Transactions.{transport_numbered, mechanism_numbered, end_number, number_of_end, IsAt, millis_of, waits_fault, Schedules, usage_named, TellsParts, Keeps, KeepsNone, AreSame, with_state, Ends, StopsKept, PollsKept, request_answer, begun_in_c, BeginsKept, discard_kind, claim_number, proof_number, outcome_in_c, key_answer, Copies, IsOutcome, ReceivesKept};
 
 use crate::call_result::{CallResult, parse_result, plain};
 use crate::codes;
@@ -285,11 +286,12 @@ fn store(kept: &mut KeptTransaction, parts: &TransactionParts)
     kept.end = parts.end.map_or(0, end_number);
 }
 
-/// The number of the integrity attributes that a request shows, or why a message is no request, or
-/// is signed otherwise than it is to be protected.
-fn signed_request(message: &Message<'_>, protected: bool) -> Result<u8, CallResult>
+/// Whether a request shows a MESSAGE-INTEGRITY, and a MESSAGE-INTEGRITY-SHA256; or why a message is
+/// no request, or is signed otherwise than it is to be protected.
+fn signed_request(message: &Message<'_>, protected: bool) -> Result<(bool, bool), CallResult>
     ensures { let d = message_bytes message.now in MatchResult result
-        (λ signed. (request_fault protected d ≡ None) × (signed ≡ signed_in d))
+        (λ shown. (request_fault protected d ≡ None) × (shown.0 ≡ (signed_by d).sha1)
+        × (shown.1 ≡ (signed_by d).sha256))
         (λ answer. option_map request_answer (request_fault protected d) ≡ Some answer) }
 {
     if !message.has_class(MessageClass::Request) {
@@ -300,13 +302,20 @@ fn signed_request(message: &Message<'_>, protected: bool) -> Result<u8, CallResu
     match (protected, sha1 || sha256) {
         (true, false) => Err(plain(codes::NOT_SIGNED)),
         (false, true) => Err(plain(codes::SIGNED)),
-        _ => Ok(u8::from(sha1) + 2 * u8::from(sha256)),
+        _ => Ok((sha1, sha256)),
     }
 }
 
-/// Why the key that a handle holds isn't that of a request that this mechanism protects.
-fn key_answer(mechanism: Option<Mechanism>, key: &SharedKey) -> Option<CallResult>
-    ensures { result ≡ key_answer mechanism (shared_key key.now) }
+/// Why the key that a handle holds isn't that of a request that this mechanism protects, and that
+/// shows a MESSAGE-INTEGRITY, a MESSAGE-INTEGRITY-SHA256, or both.
+fn key_answer(
+    mechanism: Option<Mechanism>,
+    sha1: bool,
+    sha256: bool,
+    key: &SharedKey,
+) -> Option<CallResult>
+    ensures { result ≡ key_answer mechanism (record { sha1 = sha1; sha256 = sha256 })
+        (shared_key key.now) }
 {
     if !has_key(mechanism) {
         return None;
@@ -314,10 +323,19 @@ fn key_answer(mechanism: Option<Mechanism>, key: &SharedKey) -> Option<CallResul
     let Some(key) = key.key() else {
         return Some(plain(codes::NO_KEY));
     };
-    if matches!(mechanism, Some(Mechanism::LongTerm)) && key.algorithm().is_some() {
-        return Some(plain(codes::BAD_ARGUMENT));
+    if matches!(mechanism, Some(Mechanism::LongTerm)) {
+        return match key.algorithm() {
+            Some(_) => Some(plain(codes::BAD_ARGUMENT)),
+            None => None,
+        };
     }
-    None
+    let by_sha1 = sha1 && key.serves(IntegrityAlgorithm::Sha1);
+    let by_sha256 = sha256 && key.serves(IntegrityAlgorithm::Sha256);
+    if by_sha1 || by_sha256 {
+        None
+    } else {
+        Some(plain(codes::NOT_SIGNED))
+    }
 }
 
 /// Begins the transaction of a request.
@@ -349,11 +367,11 @@ pub extern "C" fn stun_types_transaction_begin(
         return plain(codes::OUT_OF_RANGE);
     }
     let protected = has_key(mechanism);
-    let signed_by = match signed_request(&message, protected) {
-        Ok(signed_by) => signed_by,
+    let (sha1, sha256) = match signed_request(&message, protected) {
+        Ok(shown) => shown,
         Err(answer) => return answer,
     };
-    if let Some(answer) = key_answer(mechanism, key) {
+    if let Some(answer) = key_answer(mechanism, sha1, sha256, key) {
         return answer;
     }
     let mut id = [0; 12];
@@ -367,7 +385,7 @@ pub extern "C" fn stun_types_transaction_begin(
         method: message.method().value(),
         transport: transport as u8,
         protection: protection as u8,
-        signed_by,
+        signed_by: u8::from(sha1) + 2 * u8::from(sha256),
         violated: 0,
         end: 0,
         stopped: 0,
@@ -466,18 +484,18 @@ fn outcome_of(received: &Received<'_>) -> ReceivedOutcome
     }
 }
 
-/// The key of a transaction of this mechanism, or of none: a copy of the one that a handle holds.
+/// The key of the transaction of these parts, or none: a copy of the one that a handle holds.
 fn key_for(
     alloc: Global,
-    mechanism: Option<Mechanism>,
+    parts: &TransactionParts,
     key: &SharedKey,
 ) -> Result<Option<IntegrityKey>, CallResult>
-    ensures { Copies mechanism (shared_key key.now) result }
+    ensures { Copies parts.now (shared_key key.now) result }
 {
-    if let Some(answer) = key_answer(mechanism, key) {
+    if let Some(answer) = key_answer(parts.mechanism, parts.sha1, parts.sha256, key) {
         return Err(answer);
     }
-    match (has_key(mechanism), key.key()) {
+    match (has_key(parts.mechanism), key.key()) {
         (true, Some(key)) => match key_of_bytes(alloc, key.as_bytes(), key.algorithm()) {
             Ok(copy) => Ok(Some(copy)),
             Err(AllocError) => Err(plain(codes::OUT_OF_MEMORY)),
@@ -526,7 +544,7 @@ pub extern "C" fn stun_types_transaction_receive(
     let Some(parts) = parts_of(kept) else {
         return plain(codes::BAD_ARGUMENT);
     };
-    let copy = match key_for(alloc, parts.mechanism, key) {
+    let copy = match key_for(alloc, &parts, key) {
         Ok(copy) => copy,
         Err(answer) => return answer,
     };

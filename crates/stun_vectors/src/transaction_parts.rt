@@ -133,6 +133,12 @@ fn refused(rt: HostRuntime) -> Result<(), Fail> {
     let sha256 = Some(IntegrityAlgorithm::Sha256);
     let for_one = Transaction::from_parts(parts, key(rt.alloc(), sha256)?);
     assert!(rt; for_one.err() == Some(KeyForOneAlgorithm));
+    let mut short_term = parts;
+    short_term.mechanism = Some(Mechanism::ShortTerm);
+    let by_sha1 = Some(IntegrityAlgorithm::Sha1);
+    assert!(rt; Transaction::from_parts(short_term, key(rt.alloc(), by_sha1)?).is_ok());
+    let by_sha256 = Transaction::from_parts(short_term, key(rt.alloc(), sha256)?);
+    assert!(rt; by_sha256.err() == Some(SignedOtherwise));
     assert!(rt; Transaction::from_parts(parts, None).err() == Some(NoKey));
     let unneeded = Transaction::from_parts(changed(&parts, 5), key(rt.alloc(), None)?);
     assert!(rt; unneeded.err() == Some(NoUseForKey));

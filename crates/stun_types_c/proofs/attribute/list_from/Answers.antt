@@ -1,4 +1,4 @@
-use Rattle.std.proofs.Common.{rules, ◌≡◌, ◌+◌, ℕ, ◌∷◌, length, refl, ap, ◌∙◌}
+use Rattle.std.proofs.Common.{rules, ◌≡◌, ◌+◌, ℕ, ◌∷◌, refl, ap, ◌∙◌}
 use Rattle.stun_grammar.specs.Chains.{Shown}
 use Rattle.stun_attrs.specs.Raw.{raw_type, raw_value}
 use Rattle.stun_read.specs.Iterating.{shown_behind}

@@ -1,9 +1,11 @@
-use Rattle.std.proofs.Common.{Ok, Err, refl, sym, ap, subst, ◌∙◌, inr}
+use Rattle.std.proofs.Common.{◌≡◌, None, Ok, Err, refl, sym, ap, subst, ◌∙◌, inr}
 use Rattle.stun_transactions.specs.declared.parts.TransactionParts.{TransactionParts}
 use Rattle.stun_transactions.specs.Outcomes.{after}
-use Rattle.stun_transactions.specs.Parts.{state_in}
+use Rattle.stun_transactions.specs.Parts.{state_in, whole_fault}
+use Rattle.stun_types_c.specs.KeyHandles.{shared_key}
 use Rattle.stun_types_c.specs.Transactions.{with_state, GoesOn}
 use Rattle.stun_types_c.proofs.KeptLemmas.{received}
+use Rattle.stun_types_c.proofs.CopiedKeysLemmas.{copied_is_whole}
 use Rattle.stun_types_c.proofs.transactions.stun_types_transaction_receive.Goals as goal
 
 pub returns-in-Err : goal.returns-in-Err
@@ -37,3 +39,10 @@ returns-in-Ok-receive c =
         ),
       ),
     )
+
+-- the key fits the transaction
+pub returns-in-Err-receive : goal.returns-in-Err-receive
+returns-in-Err-receive c =
+    let parts = c.in-Some-parts_of.parts in
+    let whole : whole_fault parts c.in-Ok.copy ≡ None = copied_is_whole parts (shared_key c.args.key.now) c.in-Ok.copy c.in-Some-parts_of.ensures.sound c.in-Ok.ensures in
+    absurd (cc (whole, c.in-Err-receive.ensures))
