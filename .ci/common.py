@@ -1,0 +1,138 @@
+"""What the scripts of this folder share: the tree, its crates, Markdown, sources, and the last line."""
+import collections
+import functools
+import importlib.machinery
+import importlib.util
+import itertools
+import pathlib
+import re
+import shutil
+import subprocess
+import sys
+
+TOP = pathlib.Path(__file__).resolve().parent.parent
+Block = collections.namedtuple("Block", "word at code has_end")
+FENCE = re.compile(r"( *)```([^`]*)$")
+# A word, a name or a command between backquotes, and what a link leads to.
+QUOTED = re.compile(r"(?<!`)`([^`\n]+)`(?!`)")
+LINK = re.compile(r"\]\(([^)\s]+)\)")
+
+
+def read(name):
+    """The text of a file of the repository."""
+    return (TOP / name).read_text()
+
+
+def files():
+    """The names of the files that Git has, or would add."""
+    command = ["git", "ls-files", "-co", "--exclude-standard"]
+    listed = subprocess.run(command, cwd=TOP, capture_output=True, text=True).stdout
+    return [name for name in sorted({*listed.splitlines()}) if (TOP / name).is_file()]
+
+
+def crates():
+    """What each crate of crates.txt depends on, by its name."""
+    lines = re.findall(r"^(\w+)(?: \w+)*:(.*)$", read("crates.txt"), re.M)
+    return {name: uses.split() for name, uses in lines}
+
+
+def sources(crate="*"):
+    """The sources of a crate, or of all crates."""
+    return sorted((TOP / "crates").glob(f"{crate}/src/**/*.rt"))
+
+
+def copy_crates(folder):
+    """Copies the crates and crates.txt, without what was built."""
+    shutil.copytree(TOP / "crates", folder / "crates", ignore=shutil.ignore_patterns("out"))
+    shutil.copy(TOP / "crates.txt", folder)
+
+
+def script(name):
+    """The module of a script of the repository."""
+    loader = importlib.machinery.SourceFileLoader(pathlib.PurePath(name).name, str(TOP / name))
+    module = importlib.util.module_from_spec(importlib.util.spec_from_loader(loader.name, loader))
+    loader.exec_module(module)
+    return module
+
+
+def said(*command):
+    """What a command prints."""
+    return subprocess.run(command, capture_output=True, text=True).stdout.strip()
+
+
+def kit():
+    """The folder of the kit."""
+    page = subprocess.run(["rt", "doc"], capture_output=True, text=True, check=True).stdout
+    return str(pathlib.Path(page.strip()).parent)
+
+
+def version():
+    """The version that CHANGELOG.md has at its top."""
+    return re.search(r"^## (\d[\d.]*\d)", read("CHANGELOG.md"), re.M)[1]
+
+
+def fail(why):
+    """Ends a script that can try nothing."""
+    print(why)
+    sys.exit(end(0, 1))
+
+
+def end(passed, failed):
+    """Prints the last line of a script, and returns its exit status."""
+    print(f"{passed} passed, {failed} failed", flush=True)
+    return 0 if passed and not failed else 1
+
+
+def blocks_of(lines):
+    """The blocks of code in lines of Markdown: the word after the backquotes, the number of their
+    line, and the lines of code. Instead of a line, None ends a text, and a block without an end."""
+    at = 0
+    while at < len(lines):
+        fence, at = FENCE.match(lines[at] or ""), at + 1
+        if fence:
+            inside = lambda line: line is not None and not line.startswith(fence[1] + "```")
+            code = [*itertools.takewhile(inside, lines[at:])]
+            end = at + len(code)
+            yield Block(fence[2], at, code, end < len(lines) and lines[end] is not None)
+            at = end + 1
+
+
+class Markdown:
+    """A text, or its lines: the lines, of which those of the blocks of code are empty, and the blocks."""
+
+    def __init__(self, text):
+        lines = text.split("\n") if isinstance(text, str) else text
+        self.whole, self.blocks = lines, [*blocks_of(lines)]
+        self.inside = {at for it in self.blocks for at in range(it.at - 1, it.at + len(it.code) + 1)}
+        self.lines = ["" if at in self.inside else line or "" for at, line in enumerate(lines)]
+
+    def rows(self):
+        """The rows of the tables, but for their heads: the cells of each."""
+        for line, below in zip(self.lines, [*self.lines[1:], ""]):
+            if line.startswith("| ") and not below.startswith("|-"):
+                yield cells(line)
+
+    @functools.cached_property
+    def places(self):
+        """The names that a link may have after its #: of headings, and of anchors."""
+        found = set(re.findall(r'<a id="([^"]+)"', "\n".join(self.whole)))
+        for heading in filter(None, (re.match(r"#+ (.*)", line) for line in self.lines)):
+            plain = re.sub(r"\[([^\]]*)\]\([^)]*\)", r"\1", heading[1]).replace("`", "")
+            found.add(re.sub(r"[^\w\- ]", "", plain.lower()).replace(" ", "-"))
+        return found
+
+    def section(self, title):
+        """The lines below the heading that begins so, up to the next one."""
+        below = itertools.dropwhile(lambda line: not line.startswith(f"# {title}"), self.lines)
+        return itertools.takewhile(lambda line: not line.startswith("# "), [*below][1:])
+
+
+@functools.cache
+def document(name):
+    """The Markdown of a file of the repository."""
+    return Markdown(read(name))
+
+
+def cells(row):
+    """The cells of a row of a table."""
+    return row.removeprefix("| ").removesuffix(" |").split(" | ")
