@@ -8,6 +8,19 @@ import re
 
 from common import TOP, Markdown, crates, sources
 
+# The crates that a user lists, each with what it has.
+PUBLIC = {
+    "stun_types": "messages: reading, looking up, validating, writing, replying, printing",
+    "stun_framing": "the messages of a stream",
+    "stun_transactions": "a client's transaction, without sockets",
+    "stun_authentication": "credentials, at a server and at a client",
+    "stun_server": "a server that replies with the client's address",
+    "ice_attrs": "the attributes of ICE, and what an agent computes",
+    "turn_basics": "LIFETIME, XOR-PEER-ADDRESS and DATA of TURN",
+    "turn_attrs": "the attributes of TURN, ChannelData, protocols by their first byte",
+    "discovery_attrs": "the attributes of NAT discovery",
+    "stun_plain_text": "a message as one line of printable ASCII",
+}
 DOC = re.compile(r"\s*//[/!](?: (.*)|)$")
 ITEM = re.compile(r"pub (?:(?:final|const|unsafe) )?(struct|enum|trait|fn|const|static|type) (\w+)")
 OTHER_ITEM = re.compile(r"(macro)_rules! (\w+)|(impl)\b")
@@ -119,6 +132,13 @@ def items_of(crate):
     return found
 
 
+def implemented(it):
+    """The trait of an `impl`, or nothing, and the type."""
+    text = outside(it.signature.removeprefix("impl").strip()).split(" where ")[0].strip()
+    trait, is_of_trait, name = text.partition(" for ")
+    return (trait.strip(), name) if is_of_trait else ("", text)
+
+
 def items_below(crate):
     """Of a crate and those that it depends on: the items by name and crate, and by the name of a type
     its public members and its traits.
@@ -132,15 +152,14 @@ def items_below(crate):
         if it.kind != "impl":
             items.setdefault(it.name, {}).setdefault(name, it)
     for it in (it for _, it in every if it.kind == "impl"):
-        text = outside(it.signature.removeprefix("impl").strip()).split(" where ")[0].strip()
-        trait, is_of_trait, name = text.partition(" for ")
-        of = re.match(r"\w+<(.*)>$", trait.strip())
-        if not is_of_trait:
-            members.setdefault(base(text), []).extend(it.members())
+        trait, name = implemented(it)
+        of = re.match(r"\w+<(.*)>$", trait)
+        if not trait:
+            members.setdefault(base(name), []).extend(it.members())
         elif base(name) in items or not of:
-            traits.setdefault(base(name), []).append(trait.strip())
+            traits.setdefault(base(name), []).append(trait)
         else:
-            traits.setdefault(base(of[1]), []).append(text)
+            traits.setdefault(base(of[1]), []).append(f"{trait} for {name}")
     return items, members, traits
 
 
