@@ -42,9 +42,47 @@ def sources(crate="*"):
 
 
 def copy_crates(folder):
-    """Copies the crates and crates.txt, without what was built."""
-    shutil.copytree(TOP / "crates", folder / "crates", ignore=shutil.ignore_patterns("out"))
+    """Copies the crates and crates.txt, without what was built; what was built there stays."""
+    for part in (folder / "crates").glob("*/*"):
+        if part.is_dir() and part.name != "out":
+            shutil.rmtree(part)
+    how = {"ignore": shutil.ignore_patterns("out"), "dirs_exist_ok": True}
+    shutil.copytree(TOP / "crates", folder / "crates", **how)
     shutil.copy(TOP / "crates.txt", folder)
+
+
+def copy_with_program(folder, libraries, program):
+    """Copies the crates, with another program instead of stun_show; the folder of its crate.
+
+    The sources of the program are texts, NAME.rt.txt in a folder: `rt ci` proves each source that it
+    finds, and these are only run.
+    """
+    copy_crates(folder)
+    line = " ".join(["stun_show:", *libraries])
+    (folder / "crates.txt").write_text(re.sub(r"^stun_show:.*$", line, read("crates.txt"), flags=re.M))
+    crate = folder / "crates/stun_show"
+    shutil.rmtree(crate / "src")
+    for part in ("src", "c"):
+        (crate / part).mkdir()
+    for source in program.glob("*.rt.txt"):
+        shutil.copy(source, crate / "src" / source.stem)
+    return crate
+
+
+def loose(crate, program, mend=False):
+    """The names of such sources that are not in the layout of `rt fmt`; it mends them if asked to."""
+    subprocess.run(["rt", "fmt"], cwd=crate, check=True, stdout=subprocess.DEVNULL)
+    laid_out = {it: (crate / "src" / it.stem).read_text() for it in sorted(program.glob("*.rt.txt"))}
+    found = [source for source, text in laid_out.items() if source.read_text() != text]
+    for source in found if mend else []:
+        source.write_text(laid_out[source])
+    return [source.name for source in found]
+
+
+def libraries():
+    """The names of the crates that are libraries, but not for C."""
+    names = re.findall(r"^(\w+):", read("crates.txt"), re.M)
+    return [it for it in names if (TOP / "crates" / it / "src/lib.rt").is_file()]
 
 
 def script(name):
@@ -64,6 +102,20 @@ def kit():
     """The folder of the kit."""
     page = subprocess.run(["rt", "doc"], capture_output=True, text=True, check=True).stdout
     return str(pathlib.Path(page.strip()).parent)
+
+
+def free():
+    """Free memory in bytes, under the control group's limit too."""
+    told = pathlib.Path("/proc/meminfo").read_text()
+    found = [1024 * int(re.search(r"MemAvailable:\s+(\d+)", told)[1])]
+    group = pathlib.Path("/sys/fs/cgroup")
+    try:
+        limit = (group / "memory.max").read_text().strip()
+        if limit.isdigit():
+            found.append(int(limit) - int((group / "memory.current").read_text()))
+    except OSError:
+        pass
+    return min(found)
 
 
 def version():
