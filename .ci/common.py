@@ -11,6 +11,9 @@ import subprocess
 import sys
 
 TOP = pathlib.Path(__file__).resolve().parent.parent
+COUNT = re.compile(r"^(\d+) passed, (\d+) failed$", re.M)
+# A comment in a definition, a proof or a source.
+COMMENT = re.compile(r"(?:^|(?<=\s))(?:--|//).*$", re.M)
 Block = collections.namedtuple("Block", "word at code has_end")
 FENCE = re.compile(r"( *)```([^`]*)$")
 # A word, a name or a command between backquotes, and what a link leads to.
@@ -41,38 +44,42 @@ def sources(crate="*"):
     return sorted((TOP / "crates").glob(f"{crate}/src/**/*.rt"))
 
 
-def copy_crates(folder):
+def copy_crates(folder, top=TOP):
     """Copies the crates and crates.txt, without what was built; what was built there stays."""
     for part in (folder / "crates").glob("*/*"):
         if part.is_dir() and part.name != "out":
             shutil.rmtree(part)
     how = {"ignore": shutil.ignore_patterns("out"), "dirs_exist_ok": True}
-    shutil.copytree(TOP / "crates", folder / "crates", **how)
-    shutil.copy(TOP / "crates.txt", folder)
+    shutil.copytree(top / "crates", folder / "crates", **how)
+    shutil.copy(top / "crates.txt", folder)
 
 
-def copy_with_program(folder, libraries, program):
+def copy_with_program(folder, libraries, sources, top=TOP):
     """Copies the crates, with another program instead of stun_show; the folder of its crate.
 
-    The sources of the program are texts, NAME.rt.txt in a folder: `rt ci` proves each source that it
-    finds, and these are only run.
+    The program is these sources, each with its name in `src`. They are kept as texts, NAME.rt.txt,
+    since `rt ci` proves each source that it finds, and these are only run.
     """
-    copy_crates(folder)
-    line = " ".join(["stun_show:", *libraries])
-    (folder / "crates.txt").write_text(re.sub(r"^stun_show:.*$", line, read("crates.txt"), flags=re.M))
+    copy_crates(folder, top)
+    line, crates = " ".join(["stun_show:", *libraries]), folder / "crates.txt"
+    crates.write_text(re.sub(r"^stun_show:.*$", line, crates.read_text(), flags=re.M))
     crate = folder / "crates/stun_show"
     shutil.rmtree(crate / "src")
-    for part in ("src", "c"):
-        (crate / part).mkdir()
-    for source in program.glob("*.rt.txt"):
-        shutil.copy(source, crate / "src" / source.stem)
+    (crate / "src").mkdir()
+    for source, name in sources.items():
+        shutil.copy(source, crate / "src" / name)
     return crate
+
+
+def texts(program):
+    """The sources that a folder has as texts, each with its name in `src`."""
+    return {it: it.stem for it in sorted(program.glob("*.rt.txt"))}
 
 
 def loose(crate, program, mend=False):
     """The names of such sources that are not in the layout of `rt fmt`; it mends them if asked to."""
     subprocess.run(["rt", "fmt"], cwd=crate, check=True, stdout=subprocess.DEVNULL)
-    laid_out = {it: (crate / "src" / it.stem).read_text() for it in sorted(program.glob("*.rt.txt"))}
+    laid_out = {it: (crate / "src" / name).read_text() for it, name in texts(program).items()}
     found = [source for source, text in laid_out.items() if source.read_text() != text]
     for source in found if mend else []:
         source.write_text(laid_out[source])
@@ -133,6 +140,19 @@ def end(passed, failed):
     """Prints the last line of a script, and returns its exit status."""
     print(f"{passed} passed, {failed} failed", flush=True)
     return 0 if passed and not failed else 1
+
+
+def counted(said, status, form=COUNT):
+    """How many passed and failed by the last count that a command printed: at least one failed if
+    there is none, if none passed, or if the exit status isn't 0."""
+    found = form.findall(said)
+    passed, failed = map(int, found[-1]) if found else (0, 1)
+    return passed, failed or int(bool(status) or not passed)
+
+
+def blank(piece):
+    """Spaces instead of a text, or of a match, and its ends of lines."""
+    return re.sub(r"[^\n]", " ", piece if isinstance(piece, str) else piece[0])
 
 
 def blocks_of(lines):
