@@ -4,6 +4,7 @@ import functools
 import importlib.machinery
 import importlib.util
 import itertools
+import os
 import pathlib
 import re
 import shutil
@@ -26,10 +27,15 @@ def read(name):
     return (TOP / name).read_text()
 
 
+def ran(*command, folder=TOP, **variables):
+    """A command that has ended, and what it printed; it has no input, and these variables."""
+    how = {"stdin": subprocess.DEVNULL, "capture_output": True, "text": True, "errors": "replace"}
+    return subprocess.run(command, cwd=folder, env={**os.environ, **variables}, **how)
+
+
 def files():
     """The names of the files that Git has, or would add."""
-    command = ["git", "ls-files", "-co", "--exclude-standard"]
-    listed = subprocess.run(command, cwd=TOP, capture_output=True, text=True).stdout
+    listed = ran("git", "ls-files", "-co", "--exclude-standard").stdout
     return [name for name in sorted({*listed.splitlines()}) if (TOP / name).is_file()]
 
 
@@ -100,15 +106,9 @@ def script(name):
     return module
 
 
-def said(*command):
-    """What a command prints."""
-    return subprocess.run(command, capture_output=True, text=True).stdout.strip()
-
-
 def kit():
     """The folder of the kit."""
-    page = subprocess.run(["rt", "doc"], capture_output=True, text=True, check=True).stdout
-    return str(pathlib.Path(page.strip()).parent)
+    return str(pathlib.Path(ran("rt", "doc").stdout.strip()).parent)
 
 
 def free():
