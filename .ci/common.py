@@ -1,4 +1,4 @@
-"""What the scripts of this folder share: the tree, its crates, Markdown, sources, and the last line."""
+"""What the scripts of this folder share: the tree, its crates and copies of them, counts, and Markdown."""
 import collections
 import functools
 import importlib.machinery
@@ -28,7 +28,7 @@ def read(name):
 
 
 def ran(*command, folder=TOP, **variables):
-    """A command that has ended, and what it printed; it has no input, and these variables."""
+    """Runs a command in a folder, with no input and these variables, and returns its output and status."""
     how = {"stdin": subprocess.DEVNULL, "capture_output": True, "text": True, "errors": "replace"}
     return subprocess.run(command, cwd=folder, env={**os.environ, **variables}, **how)
 
@@ -43,6 +43,12 @@ def crates():
     """What each crate of crates.txt depends on, by its name."""
     lines = re.findall(r"^(\w+)(?: \w+)*:(.*)$", read("crates.txt"), re.M)
     return {name: uses.split() for name, uses in lines}
+
+
+def libraries():
+    """The names of the crates that are libraries of Rattle."""
+    names = re.findall(r"^(\w+):", read("crates.txt"), re.M)
+    return [it for it in names if (TOP / "crates" / it / "src/lib.rt").is_file()]
 
 
 def sources(crate="*"):
@@ -83,19 +89,13 @@ def texts(program):
 
 
 def loose(crate, program, mend=False):
-    """The names of such sources that are not in the layout of `rt fmt`; it mends them if asked to."""
+    """The names of these sources that are not in the layout of `rt fmt`; with `mend` it formats them."""
     subprocess.run(["rt", "fmt"], cwd=crate, check=True, stdout=subprocess.DEVNULL)
     laid_out = {it: (crate / "src" / name).read_text() for it, name in texts(program).items()}
     found = [source for source, text in laid_out.items() if source.read_text() != text]
     for source in found if mend else []:
         source.write_text(laid_out[source])
     return [source.name for source in found]
-
-
-def libraries():
-    """The names of the crates that are libraries, but not for C."""
-    names = re.findall(r"^(\w+):", read("crates.txt"), re.M)
-    return [it for it in names if (TOP / "crates" / it / "src/lib.rt").is_file()]
 
 
 def script(name):
@@ -143,8 +143,8 @@ def end(passed, failed):
 
 
 def counted(said, status, form=COUNT):
-    """How many passed and failed by the last count that a command printed: at least one failed if
-    there is none, if none passed, or if the exit status isn't 0."""
+    """Returns how many passed and failed by the last count that a command printed. At least one failed
+    if there is no count, if none passed, or if the exit status isn't 0."""
     found = form.findall(said)
     passed, failed = map(int, found[-1]) if found else (0, 1)
     return passed, failed or int(bool(status) or not passed)
@@ -162,10 +162,10 @@ def blocks_of(lines):
     while at < len(lines):
         fence, at = FENCE.match(lines[at] or ""), at + 1
         if fence:
-            inside = lambda line: line is not None and not line.startswith(fence[1] + "```")
-            code = [*itertools.takewhile(inside, lines[at:])]
-            end = at + len(code)
-            yield Block(fence[2], at, code, end < len(lines) and lines[end] is not None)
+            end, last = at, fence[1] + "```"
+            while end < len(lines) and lines[end] is not None and not lines[end].startswith(last):
+                end += 1
+            yield Block(fence[2], at, lines[at:end], end < len(lines) and lines[end] is not None)
             at = end + 1
 
 
@@ -175,7 +175,8 @@ class Markdown:
     def __init__(self, text):
         lines = text.split("\n") if isinstance(text, str) else text
         self.whole, self.blocks = lines, [*blocks_of(lines)]
-        self.inside = {at for it in self.blocks for at in range(it.at - 1, it.at + len(it.code) + 1)}
+        ranges = (range(it.at - 1, it.at + len(it.code) + it.has_end) for it in self.blocks)
+        self.inside = {*itertools.chain.from_iterable(ranges)}
         self.lines = ["" if at in self.inside else line or "" for at, line in enumerate(lines)]
 
     def rows(self):
