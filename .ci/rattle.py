@@ -1,0 +1,185 @@
+"""Reads crates in the layout of `rt fmt`: the public items, their members and docs, and what is exported.
+
+An item begins at the left edge, a member of one four spaces to the right.
+"""
+import functools
+import itertools
+import re
+
+from common import TOP, Markdown, crates, sources
+
+# The crates that a user lists, each with what it has.
+PUBLIC = {
+    "stun_types": "messages: reading, looking up, validating, writing, replying, printing",
+    "stun_framing": "the messages of a stream",
+    "stun_transactions": "a client's transaction, without sockets",
+    "stun_authentication": "credentials, at a server and at a client",
+    "stun_server": "a server that replies with the client's address",
+    "ice_attrs": "the attributes of ICE, and what an agent computes",
+    "turn_basics": "LIFETIME, XOR-PEER-ADDRESS and DATA of TURN",
+    "turn_attrs": "the attributes of TURN, ChannelData, protocols by their first byte",
+    "discovery_attrs": "the attributes of NAT discovery",
+    "stun_plain_text": "a message as one line of printable ASCII",
+}
+DOC = re.compile(r"\s*//[/!](?: (.*)|)$")
+ITEM = re.compile(r"pub (?:(?:final|const|unsafe) )?(struct|enum|trait|fn|const|static|type) (\w+)")
+OTHER_ITEM = re.compile(r"(macro)_rules! (\w+)|(impl)\b")
+MEMBER = re.compile(r"    (?:pub )?(?:final )?(fn|const|type) (\w+)")
+PART = re.compile(r"    (?:pub )?(\w+)(?::|\(|,| \{|$)")
+DEFINITION = re.compile(r"\[`[^\]]*`\]: ")
+# What is above an item: its doc and its attributes.
+ABOVE = re.compile(r"\s*(?:///|#\[|[\w:, ;<>']*\)\])")
+# The last line of a head: not a clause whose braces begin there.
+HEAD_ENDS = re.compile(r"(?!\s*(?:requires|ensures)\b.*\{$).*(?:;|\{\}|(?<![=→] )\{)$")
+DEMAND = re.compile(r"requires (?:\w+ )?\{ ?(.*?) ?\}$")
+
+
+def doc_lines(text):
+    """The lines of a source: what `///` or `//!` precedes, and None for each other line."""
+    return [it and (it[1] or "") for it in map(DOC.match, text.split("\n"))]
+
+
+def links_gone(text):
+    """A text with the names of its links alone."""
+    return re.sub(r"\[(`[^`]*`)\](?:\([^)]*\))?", r"\1", text)
+
+
+def base(text):
+    """The name of a type without its arguments and its path."""
+    return re.sub(r"^&(?:'\w+ )?", "", re.split(r"[<\s]", text)[0]).split("::")[-1]
+
+
+def outside(text):
+    """The text after the generics that it begins with."""
+    depth = 0
+    for at, sign in enumerate(text):
+        depth += (sign == "<") - (sign == ">" and text[at - 1] not in "-=")
+        if not depth:
+            return text[at + (sign == ">") :].strip()
+    return text
+
+
+class Item:
+    """An item or a member of one: its doc, its signature, what it requires, its body, and its file."""
+
+    def __init__(self, path, lines, at, kind, name):
+        self.path, self.kind, self.name = path, kind, name
+        above = [*itertools.takewhile(ABOVE.match, reversed(lines[:at]))][::-1]
+        self.doc = Markdown([it for it in doc_lines("\n".join(above)) if it is not None])
+        traits = re.findall(r"#\[derive(?:_where)?\(([^;)]*)", " ".join(above))
+        words = (word.strip() for its in traits if its.strip() != "skip" for word in its.split(","))
+        self.derives = [word.split("::")[-1] for word in words if word]
+        end = next((it for it in range(at, len(lines)) if HEAD_ENDS.match(lines[it])), at)
+        head = " ".join(it.strip() for it in lines[at : end + 1] if not it.strip().startswith("//"))
+        text, *clauses = re.split(r" (?=(?:requires|ensures)\b)", re.sub(r"\s*(\{\}?|;)$", "", head))
+        text = re.sub(r",\s*([)>])", r"\1", text.replace("( ", "(")).replace("< ", "<")
+        self.signature = text.removeprefix("pub ").removesuffix(",")
+        self.clauses = [DEMAND.sub(r"\1", it) for it in clauses if it.startswith("requires")]
+        edge = re.match(" *", lines[at])[0] + "}"
+        body = itertools.takewhile(lambda line: not line.startswith(edge), lines[end + 1 :])
+        self.body = [*body] if lines[end].endswith("{") else []
+
+    def sentence(self):
+        """The first sentence of the doc."""
+        lines = itertools.takewhile(lambda it: not re.match(r"$|#|```|- ", it), self.doc.whole)
+        whole = " ".join(line.strip() for line in lines)
+        found = re.match(r"(.*?\.)(?=\s|$)", whole)
+        return links_gone(found[1] if found else whole)
+
+    def section(self, title):
+        """The text of a section of the doc, without code and the definitions of links."""
+        lines = (it for it in self.doc.section(title) if it and not DEFINITION.match(it))
+        return links_gone(" ".join(it.strip().removeprefix("- ") for it in lines))
+
+    def examples(self):
+        """The lines of each block of code in the doc that has no word after its backquotes."""
+        return [it.code for it in self.doc.blocks if not it.word]
+
+    def members(self):
+        """The functions and constants of a block: of a trait all, of an `impl` the public ones."""
+        for at, line in enumerate(self.body):
+            found = MEMBER.match(line)
+            if found and (line.startswith("    pub ") or self.kind == "trait"):
+                yield Item(self.path, self.body, at, *found.groups())
+
+    def parts(self):
+        """The variants of an enum, the public fields of a struct, and the members of a trait."""
+        if self.kind == "trait":
+            yield from self.members()
+        for at, line in enumerate(self.body if self.kind in ("struct", "enum") else []):
+            found = PART.match(line)
+            if found and (self.kind == "enum" or line.startswith("    pub ")):
+                end = at
+                if line.endswith(("{", "(")):
+                    end = next(it for it in range(at + 1, len(self.body)) if re.match(r"    [})]", self.body[it]))
+                text = " ".join(it.strip() for it in self.body[at : end + 1]).removeprefix("pub ")
+                text = re.sub(r"///.*?(?=\w+: )", "", text).rstrip(",").replace("( ", "(")
+                part = Item(self.path, self.body, at, "part", found[1])
+                part.signature = re.sub(r"\s+", " ", text).replace(", }", " }").replace(",)", ")")
+                yield part
+
+
+@functools.cache
+def items_of(crate):
+    """The public items of a crate, its macros and what it implements."""
+    found = []
+    for path in sources(crate):
+        lines = path.read_text().split("\n")
+        for at, line in enumerate(lines):
+            if head := ITEM.match(line) or OTHER_ITEM.match(line):
+                kind, *name = filter(None, head.groups())
+                found.append(Item(path, lines, at, kind, *(name or [""])))
+    return found
+
+
+def implemented(it):
+    """The trait of an `impl`, or nothing, and the type."""
+    text = outside(it.signature.removeprefix("impl").strip()).split(" where ")[0].strip()
+    trait, is_of_trait, name = text.partition(" for ")
+    return (trait.strip(), name) if is_of_trait else ("", text)
+
+
+def items_below(crate):
+    """Of a crate and those that it depends on: the items by name and crate, and by the name of a type
+    its public members and its traits.
+
+    An `impl` for a type that is none of these crates', as `From<DataSlice<'a>> for &'a [u8]`, is by
+    the name of the type that its trait is of.
+    """
+    below = [crate, *(it for it in crates()[crate] if it in crates())]
+    every, items, members, traits = [(name, it) for name in below for it in items_of(name)], {}, {}, {}
+    for name, it in every:
+        if it.kind != "impl":
+            items.setdefault(it.name, {}).setdefault(name, it)
+    for it in (it for _, it in every if it.kind == "impl"):
+        trait, name = implemented(it)
+        of = re.match(r"\w+<(.*)>$", trait)
+        if not trait:
+            members.setdefault(base(name), []).extend(it.members())
+        elif base(name) in items or not of:
+            traits.setdefault(base(name), []).append(trait)
+        else:
+            traits.setdefault(base(of[1]), []).append(f"{trait} for {name}")
+    return items, members, traits
+
+
+def exports(crate):
+    """The public names of a crate: each with its modules and the crate that it is taken from."""
+    found, waiting = {}, [(TOP / "crates" / crate / "src/lib.rt", "")]
+    for file, module in waiting:
+        text = re.sub(r"^\s*//.*$", "", file.read_text(), flags=re.M)
+        names = [(it, "", crate) for it in re.findall(r"^#\[macro_export\]\nmacro_rules! (\w+)", text, re.M)]
+        # (a private module exports its macros alone)
+        uses = re.findall(r"^pub use ([\w:]+?)::(\w+|\{[^}]*\});", text, re.M) if module is not None else []
+        for path, its in uses:
+            owner = path.split("::")[0]
+            names += [(it, module, owner if owner in crates() else crate) for it in re.findall(r"\w+", its)]
+        if module is not None:
+            names += [(it[2], module, crate) for it in re.finditer(rf"^{ITEM.pattern}", text, re.M)]
+        for name, place, owner in names:
+            found.setdefault(name, ([], owner))[0].append(place)
+        folder = file.parent if file.name == "lib.rt" else file.with_suffix("")
+        for is_public, name in re.findall(r"^(pub )?mod (\w+);", text, re.M):
+            its = f"{module}::{name}" if is_public and module is not None else None
+            waiting.append((folder / f"{name}.rt", its))
+    return found
