@@ -1,4 +1,4 @@
--- The copy of a key that is a transaction's makes the transaction whole.
+-- The parts of a transaction and a copy of its key are those of a transaction.
 use Rattle.std.proofs.Common.{◌≡◌, Bool, true, false, Option, None, Some, Ok, Err, refl}
 use Rattle.std.specs.Prelude.{is_some, MatchOption, if◌then◌else◌}
 use Rattle.stun_keys.specs.declared.keys.integrity_key.IntegrityKey.{IntegrityKey}
