@@ -1,3 +1,13 @@
+mod LoginsWritableLemmas
+mod EndedLemmas
+mod ProofLemmas
+mod ShortTermLemmas
+mod ListsLemmas
+mod LongTermLemmas
+mod TakenLemmas
+mod ChallengeLemmas
+mod RetriedLemmas
+mod ExampleLemmas
 mod WritableLemmas
 mod ReceivedLemmas
 mod AddressLemmas

@@ -1,2 +1,5 @@
+pub mod Example
+pub mod Offers
+pub mod Premises
 pub mod Learning
 pub mod Forging

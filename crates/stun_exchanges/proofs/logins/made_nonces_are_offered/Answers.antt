@@ -4,8 +4,8 @@ use Rattle.stun_authentication.specs.declared.nonces.Freshness.{Freshness}
 use Rattle.stun_authentication.specs.Cookies.{promises}
 use Rattle.stun_grammar.specs.Numbers.{be64}
 use Rattle.stun_authentication.specs.Nonces.{hexed, known_as, minted_mac}
-use Rattle.stun_logins.specs.Offers.{sent_with}
-use Rattle.stun_logins.proofs.laws.made_nonces_are_offered.Goals as goal
+use Rattle.stun_exchanges.specs.Offers.{sent_with}
+use Rattle.stun_exchanges.proofs.logins.made_nonces_are_offered.Goals as goal
 
 pub returns : goal.returns
 returns c = λ minting time now place realm algorithms small after before agrees. record {

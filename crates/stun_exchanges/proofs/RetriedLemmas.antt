@@ -21,12 +21,12 @@ use Rattle.stun_authentication.specs.Identities.{Who, named}
 use Rattle.stun_authentication.specs.Logins.{is_login, users_of, with_password, long_term_key_of, short_term_key_of}
 use Rattle.stun_authentication.specs.LongTerm.{long_term}
 use Rattle.stun_authentication.specs.Lookups.{UserKey, key_made, Known}
-use Rattle.stun_logins.specs.Offers.{Offer, IsOffered, IsLawful, Takes, IsShort, Retries, asked_of, asks, offer_of, refused, refused_attributes}
-use Rattle.stun_logins.specs.Premises.{IsOwn, HasRoom, Serves, Works}
+use Rattle.stun_exchanges.specs.Offers.{Offer, IsOffered, IsLawful, Takes, IsShort, Retries, asked_of, asks, offer_of, refused, refused_attributes}
+use Rattle.stun_exchanges.specs.Premises.{IsOwn, HasRoom, Serves, Works}
 use Rattle.stun_authentication.specs.Requests.{User, user_of, identity, user_key, retried_attributes, retried_request}
-use Rattle.stun_logins.proofs.ChallengeLemmas.{challenge_read, text_short}
-use Rattle.stun_logins.proofs.EndedLemmas.{IsFirst, IsMissing}
-use Rattle.stun_logins.proofs.LongTermLemmas.{accepted}
+use Rattle.stun_exchanges.proofs.ChallengeLemmas.{challenge_read, text_short}
+use Rattle.stun_exchanges.proofs.EndedLemmas.{IsFirst, IsMissing}
+use Rattle.stun_exchanges.proofs.LongTermLemmas.{accepted}
 
 ok_is : (a b : Asked) (r : Result Asked NoRetry) → r ≡ Ok a → r ≡ Ok b → a ≡ b
 ok_is a b r one two =

@@ -1,7 +1,7 @@
-use Rattle.stun_logins.proofs.LongTermLemmas.{accepted}
-use Rattle.stun_logins.proofs.RetriedLemmas.{retried}
-use Rattle.stun_logins.proofs.TakenLemmas.{long_heard}
-use Rattle.stun_logins.proofs.laws.login_is_accepted.Goals as goal
+use Rattle.stun_exchanges.proofs.LongTermLemmas.{accepted}
+use Rattle.stun_exchanges.proofs.RetriedLemmas.{retried}
+use Rattle.stun_exchanges.proofs.TakenLemmas.{long_heard}
+use Rattle.stun_exchanges.proofs.logins.login_is_accepted.Goals as goal
 
 pub returns-clause-accepted : goal.returns-clause-accepted
 returns-clause-accepted c = accepted c.shown_is_found.ensures.first c.shown_is_found.ensures.missing

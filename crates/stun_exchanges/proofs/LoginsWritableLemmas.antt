@@ -15,7 +15,7 @@ use Rattle.stun_grammar.proofs.AddingRefusedLemmas.{accepted_unbounded}
 use Rattle.stun_grammar.proofs.StepsLemmas.{length-with_step, step_writable}
 use Rattle.stun_grammar.proofs.WritingLemmas.{length-message}
 use Rattle.stun_authentication.proofs.TypesLemmas.{weaker, ordinary_of, free}
-use Rattle.stun_logins.specs.Premises.{is_reserved, HasRoom}
+use Rattle.stun_exchanges.specs.Premises.{is_reserved, HasRoom}
 
 -- ---- Types
 

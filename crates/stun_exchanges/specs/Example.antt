@@ -7,8 +7,8 @@ use Rattle.stun_authentication.specs.Challenges.{Asked, signing_algorithm}
 use Rattle.stun_authentication.specs.Cookies.{cookie}
 use Rattle.stun_authentication.specs.Lookups.{Known, valid}
 use Rattle.stun_authentication.specs.declared.policy.Policy.{Policy}
-use Rattle.stun_logins.specs.Offers.{Offer, IsOffered, Takes, IsShort, asked_of}
-use Rattle.stun_logins.specs.Premises.{IsOwn, HasRoom, Serves}
+use Rattle.stun_exchanges.specs.Offers.{Offer, IsOffered, Takes, IsShort, asked_of}
+use Rattle.stun_exchanges.specs.Premises.{IsOwn, HasRoom, Serves}
 use Rattle.stun_authentication.specs.Requests.{User, retried_attributes}
 
 -- a server that sends both algorithms, SHA-256 first

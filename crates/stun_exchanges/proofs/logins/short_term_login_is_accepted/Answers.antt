@@ -1,7 +1,7 @@
 use Rattle.stun_authentication.specs.Requests.{short_term_request}
-use Rattle.stun_logins.proofs.ShortTermLemmas.{accepted}
-use Rattle.stun_logins.proofs.TakenLemmas.{taken, short_heard}
-use Rattle.stun_logins.proofs.laws.short_term_login_is_accepted.Goals as goal
+use Rattle.stun_exchanges.proofs.ShortTermLemmas.{accepted}
+use Rattle.stun_exchanges.proofs.TakenLemmas.{taken, short_heard}
+use Rattle.stun_exchanges.proofs.logins.short_term_login_is_accepted.Goals as goal
 
 pub returns-clause-accepted : goal.returns-clause-accepted
 returns-clause-accepted c = accepted c.shown_is_found.ensures.first

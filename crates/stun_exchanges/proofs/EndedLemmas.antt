@@ -22,10 +22,10 @@ use Rattle.stun_grammar.proofs.WritingLemmas.{shown-message}
 use Rattle.stun_read.specs.LookingUp.{nth}
 use Rattle.stun_authentication.specs.Identities.{value_of}
 use Rattle.stun_authentication.specs.Policies.{is_fingerprinted}
-use Rattle.stun_logins.specs.Premises.{IsPrinted}
+use Rattle.stun_exchanges.specs.Premises.{IsPrinted}
 use Rattle.stun_authentication.specs.Writing.{signed, finished, signed_reply}
 use Rattle.stun_authentication.proofs.TypesLemmas.{weaker}
-use Rattle.stun_logins.proofs.WritableLemmas.{any-append}
+use Rattle.stun_exchanges.proofs.LoginsWritableLemmas.{any-append}
 
 -- what the laws of look-ups say
 abbrev pub IsFirst : Type 0

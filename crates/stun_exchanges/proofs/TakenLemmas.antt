@@ -41,13 +41,13 @@ use Rattle.stun_transactions.specs.Guards.{guard_fault, signed_by, is_signed, si
 use Rattle.stun_transactions.specs.Outcomes.{is_open}
 use Rattle.stun_transactions.specs.Receiving.{content, claim_of, discarded, received_outcome}
 use Rattle.stun_transactions.specs.Terms.{AreTerms, is_answer}
-use Rattle.stun_logins.specs.Premises.{IsOwn, IsOpen, IsNamed, HasRoom, Suits, WorksAs, checked}
+use Rattle.stun_exchanges.specs.Premises.{IsOwn, IsOpen, IsNamed, HasRoom, Suits, WorksAs, checked}
 use Rattle.stun_authentication.specs.Requests.{short_term_attributes, short_term_request}
 use Rattle.stun_authentication.specs.Writing.{signed, finished, signed_reply}
-use Rattle.stun_logins.proofs.EndedLemmas.{IsFirst, IsMissing, ended_none, ended_signed, ended_finished, value_missing, signs_here, signs_finished, HasHmac, signs_found, no_print, print_kept}
-use Rattle.stun_logins.proofs.ProofLemmas.{is_signed_by, signs_is, long_enough}
-use Rattle.stun_logins.proofs.ShortTermLemmas.{once_writable, kept_validates, signed_unprinted, is_request}
-use Rattle.stun_logins.proofs.WritableLemmas.{any-append}
+use Rattle.stun_exchanges.proofs.EndedLemmas.{IsFirst, IsMissing, ended_none, ended_signed, ended_finished, value_missing, signs_here, signs_finished, HasHmac, signs_found, no_print, print_kept}
+use Rattle.stun_exchanges.proofs.ProofLemmas.{is_signed_by, signs_is, long_enough}
+use Rattle.stun_exchanges.proofs.ShortTermLemmas.{once_writable, kept_validates, signed_unprinted, is_request}
+use Rattle.stun_exchanges.proofs.LoginsWritableLemmas.{any-append}
 use Rattle.stun_authentication.proofs.TypesLemmas.{weaker}
 
 own_ending : (a : IntegrityAlgorithm) → is_ending (type_of_algorithm a) ≡ true

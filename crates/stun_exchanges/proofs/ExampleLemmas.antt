@@ -9,10 +9,10 @@ use Rattle.stun_values.specs.declared.algorithm.PasswordAlgorithmValue.TheVarian
 use Rattle.stun_values.specs.Algorithms.{algorithms_encoding}
 use Rattle.stun_authentication.specs.declared.cookie.SecurityFeatures.{SecurityFeatures}
 use Rattle.stun_authentication.specs.Cookies.{cookie, promises, is_anonymous, security_features}
-use Rattle.stun_logins.specs.Example.{offer, asked, user, IsMet}
-use Rattle.stun_logins.specs.Premises.{HasRoom}
+use Rattle.stun_exchanges.specs.Example.{offer, asked, user, IsMet}
+use Rattle.stun_exchanges.specs.Premises.{HasRoom}
 use Rattle.stun_authentication.specs.Requests.{credentials, user_key}
-use Rattle.stun_logins.proofs.ListsLemmas.{takes_first}
+use Rattle.stun_exchanges.proofs.ListsLemmas.{takes_first}
 
 cookie_there : ((features : SecurityFeatures) (more : List ℕ) → security_features (cookie features ++ more) ≡ Some features) → security_features offer.nonce ≡ Some (record { password_algorithms = true; username_anonymity = false })
 cookie_there told = told (record { password_algorithms = true; username_anonymity = false }) []

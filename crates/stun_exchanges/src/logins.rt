@@ -1,4 +1,6 @@
-//! Laws of logins. Each function does nothing: its contract is the law.
+//! Laws of logins (RFC 8489, sections 9.1 and 9.2): what a client writes from a challenge is accepted
+//! by the server that sent it, and the client's transaction takes the reply. Each function does
+//! nothing: its contract is the law.
 
 ghost use Rattle.std.specs.Prelude.{◌≡◌, ◌≢◌, ◌≤◌, ◌<◌, ◌+◌, ◌^◌, ◌++◌, ◌∷◌, ℕ, Bool, true, false, List, [], Option, Some, None, Ok, is_some, length, find};
 ghost use Rattle.stun_grammar.specs.declared.integrity_algorithm.IntegrityAlgorithm.{IntegrityAlgorithm};
@@ -36,11 +38,11 @@ ghost use Rattle.stun_transactions.specs.declared.usage.Usage.{Usage};
 ghost use Rattle.stun_transactions.specs.Outcomes.{is_open};
 ghost use Rattle.stun_transactions.specs.Receiving.{content, received_outcome};
 ghost use Rattle.stun_transactions.specs.Terms.{AreTerms};
-ghost use Rattle.stun_logins.specs.Example.{IsMet};
-ghost use Rattle.stun_logins.specs.Offers.{Offer, IsOffered, sent_with, IsLawful, Takes, IsShort, Retries, asked_of, asks, offer_of, refused, refused_attributes};
+ghost use Rattle.stun_exchanges.specs.Example.{IsMet};
+ghost use Rattle.stun_exchanges.specs.Offers.{Offer, IsOffered, sent_with, IsLawful, Takes, IsShort, Retries, asked_of, asks, offer_of, refused, refused_attributes};
 ghost use Rattle.stun_authentication.specs.Requests.{User, user_of, identity, user_key, retried_attributes, retried_request, short_term_attributes, short_term_request};
 ghost use Rattle.stun_authentication.specs.Writing.{signed, finished, signed_reply};
-ghost use Rattle.stun_logins.specs.Premises.{IsOwn, IsOpen, IsNamed, IsPrinted, HasRoom, Serves, Suits, Works, WorksAs, checked};
+ghost use Rattle.stun_exchanges.specs.Premises.{IsOwn, IsOpen, IsNamed, IsPrinted, HasRoom, Serves, Suits, Works, WorksAs, checked};
 
 use stun_authentication::{cookie_is_read, nonces_are_timed};
 use stun_types::shown_is_found;

@@ -15,8 +15,8 @@ use Rattle.stun_authentication.specs.declared.policy.Policy.{Policy}
 use Rattle.stun_authentication.specs.Lookups.{UserKey}
 use Rattle.stun_authentication.specs.Policies.{shows_served, has_least_length, common, counted, is_signed_for, validated, proved_by, proof_of}
 use Rattle.stun_transactions.specs.Guards.{signed_by, is_signed, signs_by}
-use Rattle.stun_logins.specs.Premises.{same_algorithm, checked}
-use Rattle.stun_logins.proofs.EndedLemmas.{HasHmac}
+use Rattle.stun_exchanges.specs.Premises.{same_algorithm, checked}
+use Rattle.stun_exchanges.proofs.EndedLemmas.{HasHmac}
 
 -- an algorithm counts if both do, or it is the one that does
 abbrev pub Counts : Option IntegrityAlgorithm → IntegrityAlgorithm → Type 0

@@ -32,15 +32,15 @@ use Rattle.stun_authentication.specs.Identities.{Who, named, hashed, value_of, o
 use Rattle.stun_authentication.specs.Lookups.{UserKey, Known, valid}
 use Rattle.stun_authentication.specs.LongTerm.{Named, names_of, by_both, hashing_of, password_algorithm, reply_algorithm, by_nonce, by_hmac, by_user, by_algorithms, by_names, by_attribute, by_class, is_request, long_term}
 use Rattle.stun_authentication.specs.Policies.{is_taken, is_signed, proof_of}
-use Rattle.stun_logins.specs.Offers.{Offer, offered_list, sent_with, IsOffered, asked_of, Takes, IsShort}
-use Rattle.stun_logins.specs.Premises.{IsOwn, HasRoom, Serves, Works, is_reserved}
+use Rattle.stun_exchanges.specs.Offers.{Offer, offered_list, sent_with, IsOffered, asked_of, Takes, IsShort}
+use Rattle.stun_exchanges.specs.Premises.{IsOwn, HasRoom, Serves, Works, is_reserved}
 use Rattle.stun_authentication.specs.Requests.{User, identity, identity_attribute, algorithm_attributes, credentials, user_key, retried_attributes, retried_request}
 use Rattle.stun_authentication.specs.Writing.{signed}
-use Rattle.stun_logins.proofs.EndedLemmas.{IsFirst, IsMissing, Ended, ended_none, ended_signed, ended_finished, value_there, value_missing, Signs, signs_here, signs_finished, print_unchecked, signs_validate, signs_found, no_print, print_taken}
-use Rattle.stun_logins.proofs.ListsLemmas.{chosen_is, unlisted_is}
-use Rattle.stun_logins.proofs.ProofLemmas.{is_wanted, is_served, proof_is, in_common}
-use Rattle.stun_logins.proofs.ShortTermLemmas.{once_writable, own_missing, signed_unprinted}
-use Rattle.stun_logins.proofs.WritableLemmas.{none_ends, lacks_reserved, any-append, IsAdded, adds, room_down}
+use Rattle.stun_exchanges.proofs.EndedLemmas.{IsFirst, IsMissing, Ended, ended_none, ended_signed, ended_finished, value_there, value_missing, Signs, signs_here, signs_finished, print_unchecked, signs_validate, signs_found, no_print, print_taken}
+use Rattle.stun_exchanges.proofs.ListsLemmas.{chosen_is, unlisted_is}
+use Rattle.stun_exchanges.proofs.ProofLemmas.{is_wanted, is_served, proof_is, in_common}
+use Rattle.stun_exchanges.proofs.ShortTermLemmas.{once_writable, own_missing, signed_unprinted}
+use Rattle.stun_exchanges.proofs.LoginsWritableLemmas.{none_ends, lacks_reserved, any-append, IsAdded, adds, room_down}
 
 -- ---- The credentials of a request
 

@@ -28,12 +28,12 @@ use Rattle.stun_authentication.specs.Lookups.{UserKey}
 use Rattle.stun_authentication.specs.Policies.{is_taken, is_signed, is_signed_for, counted, proof_of}
 use Rattle.stun_authentication.specs.ShortTerm.{reject, by_hmac, by_key, by_user, by_attributes, by_class, short_term}
 use Rattle.stun_transactions.specs.Guards.{validated}
-use Rattle.stun_logins.specs.Premises.{IsOwn, IsOpen, IsNamed, IsPrinted, HasRoom, WorksAs, checked, is_reserved}
+use Rattle.stun_exchanges.specs.Premises.{IsOwn, IsOpen, IsNamed, IsPrinted, HasRoom, WorksAs, checked, is_reserved}
 use Rattle.stun_authentication.specs.Requests.{signed_by_each, short_term_attributes, short_term_request}
 use Rattle.stun_authentication.specs.Writing.{signed, finished, signed_reply}
-use Rattle.stun_logins.proofs.EndedLemmas.{IsFirst, Ended, ended_none, ended_signed, ended_finished, value_there, Signs, signs_here, signs_signed, signs_finished, print_unchecked, signs_validate, signs_found, reply_validates, no_print, print_taken}
-use Rattle.stun_logins.proofs.ProofLemmas.{some_is, same_is, checked_counts, is_wanted, is_served, proof_is, signed_for, one_counts, key_counts}
-use Rattle.stun_logins.proofs.WritableLemmas.{none_ends, lacks_reserved, any-append, types-append, one_more, adds, room_down}
+use Rattle.stun_exchanges.proofs.EndedLemmas.{IsFirst, Ended, ended_none, ended_signed, ended_finished, value_there, Signs, signs_here, signs_signed, signs_finished, print_unchecked, signs_validate, signs_found, reply_validates, no_print, print_taken}
+use Rattle.stun_exchanges.proofs.ProofLemmas.{some_is, same_is, checked_counts, is_wanted, is_served, proof_is, signed_for, one_counts, key_counts}
+use Rattle.stun_exchanges.proofs.LoginsWritableLemmas.{none_ends, lacks_reserved, any-append, types-append, one_more, adds, room_down}
 use Rattle.stun_authentication.proofs.TypesLemmas.{free, free_append}
 
 -- ---- Signing keeps a message writable

@@ -39,12 +39,12 @@ use Rattle.stun_authentication.specs.Challenges.{list_of, is_bid_down, lost_list
 use Rattle.stun_authentication.specs.Codes.{value_code, code_by_class, response_code, is_code, is_challenge}
 use Rattle.stun_authentication.specs.Cookies.{promises_algorithms, security_features, is_anonymous}
 use Rattle.stun_authentication.specs.Identities.{value_of}
-use Rattle.stun_logins.specs.Offers.{Offer, offered_list, asked_of, Takes, IsLawful, Retries, asks, offer_of, refused, refused_attributes}
-use Rattle.stun_logins.specs.Premises.{HasRoom}
+use Rattle.stun_exchanges.specs.Offers.{Offer, offered_list, asked_of, Takes, IsLawful, Retries, asks, offer_of, refused, refused_attributes}
+use Rattle.stun_exchanges.specs.Premises.{HasRoom}
 use Rattle.stun_authentication.specs.Writing.{finished}
-use Rattle.stun_logins.proofs.EndedLemmas.{IsFirst, IsMissing, Ended, ended_none, ended_finished, value_there, value_missing}
-use Rattle.stun_logins.proofs.ShortTermLemmas.{finished_writable}
-use Rattle.stun_logins.proofs.WritableLemmas.{any-append, IsAdded, adds, room_down}
+use Rattle.stun_exchanges.proofs.EndedLemmas.{IsFirst, IsMissing, Ended, ended_none, ended_finished, value_there, value_missing}
+use Rattle.stun_exchanges.proofs.ShortTermLemmas.{finished_writable}
+use Rattle.stun_exchanges.proofs.LoginsWritableLemmas.{any-append, IsAdded, adds, room_down}
 use Rattle.stun_authentication.proofs.TypesLemmas.{free}
 
 -- ---- The code

@@ -1,3 +1,0 @@
-pub mod Example
-pub mod Offers
-pub mod Premises
