@@ -2,6 +2,7 @@ mod AcceptingRowsLemmas
 mod AddedLemmas
 mod CookiesLemmas
 mod CountedLemmas
+pub mod DecidedLemmas
 mod EntriesLemmas
 mod FinishingLemmas
 mod NoncesLemmas
