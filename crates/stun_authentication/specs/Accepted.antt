@@ -28,10 +28,10 @@ pub record IsUsers (policy : Policy) (keys : List ℕ → Option UserKey) (d : L
 
 -- d is a user's, by long-term credentials: the nonce is valid; the key is that of its USERNAME or
 -- USERHASH in the server's realm, by the password algorithm that it chooses, or by MD5, and works
--- with the algorithm of the HMAC, which serves the policy; if it chooses one, that is one of those
--- that were sent with the nonce, and if it chooses none, it shows none or the nonce promises no list;
--- the reply is signed by the algorithm that goes with it; the HMAC is long enough, and d has the
--- FINGERPRINT that the usage uses
+-- with the algorithm of the HMAC, which serves the policy; an algorithm that it chooses is one of
+-- those that were sent with the nonce, and if it chooses none, it shows none, or the nonce promises
+-- no list; the reply is signed by the algorithm that goes with it; the HMAC is long enough, and d has
+-- the FINGERPRINT that the usage uses
 pub record IsLogin (policy : Policy) (realm : List ℕ) (nonces : List ℕ → Known)
     (keys : Who → List ℕ → PasswordAlgorithmValue → Option UserKey) (d : List ℕ) (key : UserKey)
     (a reply : IntegrityAlgorithm) : Type 0 where

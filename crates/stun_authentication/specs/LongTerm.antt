@@ -45,12 +45,12 @@ abbrev pub promised : ℕ → List ℕ → Option (List ℕ)
 promised type d =
     if option_map_or promises_algorithms (value_of d NONCE) false then value_of d type else None
 
--- the algorithm that d chooses: its PASSWORD-ALGORITHM is one number, and no parameters (14.12)
+-- the algorithm that d chooses by PASSWORD-ALGORITHM: a number, with no parameters (14.12)
 abbrev pub chosen : List ℕ → Option PasswordAlgorithmValue
 chosen d = option_and_then (λ value. sole_named both value) (promised PASSWORD_ALGORITHM d)
 
--- whether a list is the one that was sent with the nonce, byte for byte; of a nonce that isn't valid
--- no list is known
+-- whether a list is the one that was sent with the nonce, byte for byte; of a nonce that isn't
+-- valid no list is known
 abbrev pub is_sent : Known → List ℕ → Bool
 is_sent (valid algorithms) list = pointwise nat_eq list (algorithms_encoding algorithms)
 is_sent stale list = true
@@ -59,7 +59,8 @@ is_sent unknown list = true
 abbrev pub is_listed : List ℕ → PasswordAlgorithmValue → Bool
 is_listed list algorithm = is_some (first_listed (algorithm ∷ []) list)
 
--- the key of the user whom d names, in the server's realm, by the algorithm that d chooses, or by MD5
+-- the key of the user whom d names, in the server's realm, by the algorithm that d chooses, or by
+-- MD5
 abbrev pub key_of_user : List ℕ → (keys : Who → List ℕ → PasswordAlgorithmValue → Option UserKey)
     → List ℕ → Option UserKey
 key_of_user realm keys d =
@@ -89,12 +90,13 @@ shows_one_alone d =
     let list = is_some (promised PASSWORD_ALGORITHMS d) in
     (one || list) && not (one && list)
 
--- it shows both, and the list isn't the one that was sent with the nonce
+-- it shows both (or row 6 decides), and the list isn't the one that was sent with the nonce
 abbrev pub shows_other_list : Known → List ℕ → Bool
 shows_other_list state d =
     option_map_or (λ list. not (is_sent state list)) (promised PASSWORD_ALGORITHMS d) false
 
--- it shows both, and the algorithm isn't on the list, or is none that is known
+-- it shows both (or row 6 decides), and the algorithm isn't on the list, or is neither MD5 nor
+-- SHA-256 without parameters, or more octets follow it
 abbrev pub chooses_none_listed : List ℕ → Bool
 chooses_none_listed d =
     option_map_or (λ list. not (option_map_or (λ algorithm. is_listed list algorithm) (chosen d) false))
@@ -102,7 +104,7 @@ chooses_none_listed d =
 
 -- ---- The rows
 
--- those before a key is looked up
+-- those before a key is looked up, with the section of each or its check in 9.2.4
 abbrev pub rows_of_message : Policy → Known → List ℕ → List Row
 rows_of_message policy state d =
     -- 1 (6.3): the usage uses FINGERPRINT, and d shows none

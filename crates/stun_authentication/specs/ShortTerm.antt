@@ -22,7 +22,7 @@ reject d refusal = rejected (class_of (type_field d)) refusal
 abbrev pub key_of_username : (keys : List ℕ → Option UserKey) → List ℕ → Option UserKey
 key_of_username keys d = option_and_then keys (value_of d USERNAME)
 
--- the rows before a key is looked up
+-- the rows before a key is looked up, with the section of each or its check in 9.1.3
 abbrev pub rows_of_message : Policy → List ℕ → List Row
 rows_of_message policy d =
     -- 1 (6.3): the usage uses FINGERPRINT, and d shows none

@@ -48,8 +48,8 @@ fn is_sent(state: KnownNonce<'_>, list: &[u8]) -> bool
 ///
 /// # Errors
 ///
-/// `BadRequest` if the nonce promises PASSWORD-ALGORITHMS, and the request shows only one of the two
-/// attributes, a list that wasn't sent with the nonce, or an algorithm that isn't on it.
+/// `BadRequest` if the nonce promises PASSWORD-ALGORITHMS, and the request shows only one of the
+/// two attributes, a list that wasn't sent with the nonce, or an algorithm that isn't on it.
 fn chosen(
     state: KnownNonce<'_>,
     nonce: &[u8],

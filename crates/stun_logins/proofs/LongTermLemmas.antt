@@ -159,9 +159,10 @@ record IsProcessed (state : Known) (d : List ℕ) (list : Option (List ℕ)) (a 
 -- the same of a promise, and of the two attributes
 by_values : (promise : Bool) (one list : Option (List ℕ)) (d : List ℕ) → option_map_or promises_algorithms (value_of d NONCE) false ≡ promise → value_of d PASSWORD_ALGORITHM ≡ one → value_of d PASSWORD_ALGORITHMS ≡ list
     → (promised PASSWORD_ALGORITHM d ≡ (if promise then one else None)) × (promised PASSWORD_ALGORITHMS d ≡ (if promise then list else None))
-by_values promise one list d p o l =
-    (ap (λ (b : Bool). if b then value_of d PASSWORD_ALGORITHM else None) p ∙ ap (λ (x : Option (List ℕ)). if promise then x else None) o,
-    ap (λ (b : Bool). if b then value_of d PASSWORD_ALGORITHMS else None) p ∙ ap (λ (x : Option (List ℕ)). if promise then x else None) l)
+by_values promise one list d p o l = (
+  ap (λ (b : Bool). if b then value_of d PASSWORD_ALGORITHM else None) p ∙ ap (λ (x : Option (List ℕ)). if promise then x else None) o,
+  ap (λ (b : Bool). if b then value_of d PASSWORD_ALGORITHMS else None) p ∙ ap (λ (x : Option (List ℕ)). if promise then x else None) l,
+)
 
 abbrev alone : (one list : Option (List ℕ)) → Bool
 alone one list = (is_some one || is_some list) && not (is_some one && is_some list)
@@ -213,11 +214,11 @@ rows : (policy : Policy) (realm : List ℕ) (nonces : List ℕ → Known) (keys 
 rows policy realm nonces keys d who told nonce key xs list algorithm a taken class shows user realm-is nonce-is state how known right =
     let names = one_user (value_of d USERNAME) (value_of d USERHASH) who user in
     let credentials-are : lacks_credentials d ≡ false =
-        ap (λ (b : Bool). not (b && (is_some (value_of d REALM) && is_some (value_of d NONCE)))) names.0
-        ∙ ap (λ (o : Option (List ℕ)). not (is_some o && is_some (value_of d NONCE))) realm-is ∙ ap (λ (o : Option (List ℕ)). not (is_some o)) nonce-is in
+    ap (λ (b : Bool). not (b && (is_some (value_of d REALM) && is_some (value_of d NONCE)))) names.0
+    ∙ ap (λ (o : Option (List ℕ)). not (is_some o && is_some (value_of d NONCE))) realm-is ∙ ap (λ (o : Option (List ℕ)). not (is_some o)) nonce-is in
     let found : key_of_user realm keys d ≡ Some key =
-        ap (λ (o : Option Who). option_and_then (λ (u : Who). keys u realm (unwrap_or (chosen d) MD5)) o) user
-        ∙ ap (λ (x : PasswordAlgorithmValue). keys who realm x) how.key_by ∙ known in
+    ap (λ (o : Option Who). option_and_then (λ (u : Who). keys u realm (unwrap_or (chosen d) MD5)) o) user
+    ∙ ap (λ (x : PasswordAlgorithmValue). keys who realm x) how.key_by ∙ known in
     ap (λ (s : Known). decided (rows_of_message policy s d) (by_key policy s (chosen d) (key_of_user realm keys d) d)) (ap (λ (o : Option (List ℕ)). option_map_or nonces o unknown) nonce-is ∙ state)
     ∙ none_holds (rows_of_message policy (valid xs) d) (by_key policy (valid xs) (chosen d) (key_of_user realm keys d) d)
     (ap not taken, (ap (λ (c : MessageClass). not (is_request c)) class, (ap not shows, (credentials-are, (names.1, (how.both_shown, (how.sent, (how.chooses, tt))))))))

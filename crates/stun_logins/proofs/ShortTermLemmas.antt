@@ -164,7 +164,7 @@ rows : (policy : Policy) (keys : List ℕ → Option UserKey) (d name : List ℕ
     → is_signed_for policy key.made_for d ≡ true → proof_of policy key d ≡ Some a → short_term policy keys d ≡ accept key a a
 rows policy keys d name key a taken response shows user known signs right =
     let there : not (is_signed policy d && is_some (value_of d USERNAME)) ≡ false =
-        ap (λ (b : Bool). not (b && is_some (value_of d USERNAME))) shows ∙ ap (λ (o : Option (List ℕ)). not (is_some o)) user in
+    ap (λ (b : Bool). not (b && is_some (value_of d USERNAME))) shows ∙ ap (λ (o : Option (List ℕ)). not (is_some o)) user in
     none_holds (rows_of_message policy d) (by_key policy (key_of_username keys d) d) (ap not taken, (response, (there, tt)))
     ∙ ap (λ (o : Option (List ℕ)). by_key policy (option_and_then keys o) d) user ∙ ap (λ (o : Option UserKey). by_key policy o d) known
     ∙ ap (λ (b : Bool). decided ((not b, reject d BadRequest) ∷ (not (is_some (proof_of policy key d)), reject d Unauthenticated) ∷ []) (accepted_with (Some key) (proof_of policy key d) (λ b. b))) signs

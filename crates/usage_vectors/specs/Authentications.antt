@@ -1,5 +1,5 @@
--- Messages to which rows of a server's checks apply (RFC 8489, sections 9.1.3 and 9.2.4), and what the
--- server has: the user and the realm are those of RFC 5769, section 2.4.
+-- Messages to which rows of a server's checks apply (RFC 8489, sections 9.1.3 and 9.2.4), and what
+-- the server has. The user and the realm are those of RFC 5769, section 2.4.
 use Rattle.std.specs.Prelude.{ℕ, true, false, List, [], ◌∷◌, ◌++◌, codes, replicate, Option, None, Some}
 use Rattle.stun_grammar.specs.declared.integrity_algorithm.IntegrityAlgorithm.TheVariants.{Sha1}
 use Rattle.stun_grammar.specs.Attributes.{Attribute, canonical}
