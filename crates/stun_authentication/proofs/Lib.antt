@@ -1,3 +1,4 @@
+mod AcceptingLoginsLemmas
 mod AcceptingRowsLemmas
 mod AddedLemmas
 mod CookiesLemmas
