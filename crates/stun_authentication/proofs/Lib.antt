@@ -1,7 +1,9 @@
+mod AcceptingLoginsLemmas
 mod AcceptingRowsLemmas
 mod AddedLemmas
 mod CookiesLemmas
 mod CountedLemmas
+pub mod DecidedLemmas
 mod EntriesLemmas
 mod FinishingLemmas
 mod NoncesLemmas

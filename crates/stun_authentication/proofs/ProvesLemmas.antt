@@ -1,23 +1,29 @@
 -- What is answered where a user has a key.
-use Rattle.std.proofs.Common.{◌≡◌, ℕ, List, Option, Some, None, refl, sym, ap, subst, ◌∙◌}
-use Rattle.std.specs.Prelude.{option_and_then}
+use Rattle.std.proofs.Common.{◌≡◌, ℕ, Bool, true, false, List, [], ◌∷◌, Option, Some, None, refl, sym, ap, subst, ◌∙◌}
+use Rattle.std.specs.Prelude.{◌&&◌, ◌||◌, not, is_some, unwrap_or, option_and_then}
 use Rattle.std.specs.Option.{option_map_or}
 use Rattle.stun_grammar.specs.declared.integrity_algorithm.IntegrityAlgorithm.{IntegrityAlgorithm}
+use Rattle.stun_grammar.specs.AttributeTypes.{USERNAME, NONCE}
+use Rattle.stun_grammar.specs.Headers.{type_field}
 use Rattle.stun_grammar.specs.Verdicts.{is_checked_type, verdict}
+use Rattle.stun_base.specs.declared.message_type.MessageClass.{MessageClass}
+use Rattle.stun_base.specs.declared.message_type.MessageClass.TheVariants.{Request}
+use Rattle.stun_base.specs.MessageTypes.{class_of, is_response}
 use Rattle.stun_keys.specs.declared.keys.integrity_key.IntegrityKey.{IntegrityKey}
 use Rattle.stun_keys.specs.Keys.{key_algorithm, key_bytes, IsKey}
 use Rattle.stun_values.specs.declared.algorithm.PasswordAlgorithmValue.{PasswordAlgorithmValue}
+use Rattle.stun_values.specs.declared.algorithm.PasswordAlgorithmValue.TheVariants.{MD5}
 use Rattle.stun_authentication.specs.declared.answer.Authentication.{Authentication}
 use Rattle.stun_authentication.specs.declared.answer.Authentication.TheVariants.{Accepted as AcceptedBy}
-use Rattle.stun_authentication.specs.declared.answer.Refusal.TheVariants.{Unauthenticated}
-use Rattle.stun_authentication.specs.declared.long_term.Hashing.{Hashing}
+use Rattle.stun_authentication.specs.declared.answer.Refusal.TheVariants.{BadRequest, Unauthenticated}
 use Rattle.stun_authentication.specs.declared.policy.Policy.{Policy}
-use Rattle.stun_authentication.specs.Answers.{Decision, accept, refuse, Tells}
-use Rattle.stun_authentication.specs.Identities.{Who}
-use Rattle.stun_authentication.specs.Lookups.{UserKey, key_made, key_held, IsKeyOf, Known, valid}
-use Rattle.stun_authentication.specs.Policies.{counted, proved_at, validated, proof_of, Proves}
+use Rattle.stun_authentication.specs.Answers.{Decision, refuse, Tells, decided, accepted}
+use Rattle.stun_authentication.specs.Identities.{Who, value_of, identity_of}
+use Rattle.stun_authentication.specs.Lookups.{UserKey, key_made, key_held, IsKeyOf, Known, valid, unknown}
+use Rattle.stun_authentication.specs.Policies.{is_taken, is_signed, is_signed_for, counted, proved_at, validated, proof_of, Proves}
 use Rattle.stun_authentication.specs.ShortTerm as short
 use Rattle.stun_authentication.specs.LongTerm as long
+use Rattle.stun_authentication.proofs.DecidedLemmas.{neither, none_holds}
 
 -- ---- The proof of a message under a key
 
@@ -51,23 +57,24 @@ one_proved policy d key served made back a which is one same =
 
 -- ---- What is answered
 
-short_accepts : (refused : Decision) (key : UserKey) (o : Option IntegrityAlgorithm) (k : IntegrityKey) (a : IntegrityAlgorithm) → Proves key o (Some (k, a))
-    → Tells (option_map_or (λ (b : IntegrityAlgorithm). accept key b b) o refused) (AcceptedBy (record { key = k; algorithm = a; reply_algorithm = a }))
-short_accepts refused key None k a p = absurd cc
-short_accepts refused key (Some b) k a p = record { key_is = p.0; algorithm_is = p.1; reply_is = p.1 }
+short_accepts : (signed : Bool) (bad wrong : Decision) (key : UserKey) (o : Option IntegrityAlgorithm) (k : IntegrityKey) (a : IntegrityAlgorithm) → signed ≡ true → Proves key o (Some (k, a))
+    → Tells (decided ((not signed, bad) ∷ (not (is_some o), wrong) ∷ []) (accepted (Some key) o (λ b. b))) (AcceptedBy (record { key = k; algorithm = a; reply_algorithm = a }))
+short_accepts false bad wrong key o k a s p = absurd cc
+short_accepts true bad wrong key None k a s p = absurd cc
+short_accepts true bad wrong key (Some b) k a s p = record { key_is = p.0; algorithm_is = p.1; reply_is = p.1 }
 
-pub short_accepted : (policy : Policy) (d : List ℕ) (key : UserKey) (k : IntegrityKey) (a : IntegrityAlgorithm) → Proves key (proof_of policy key d) (Some (k, a))
-    → Tells (short.by_hmac policy key d) (AcceptedBy (record { key = k; algorithm = a; reply_algorithm = a }))
-short_accepted policy d key k a p = short_accepts (short.reject d Unauthenticated) key (proof_of policy key d) k a p
+pub short_accepted : (policy : Policy) (d : List ℕ) (key : UserKey) (k : IntegrityKey) (a : IntegrityAlgorithm) → is_signed_for policy key.made_for d ≡ true → Proves key (proof_of policy key d) (Some (k, a))
+    → Tells (short.by_key policy (Some key) d) (AcceptedBy (record { key = k; algorithm = a; reply_algorithm = a }))
+short_accepted policy d key k a s p = short_accepts (is_signed_for policy key.made_for d) (short.reject d BadRequest) (short.reject d Unauthenticated) key (proof_of policy key d) k a s p
 
 long_accepts : (key : UserKey) (o : Option IntegrityAlgorithm) (k : IntegrityKey) (a s : IntegrityAlgorithm) → Proves key o (Some (k, a))
-    → Tells (option_map_or (λ (b : IntegrityAlgorithm). accept key b s) o (refuse Unauthenticated)) (AcceptedBy (record { key = k; algorithm = a; reply_algorithm = s }))
+    → Tells (decided ((not (is_some o), refuse Unauthenticated) ∷ []) (accepted (Some key) o (λ _. s))) (AcceptedBy (record { key = k; algorithm = a; reply_algorithm = s }))
 long_accepts key None k a s p = absurd cc
 long_accepts key (Some b) k a s p = record { key_is = p.0; algorithm_is = p.1; reply_is = refl }
 
-pub long_accepted : (policy : Policy) (d : List ℕ) (sent : List PasswordAlgorithmValue) (hashing : Hashing) (key : UserKey) (k : IntegrityKey) (a : IntegrityAlgorithm) → Proves key (proof_of policy key d) (Some (k, a))
-    → Tells (long.by_hmac policy (valid sent) hashing key d) (AcceptedBy (record { key = k; algorithm = a; reply_algorithm = long.reply_algorithm hashing }))
-long_accepted policy d sent hashing key k a p = long_accepts key (proof_of policy key d) k a (long.reply_algorithm hashing) p
+pub long_accepted : (policy : Policy) (d : List ℕ) (sent : List PasswordAlgorithmValue) (algorithm : Option PasswordAlgorithmValue) (key : UserKey) (k : IntegrityKey) (a : IntegrityAlgorithm) → Proves key (proof_of policy key d) (Some (k, a))
+    → Tells (long.by_key policy (valid sent) algorithm (Some key) d) (AcceptedBy (record { key = k; algorithm = a; reply_algorithm = long.reply_algorithm algorithm }))
+long_accepted policy d sent algorithm key k a p = long_accepts key (proof_of policy key d) k a (long.reply_algorithm algorithm) p
 
 -- ---- The key that a look-up finds
 
@@ -78,12 +85,43 @@ found_key : (o : Option UserKey) (found : IntegrityKey) → IsKeyOf o (Some foun
 found_key None found is = absurd cc
 found_key (Some key) found is = ap (λ (k : UserKey). Some k) (sym (made_as (key_algorithm found) (key_bytes found) key is.algorithm_is is.bytes_are))
 
-pub short_user : (policy : Policy) (keys : List ℕ → Option UserKey) (user d : List ℕ) (found : IntegrityKey) (answer : Authentication) → IsKeyOf (keys user) (Some found) → Tells (short.by_key policy (key_held found) d) answer
-    → Tells (short.by_user policy keys user d) answer
-short_user policy keys user d found answer is told =
-    subst (λ (o : Option UserKey). Tells (option_map_or (λ (k : UserKey). short.by_key policy k d) o (short.reject d Unauthenticated)) answer) (sym (found_key (keys user) found is)) told
+-- no row decides before the key is looked up
+short_passed : (policy : Policy) (keys : List ℕ → Option UserKey) (user d : List ℕ) (key : Option UserKey)
+    → is_taken policy d ≡ true → is_response (class_of (type_field d)) ≡ false → is_signed policy d ≡ true → value_of d USERNAME ≡ Some user → keys user ≡ key
+    → short.short_term policy keys d ≡ short.by_key policy key d
+short_passed policy keys user d key taken class signed named is =
+    let there : not (is_signed policy d && is_some (value_of d USERNAME)) ≡ false =
+    ap (λ (b : Bool). not (b && is_some (value_of d USERNAME))) signed ∙ ap (λ (o : Option (List ℕ)). not (is_some o)) named in
+    none_holds (short.rows_of_message policy d) (short.by_key policy (short.key_of_username keys d) d) (ap not taken, (class, (there, tt)))
+    ∙ ap (λ (o : Option (List ℕ)). short.by_key policy (option_and_then keys o) d) named ∙ ap (λ (o : Option UserKey). short.by_key policy o d) is
 
-pub long_user : (policy : Policy) (realm : List ℕ) (keys : Who → List ℕ → PasswordAlgorithmValue → Option UserKey) (state : Known) (user : Who) (hashing : Hashing) (d : List ℕ) (found : IntegrityKey) (answer : Authentication)
-    → IsKeyOf (keys user realm (long.password_algorithm hashing)) (Some found) → Tells (long.by_hmac policy state hashing (key_held found) d) answer → Tells (long.by_user policy realm keys state user hashing d) answer
-long_user policy realm keys state user hashing d found answer is told =
-    subst (λ (o : Option UserKey). Tells (option_map_or (λ (k : UserKey). long.by_hmac policy state hashing k d) o (refuse Unauthenticated)) answer) (sym (found_key (keys user realm (long.password_algorithm hashing)) found is)) told
+pub short_user : (policy : Policy) (keys : List ℕ → Option UserKey) (user d : List ℕ) (found : IntegrityKey) (answer : Authentication)
+    → is_taken policy d ≡ true → is_response (class_of (type_field d)) ≡ false → is_signed policy d ≡ true → value_of d USERNAME ≡ Some user
+    → IsKeyOf (keys user) (Some found) → Tells (short.by_key policy (Some (key_held found)) d) answer → Tells (short.short_term policy keys d) answer
+short_user policy keys user d found answer taken class signed named is told =
+    subst (λ (x : Decision). Tells x answer) (sym (short_passed policy keys user d (Some (key_held found)) taken class signed named (found_key (keys user) found is))) told
+
+-- no row decides before the key is looked up, and there is one
+pub long_user : (policy : Policy) (realm : List ℕ) (nonces : List ℕ → Known) (keys : Who → List ℕ → PasswordAlgorithmValue → Option UserKey) (d : List ℕ)
+    (user : Who) (nonce : List ℕ) (state : Known) (chosen : Option PasswordAlgorithmValue) (algorithm : PasswordAlgorithmValue) (found : IntegrityKey) (answer : Authentication)
+    → is_taken policy d ≡ true → class_of (type_field d) ≡ Request → is_signed policy d ≡ true
+    → (long.lacks_credentials d || long.has_two_names d) ≡ false → identity_of d ≡ Some user → value_of d NONCE ≡ Some nonce → state ≡ nonces nonce
+    → (long.shows_one_alone d || (long.shows_other_list state d || long.chooses_none_listed d)) ≡ false → chosen ≡ long.chosen d → algorithm ≡ unwrap_or chosen MD5
+    → IsKeyOf (keys user realm algorithm) (Some found) → Tells (long.by_key policy state chosen (Some (key_held found)) d) answer
+    → Tells (long.long_term policy realm nonces keys d) answer
+long_user policy realm nonces keys d user nonce state chosen algorithm found answer taken class signed names user-is nonce-is state-is algorithms chosen-is by is told =
+    let known : long.nonce_of nonces d ≡ state = ap (λ (o : Option (List ℕ)). option_map_or nonces o unknown) nonce-is ∙ sym state-is in
+    let key : long.key_of_user realm keys d ≡ Some (key_held found) =
+    ap (λ (o : Option Who). option_and_then (λ (u : Who). keys u realm (unwrap_or (long.chosen d) MD5)) o) user-is
+    ∙ ap (λ (o : Option PasswordAlgorithmValue). keys user realm (unwrap_or o MD5)) (sym chosen-is)
+    ∙ ap (λ (a : PasswordAlgorithmValue). keys user realm a) (sym by) ∙ found_key (keys user realm algorithm) found is in
+    let second = neither (long.lacks_credentials d) (long.has_two_names d) names in
+    let third = neither (long.shows_one_alone d) (long.shows_other_list state d || long.chooses_none_listed d) algorithms in
+    let lists = neither (long.shows_other_list state d) (long.chooses_none_listed d) third.1 in
+    let same : long.long_term policy realm nonces keys d ≡ long.by_key policy state chosen (Some (key_held found)) d =
+    ap (λ (s : Known). decided (long.rows_of_message policy s d) (long.by_key policy s (long.chosen d) (long.key_of_user realm keys d) d)) known
+    ∙ none_holds (long.rows_of_message policy state d) (long.by_key policy state (long.chosen d) (long.key_of_user realm keys d) d)
+    (ap not taken, (ap (λ (c : MessageClass). not (long.is_request c)) class, (ap not signed, (second.0, (second.1, (third.0, (lists.0, (lists.1, tt))))))))
+    ∙ ap (λ (o : Option PasswordAlgorithmValue). long.by_key policy state o (long.key_of_user realm keys d) d) (sym chosen-is)
+    ∙ ap (λ (o : Option UserKey). long.by_key policy state chosen o d) key in
+    subst (λ (x : Decision). Tells x answer) (sym same) told

@@ -1,5 +1,7 @@
 -- What a server answers to a message that it authenticates.
-use Rattle.std.specs.Prelude.{◌≡◌, ℕ, List, codes}
+use Rattle.std.specs.Prelude.{◌≡◌, ℕ, Bool, List, Option, Some, find, codes}
+use Rattle.std.specs.List.{list_any}
+use Rattle.std.specs.Option.{option_map_or}
 use Rattle.stun_grammar.specs.declared.integrity_algorithm.IntegrityAlgorithm.{IntegrityAlgorithm}
 use Rattle.stun_base.specs.declared.message_type.MessageClass.{MessageClass}
 use Rattle.stun_base.specs.declared.message_type.MessageClass.TheVariants.{Request}
@@ -50,3 +52,24 @@ Tells _ _ = ⊥
 abbrev pub rejected : MessageClass → Refusal → Decision
 rejected Request refusal = refuse refusal
 rejected _ refusal = discard
+
+-- ---- Tables
+
+-- a row of a table: whether its condition holds, and what it decides
+abbrev pub Row : Type 0
+Row = Bool × Decision
+
+-- whether one of these rows decides
+abbrev pub decides : List Row → Bool
+decides rows = list_any (λ row. row.0) rows
+
+-- what the first row decides whose condition holds
+abbrev pub decided : List Row → (otherwise : Decision) → Decision
+decided rows otherwise = option_map_or (λ row. row.1) (find (λ row. row.0) rows) otherwise
+
+-- accepted, with the user's key, and the algorithm whose HMAC is right under it: there are both, if
+-- no row before decides
+abbrev pub accepted : Option UserKey → Option IntegrityAlgorithm
+    → (reply_by : IntegrityAlgorithm → IntegrityAlgorithm) → Decision
+accepted (Some key) (Some algorithm) reply_by = accept key algorithm (reply_by algorithm)
+accepted _ _ reply_by = discard

@@ -1,5 +1,5 @@
 -- Who a request says that it comes from (RFC 8489, sections 9.2.4, 14.3 and 14.4).
-use Rattle.std.specs.Prelude.{ℕ, List, Option, None, Some}
+use Rattle.std.specs.Prelude.{ℕ, Bool, List, Option, None, Some, is_some}
 use Rattle.std.specs.Option.{option_map}
 use Rattle.stun_grammar.specs.AttributeTypes.{USERNAME, USERHASH}
 use Rattle.stun_read.specs.LookingUp.{nth}
@@ -19,6 +19,10 @@ who (Hash hash) = hashed hash.now
 -- the value of the first attribute of a type that d shows
 abbrev pub value_of : List ℕ → ℕ → Option (List ℕ)
 value_of d type = option_map (λ a. a.value) (nth d type 0)
+
+-- whether it shows one
+abbrev pub shows : ℕ → List ℕ → Bool
+shows type d = is_some (value_of d type)
 
 -- the one that is there
 abbrev pub one_of : (name hash : Option (List ℕ)) → Option Who

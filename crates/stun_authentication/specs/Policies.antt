@@ -86,6 +86,10 @@ proof_of policy key d =
     option_and_then (λ served. proved_by policy d (validated served key.bytes d))
     (counted policy key.made_for)
 
+-- the same, if there is a key
+abbrev pub proof_with : Policy → Option UserKey → List ℕ → Option IntegrityAlgorithm
+proof_with policy key d = option_and_then (λ found. proof_of policy found d) key
+
 -- the algorithm, and the same key; or there is neither
 abbrev pub Proves : UserKey → Option IntegrityAlgorithm → Option (IntegrityKey × IntegrityAlgorithm)
     → Type 0

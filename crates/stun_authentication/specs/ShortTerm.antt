@@ -1,6 +1,7 @@
--- A server's checks by the short-term credential mechanism, in their order (RFC 8489, section
--- 9.1.3). Each row answers, or hands on to the next.
-use Rattle.std.specs.Prelude.{ℕ, Bool, ◌&&◌, not, is_some, List, Option, if◌then◌else◌}
+-- A server's checks by the short-term credential mechanism (RFC 8489, section 9.1.3), row by row as
+-- docs/PROTOCOL.md has them. Each condition reads the message, and the key that its user has; the
+-- first that holds decides.
+use Rattle.std.specs.Prelude.{ℕ, Bool, false, ◌&&◌, not, is_some, List, ◌∷◌, [], Option, option_and_then}
 use Rattle.std.specs.Option.{option_map_or}
 use Rattle.stun_grammar.specs.AttributeTypes.{USERNAME}
 use Rattle.stun_grammar.specs.Headers.{type_field}
@@ -8,50 +9,49 @@ use Rattle.stun_base.specs.MessageTypes.{class_of, is_response}
 use Rattle.stun_authentication.specs.declared.answer.Refusal.{Refusal}
 use Rattle.stun_authentication.specs.declared.answer.Refusal.TheVariants.{BadRequest, Unauthenticated}
 use Rattle.stun_authentication.specs.declared.policy.Policy.{Policy}
-use Rattle.stun_authentication.specs.Answers.{Decision, accept, discard, not_a_request, rejected}
-use Rattle.stun_authentication.specs.Identities.{value_of}
+use Rattle.stun_authentication.specs.Answers.{Decision, discard, not_a_request, rejected, Row, decides, decided, accepted}
+use Rattle.stun_authentication.specs.Identities.{value_of, shows}
 use Rattle.stun_authentication.specs.Lookups.{UserKey}
-use Rattle.stun_authentication.specs.Policies.{is_taken, is_signed, is_signed_for, proof_of}
+use Rattle.stun_authentication.specs.Policies.{is_taken, is_signed, is_signed_for, proof_with}
 
 -- how d is rejected
 abbrev pub reject : List ℕ → Refusal → Decision
 reject d refusal = rejected (class_of (type_field d)) refusal
 
--- the third check: the HMAC under the user's key. The reply is signed by the algorithm of the
--- attribute that was checked (the fourth paragraph)
-abbrev pub by_hmac : Policy → UserKey → List ℕ → Decision
-by_hmac policy key d =
-    option_map_or (λ algorithm. accept key algorithm algorithm) (proof_of policy key d)
-    (reject d Unauthenticated)
+-- the key of the user whom the USERNAME of d names
+abbrev pub key_of_username : (keys : List ℕ → Option UserKey) → List ℕ → Option UserKey
+key_of_username keys d = option_and_then keys (value_of d USERNAME)
 
--- a message with no integrity attribute that counts for the user's key is unsigned, as in the first
-abbrev pub by_key : Policy → UserKey → List ℕ → Decision
+-- the rows before a key is looked up, with the section of each or its check in 9.1.3
+abbrev pub rows_of_message : Policy → List ℕ → List Row
+rows_of_message policy d =
+    -- 1 (6.3): the usage uses FINGERPRINT, and d shows none
+    (not (is_taken policy d), discard)
+    -- 2 (9.1.4): it is a response
+    ∷ (is_response (class_of (type_field d)), not_a_request)
+    -- 3 (first check): no integrity attribute counts, or there is no USERNAME
+    ∷ (not (is_signed policy d && shows USERNAME d), reject d BadRequest)
+    ∷ []
+
+-- those after it
+abbrev pub by_key : Policy → Option UserKey → List ℕ → Decision
 by_key policy key d =
-    if is_signed_for policy key.made_for d then by_hmac policy key d else reject d BadRequest
+    decided
+    -- 4 (second check): the server has no key for the USERNAME
+    ((not (is_some key), reject d Unauthenticated)
+    -- 5 (first check): no integrity attribute counts with that key
+    ∷ (not (option_map_or (λ found. is_signed_for policy found.made_for d) key false), reject d BadRequest)
+    -- 6 (third check): the last that counts is not the HMAC under the key
+    ∷ (not (is_some (proof_with policy key d)), reject d Unauthenticated)
+    ∷ [])
+    -- 7: otherwise; the reply is signed by the same algorithm (the paragraph after the checks)
+    (accepted key (proof_with policy key d) (λ algorithm. algorithm))
 
--- the second: the user
-abbrev pub by_user : Policy → (keys : List ℕ → Option UserKey) → List ℕ → List ℕ → Decision
-by_user policy keys user d =
-    option_map_or (λ key. by_key policy key d) (keys user) (reject d Unauthenticated)
-
--- the first: an integrity attribute that counts, and USERNAME
-abbrev pub by_attributes : Policy → (keys : List ℕ → Option UserKey) → List ℕ → Decision
-by_attributes policy keys d =
-    if is_signed policy d then
-    option_map_or (λ user. by_user policy keys user d) (value_of d USERNAME) (reject d BadRequest)
-    else reject d BadRequest
-
--- whether the checks come to the user, so that a key is looked up
-abbrev pub needs_key : Policy → List ℕ → Bool
-needs_key policy d =
-    is_taken policy d && (not (is_response (class_of (type_field d))) && (is_signed policy d
-    && is_some (value_of d USERNAME)))
-
--- the class: a response is no server's to check
-abbrev pub by_class : Policy → (keys : List ℕ → Option UserKey) → List ℕ → Decision
-by_class policy keys d =
-    if is_response (class_of (type_field d)) then not_a_request else by_attributes policy keys d
-
--- what becomes of d: before all checks, it has the FINGERPRINT that the usage uses (section 6.3)
+-- what becomes of d
 abbrev pub short_term : Policy → (keys : List ℕ → Option UserKey) → List ℕ → Decision
-short_term policy keys d = if is_taken policy d then by_class policy keys d else discard
+short_term policy keys d =
+    decided (rows_of_message policy d) (by_key policy (key_of_username keys d) d)
+
+-- whether no row decides before a key is looked up
+abbrev pub needs_key : Policy → List ℕ → Bool
+needs_key policy d = not (decides (rows_of_message policy d))

@@ -1,12 +1,12 @@
 //! A server's checks by the long-term credential mechanism (RFC 8489, section 9.2.4).
 
-ghost use Rattle.std.specs.Prelude.{◌≡◌, false, IfOk, IsOk, is_some};
-ghost use Rattle.std.specs.Option.{option_map};
+ghost use Rattle.std.specs.Prelude.{◌≡◌, ◌||◌, true, false, Some, IfOk, IsOk, MatchOption, MatchResult};
+ghost use Rattle.stun_grammar.specs.AttributeTypes.{NONCE};
 ghost use Rattle.stun_types.specs.Message.{message_bytes};
 ghost use Rattle.stun_authentication.specs.Answers.{Tells};
-ghost use Rattle.stun_authentication.specs.Identities.{who};
+ghost use Rattle.stun_authentication.specs.Identities.{who, value_of, identity_of};
 ghost use Rattle.stun_authentication.specs.Lookups.{key_held, known};
-ghost use Rattle.stun_authentication.specs.LongTerm.{names_of, named, is_sent, chosen, hashing_of, password_algorithm, reply_algorithm, by_nonce, by_hmac, by_user, by_algorithms, by_names, by_attribute, by_class, needs_key, long_term};
+ghost use Rattle.stun_authentication.specs.LongTerm.{is_sent, chosen, reply_algorithm, lacks_credentials, has_two_names, shows_one_alone, shows_other_list, chooses_none_listed, by_key, needs_key, long_term};
 
 use crate::algorithms::{BOTH, first_listed, is_encoding_of, sole_named};
 use crate::cookie::security_features;
@@ -21,55 +21,17 @@ use stun_types::attribute::{
 };
 use stun_types::message::{IntegrityAlgorithm, IntegrityKey, Message, MessageClass};
 
-/// The password algorithm by which a request is processed.
-#[derive(Clone, Copy, Debug, PartialEq, Eq)]
-pub enum Hashing {
-    /// The request is processed as though its PASSWORD-ALGORITHM were MD5.
-    AsThoughMd5,
-    /// The request is processed by the password algorithm that it chose.
-    Chosen(PasswordAlgorithmValue),
-}
-
-impl Hashing {
-    ghost use Rattle.std.specs.Prelude.{◌≡◌};
-    ghost use Rattle.stun_authentication.specs.LongTerm.{password_algorithm, reply_algorithm};
-
-    /// The algorithm of the key.
-    fn password_algorithm(self) -> PasswordAlgorithmValue
-        ensures { result ≡ password_algorithm self }
-    {
-        match self {
-            Hashing::AsThoughMd5 => PasswordAlgorithmValue::MD5,
-            Hashing::Chosen(algorithm) => algorithm,
-        }
-    }
-
-    /// The algorithm that the reply is signed by.
-    fn reply_algorithm(self) -> IntegrityAlgorithm
-        ensures { result ≡ reply_algorithm self }
-    {
-        match self {
-            Hashing::AsThoughMd5 => IntegrityAlgorithm::Sha1,
-            Hashing::Chosen(_) => IntegrityAlgorithm::Sha256,
-        }
-    }
-}
-
-/// What names a user: who the request says that it comes from, and its nonce.
-#[derive(Clone, Copy)]
-struct Names<'a> {
-    user: Identity<'a>,
-    nonce: &'a [u8],
-}
-
-/// These of a message, if REALM is there too.
-fn names_of<'a>(message: &Message<'a>) -> Option<Names<'a>>
-    ensures { names_of (message_bytes message.now) ≡ option_map named result }
+/// Who a request says that it comes from, and its nonce. `None` if it shows neither USERNAME nor
+/// USERHASH, or both, or no REALM, or no NONCE.
+fn names_of<'a>(request: &Message<'a>) -> Option<(Identity<'a>, &'a [u8])>
+    ensures { let d = message_bytes request.now in
+        MatchOption result ((lacks_credentials d || has_two_names d) ≡ true)
+        (λ found. ((lacks_credentials d || has_two_names d) ≡ false)
+        × ((identity_of d ≡ Some (who found.0)) × (value_of d NONCE ≡ Some found.1.now))) }
 {
-    let user = identity_of(message)?;
-    value_of(message, Realm::TYPE)?;
-    let nonce = value_of(message, Nonce::TYPE)?;
-    Some(Names { user, nonce })
+    let user = identity_of(request)?;
+    value_of(request, Realm::TYPE)?;
+    Some((user, value_of(request, Nonce::TYPE)?))
 }
 
 /// Whether a list is the one that was sent with the nonce, as far as that is known.
@@ -82,44 +44,49 @@ fn is_sent(state: KnownNonce<'_>, list: &[u8]) -> bool
     }
 }
 
-/// The algorithm that a PASSWORD-ALGORITHM names, if it is on the list of a PASSWORD-ALGORITHMS
-/// that was sent with the nonce.
-fn chosen(state: KnownNonce<'_>, one: &[u8], list: &[u8]) -> Option<PasswordAlgorithmValue>
-    ensures { result ≡ chosen (known state.entry) one.now list.now }
+/// The password algorithm that a request chooses, or `None` if it is processed as though with MD5.
+///
+/// # Errors
+///
+/// `BadRequest` if the nonce promises PASSWORD-ALGORITHMS, and the request shows only one of the
+/// two attributes, a list that wasn't sent with the nonce, or an algorithm that isn't on it.
+fn chosen(
+    state: KnownNonce<'_>,
+    nonce: &[u8],
+    request: &Message<'_>,
+) -> Result<Option<PasswordAlgorithmValue>, Refusal>
+    requires { value_of (message_bytes request.now) NONCE ≡ Some nonce.now }
+    ensures { let d = message_bytes request.now in
+        let bad = shows_one_alone d
+        || (shows_other_list (known state.entry) d || chooses_none_listed d) in
+        MatchResult result (λ algorithm. (bad ≡ false) × (algorithm ≡ chosen d))
+        (λ _. bad ≡ true) }
 {
-    if !is_sent(state, list) {
-        return None;
-    }
-    let algorithm = sole_named(&BOTH, one)?;
-    first_listed(&[algorithm], list)
-}
-
-/// By which password algorithm a request is processed; `None` if it is a bad one.
-fn hashing_of(state: KnownNonce<'_>, nonce: &[u8], request: &Message<'_>) -> Option<Hashing>
-    ensures { result ≡ hashing_of (known state.entry) nonce.now (message_bytes request.now) }
-{
-    let promises = security_features(nonce).is_some_and(|features| features.password_algorithms);
-    if !promises {
-        return Some(Hashing::AsThoughMd5);
+    if !security_features(nonce).is_some_and(|features| features.password_algorithms) {
+        return Ok(None);
     }
     let one = value_of(request, PasswordAlgorithm::TYPE);
     let list = value_of(request, PasswordAlgorithms::TYPE);
     match (one, list) {
-        (None, None) => Some(Hashing::AsThoughMd5),
-        (Some(one), Some(list)) => chosen(state, one, list).map(Hashing::Chosen),
-        _ => None,
+        (None, None) => Ok(None),
+        (Some(one), Some(list)) if is_sent(state, list) => {
+            let algorithm = sole_named(&BOTH, one).ok_or(Refusal::BadRequest)?;
+            first_listed(&[algorithm], list).ok_or(Refusal::BadRequest)?;
+            Ok(Some(algorithm))
+        }
+        _ => Err(Refusal::BadRequest),
     }
 }
 
-/// The last two checks: the HMAC, and then the nonce.
-fn by_hmac(
+/// The checks that need the key: the HMAC, and then the nonce.
+fn by_key(
     request: &Message<'_>,
     policy: Policy,
     state: KnownNonce<'_>,
-    hashing: Hashing,
+    chosen: Option<PasswordAlgorithmValue>,
     key: IntegrityKey,
 ) -> Authentication
-    ensures { Tells (by_hmac policy (known state.entry) hashing (key_held key)
+    ensures { Tells (by_key policy (known state.entry) chosen (Some (key_held key))
         (message_bytes request.now)) result }
 {
     let Some((key, algorithm)) = policy.proof_of(key, request) else {
@@ -129,54 +96,20 @@ fn by_hmac(
         KnownNonce::Valid(_) => Authentication::Accepted(Accepted {
             key,
             algorithm,
-            reply_algorithm: hashing.reply_algorithm(),
+            reply_algorithm: reply_algorithm(chosen),
         }),
         KnownNonce::Stale | KnownNonce::Unknown => Authentication::Refused(Refusal::StaleNonce),
     }
 }
 
-/// The checks from the fourth on.
-#[tactic(auto, using(crate::proofs::ProvesLemmas::long_user))]
-fn by_user<K: LongTermKeys>(
-    alloc: Global,
-    request: &Message<'_>,
-    realm: &str,
-    policy: Policy,
-    state: KnownNonce<'_>,
-    user: Identity<'_>,
-    hashing: Hashing,
-    keys: &K,
-) -> Result<Authentication, AllocError>
-    ensures { IfOk result (Tells (by_user policy realm.now (K.key_of keys.now)
-        (known state.entry) (who user.entry) hashing (message_bytes request.now))) }
+/// The algorithm that the reply is signed by.
+fn reply_algorithm(chosen: Option<PasswordAlgorithmValue>) -> IntegrityAlgorithm
+    ensures { result ≡ reply_algorithm chosen }
 {
-    match keys.key(alloc, user, realm, hashing.password_algorithm())? {
-        Some(key) => Ok(by_hmac(request, policy, state, hashing, key)),
-        None => Ok(Authentication::Refused(Refusal::Unauthenticated)),
+    match chosen {
+        Some(_) => IntegrityAlgorithm::Sha256,
+        None => IntegrityAlgorithm::Sha1,
     }
-}
-
-/// The checks from the third on.
-fn by_algorithms<K: LongTermKeys>(
-    alloc: Global,
-    request: &Message<'_>,
-    realm: &str,
-    policy: Policy,
-    state: KnownNonce<'_>,
-    names: Names<'_>,
-    keys: &K,
-) -> Result<Authentication, AllocError>
-    ensures decision { IfOk result (Tells (by_algorithms policy realm.now (K.key_of keys.now)
-        (known state.entry) (named names.entry) (message_bytes request.now))) }
-    ensures memory { is_some (hashing_of (known state.entry) (named names.entry).nonce
-        (message_bytes request.now)) ≡ false → IsOk result }
-{
-    let Some(hashing) = hashing_of(state, names.nonce, request) else {
-        return Ok(Authentication::Refused(Refusal::BadRequest));
-    };
-    by_user(
-        alloc, request, realm, policy, state, names.user, hashing, keys,
-    )
 }
 
 /// Authenticates a request by long-term credentials, in the order of RFC 8489, section 9.2.4. The
@@ -271,9 +204,16 @@ pub fn authenticate_long_term<N: Nonces, K: LongTermKeys>(
     if !policy.is_signed(request) {
         return Ok(Authentication::Refused(Refusal::Unauthenticated));
     }
-    let Some(names) = names_of(request) else {
+    let Some((user, nonce)) = names_of(request) else {
         return Ok(Authentication::Refused(Refusal::BadRequest));
     };
-    let state = nonces.nonce(names.nonce);
-    by_algorithms(alloc, request, realm, policy, state, names, keys)
+    let state = nonces.nonce(nonce);
+    let Ok(chosen) = chosen(state, nonce, request) else {
+        return Ok(Authentication::Refused(Refusal::BadRequest));
+    };
+    let algorithm = chosen.unwrap_or(PasswordAlgorithmValue::MD5);
+    match keys.key(alloc, user, realm, algorithm)? {
+        Some(key) => Ok(by_key(request, policy, state, chosen, key)),
+        None => Ok(Authentication::Refused(Refusal::Unauthenticated)),
+    }
 }

@@ -1,10 +1,10 @@
 //! A server's checks by the short-term credential mechanism (RFC 8489, section 9.1.3).
 
-ghost use Rattle.std.specs.Prelude.{◌≡◌, ◌≢◌, false, IfOk, IsOk};
+ghost use Rattle.std.specs.Prelude.{◌≡◌, ◌≢◌, false, Some, IfOk, IsOk};
 ghost use Rattle.stun_types.specs.Message.{message_bytes};
 ghost use Rattle.stun_authentication.specs.Answers.{Tells};
 ghost use Rattle.stun_authentication.specs.Lookups.{key_held};
-ghost use Rattle.stun_authentication.specs.ShortTerm.{needs_key, short_term, by_class, by_attributes, by_user, by_key, by_hmac};
+ghost use Rattle.stun_authentication.specs.ShortTerm.{by_key, needs_key, short_term};
 
 use crate::answer::rejected;
 use crate::identity::value_of;
@@ -13,11 +13,14 @@ use std::alloc::{AllocError, Global};
 use stun_types::attribute::{AttributeStaticType, Username};
 use stun_types::message::{IntegrityKey, Message};
 
-/// The third check: the HMAC.
+/// The checks that need the key: whether an integrity attribute counts with it, and the HMAC.
 #[tactic(auto, using(crate::proofs::ProvesLemmas::short_accepted))]
-fn by_hmac(message: &Message<'_>, policy: Policy, key: IntegrityKey) -> Authentication
-    ensures { Tells (by_hmac policy (key_held key) (message_bytes message.now)) result }
+fn by_key(message: &Message<'_>, policy: Policy, key: IntegrityKey) -> Authentication
+    ensures { Tells (by_key policy (Some (key_held key)) (message_bytes message.now)) result }
 {
+    if !policy.is_signed_for(&key, message) {
+        return rejected(message, Refusal::BadRequest);
+    }
     match policy.proof_of(key, message) {
         Some((key, algorithm)) => Authentication::Accepted(Accepted {
             key,
@@ -28,35 +31,8 @@ fn by_hmac(message: &Message<'_>, policy: Policy, key: IntegrityKey) -> Authenti
     }
 }
 
-/// The same, unless the message is unsigned for this key.
-fn by_key(message: &Message<'_>, policy: Policy, key: IntegrityKey) -> Authentication
-    ensures { Tells (by_key policy (key_held key) (message_bytes message.now)) result }
-{
-    if !policy.is_signed_for(&key, message) {
-        return rejected(message, Refusal::BadRequest);
-    }
-    by_hmac(message, policy, key)
-}
-
-/// The second check, and those after it: the user.
-#[tactic(auto, using(crate::proofs::ProvesLemmas::short_user))]
-fn by_user<K: ShortTermKeys>(
-    alloc: Global,
-    message: &Message<'_>,
-    policy: Policy,
-    keys: &K,
-    username: &[u8],
-) -> Result<Authentication, AllocError>
-    ensures { IfOk result
-        (Tells (by_user policy (K.key_of keys.now) username.now (message_bytes message.now))) }
-{
-    match keys.key(alloc, username)? {
-        Some(key) => Ok(by_key(message, policy, key)),
-        None => Ok(rejected(message, Refusal::Unauthenticated)),
-    }
-}
-
 /// The checks, in their order.
+#[tactic(auto, using(crate::proofs::ProvesLemmas::short_user))]
 fn checked<K: ShortTermKeys>(
     alloc: Global,
     message: &Message<'_>,
@@ -79,7 +55,10 @@ fn checked<K: ShortTermKeys>(
     let Some(username) = value_of(message, Username::TYPE) else {
         return Ok(rejected(message, Refusal::BadRequest));
     };
-    by_user(alloc, message, policy, keys, username)
+    match keys.key(alloc, username)? {
+        Some(key) => Ok(by_key(message, policy, key)),
+        None => Ok(rejected(message, Refusal::Unauthenticated)),
+    }
 }
 
 /// Authenticates a request or an indication by short-term credentials, in the order of RFC 8489,

@@ -1,6 +1,7 @@
 -- A login by long-term credentials.
 use Rattle.std.proofs.Common.{◌≡◌, ℕ, ◌^◌, ◌<◌, Bool, true, false, eqb, List, [], ◌∷◌, ◌++◌, length, Option, Some, None, Ok, refl, sym, ap, subst, ◌∙◌, append_assoc, lit<, arith}
-use Rattle.std.specs.Prelude.{is_some, option_and_then, if◌then◌else◌}
+use Rattle.std.specs.Prelude.{◌&&◌, ◌||◌, not, is_some, unwrap_or, option_and_then, if◌then◌else◌}
+use Rattle.std.specs.Cmp.Lexicographic.{bytes_decides}
 use Rattle.std.specs.List.{AllByRecursion, list_any}
 use Rattle.std.specs.Option.{option_map, option_map_or}
 use Rattle.stun_grammar.specs.declared.integrity_algorithm.IntegrityAlgorithm.{IntegrityAlgorithm}
@@ -21,23 +22,23 @@ use Rattle.stun_base.specs.MessageTypes.{class_of}
 use Rattle.stun_values.specs.declared.algorithm.PasswordAlgorithmValue.{PasswordAlgorithmValue}
 use Rattle.stun_values.specs.declared.algorithm.PasswordAlgorithmValue.TheVariants.{MD5, SHA256}
 use Rattle.stun_values.specs.Algorithms.{algorithm_encoding, algorithms_encoding}
-use Rattle.stun_authentication.specs.declared.answer.Refusal.TheVariants.{BadRequest, Unauthenticated}
-use Rattle.stun_authentication.specs.declared.long_term.Hashing.{Hashing}
-use Rattle.stun_authentication.specs.declared.long_term.Hashing.TheVariants.{AsThoughMd5, Chosen}
+use Rattle.stun_authentication.specs.declared.answer.Refusal.TheVariants.{Unauthenticated}
 use Rattle.stun_authentication.specs.declared.policy.Policy.{Policy}
-use Rattle.stun_authentication.specs.Answers.{accept, refuse, discard, not_a_request}
+use Rattle.stun_authentication.specs.Answers.{accept, refuse, decided, accepted as accepted_with}
 use Rattle.stun_authentication.specs.Challenges.{signing_by, signing_algorithm, selected}
 use Rattle.stun_authentication.specs.Cookies.{promises_algorithms}
 use Rattle.stun_authentication.specs.Identities.{Who, named, hashed, value_of, one_of, identity_of}
-use Rattle.stun_authentication.specs.Lookups.{UserKey, Known, valid}
-use Rattle.stun_authentication.specs.LongTerm.{Named, names_of, by_both, hashing_of, password_algorithm, reply_algorithm, by_nonce, by_hmac, by_user, by_algorithms, by_names, by_attribute, by_class, is_request, long_term}
+use Rattle.stun_authentication.specs.Lookups.{UserKey, Known, valid, unknown}
+use Rattle.stun_authentication.specs.LongTerm.{is_request, is_sent, is_listed, promised, chosen, key_of_user, reply_algorithm, lacks_credentials, shows_one_alone, shows_other_list, chooses_none_listed, rows_of_message, by_key, long_term}
+use Rattle.stun_authentication.specs.Lists.{both, sole_named}
 use Rattle.stun_authentication.specs.Policies.{is_taken, is_signed, proof_of}
 use Rattle.stun_exchanges.specs.Offers.{Offer, offered_list, sent_with, IsOffered, asked_of, Takes, IsShort}
 use Rattle.stun_exchanges.specs.Premises.{IsOwn, HasRoom, Serves, Works, is_reserved}
 use Rattle.stun_authentication.specs.Requests.{User, identity, identity_attribute, algorithm_attributes, credentials, user_key, retried_attributes, retried_request}
 use Rattle.stun_authentication.specs.Writing.{signed}
 use Rattle.stun_exchanges.proofs.EndedLemmas.{IsFirst, IsMissing, Ended, ended_none, ended_signed, ended_finished, value_there, value_missing, Signs, signs_here, signs_finished, print_unchecked, signs_validate, signs_found, no_print, print_taken}
-use Rattle.stun_exchanges.proofs.ListsLemmas.{chosen_is, unlisted_is}
+use Rattle.stun_exchanges.proofs.ListsLemmas.{listed_one, named_one, unlisted_is}
+use Rattle.stun_authentication.proofs.DecidedLemmas.{none_holds}
 use Rattle.stun_exchanges.proofs.ProofLemmas.{is_wanted, is_served, proof_is, in_common}
 use Rattle.stun_exchanges.proofs.ShortTermLemmas.{once_writable, own_missing, signed_unprinted}
 use Rattle.stun_exchanges.proofs.LoginsWritableLemmas.{none_ends, lacks_reserved, any-append, IsAdded, adds, room_down}
@@ -148,51 +149,81 @@ one_there first d before (hashed hash) realm nonce list a s = there first d befo
 
 -- the request is processed by the algorithm that the client took, and the reply is signed as the
 -- request was
-record IsProcessed (state : Known) (nonce d : List ℕ) (list : Option (List ℕ)) (a : PasswordAlgorithmValue) : Type 0 where
-  hashing : Hashing
-  processed : hashing_of state nonce d ≡ Some hashing
-  key_by : password_algorithm hashing ≡ a
-  reply_by : reply_algorithm hashing ≡ signing_by list
+record IsProcessed (state : Known) (d : List ℕ) (list : Option (List ℕ)) (a : PasswordAlgorithmValue) : Type 0 where
+  both_shown : shows_one_alone d ≡ false
+  sent : shows_other_list state d ≡ false
+  chooses : chooses_none_listed d ≡ false
+  key_by : unwrap_or (chosen d) MD5 ≡ a
+  reply_by : reply_algorithm (chosen d) ≡ signing_by list
+
+-- the same of a promise, and of the two attributes
+by_values : (promise : Bool) (one list : Option (List ℕ)) (d : List ℕ) → option_map_or promises_algorithms (value_of d NONCE) false ≡ promise → value_of d PASSWORD_ALGORITHM ≡ one → value_of d PASSWORD_ALGORITHMS ≡ list
+    → (promised PASSWORD_ALGORITHM d ≡ (if promise then one else None)) × (promised PASSWORD_ALGORITHMS d ≡ (if promise then list else None))
+by_values promise one list d p o l = (
+  ap (λ (b : Bool). if b then value_of d PASSWORD_ALGORITHM else None) p ∙ ap (λ (x : Option (List ℕ)). if promise then x else None) o,
+  ap (λ (b : Bool). if b then value_of d PASSWORD_ALGORITHMS else None) p ∙ ap (λ (x : Option (List ℕ)). if promise then x else None) l,
+)
+
+abbrev alone : (one list : Option (List ℕ)) → Bool
+alone one list = (is_some one || is_some list) && not (is_some one && is_some list)
+
+abbrev none_listed : (choice : Option PasswordAlgorithmValue) (list : Option (List ℕ)) → Bool
+none_listed choice list = option_map_or (λ (l : List ℕ). not (option_map_or (λ (a : PasswordAlgorithmValue). is_listed l a) choice false)) list false
 
 processed : IsFirst → (supported : List PasswordAlgorithmValue) (d : List ℕ) (before : List Attribute) (who : Who) (realm nonce : List ℕ) (algorithms : Option (List PasswordAlgorithmValue)) (a : PasswordAlgorithmValue)
     → Shows d before (parts who realm nonce (option_map (λ xs. algorithms_encoding xs) algorithms) a) → promises_algorithms nonce ≡ is_some algorithms → selected supported (option_map (λ xs. algorithms_encoding xs) algorithms) ≡ Some a
-    → IsProcessed (valid (sent_with algorithms)) nonce d (option_map (λ xs. algorithms_encoding xs) algorithms) a
-processed first supported d before who realm nonce None a s agrees takes = record {
-  hashing = AsThoughMd5;
-  processed = ap (λ (b : Bool). if b then by_both (valid []) (value_of d PASSWORD_ALGORITHM) (value_of d PASSWORD_ALGORITHMS) else Some AsThoughMd5) agrees;
-  key_by = sym (unlisted_is supported a takes);
-  reply_by = refl;
-}
-processed first supported d before who realm nonce (Some xs) a s agrees takes = record {
-  hashing = Chosen a;
-  processed = ap (λ (b : Bool). if b then by_both (valid xs) (value_of d PASSWORD_ALGORITHM) (value_of d PASSWORD_ALGORITHMS) else Some AsThoughMd5) agrees
-      ∙ ap (λ (o : Option (List ℕ)). by_both (valid xs) o (value_of d PASSWORD_ALGORITHMS)) (one_there first d before who realm nonce (algorithms_encoding xs) a s)
-      ∙ ap (λ (o : Option (List ℕ)). by_both (valid xs) (Some (algorithm_encoding a)) o) (list_there first d before who realm nonce (algorithms_encoding xs) a s)
-      ∙ ap (λ (o : Option PasswordAlgorithmValue). option_map (λ (x : PasswordAlgorithmValue). Chosen x) o) (chosen_is supported xs a takes);
-  key_by = refl;
-  reply_by = refl;
-}
+    → IsProcessed (valid (sent_with algorithms)) d (option_map (λ xs. algorithms_encoding xs) algorithms) a
+processed first supported d before who realm nonce None a s agrees takes =
+    let promise : option_map_or promises_algorithms (value_of d NONCE) false ≡ false = ap (λ (o : Option (List ℕ)). option_map_or promises_algorithms o false) (nonce_there first d before who realm nonce None a s) ∙ agrees in
+    let values = by_values false (value_of d PASSWORD_ALGORITHM) (value_of d PASSWORD_ALGORITHMS) d promise refl refl in
+    let choice : chosen d ≡ None = ap (λ (o : Option (List ℕ)). option_and_then (λ (v : List ℕ). sole_named both v) o) values.0 in
+    record {
+      both_shown = ap (λ (o : Option (List ℕ)). alone o (promised PASSWORD_ALGORITHMS d)) values.0 ∙ ap (λ (o : Option (List ℕ)). alone None o) values.1;
+      sent = ap (λ (o : Option (List ℕ)). option_map_or (λ (l : List ℕ). not (is_sent (valid []) l)) o false) values.1;
+      chooses = ap (λ (o : Option (List ℕ)). none_listed (chosen d) o) values.1;
+      key_by = ap (λ (o : Option PasswordAlgorithmValue). unwrap_or o MD5) choice ∙ sym (unlisted_is supported a takes);
+      reply_by = ap reply_algorithm choice;
+    }
+processed first supported d before who realm nonce (Some xs) a s agrees takes =
+    let list = algorithms_encoding xs in
+    let promise : option_map_or promises_algorithms (value_of d NONCE) false ≡ true = ap (λ (o : Option (List ℕ)). option_map_or promises_algorithms o false) (nonce_there first d before who realm nonce (Some list) a s) ∙ agrees in
+    let values = by_values true (Some (algorithm_encoding a)) (Some list) d promise (one_there first d before who realm nonce list a s) (list_there first d before who realm nonce list a s) in
+    let choice : chosen d ≡ Some a = ap (λ (o : Option (List ℕ)). option_and_then (λ (v : List ℕ). sole_named both v) o) values.0 ∙ named_one a in
+    record {
+      both_shown = ap (λ (o : Option (List ℕ)). alone o (promised PASSWORD_ALGORITHMS d)) values.0 ∙ ap (λ (o : Option (List ℕ)). alone (Some (algorithm_encoding a)) o) values.1;
+      sent = ap (λ (o : Option (List ℕ)). option_map_or (λ (l : List ℕ). not (is_sent (valid xs) l)) o false) values.1 ∙ ap not ((bytes_decides list list).1 refl);
+      chooses = ap (λ (o : Option (List ℕ)). none_listed (chosen d) o) values.1 ∙ ap (λ (o : Option PasswordAlgorithmValue). none_listed o (Some list)) choice
+          ∙ ap (λ (o : Option PasswordAlgorithmValue). not (is_some o)) (listed_one supported xs a takes);
+      key_by = ap (λ (o : Option PasswordAlgorithmValue). unwrap_or o MD5) choice;
+      reply_by = ap reply_algorithm choice;
+    }
 
 -- ---- The rows of the server
 
-rows : (policy : Policy) (realm : List ℕ) (nonces : List ℕ → Known) (keys : Who → List ℕ → PasswordAlgorithmValue → Option UserKey) (d : List ℕ) (who : Who) (told nonce : List ℕ) (key : UserKey) (xs : List PasswordAlgorithmValue) (hashing : Hashing) (a : IntegrityAlgorithm)
+-- a message that names one user
+one_user : (name hash : Option (List ℕ)) (who : Who) → one_of name hash ≡ Some who → ((is_some name || is_some hash) ≡ true) × ((is_some name && is_some hash) ≡ false)
+one_user None None who e = absurd cc
+one_user None (Some hash) who e = (refl, refl)
+one_user (Some name) None who e = (refl, refl)
+one_user (Some name) (Some hash) who e = absurd cc
+
+rows : (policy : Policy) (realm : List ℕ) (nonces : List ℕ → Known) (keys : Who → List ℕ → PasswordAlgorithmValue → Option UserKey) (d : List ℕ) (who : Who) (told nonce : List ℕ) (key : UserKey) (xs : List PasswordAlgorithmValue) (list : Option (List ℕ)) (algorithm : PasswordAlgorithmValue) (a : IntegrityAlgorithm)
     → is_taken policy d ≡ true → class_of (type_field d) ≡ Request → is_signed policy d ≡ true → identity_of d ≡ Some who → value_of d REALM ≡ Some told → value_of d NONCE ≡ Some nonce → nonces nonce ≡ valid xs
-    → hashing_of (valid xs) nonce d ≡ Some hashing → keys who realm (password_algorithm hashing) ≡ Some key → proof_of policy key d ≡ Some a
-    → long_term policy realm nonces keys d ≡ accept key a (reply_algorithm hashing)
-rows policy realm nonces keys d who told nonce key xs hashing a taken class shows user realm-is nonce-is state how known right =
-    let names : Named = record { user = who; nonce = nonce } in
-    let names-are : names_of d ≡ Some names =
-    ap (λ (o : Option Who). option_and_then (λ (u : Who). option_and_then (λ (r : List ℕ). option_map (λ (n : List ℕ). record { user = u; nonce = n }) (value_of d NONCE)) (value_of d REALM)) o) user
-    ∙ ap (λ (o : Option (List ℕ)). option_and_then (λ (r : List ℕ). option_map (λ (n : List ℕ). record { user = who; nonce = n }) (value_of d NONCE)) o) realm-is
-    ∙ ap (λ (o : Option (List ℕ)). option_map (λ (n : List ℕ). record { user = who; nonce = n }) o) nonce-is in
-    ap (λ (b : Bool). if b then by_class policy realm nonces keys d else discard) taken
-    ∙ ap (λ (c : MessageClass). if is_request c then by_attribute policy realm nonces keys d else not_a_request) class
-    ∙ ap (λ (b : Bool). if b then by_names policy realm nonces keys d else refuse Unauthenticated) shows
-    ∙ ap (λ (o : Option Named). option_map_or (λ (n : Named). by_algorithms policy realm keys (nonces n.nonce) n d) o (refuse BadRequest)) names-are
-    ∙ ap (λ (k : Known). by_algorithms policy realm keys k names d) state
-    ∙ ap (λ (o : Option Hashing). option_map_or (λ (h : Hashing). by_user policy realm keys (valid xs) who h d) o (refuse BadRequest)) how
-    ∙ ap (λ (o : Option UserKey). option_map_or (λ (k : UserKey). by_hmac policy (valid xs) hashing k d) o (refuse Unauthenticated)) known
-    ∙ ap (λ (o : Option IntegrityAlgorithm). option_map_or (λ (b : IntegrityAlgorithm). by_nonce (valid xs) (accept key b (reply_algorithm hashing))) o (refuse Unauthenticated)) right
+    → IsProcessed (valid xs) d list algorithm → keys who realm algorithm ≡ Some key → proof_of policy key d ≡ Some a
+    → long_term policy realm nonces keys d ≡ accept key a (reply_algorithm (chosen d))
+rows policy realm nonces keys d who told nonce key xs list algorithm a taken class shows user realm-is nonce-is state how known right =
+    let names = one_user (value_of d USERNAME) (value_of d USERHASH) who user in
+    let credentials-are : lacks_credentials d ≡ false =
+    ap (λ (b : Bool). not (b && (is_some (value_of d REALM) && is_some (value_of d NONCE)))) names.0
+    ∙ ap (λ (o : Option (List ℕ)). not (is_some o && is_some (value_of d NONCE))) realm-is ∙ ap (λ (o : Option (List ℕ)). not (is_some o)) nonce-is in
+    let found : key_of_user realm keys d ≡ Some key =
+    ap (λ (o : Option Who). option_and_then (λ (u : Who). keys u realm (unwrap_or (chosen d) MD5)) o) user
+    ∙ ap (λ (x : PasswordAlgorithmValue). keys who realm x) how.key_by ∙ known in
+    ap (λ (s : Known). decided (rows_of_message policy s d) (by_key policy s (chosen d) (key_of_user realm keys d) d)) (ap (λ (o : Option (List ℕ)). option_map_or nonces o unknown) nonce-is ∙ state)
+    ∙ none_holds (rows_of_message policy (valid xs) d) (by_key policy (valid xs) (chosen d) (key_of_user realm keys d) d)
+    (ap not taken, (ap (λ (c : MessageClass). not (is_request c)) class, (ap not shows, (credentials-are, (names.1, (how.both_shown, (how.sent, (how.chooses, tt))))))))
+    ∙ ap (λ (o : Option UserKey). by_key policy (valid xs) (chosen d) o d) found
+    ∙ ap (λ (o : Option IntegrityAlgorithm). decided ((not (is_some o), refuse Unauthenticated) ∷ []) (accepted_with (Some key) o (λ _. reply_algorithm (chosen d)))) right
 
 pub accepted : IsFirst → IsMissing → (policy : Policy) (nonces : List ℕ → Known) (keys : Who → List ℕ → PasswordAlgorithmValue → Option UserKey) (offer : Offer) (supported : List PasswordAlgorithmValue) (algorithm : PasswordAlgorithmValue) (user : User) (key : UserKey) (fingerprint : Bool) (kind id : ℕ) (before : List Attribute)
     → (let asked = asked_of offer algorithm in
@@ -224,10 +255,10 @@ accepted first missing policy nonces keys offer supported algorithm user key fin
     let hmac = signs_found first kind id all wanted a bytes writable signs in
     let right : verdict wanted (λ _. key.bytes) d ≡ Ok a = ap (λ (k : List ℕ). verdict wanted (λ _. k) d) works.bytes_are ∙ signs_validate kind id all wanted a bytes writable (is_wanted both.served a both.counts) signs in
     let how = processed first supported d before who offer.realm offer.nonce offer.algorithms algorithm shows offered.agrees takes in
-    rows policy offer.realm nonces keys d who offer.realm offer.nonce key (sent_with offer.algorithms) how.hashing a
+    rows policy offer.realm nonces keys d who offer.realm offer.nonce key (sent_with offer.algorithms) list algorithm a
     (print_taken first policy.fingerprint fingerprint kind id (signed kind id xs a bytes) writable (signed_unprinted kind id xs a bytes (no_print (types xs) plain)) served.printed)
     (ap class_of (type-message kind id all writable.type_fits) ∙ class) (is_served policy.algorithm a d served.counts hmac)
     (who_there first missing d before who offer.realm offer.nonce list algorithm shows) (realm_there first d before who offer.realm offer.nonce list algorithm shows) (nonce_there first d before who offer.realm offer.nonce list algorithm shows)
-    offered.known how.processed (ap (λ (x : PasswordAlgorithmValue). keys who offer.realm x) how.key_by ∙ known)
+    offered.known how known
     (proof_is policy a d key both.served both.which hmac served.shortest right)
     ∙ ap (λ (r : IntegrityAlgorithm). accept key a r) how.reply_by

@@ -1,8 +1,7 @@
 -- A login by short-term credentials.
 use Rattle.std.proofs.Common.{◌≡◌, ℕ, ◌≤◌, Bool, true, false, List, [], ◌∷◌, ◌++◌, eqb, Option, Some, None, Ok, refl, ap, subst, ◌∙◌, append_assoc, lit<}
-use Rattle.std.specs.Prelude.{if◌then◌else◌}
+use Rattle.std.specs.Prelude.{◌&&◌, not, is_some, option_and_then}
 use Rattle.std.specs.List.{list_any}
-use Rattle.std.specs.Option.{option_map_or}
 use Rattle.std.proofs.lemmas.Bool.{or_from}
 use Rattle.std.proofs.lemmas.List.Folds.{list_any-append}
 use Rattle.stun_grammar.specs.declared.integrity_algorithm.IntegrityAlgorithm.{IntegrityAlgorithm}
@@ -22,11 +21,11 @@ use Rattle.stun_keys.specs.declared.keys.integrity_key.IntegrityKey.{IntegrityKe
 use Rattle.stun_keys.specs.Keys.{key_algorithm}
 use Rattle.stun_authentication.specs.declared.answer.Refusal.TheVariants.{BadRequest, Unauthenticated}
 use Rattle.stun_authentication.specs.declared.policy.Policy.{Policy}
-use Rattle.stun_authentication.specs.Answers.{accept, discard, not_a_request}
+use Rattle.stun_authentication.specs.Answers.{accept, decided, accepted as accepted_with}
 use Rattle.stun_authentication.specs.Identities.{value_of}
 use Rattle.stun_authentication.specs.Lookups.{UserKey}
 use Rattle.stun_authentication.specs.Policies.{is_taken, is_signed, is_signed_for, counted, proof_of}
-use Rattle.stun_authentication.specs.ShortTerm.{reject, by_hmac, by_key, by_user, by_attributes, by_class, short_term}
+use Rattle.stun_authentication.specs.ShortTerm.{reject, key_of_username, rows_of_message, by_key, short_term}
 use Rattle.stun_transactions.specs.Guards.{validated}
 use Rattle.stun_exchanges.specs.Premises.{IsOwn, IsOpen, IsNamed, IsPrinted, HasRoom, WorksAs, checked, is_reserved}
 use Rattle.stun_authentication.specs.Requests.{signed_by_each, short_term_attributes, short_term_request}
@@ -34,6 +33,7 @@ use Rattle.stun_authentication.specs.Writing.{signed, finished, signed_reply}
 use Rattle.stun_exchanges.proofs.EndedLemmas.{IsFirst, Ended, ended_none, ended_signed, ended_finished, value_there, Signs, signs_here, signs_signed, signs_finished, print_unchecked, signs_validate, signs_found, reply_validates, no_print, print_taken}
 use Rattle.stun_exchanges.proofs.ProofLemmas.{some_is, same_is, checked_counts, is_wanted, is_served, proof_is, signed_for, one_counts, key_counts}
 use Rattle.stun_exchanges.proofs.LoginsWritableLemmas.{none_ends, lacks_reserved, any-append, types-append, one_more, adds, room_down}
+use Rattle.stun_authentication.proofs.DecidedLemmas.{none_holds}
 use Rattle.stun_authentication.proofs.TypesLemmas.{free, free_append}
 
 -- ---- Signing keeps a message writable
@@ -163,13 +163,12 @@ is_request fingerprint sent counts a kind id before name key own named room whic
 rows : (policy : Policy) (keys : List ℕ → Option UserKey) (d name : List ℕ) (key : UserKey) (a : IntegrityAlgorithm) → is_taken policy d ≡ true → is_response (class_of (type_field d)) ≡ false → is_signed policy d ≡ true → value_of d USERNAME ≡ Some name → keys name ≡ Some key
     → is_signed_for policy key.made_for d ≡ true → proof_of policy key d ≡ Some a → short_term policy keys d ≡ accept key a a
 rows policy keys d name key a taken response shows user known signs right =
-    ap (λ (b : Bool). if b then by_class policy keys d else discard) taken
-    ∙ ap (λ (b : Bool). if b then not_a_request else by_attributes policy keys d) response
-    ∙ ap (λ (b : Bool). if b then option_map_or (λ (u : List ℕ). by_user policy keys u d) (value_of d USERNAME) (reject d BadRequest) else reject d BadRequest) shows
-    ∙ ap (λ (o : Option (List ℕ)). option_map_or (λ (u : List ℕ). by_user policy keys u d) o (reject d BadRequest)) user
-    ∙ ap (λ (o : Option UserKey). option_map_or (λ (k : UserKey). by_key policy k d) o (reject d Unauthenticated)) known
-    ∙ ap (λ (b : Bool). if b then by_hmac policy key d else reject d BadRequest) signs
-    ∙ ap (λ (o : Option IntegrityAlgorithm). option_map_or (λ (b : IntegrityAlgorithm). accept key b b) o (reject d Unauthenticated)) right
+    let there : not (is_signed policy d && is_some (value_of d USERNAME)) ≡ false =
+    ap (λ (b : Bool). not (b && is_some (value_of d USERNAME))) shows ∙ ap (λ (o : Option (List ℕ)). not (is_some o)) user in
+    none_holds (rows_of_message policy d) (by_key policy (key_of_username keys d) d) (ap not taken, (response, (there, tt)))
+    ∙ ap (λ (o : Option (List ℕ)). by_key policy (option_and_then keys o) d) user ∙ ap (λ (o : Option UserKey). by_key policy o d) known
+    ∙ ap (λ (b : Bool). decided ((not b, reject d BadRequest) ∷ (not (is_some (proof_of policy key d)), reject d Unauthenticated) ∷ []) (accepted_with (Some key) (proof_of policy key d) (λ b. b))) signs
+    ∙ ap (λ (o : Option IntegrityAlgorithm). decided ((not (is_some o), reject d Unauthenticated) ∷ []) (accepted_with (Some key) o (λ b. b))) right
 
 pub accepted : IsFirst → (policy : Policy) (keys : List ℕ → Option UserKey) (sent served : Option IntegrityAlgorithm) (a : IntegrityAlgorithm) (fingerprint : Bool) (kind id : ℕ) (before : List Attribute) (name : List ℕ) (key : UserKey)
     → is_response (class_of kind) ≡ false → IsOwn kind id before → IsNamed name → HasRoom kind id (short_term_attributes fingerprint sent kind id before name key.bytes)

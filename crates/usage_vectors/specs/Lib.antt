@@ -1,3 +1,4 @@
 pub mod TurnMessages
 pub mod Streams
 pub mod Reasons
+pub mod Authentications

@@ -5,7 +5,8 @@
 
 ghost use Rattle.std.specs.Prelude.{◌≡◌, ◌-◌, true, false, [], ◌∷◌, ◌++◌, codes, map, slice_range, replicate, None, Some, nat_lt};
 ghost use Rattle.stun_grammar.specs.declared.error.StunWriteError.TheVariants.{OutOfRange};
-ghost use Rattle.stun_grammar.specs.AttributeTypes.{SOFTWARE, USERNAME, MESSAGE_INTEGRITY, FINGERPRINT};
+ghost use Rattle.stun_grammar.specs.AttributeTypes.{SOFTWARE, USERNAME, REALM, NONCE, MESSAGE_INTEGRITY, FINGERPRINT};
+ghost use Rattle.stun_grammar.specs.Attributes.{canonical};
 ghost use Rattle.stun_grammar.specs.Showing.{shown};
 ghost use Rattle.stun_base.specs.declared.transport.AddressFamily.TheVariants.{IPV6};
 ghost use Rattle.stun_values.specs.Addresses.{address_in, IsXored};
@@ -15,7 +16,16 @@ ghost use Rattle.standard_vectors.specs.Right.{IsRead};
 ghost use Rattle.stun_integrity.specs.Userhash.{user_hash};
 ghost use Rattle.stun_attributes.specs.DefaultReasons.{default_reason};
 ghost use Rattle.stun_keys.specs.declared.keys.integrity_key.IntegrityKey.{IntegrityKey};
+ghost use Rattle.stun_grammar.specs.declared.integrity_algorithm.IntegrityAlgorithm.TheVariants.{Sha1, Sha256};
+ghost use Rattle.standard_vectors.specs.Messages.{long_term_request};
+ghost use Rattle.standard_vectors.specs.Parameters.{password};
+ghost use Rattle.stun_authentication.specs.declared.answer.Refusal.TheVariants.{BadRequest, Unauthenticated, StaleNonce};
+ghost use Rattle.stun_authentication.specs.Answers.{accept, refuse, discard, not_a_request};
 ghost use Rattle.stun_authentication.specs.Cookies.{security_features, cookie};
+ghost use Rattle.stun_authentication.specs.Lookups.{key_made, valid, stale, unknown};
+ghost use Rattle.stun_authentication.specs.LongTerm.{long_term};
+ghost use Rattle.stun_authentication.specs.ShortTerm.{short_term};
+ghost use Rattle.usage_vectors.specs.Authentications.{unprinted, printed, everybody, nobody, user, other, sent_with_both, sent_with_md5, unsigned, signed, promised, unpromised, sha256_chosen, sha256_listed, md5_listed, both_listed, hashed};
 ghost use Rattle.stun_transactions.specs.Rows.{moments, row_end, row_wait};
 ghost use Rattle.stun_transactions.specs.Parts.{plan_in, parts_fault};
 ghost use Rattle.stun_transactions.specs.Receiving.{content};
@@ -177,4 +187,44 @@ pub fn first_refusals_are_right()
     ensures too_often { (parts : TransactionParts) → parts.mechanism ≡ None → parts.sha1 ≡ false → parts.sha256 ≡ false → nat_lt (requests_in (plan_in parts)) parts.sent ≡ true → parts_fault parts ≡ Some SentTooOften }
     ensures unknown { content None [] unsigned_error ≡ Failed (UnknownAttribute (record { 0 = 0x7FFF })) }
     ensures understood { content None (record { 0 = 0x7FFF } ∷ []) unsigned_error ≡ Failed NoErrorCode }
+{}
+
+/// The rows of a server's checks under long-term credentials that need no key (RFC 8489, section
+/// 9.2.4): each by a request to which it applies, and mostly a later one too. A server that has no key
+/// for the user refuses with 401 what passes them.
+pub fn long_term_rows_are_right()
+    ensures fingerprint { long_term printed realm (λ _. unknown) nobody (unsigned 0x0011 []) ≡ discard }
+    ensures class { long_term unprinted realm (λ _. unknown) nobody (unsigned 0x0011 []) ≡ not_a_request }
+    ensures integrity { long_term unprinted realm (λ _. unknown) nobody (unsigned 0x0001 []) ≡ refuse Unauthenticated }
+    ensures realm { long_term unprinted realm (λ _. stale) nobody (signed (canonical USERNAME user_name ∷ canonical NONCE [] ∷ [])) ≡ refuse BadRequest }
+    ensures two_names { long_term unprinted realm (λ _. stale) nobody (signed (hashed ∷ unpromised [])) ≡ refuse BadRequest }
+    ensures one_alone { long_term unprinted realm sent_with_both nobody (signed (promised (sha256_chosen ∷ []))) ≡ refuse BadRequest }
+    ensures list_alone { long_term unprinted realm sent_with_both nobody (signed (promised (both_listed ∷ []))) ≡ refuse BadRequest }
+    ensures other_list { long_term unprinted realm sent_with_both nobody (signed (promised (sha256_listed ∷ sha256_chosen ∷ []))) ≡ refuse BadRequest }
+    ensures none_listed { long_term unprinted realm sent_with_md5 nobody (signed (promised (md5_listed ∷ sha256_chosen ∷ []))) ≡ refuse BadRequest }
+    ensures unpromised { long_term unprinted realm sent_with_md5 nobody (signed (unpromised (sha256_listed ∷ []))) ≡ refuse Unauthenticated }
+    ensures unknown_list { long_term unprinted realm (λ _. stale) nobody (signed (promised (sha256_listed ∷ sha256_chosen ∷ []))) ≡ refuse Unauthenticated }
+{}
+
+/// The rows that need the key, by the request of RFC 5769, section 2.4: without a key, with another
+/// one, and with the user's; its nonce is valid, or was never sent.
+pub fn long_term_keys_are_right()
+    ensures no_key { long_term unprinted realm (λ _. stale) nobody long_term_request ≡ refuse Unauthenticated }
+    ensures other_key { long_term unprinted realm (λ _. stale) (everybody other) long_term_request ≡ refuse Unauthenticated }
+    ensures stale { long_term unprinted realm (λ _. stale) (everybody user) long_term_request ≡ refuse StaleNonce }
+    ensures unknown { long_term unprinted realm (λ _. unknown) (everybody user) long_term_request ≡ refuse StaleNonce }
+    ensures accepted { long_term unprinted realm (λ _. valid []) (everybody user) long_term_request ≡ accept user Sha1 Sha1 }
+{}
+
+/// The rows of a server's checks under short-term credentials (RFC 8489, section 9.1.3), the last
+/// ones by the request of RFC 5769, section 2.1.
+pub fn short_term_rows_are_right()
+    ensures fingerprint { short_term printed (λ _. None) (unsigned 0x0101 []) ≡ discard }
+    ensures class { short_term unprinted (λ _. None) (unsigned 0x0101 []) ≡ not_a_request }
+    ensures integrity { short_term unprinted (λ _. None) (unsigned 0x0001 (canonical USERNAME user_name ∷ [])) ≡ refuse BadRequest }
+    ensures username { short_term unprinted (λ _. None) (signed []) ≡ refuse BadRequest }
+    ensures no_key { short_term unprinted (λ _. None) sample_request ≡ refuse Unauthenticated }
+    ensures one_algorithm { short_term unprinted (λ _. Some (key_made (Some Sha256) password)) sample_request ≡ refuse BadRequest }
+    ensures other_key { short_term unprinted (λ _. Some other) sample_request ≡ refuse Unauthenticated }
+    ensures accepted { short_term printed (λ _. Some (key_made None password)) sample_request ≡ accept (key_made None password) Sha1 Sha1 }
 {}

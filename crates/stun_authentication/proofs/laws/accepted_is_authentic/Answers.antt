@@ -1,5 +1,6 @@
 use Rattle.stun_grammar.proofs.AcceptingLemmas.{is_authentic, is_authentic_through}
-use Rattle.stun_authentication.proofs.AcceptingRowsLemmas.{proved, proved_by_both, short_term_proof, long_term_proof, users_login, long_term_login}
+use Rattle.stun_authentication.proofs.AcceptingLoginsLemmas.{long_term_proof, long_term_login}
+use Rattle.stun_authentication.proofs.AcceptingRowsLemmas.{proved, proved_by_both, short_term_proof, users_login}
 use Rattle.stun_authentication.proofs.laws.accepted_is_authentic.Goals as goal
 
 pub returns-clause-users : goal.returns-clause-users

@@ -1,0 +1,30 @@
+-- The rows of a table.
+use Rattle.std.proofs.Common.{◌≡◌, Bool, true, false, List, [], ◌∷◌, refl, ◌∙◌}
+use Rattle.std.specs.Prelude.{◌||◌}
+use Rattle.std.specs.List.{AllByRecursion}
+use Rattle.stun_authentication.specs.Answers.{Decision, Row, decided}
+
+pub neither : (b c : Bool) → (b || c) ≡ false → (b ≡ false) × (c ≡ false)
+neither true c e = absurd cc
+neither false c e = (refl, e)
+
+next : (c : Bool) (x : Decision) (rows : List Row) (otherwise : Decision) → c ≡ false → decided ((c, x) ∷ rows) otherwise ≡ decided rows otherwise
+next true x rows otherwise e = absurd cc
+next false x rows otherwise e = refl
+
+-- if no condition holds
+pub none_holds : (rows : List Row) (otherwise : Decision) → AllByRecursion (λ row. row.0 ≡ false) rows → decided rows otherwise ≡ otherwise
+none_holds [] otherwise none = refl
+none_holds (row ∷ rows) otherwise none = next row.0 row.1 rows otherwise none.0 ∙ none_holds rows otherwise none.1
+
+-- if no row decides so
+past : (c : Bool) (x : Decision) (rows : List Row) (otherwise goal : Decision) → (x ≡ goal → ⊥) → decided ((c, x) ∷ rows) otherwise ≡ goal → (c ≡ false) × (decided rows otherwise ≡ goal)
+past true x rows otherwise goal other e = absurd (other e)
+past false x rows otherwise goal other e = (refl, e)
+
+pub none_decides : (rows : List Row) (otherwise goal : Decision) → AllByRecursion (λ row. row.1 ≡ goal → ⊥) rows → decided rows otherwise ≡ goal → AllByRecursion (λ row. row.0 ≡ false) rows × (otherwise ≡ goal)
+none_decides [] otherwise goal others e = (tt, e)
+none_decides (row ∷ rows) otherwise goal others e =
+    let one = past row.0 row.1 rows otherwise goal others.0 e in
+    let more = none_decides rows otherwise goal others.1 one.1 in
+    ((one.0, more.0), more.1)
