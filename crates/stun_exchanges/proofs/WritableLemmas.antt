@@ -2,6 +2,7 @@
 use Rattle.std.proofs.Common.{◌≡◌, ℕ, zero, suc, ◌+◌, ◌*◌, ◌^◌, ◌<◌, ◌≤◌, Bool, true, List, [], ◌∷◌, ◌++◌, length, take, drop, Option, Some, None, inl, inr, refl, sym, ap, subst, lit<, arith}
 use Rattle.std.specs.Prelude.{◌⊎◌, fold, is_some, codes, if◌then◌else◌}
 use Rattle.std.specs.declared.net.socket_addr.SocketAddr.{SocketAddr}
+use Rattle.std.proofs.lemmas.Bool.{le-ltb}
 use Rattle.std.proofs.lemmas.List.{append-nil, length-append, length-take, length-drop}
 use Rattle.stun_grammar.specs.declared.attribute_type.AttributeType.{AttributeType}
 use Rattle.stun_grammar.specs.Numbers.{IsBytes}
