@@ -2,6 +2,7 @@
 use Rattle.std.proofs.Common.{◌≡◌, ℕ, zero, suc, ◌+◌, ◌*◌, ◌^◌, ◌<◌, ◌≤◌, Bool, true, List, [], ◌∷◌, ◌++◌, length, take, drop, Option, Some, None, inl, inr, refl, sym, ap, subst, lit<, arith}
 use Rattle.std.specs.Prelude.{◌⊎◌, fold, is_some, codes, if◌then◌else◌}
 use Rattle.std.specs.declared.net.socket_addr.SocketAddr.{SocketAddr}
+use Rattle.std.proofs.lemmas.Bool.{le-ltb}
 use Rattle.std.proofs.lemmas.List.{append-nil, length-append, length-take, length-drop}
 use Rattle.stun_grammar.specs.declared.attribute_type.AttributeType.{AttributeType}
 use Rattle.stun_grammar.specs.Numbers.{IsBytes}
@@ -13,7 +14,7 @@ use Rattle.stun_grammar.specs.Parsing.{parse_fault}
 use Rattle.stun_grammar.specs.Writing.{message_encoding, IsWritable}
 use Rattle.stun_grammar.specs.Steps.{Step, add, finger, value_length, appended_by}
 use Rattle.stun_grammar.specs.Sending.{MayFollow}
-use Rattle.stun_grammar.specs.Adding.{appended, order_refusal}
+use Rattle.stun_grammar.specs.Adding.{grown_length, appended, order_refusal, room_refusal, add_refusal}
 use Rattle.stun_grammar.proofs.AddingLemmas.{message_more, fingerprint_length}
 use Rattle.stun_grammar.proofs.HeadersLemmas.{header_there}
 use Rattle.stun_grammar.proofs.NumbersLemmas.{IsBytes-take, IsBytes-drop}
@@ -27,8 +28,7 @@ use Rattle.stun_values.proofs.ListsLemmas.{length_of_twos}
 use Rattle.stun_types.specs.Replies.{response_type, own_software, unknown_reply}
 use Rattle.stun_server.specs.Reply.{success_reply}
 use Rattle.stun_values.specs.Addresses.{xored_value}
-use Rattle.stun_server.proofs.RefusalsLemmas.{no_refusal, software_length, error_length}
-use Rattle.stun_server.proofs.SizesLemmas.{short_value}
+use Rattle.stun_server.proofs.SizesLemmas.{software_length, error_length, short_value}
 
 -- ---- A transaction ID has ninety-six bits
 
@@ -49,6 +49,11 @@ id_small r bytes parses =
     subst (λ (n : ℕ). id_field r < grow n 1) twelve (below 0 1 (take 12 (drop 8 r)) (IsBytes-take 12 (drop 8 r) (IsBytes-drop 8 r bytes)) (lit< tt))
 
 -- ---- Step by step
+
+-- a writer with no bound refuses no step that nothing blocks, if the message is short enough
+no_refusal : (step : Step) (types : List ℕ) (len : ℕ) → order_refusal step types ≡ None → 20 ≤ len → grown_length len (value_length step) ≤ 65555 → add_refusal step types len None ≡ None
+unfolding room_refusal
+no_refusal step types len none header short = rw (none, le-ltb len 20 header, le-ltb 65555 (grown_length len (value_length step)) short) refl
 
 -- a step that no attribute before it blocks may follow, if the message stays short enough
 follows : (type id : ℕ) (before : List Attribute) (step : Step) → order_refusal step (types before) ≡ None → length (encodings before) + attribute_length (value_length step) ≤ 65535

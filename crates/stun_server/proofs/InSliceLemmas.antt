@@ -1,15 +1,12 @@
 -- A reply that is written into a slice, piece by piece.
-use Rattle.std.proofs.Common.{◌≡◌, ℕ, ◌+◌, ◌*◌, ◌^◌, ◌<◌, ◌≤◌, Bool, true, false, cond, List, [], ◌∷◌, ◌++◌, length, take, drop, map, None, Some, Ok, Err, refl, sym, ap, ◌∙◌, append_assoc, lit<, arith}
-use Rattle.std.specs.Prelude.{codes, nat_lt, is_some, if◌then◌else◌}
+use Rattle.std.proofs.Common.{◌≡◌, ℕ, ◌+◌, ◌*◌, ◌^◌, ◌<◌, ◌≤◌, Bool, true, false, cond, List, [], ◌∷◌, ◌++◌, length, take, drop, map, refl, sym, ap, ◌∙◌, append_assoc, lit<, arith}
+use Rattle.std.specs.Prelude.{codes, is_some, if◌then◌else◌}
 use Rattle.std.specs.List.{filter}
-use Rattle.std.specs.Option.{option_map_or}
 use Rattle.std.specs.declared.net.socket_addr.SocketAddr.{SocketAddr}
 use Rattle.std.proofs.Math.Seq.{drop-append-add}
-use Rattle.std.proofs.lemmas.Bool.{lt-ltb, le-ltb, ne_eqb}
 use Rattle.std.proofs.lemmas.List.{length-append, take_at, drop_at, drop-drop}
 use Rattle.std.proofs.lemmas.List.Elements.{filter-append}
 use Rattle.stun_grammar.specs.declared.attribute_type.AttributeType.{AttributeType}
-use Rattle.stun_grammar.specs.declared.error.StunWriteError.TheVariants.{TooSmall}
 use Rattle.stun_grammar.specs.Numbers.{be16, padded_length}
 use Rattle.stun_grammar.specs.Headers.{id_field}
 use Rattle.stun_grammar.specs.Attributes.{Attribute, canonical, encoding, attribute_length}
@@ -25,14 +22,13 @@ use Rattle.stun_values.specs.Addresses.{address_value, IsXored, xored_value}
 use Rattle.stun_values.specs.ErrorValues.{error_value}
 use Rattle.stun_values.specs.TypeLists.{type_encoding, types_encoding}
 use Rattle.stun_values.proofs.ListsLemmas.{flat_map-one, length_of_twos}
-use Rattle.stun_types.specs.Replies.{shown_types, response_type, own_software, unknown_reply, bad_reply, lacks}
+use Rattle.stun_types.specs.Replies.{shown_types, response_type, own_software, unknown_reply}
 use Rattle.stun_types.proofs.ShownTypesLemmas.{item_type, SoFar, passes_more, fails_more}
 use Rattle.stun_read.specs.LookingUp.{nth}
 use Rattle.stun_server.specs.Reply.{success_reply, response, unfinished_reply, binding_reply}
-use Rattle.stun_server.specs.InSlice.{overlaid, answer_in, slice_after}
+use Rattle.stun_server.specs.InSlice.{overlaid}
 use Rattle.stun_server.proofs.ReplyLemmas.{xored_spelled}
-use Rattle.stun_server.proofs.RefusalsLemmas.{software_length, error_length}
-use Rattle.stun_server.proofs.SizesLemmas.{short_value, unknown_short, reply_for}
+use Rattle.stun_server.proofs.SizesLemmas.{software_length, error_length, short_value, unknown_short, reply_for}
 
 -- ---- The types that pass a test, counted
 
@@ -130,63 +126,58 @@ success_size source x r id id-is xored =
 pub success_long : (source : SocketAddr) (r : List ℕ) → 20 ≤ length (response Success r (success_reply source r))
 success_long source r = omega (arith, length-message (response_type Success r) (id_field r) (success_reply source r))
 
-pub success_in : (source x : SocketAddr) (r slice one two three : List ℕ) (id behind : ℕ) → id ≡ id_field r → IsXored id source x → behind ≡ 20 + attribute_length (length (address_value x))
+pub success_in : (source x : SocketAddr) (r slice one two three : List ℕ) (id first second : ℕ) → id ≡ id_field r → IsXored id source x → first ≡ 20 → second ≡ grown_length first (length (address_value x))
     → one ≡ overlaid (response Success r []) slice
-    → two ≡ appended (take 20 one) XOR_MAPPED_ADDRESS (address_value x) ++ drop (grown_length 20 (length (address_value x))) one
-    → three ≡ appended (take behind two) SOFTWARE (codes "stun-types") ++ drop (grown_length behind 10) two
+    → two ≡ appended (take first one) XOR_MAPPED_ADDRESS (address_value x) ++ drop (grown_length first (length (address_value x))) one
+    → three ≡ appended (take second two) SOFTWARE (codes "stun-types") ++ drop (grown_length second 10) two
     → three ≡ overlaid (response Success r (success_reply source r)) slice
-success_in source x r slice one two three id behind id-is xored behind-is one-is two-is three-is =
+success_in source x r slice one two three id first second id-is xored first-is second-is one-is two-is three-is =
     let kind = response_type Success r in
     let value = xored_value (id_field r) source in
     let short = short_value (id_field r) source in
     let mapped = canonical XOR_MAPPED_ADDRESS value in
     let same : address_value x ≡ value = xored_spelled id source x xored ∙ ap (λ (n : ℕ). xored_value n source) id-is in
-    let first : length (message_encoding kind (id_field r) []) ≡ 20 = length-message kind (id_field r) [] in
-    let second : length (message_encoding kind (id_field r) (mapped ∷ [])) ≡ behind =
-    omega (arith, ap length same, behind-is, short, length-message kind (id_field r) (mapped ∷ []), length-canonical XOR_MAPPED_ADDRESS value (lit< tt) (omega (arith, short)), length-append (encoding mapped) []) in
+    let header : first ≡ length (message_encoding kind (id_field r) []) = omega (arith, first-is, length-message kind (id_field r) []) in
+    let behind : second ≡ length (message_encoding kind (id_field r) (mapped ∷ [])) =
+    omega (arith, ap length same, first-is, second-is, short, length-message kind (id_field r) (mapped ∷ []), length-canonical XOR_MAPPED_ADDRESS value (lit< tt) (omega (arith, short)), length-append (encoding mapped) []) in
     let written : two ≡ overlaid (message_encoding kind (id_field r) (mapped ∷ [])) slice =
-    grown kind (id_field r) [] slice one two value XOR_MAPPED_ADDRESS 20 (sym first) one-is (lit< tt) (omega (arith, short)) (two-is ∙ ap (λ (v : List ℕ). appended (take 20 one) XOR_MAPPED_ADDRESS v ++ drop (grown_length 20 (length v)) one) same) in
-    grown kind (id_field r) (mapped ∷ []) slice two three (codes "stun-types") SOFTWARE behind (sym second) written (lit< tt) (lit< tt) three-is
+    grown kind (id_field r) [] slice one two value XOR_MAPPED_ADDRESS first header one-is (lit< tt) (omega (arith, short)) (two-is ∙ ap (λ (v : List ℕ). appended (take first one) XOR_MAPPED_ADDRESS v ++ drop (grown_length first (length v)) one) same) in
+    grown kind (id_field r) (mapped ∷ []) slice two three (codes "stun-types") SOFTWARE second behind written (lit< tt) (lit< tt) three-is
 
 -- ---- The error response
 
-pub refusal_in : (r slice one two three four : List ℕ) (types : List AttributeType) → 0 < length types → length types ≤ 16384
+pub refusal_in : (r slice one two three four : List ℕ) (types : List AttributeType) (first second third : ℕ) → 0 < length types → length types ≤ 16384
+    → first ≡ 20 → second ≡ grown_length first 10 → third ≡ grown_length second 22
     → one ≡ overlaid (response ErrorClass r []) slice
-    → two ≡ appended (take 20 one) SOFTWARE (codes "stun-types") ++ drop 36 one
-    → three ≡ appended (take 36 two) ERROR_CODE (error_value 420 (codes "Unknown Attributes")) ++ drop 64 two
-    → four ≡ appended (take 64 three) UNKNOWN_ATTRIBUTES (types_encoding types) ++ drop (grown_length 64 (length (types_encoding types))) three
+    → two ≡ appended (take first one) SOFTWARE (codes "stun-types") ++ drop (grown_length first 10) one
+    → three ≡ appended (take second two) ERROR_CODE (error_value 420 (codes "Unknown Attributes")) ++ drop (grown_length second 22) two
+    → four ≡ appended (take third three) UNKNOWN_ATTRIBUTES (types_encoding types) ++ drop (grown_length third (length (types_encoding types))) three
     → four ≡ overlaid (response ErrorClass r (unknown_reply types)) slice
-refusal_in r slice one two three four [] some few one-is two-is three-is four-is = absurd (omega (arith, some))
-refusal_in r slice one two three four (x ∷ xs) some few one-is two-is three-is four-is =
+refusal_in r slice one two three four [] first second third some few first-is second-is third-is one-is two-is three-is four-is = absurd (omega (arith, some))
+refusal_in r slice one two three four (x ∷ xs) first second third some few first-is second-is third-is one-is two-is three-is four-is =
     let kind = response_type ErrorClass r in
     let id = id_field r in
     let types = x ∷ xs in
     let twos = length_of_twos types in
     let reason = error_value 420 (codes "Unknown Attributes") in
     let error = canonical ERROR_CODE reason in
-    let first : length (message_encoding kind id []) ≡ 20 = length-message kind id [] in
-    let second : length (message_encoding kind id (own_software ∷ [])) ≡ 36 = omega (arith, length-message kind id (own_software ∷ []), software_length) in
-    let third : length (message_encoding kind id (own_software ∷ error ∷ [])) ≡ 64 = omega (arith, length-message kind id (own_software ∷ error ∷ []), error_length) in
-    let written : two ≡ overlaid (message_encoding kind id (own_software ∷ [])) slice = grown kind id [] slice one two (codes "stun-types") SOFTWARE 20 (sym first) one-is (lit< tt) (lit< tt) two-is in
-    let told : three ≡ overlaid (message_encoding kind id (own_software ∷ error ∷ [])) slice = grown kind id (own_software ∷ []) slice two three reason ERROR_CODE 36 (sym second) written (lit< tt) (lit< tt) three-is in
-    grown kind id (own_software ∷ error ∷ []) slice three four (types_encoding types) UNKNOWN_ATTRIBUTES 64 (sym third) told (lit< tt) (omega (arith, twos, few)) four-is
+    let header : first ≡ length (message_encoding kind id []) = omega (arith, first-is, length-message kind id []) in
+    let named : second ≡ length (message_encoding kind id (own_software ∷ [])) = omega (arith, first-is, second-is, length-message kind id (own_software ∷ []), software_length) in
+    let told : third ≡ length (message_encoding kind id (own_software ∷ error ∷ [])) = omega (arith, first-is, second-is, third-is, length-message kind id (own_software ∷ error ∷ []), error_length) in
+    let software : two ≡ overlaid (message_encoding kind id (own_software ∷ [])) slice = grown kind id [] slice one two (codes "stun-types") SOFTWARE first header one-is (lit< tt) (lit< tt) two-is in
+    let code : three ≡ overlaid (message_encoding kind id (own_software ∷ error ∷ [])) slice = grown kind id (own_software ∷ []) slice two three reason ERROR_CODE second named software (lit< tt) (lit< tt) three-is in
+    grown kind id (own_software ∷ error ∷ []) slice three four (types_encoding types) UNKNOWN_ATTRIBUTES third told code (lit< tt) (omega (arith, twos, few)) four-is
 
 -- how long it is
 pub refusal_size : (r : List ℕ) (types : List AttributeType) → 0 < length types → length types ≤ 16384 → length (response ErrorClass r (unknown_reply types)) ≡ grown_length 64 (length (types_encoding types))
 refusal_size r [] some few = absurd (omega (arith, some))
 refusal_size r (x ∷ xs) some few = omega (arith, unknown_short r x xs few, length_of_twos (x ∷ xs))
 
--- ---- Which of the two it is, and the answer
+-- ---- Which of the two it is, and how long
 
 pub unfinished_none : (source : SocketAddr) (r : List ℕ) (types : List AttributeType) → length types ≡ 0 → reply_for source r types ≡ response Success r (success_reply source r)
 unfinished_none source r [] none = refl
 unfinished_none source r (x ∷ xs) none = absurd (omega (arith, none))
-
-pub unfinished_some : (source : SocketAddr) (r : List ℕ) (types : List AttributeType) → 0 < length types → reply_for source r types ≡ response ErrorClass r (unknown_reply types)
-unfinished_some source r [] some = absurd (omega (arith, some))
-unfinished_some source r (x ∷ xs) some =
-    ap (λ (b : Bool). option_map_or (response ErrorClass r) (cond b (if lacks [] r then Some bad_reply else None) (Some (unknown_reply (x ∷ xs)))) (response Success r (success_reply source r)))
-    (ne_eqb (length (x ∷ xs)) 0 (λ e. omega (arith, e)))
 
 pub finished_size : (finishes : Bool) (text : List ℕ) → 20 ≤ length text → length (if finishes then appended text FINGERPRINT (fingerprint_value text (length text)) else text) ≡ length text + (if finishes then 8 else 0)
 finished_size false text long = omega arith
@@ -194,21 +185,13 @@ finished_size true text long =
     let four = fingerprint_length text (length text) in
     omega (arith, appended_length text FINGERPRINT (fingerprint_value text (length text)) (omega (arith, long)) (lit< tt) (omega (arith, four)), four)
 
-pub too_small : (text slice : List ℕ) (whole : ℕ) → whole ≡ length text → length slice < whole
-    → (answer_in (Some text) (length slice) ≡ Err (TooSmall whole (length slice))) × (slice_after (Some text) slice ≡ slice)
-too_small text slice whole is small =
-    let test : nat_lt (length slice) (length text) ≡ true = lt-ltb (length slice) (length text) (omega (arith, is, small)) in
-    (rw (test, is) refl, rw test refl)
-
-pub has_room : (text slice new : List ℕ) (whole : ℕ) → whole ≡ length text → whole ≤ length slice → new ≡ overlaid text slice
-    → (answer_in (Some text) (length slice) ≡ Ok (Some whole)) × (slice_after (Some text) slice ≡ new)
-has_room text slice new whole is large new-is =
-    let test : nat_lt (length slice) (length text) ≡ false = le-ltb (length slice) (length text) (omega (arith, is, large)) in
-    (rw (test, is) refl, rw test (sym new-is))
-
 -- how long the whole reply is
 pub whole_is : (source : SocketAddr) (r : List ℕ) (len whole : ℕ) (finishes : Bool) → finishes ≡ is_some (nth r FINGERPRINT 0) → len ≡ length (unfinished_reply source r) → 20 ≤ len → whole ≡ len + (if finishes then 8 else 0)
     → whole ≡ length (binding_reply source r)
 whole_is source r len whole finishes is len-is long whole-is =
     let text = unfinished_reply source r in
     whole-is ∙ ap (λ (b : Bool). len + (if b then 8 else 0)) is ∙ ap (λ (n : ℕ). n + (if is_some (nth r FINGERPRINT 0) then 8 else 0)) len-is ∙ sym (finished_size (is_some (nth r FINGERPRINT 0)) text (omega (arith, len-is, long)))
+
+-- a FINGERPRINT makes it no shorter
+pub finished_longer : (source : SocketAddr) (r : List ℕ) → 20 ≤ length (unfinished_reply source r) → length (unfinished_reply source r) ≤ length (binding_reply source r)
+finished_longer source r long = omega (arith, finished_size (is_some (nth r FINGERPRINT 0)) (unfinished_reply source r) long)

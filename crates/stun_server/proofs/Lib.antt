@@ -1,4 +1,3 @@
 mod ReplyLemmas
-pub mod RefusalsLemmas
 pub mod SizesLemmas
 mod InSliceLemmas

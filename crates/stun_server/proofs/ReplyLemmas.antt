@@ -1,26 +1,19 @@
 -- A reply, attribute by attribute.
-use Rattle.std.proofs.Common.{◌≡◌, ℕ, ◌^◌, ◌<◌, true, false, ◌==◌, List, [], ◌∷◌, length, Some, None, refl, sym, ap, subst, ◌∙◌, lit<}
-use Rattle.std.specs.Prelude.{codes}
+use Rattle.std.proofs.Common.{◌≡◌, ℕ, true, false, ◌==◌, List, Some, None, refl, sym, ap, ◌∙◌}
 use Rattle.std.specs.Net.Addr.{is_ipv6}
 use Rattle.std.specs.Net.Socket.{socket_ip}
 use Rattle.std.specs.declared.net.ip_addr.IpAddr.{IpAddr}
 use Rattle.std.specs.declared.net.ip_addr.IpAddr.TheVariants.{V4, V6}
 use Rattle.std.specs.declared.net.socket_addr.SocketAddr.{SocketAddr}
 use Rattle.stun_grammar.specs.declared.error.StunParseError.{StunParseError}
-use Rattle.stun_grammar.specs.Headers.{type_field, id_field}
+use Rattle.stun_grammar.specs.Headers.{type_field}
 use Rattle.stun_grammar.specs.Names.{BINDING}
-use Rattle.stun_grammar.specs.Attributes.{canonical}
-use Rattle.stun_grammar.specs.AttributeTypes.{XOR_MAPPED_ADDRESS, SOFTWARE}
 use Rattle.stun_grammar.specs.Parsing.{parse_fault}
-use Rattle.stun_grammar.specs.Writing.{message_encoding}
-use Rattle.stun_grammar.specs.Adding.{appended}
-use Rattle.stun_grammar.proofs.AddingLemmas.{message_more}
 use Rattle.stun_base.specs.declared.message_type.MessageClass.{MessageClass}
 use Rattle.stun_base.specs.declared.message_type.MessageClass.TheVariants.{Request, Indication, Success, Error as ErrorClass}
 use Rattle.stun_base.specs.MessageTypes.{class_of, method_of}
 use Rattle.stun_values.specs.Addresses.{family, address_value, IsXored, xored_value}
-use Rattle.stun_types.specs.Replies.{response_type}
-use Rattle.stun_server.specs.Reply.{success_reply, response, binding_reply, reply_by_type, reply}
+use Rattle.stun_server.specs.Reply.{binding_reply, reply_by_type, reply}
 
 same_family : (x a : IpAddr) → is_ipv6 x ≡ is_ipv6 a → family x ≡ family a
 same_family (V4 x) (V4 a) e = refl
@@ -31,22 +24,6 @@ same_family (V6 x) (V6 a) e = refl
 -- the value of an address that was XORed
 pub xored_spelled : (id : ℕ) (a x : SocketAddr) → IsXored id a x → address_value x ≡ xored_value id a
 xored_spelled id a x xored = rw (same_family (socket_ip x) (socket_ip a) xored.family_is, xored.port_is, xored.octets_are) refl
-
--- the success response is written by two adds
-pub success_written : (source x : SocketAddr) (r text first second third : List ℕ) (id : ℕ) → id ≡ id_field r → IsXored id source x → text ≡ codes "stun-types"
-    → first ≡ message_encoding (response_type Success r) (id_field r) [] → length (address_value x) < 2 ^ 16
-    → second ≡ appended first XOR_MAPPED_ADDRESS (address_value x) → third ≡ appended second SOFTWARE text
-    → third ≡ response Success r (success_reply source r)
-success_written source x r text first second third id id-is xored text-is first-is fits second-is third-is =
-    let kind = response_type Success r in
-    let mapped = canonical XOR_MAPPED_ADDRESS (xored_value (id_field r) source) in
-    let value : address_value x ≡ xored_value (id_field r) source = xored_spelled id source x xored ∙ ap (λ (n : ℕ). xored_value n source) id-is in
-    let small : length (xored_value (id_field r) source) < 2 ^ 16 = subst (λ (b : List ℕ). length b < 2 ^ 16) value fits in
-    let one : second ≡ message_encoding kind (id_field r) (mapped ∷ []) =
-    second-is ∙ ap (λ (b : List ℕ). appended b XOR_MAPPED_ADDRESS (address_value x)) first-is ∙ ap (appended (message_encoding kind (id_field r) []) XOR_MAPPED_ADDRESS) value
-    ∙ message_more kind (id_field r) [] XOR_MAPPED_ADDRESS (xored_value (id_field r) source) (lit< tt) small in
-    third-is ∙ ap (λ (b : List ℕ). appended b SOFTWARE text) one ∙ ap (appended (message_encoding kind (id_field r) (mapped ∷ [])) SOFTWARE) text-is
-    ∙ message_more kind (id_field r) (mapped ∷ []) SOFTWARE (codes "stun-types") (lit< tt) (lit< tt)
 
 -- ---- Whether there is a reply
 

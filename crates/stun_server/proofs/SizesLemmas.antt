@@ -31,13 +31,14 @@ use Rattle.stun_base.specs.declared.message_type.MessageClass.{MessageClass}
 use Rattle.stun_base.specs.declared.message_type.MessageClass.TheVariants.{Request, Indication, Success, Error as ErrorClass}
 use Rattle.stun_base.specs.MessageTypes.{class_of, method_of}
 use Rattle.stun_read.specs.LookingUp.{nth}
-use Rattle.stun_values.specs.Addresses.{octets, mask, xored_value}
+use Rattle.stun_values.specs.Addresses.{octets, mask, address_value, IsXored, xored_value}
 use Rattle.stun_values.specs.ErrorValues.{error_value}
 use Rattle.stun_values.specs.TypeLists.{types_encoding}
 use Rattle.stun_values.proofs.ListsLemmas.{length_of_twos}
-use Rattle.stun_types.specs.Replies.{response_type, own_software, bad_reply, unknown_reply, is_unknown, lacks, unknown_types}
+use Rattle.stun_types.specs.Replies.{response_type, own_software, error_attribute, bad_reply, unknown_reply, is_unknown, lacks, unknown_types}
 use Rattle.stun_server.specs.Reply.{success_reply, response, unfinished_reply, binding_reply, reply_by_type, reply}
 use Rattle.stun_server.specs.Sizes.{IsSmall}
+use Rattle.stun_server.proofs.ReplyLemmas.{xored_spelled}
 
 -- ---- What a request has at least
 
@@ -128,6 +129,25 @@ short_value id source =
     let ip = octets (socket_ip source) in
     omega (arith, length-map (zip ip (mask id)) (λ (pair : ℕ × ℕ). bit_xor pair.0 pair.1), length-zip ip (mask id))
 
+-- the value of an address that was XORed is short
+pub address_short : (id : ℕ) (source x : SocketAddr) → IsXored id source x → length (address_value x) ≤ 20
+address_short id source x xored = omega (arith, ap length (xored_spelled id source x xored), short_value id source)
+
+-- the attributes before the list take sixteen bytes, and 44
+pub software_length : length (encodings (own_software ∷ [])) ≡ 16
+software_length = omega (arith, length-canonical SOFTWARE (codes "stun-types") (lit< tt) (lit< tt), length-append (encoding own_software) [])
+
+pub error_length : length (encodings (own_software ∷ error_attribute 420 (codes "Unknown Attributes") ∷ [])) ≡ 44
+error_length =
+    let error = error_attribute 420 (codes "Unknown Attributes") in
+    omega (
+      arith,
+      length-canonical SOFTWARE (codes "stun-types") (lit< tt) (lit< tt),
+      length-canonical ERROR_CODE (error_value 420 (codes "Unknown Attributes")) (lit< tt) (lit< tt),
+      length-append (encoding own_software) (encoding error ++ []),
+      length-append (encoding error) [],
+    )
+
 pub success_short : (source : SocketAddr) (r : List ℕ) → length (response Success r (success_reply source r)) ≤ 60
 success_short source r =
     let value = xored_value (id_field r) source in
@@ -158,6 +178,9 @@ reply_short : (source : SocketAddr) (r : List ℕ) (types : List AttributeType) 
     → (20 ≤ length (reply_for source r types)) × (length (reply_for source r types) ≤ 68 + 4 * length types) × (length (reply_for source r types) ≤ 60 + 12 * length types) × (length (reply_for source r types) ≤ 70 + 2 * length types)
 reply_short source r [] few = let short = success_short source r in let long = length-message (response_type Success r) (id_field r) (success_reply source r) in (omega (arith, long), omega (arith, short), omega (arith, short), omega (arith, short))
 reply_short source r (x ∷ xs) few = let is = reply_unknown source r x xs ∙ unknown_short r x xs few in (omega (arith, is), omega (arith, is), omega (arith, is), omega (arith, is))
+
+pub unfinished_short : (source : SocketAddr) (r : List ℕ) → length (unknown_types [] r) ≤ 16384 → (20 ≤ length (unfinished_reply source r)) × (length (unfinished_reply source r) ≤ 65547)
+unfinished_short source r few = let short = reply_short source r (unknown_types [] r) few in (short.0, omega (arith, short.3, few))
 
 finished_by : (o : Option Shown) (text : List ℕ) → 20 ≤ length text → length (if is_some o then appended text FINGERPRINT (fingerprint_value text (length text)) else text) ≡ length text + tail_of o
 finished_by None text long = omega arith

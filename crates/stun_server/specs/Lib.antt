@@ -1,4 +1,3 @@
 pub mod Reply
 pub mod Sizes
-pub mod Making
 pub mod InSlice

@@ -2,10 +2,11 @@
 #![tactic(auto)]
 
 mod binding;
-mod in_slice;
 mod laws;
 mod unknown;
+mod values;
+mod writing;
+mod written;
 
-pub use binding::reply;
-pub use in_slice::reply_into;
+pub use binding::{reply, reply_into};
 pub use laws::replies_are_small;

@@ -1,21 +1,21 @@
 //! The types that a request shows and that the server doesn't comprehend, with no list of them.
 
 ghost use Rattle.std.specs.Prelude.{◌≡◌, ◌+◌, ◌*◌, ◌≤◌, ◌++◌, length, take, drop};
-ghost use Rattle.stun_grammar.specs.Numbers.{be16};
-ghost use Rattle.stun_grammar.specs.AttributeTypes.{UNKNOWN_ATTRIBUTES};
-ghost use Rattle.stun_grammar.specs.Adding.{appended, grown_length};
+ghost use Rattle.stun_grammar.specs.Numbers.{IsBytes, be16};
 ghost use Rattle.stun_values.specs.TypeLists.{types_encoding};
 ghost use Rattle.stun_types.specs.Replies.{is_unknown, unknown_types};
 ghost use Rattle.stun_server.specs.Reply.{comprehended};
 
-use crate::binding::are_bytes;
 use byteorder::{BigEndian, ByteOrder};
 use stun_attrs::{Attribute, EncodeValue};
-use stun_base::{AttributeType, pad_attribute_len};
-use stun_grammar::attribute_types;
+use stun_base::AttributeType;
 use stun_read::MessageAttributesIter;
 use stun_types::message::Message;
-use stun_write::append_encoded;
+
+/// Each number in a slice is below 256. The function does nothing: its contract is the law.
+fn are_bytes(bytes: &[u8])
+    ensures { IsBytes bytes.now }
+{}
 
 /// Whether attributes of this type require comprehension, which the server has of none.
 fn is_unknown(atype: AttributeType) -> bool
@@ -77,6 +77,7 @@ impl<'m> UnknownTypes<'m> {
     ghost use Rattle.stun_types.specs.Message.{message_bytes};
 
     /// Those of a request.
+    #[inline(always)]
     pub(crate) fn of(request: &Message<'m>) -> UnknownTypes<'m>
         ensures { result.request.now ≡ message_bytes request.now }
     {
@@ -113,34 +114,4 @@ impl EncodeValue for UnknownTypes<'_> {
     fn held_bytes(&self) -> Option<&[u8]> {
         None
     }
-}
-
-/// How many bytes a message of `len` bytes has with an UNKNOWN-ATTRIBUTES of these types.
-#[tactic(auto, using(stun_values::proofs::ListsLemmas::length_of_twos))]
-pub(crate) fn with_unknown(len: usize, unknown: &UnknownTypes<'_>) -> usize
-    requires { len ≤ 100 }
-    ensures length { result ≡ grown_length len
-        (length (types_encoding (unknown_types comprehended unknown.now.request.now))) }
-    ensures bound { result ≤ len + 32772 }
-{
-    len + 4 + pad_attribute_len(2 * unknown.count())
-}
-
-/// Writes an UNKNOWN-ATTRIBUTES of these types after the first `len` bytes of `message`, which hold
-/// the message so far, and sets the length field to count it in.
-#[tactic(auto, using(stun_values::proofs::ListsLemmas::length_of_twos))]
-pub(crate) fn append_unknown(unknown: &UnknownTypes<'_>, len: usize, message: &mut [u8])
-    requires header { 20 ≤ len }
-    requires early { len ≤ 100 }
-    requires room { grown_length len
-        (length (types_encoding (unknown_types comprehended unknown.now.request.now)))
-        ≤ length message.old }
-    ensures { let value = types_encoding (unknown_types comprehended unknown.now.request.now) in
-        message.new ≡ appended (take len message.old) UNKNOWN_ATTRIBUTES value
-        ++ drop (grown_length len (length value)) message.old }
-{
-    // for the prover: there are at most 16384 types
-    let _count = unknown.count();
-    let atype = AttributeType(attribute_types::UNKNOWN_ATTRIBUTES);
-    append_encoded(atype, unknown, len, message);
 }
