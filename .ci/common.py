@@ -106,6 +106,17 @@ def script(name):
     return module
 
 
+def tested(crate):
+    """Runs the tests of a crate, with no proof; all that was printed."""
+    told = ran("rt", "try", "--test", folder=crate)
+    return told.stdout + told.stderr
+
+
+def results_of(said):
+    """What is printed of each test that ran, by its name: `ok` if it passed."""
+    return dict(re.findall(r"^test (\S+) \.\.\. (.*(?:\n    .*)*)", said, re.M))
+
+
 def kit():
     """The folder of the kit."""
     return str(pathlib.Path(ran("rt", "doc").stdout.strip()).parent)

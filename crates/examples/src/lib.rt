@@ -4,6 +4,7 @@
 pub mod agent;
 pub mod allocation;
 pub mod client;
+pub mod client_loop;
 pub mod ice;
 pub mod login;
 pub mod own;

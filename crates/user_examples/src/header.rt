@@ -4,8 +4,11 @@ ghost use Rattle.std.specs.Prelude.{◌≡◌, ◌≤◌, [], IfOk};
 ghost use Rattle.stun_grammar.specs.Headers.{type_field, id_field};
 ghost use Rattle.stun_grammar.specs.Adding.{Fits};
 
+use std::alloc::Global;
 use stun_types::attribute::Software;
-use stun_types::message::{Message, MessageType, StunWriteError, TransactionId};
+use stun_types::message::{
+    Message, MessageType, MessageWriteMutSlice, MessageWriteVec, StunWriteError, TransactionId,
+};
 use stun_types::prelude::*;
 
 /// Begins a message of this type and transaction ID in any writer that is empty and has twenty
@@ -33,4 +36,39 @@ pub fn header_behind_adds<B: MessageWrite>(
     message.add_attribute(software)?;
     message.add_fingerprint()?;
     Ok((message.get_type(), message.transaction_id()))
+}
+
+/// The type and the transaction ID that a header has.
+type Headed = (MessageType, TransactionId);
+
+/// The same in a vector with room for a header, which is returned too.
+///
+/// # Errors
+///
+/// Only `OutOfMemory`.
+pub fn header_in_vector(
+    alloc: Global,
+    mtype: MessageType,
+    id: TransactionId,
+    software: &Software,
+) -> Result<(Headed, MessageWriteVec), StunWriteError> {
+    let mut message = MessageWriteVec::with_capacity(alloc, 20)?;
+    let headed = header_behind_adds(mtype, id, software, &mut message)?;
+    Ok((headed, message))
+}
+
+/// The same in forty bytes.
+///
+/// # Errors
+///
+/// As for [`header_behind_adds`].
+pub fn header_in_forty(
+    alloc: Global,
+    mtype: MessageType,
+    id: TransactionId,
+    software: &Software,
+    buf: &mut [u8; 40],
+) -> Result<Headed, StunWriteError> {
+    let mut message = MessageWriteMutSlice::new(alloc, buf);
+    header_behind_adds(mtype, id, software, &mut message)
 }

@@ -3,9 +3,13 @@
 ghost use Rattle.std.specs.Prelude.{◌≡◌, ◌≤◌, [], All, IsOk, length};
 ghost use Rattle.stun_write.specs.Runs.{AddsOrdinary, Writes};
 
-use crate::WriteFixed;
+use crate::{Blob, WriteFixed};
 use std::alloc::Global;
-use stun_types::message::{MessageType, Step, StunWriteError, TransactionId, write_steps_into};
+use stun_base::binding_request;
+use stun_types::message::{
+    IntegrityAlgorithm, IntegrityKey, MessageType, Step, StunWriteError, TransactionId,
+    write_steps_into,
+};
 use stun_types::prelude::*;
 
 /// Writes a message by these steps, whose results it stores in `verdicts`, into an array of which
@@ -35,4 +39,33 @@ pub fn steps_in_array<const N: usize>(
         (⟦<WriteFixed<N> as MessageWrite>⟧.state write.new) mtype id steps.now verdicts.new }
 {
     write_steps_into(alloc, mtype, id, steps, verdicts, write)
+}
+
+/// Writes a binding request with a borrowed value into an array of 72 bytes, signs it for SHA-256
+/// with this key, and adds a FINGERPRINT. The array is returned with the result of each step.
+///
+/// # Errors
+///
+/// None.
+pub fn signed_in_array(
+    alloc: Global,
+    id: TransactionId,
+    blob: &Blob<'_>,
+    key: &IntegrityKey,
+) -> Result<(WriteFixed<72>, [Result<(), StunWriteError>; 3]), StunWriteError> {
+    let mut verdicts = [Ok(()); 3];
+    let mut write = WriteFixed::<72>::new();
+    steps_in_array(
+        alloc,
+        binding_request(),
+        id,
+        &[
+            Step::Add(blob),
+            Step::SignKey(key, IntegrityAlgorithm::Sha256),
+            Step::Finger,
+        ],
+        &mut verdicts,
+        &mut write,
+    )?;
+    Ok((write, verdicts))
 }

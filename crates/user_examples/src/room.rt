@@ -9,7 +9,7 @@ ghost use Rattle.user_examples.specs.Room.{HasReady};
 use std::alloc::Global;
 use stun_base::binding_request;
 use stun_types::attribute::{AttributeType, RawAttribute};
-use stun_types::message::{Message, StunWriteError, TransactionId};
+use stun_types::message::{Message, MessageWriteVec, StunWriteError, TransactionId};
 use stun_types::prelude::*;
 
 /// USE-CANDIDATE (0x0025), by which a controlling ICE agent nominates a candidate pair. Its value
@@ -103,4 +103,18 @@ pub fn nominate_sixteen<B: MessageWrite>(
         left -= 1;
     }
     Ok(())
+}
+
+/// The same in a vector of 84 bytes: the only memory that this takes.
+///
+/// # Errors
+///
+/// `OutOfMemory` if the allocation of the vector failed.
+pub fn nominate_in_vector(
+    alloc: Global,
+    id: TransactionId,
+) -> Result<MessageWriteVec, StunWriteError> {
+    let mut message = MessageWriteVec::with_capacity(alloc, 84)?;
+    nominate_sixteen(id, &mut message)?;
+    Ok(message)
 }

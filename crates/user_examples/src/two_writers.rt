@@ -5,6 +5,8 @@ ghost use Rattle.std.specs.List.{AllByRecursion};
 ghost use Rattle.stun_write.specs.Runs.{AddsOrdinary};
 
 use std::alloc::Global;
+use stun_base::binding_request;
+use stun_types::attribute::Software;
 use stun_types::message::write::writers_agree;
 use stun_types::message::{
     MessageType, MessageWriteMutSlice, MessageWriteVec, Step, StunWriteError, TransactionId,
@@ -43,4 +45,28 @@ pub fn in_both(
     let bytes = vector.finish();
     let written = slice.finish();
     Ok((bytes, written))
+}
+
+/// Writes a binding request with a SOFTWARE as [`in_both`] does, the slice being forty bytes.
+///
+/// # Errors
+///
+/// Only `OutOfMemory`.
+pub fn software_in_both(
+    alloc: Global,
+    id: TransactionId,
+    software: &Software,
+    verdicts: &mut [Result<(), StunWriteError>; 1],
+    others: &mut [Result<(), StunWriteError>; 1],
+    buf: &mut [u8; 40],
+) -> Result<(Vec<u8>, usize), StunWriteError> {
+    in_both(
+        alloc,
+        binding_request(),
+        id,
+        &[Step::Add(software)],
+        verdicts,
+        others,
+        buf,
+    )
 }

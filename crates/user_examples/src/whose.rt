@@ -7,6 +7,7 @@ ghost use Rattle.stun_write.specs.Runs.{AddsOrdinary, sent};
 ghost use Rattle.user_examples.specs.Whose.{HasOrigin};
 
 use std::alloc::Global;
+use stun_types::attribute::Software;
 use stun_types::message::{
     IntegrityAlgorithm, IntegrityKey, Message, MessageType, MessageWriteVec, Step, StunParseError,
     StunWriteError, TransactionId, ValidateError, write_steps,
@@ -68,4 +69,32 @@ pub fn validates_own(
     };
     let message = Message::from_bytes(&bytes)?;
     message.validate_integrity_with_key(key)
+}
+
+/// Writes a message with a SOFTWARE, signs it for SHA-256 with one key, adds a FINGERPRINT, and
+/// validates the message with another key, as [`validates_own`] does.
+///
+/// # Errors
+///
+/// As for [`validates_own`].
+pub fn signs_and_validates(
+    alloc: Global,
+    (mtype, id): (MessageType, TransactionId),
+    software: &Software,
+    signs: &IntegrityKey,
+    validates: &IntegrityKey,
+    verdicts: &mut [Result<(), StunWriteError>; 3],
+) -> Result<IntegrityAlgorithm, ValidateError> {
+    validates_own(
+        alloc,
+        mtype,
+        id,
+        &[
+            Step::Add(software),
+            Step::SignKey(signs, IntegrityAlgorithm::Sha256),
+            Step::Finger,
+        ],
+        verdicts,
+        validates,
+    )
 }
