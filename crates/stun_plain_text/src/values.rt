@@ -1,6 +1,6 @@
 //! How attributes are printed.
 
-ghost use Rattle.std.specs.Prelude.{◌≡◌, OnOk};
+ghost use Rattle.std.specs.Prelude.{OnOk};
 ghost use Rattle.stun_attrs.specs.Raw.{raw_type, raw_value};
 ghost use Rattle.stun_plain_text.specs.PlainValues.{octets_text, number_text, address_text, xor_address_text, other_value_text, type_text, other_text, malformed_type_text, malformed_text, typed_or_other_text, attribute_text};
 
