@@ -608,8 +608,9 @@ stun_types_answer stun_types_add(uint8_t *room, size_t size, size_t *written, ui
 
 /* Adds a number of 8, 16, 32 or 64 bits, big-endian. The table lists the types that have such values:
    a call of another width refuses them. Each call refuses the types whose value is no number:
-   addresses, texts, errors, lists and hashes, and USE-CANDIDATE and DONT-FRAGMENT, which stun_types_add
-   adds with a length of 0. A type that the library doesn't know is taken by each call.
+   addresses, texts, errors, lists, hashes and any octets (DATA, PADDING, ACCESS-TOKEN,
+   MOBILITY-TICKET), and USE-CANDIDATE and DONT-FRAGMENT, which stun_types_add adds with a length of 0.
+   A type that the library doesn't know is taken by each call.
 
      u8   REQUESTED_TRANSPORT (17 for UDP, 6 for TCP), REQUESTED_ADDRESS_FAMILY (1 for IPv4, 2 for
           IPv6), ADDITIONAL_ADDRESS_FAMILY (2): three zeros follow

@@ -1,8 +1,13 @@
 //! The attribute types of this crate: their numbers (RFC 8489, section 18.3.1; RFC 5780, section
-//! 9.1; RFC 7982, section 4), a list of them, and their registration.
+//! 9.1; RFC 7982, section 4), what the RFCs say of each, a list of them, and their registration.
+
+ghost use Rattle.std.specs.Prelude.{◌≡◌};
+ghost use Rattle.std.specs.Option.{option_map};
+ghost use Rattle.stun_types.specs.KnownTypes.{facts};
+ghost use Rattle.discovery_attrs.specs.DiscoveryTypes.{known_type};
 
 use stun_grammar::attribute_types;
-use stun_types::attribute::AttributeType;
+use stun_types::attribute::{AttributeType, KnownType, ValueForm};
 
 /// The type of MAPPED-ADDRESS (RFC 8489, section 14.1).
 pub const MAPPED_ADDRESS: u16 = attribute_types::MAPPED_ADDRESS;
@@ -24,6 +29,48 @@ pub const RESPONSE_ORIGIN: u16 = 0x802B;
 
 /// The type of OTHER-ADDRESS (RFC 5780, section 7.4).
 pub const OTHER_ADDRESS: u16 = 0x802C;
+
+/// The number of a port.
+const PORT: ValueForm = ValueForm::PaddedNumber {
+    width: 2,
+    least: 0,
+    greatest: 0xFFFF,
+};
+
+/// Returns what an RFC says of an attribute type (RFC 5780, section 7; RFC 7982, section 3.1): its
+/// name and the form of its values; `None` for a type of neither. MAPPED-ADDRESS is a type of RFC
+/// 8489, for [`stun_types::attribute::known_type`].
+///
+/// # Examples
+///
+/// ```
+/// use discovery_attrs::known_type;
+///
+/// let known = known_type(0x802B).ok_or("no type of NAT discovery")?;
+/// assert_eq!(rt; known.name, "RESPONSE-ORIGIN");
+/// assert_eq!(rt; known.rfc, 5780);
+/// ```
+pub fn known_type(atype: u16) -> Option<KnownType>
+    ensures { option_map facts result ≡ known_type atype }
+{
+    match atype {
+        CHANGE_REQUEST => Some(KnownType::new(
+            "CHANGE-REQUEST",
+            ValueForm::Octets { width: 4 },
+            5780,
+        )),
+        PADDING => Some(KnownType::new("PADDING", ValueForm::Other, 5780)),
+        RESPONSE_PORT => Some(KnownType::new("RESPONSE-PORT", PORT, 5780)),
+        TRANSACTION_TRANSMIT_COUNTER => Some(KnownType::new(
+            "TRANSACTION_TRANSMIT_COUNTER",
+            ValueForm::Octets { width: 4 },
+            7982,
+        )),
+        RESPONSE_ORIGIN => Some(KnownType::new("RESPONSE-ORIGIN", ValueForm::Address, 5780)),
+        OTHER_ADDRESS => Some(KnownType::new("OTHER-ADDRESS", ValueForm::Address, 5780)),
+        _ => None,
+    }
+}
 
 /// The types of the attributes of NAT discovery, for `Message::check_attribute_types`.
 ///
@@ -70,12 +117,11 @@ pub const KNOWN: [AttributeType; 7] = [
 #[macro_export]
 macro_rules! register {
     ($registry:ident) => {{
-        $registry.add_name(<$crate::ChangeRequest as stun_types::attribute::AttributeStaticType>::TYPE, "CHANGE-REQUEST")?;
-        $registry.add_name(<$crate::Padding as stun_types::attribute::AttributeStaticType>::TYPE, "PADDING")?;
-        $registry.add_name(<$crate::ResponsePort as stun_types::attribute::AttributeStaticType>::TYPE, "RESPONSE-PORT")?;
-        $registry.add_name(<$crate::TransactionTransmitCounter as stun_types::attribute::AttributeStaticType>::TYPE, "TRANSACTION_TRANSMIT_COUNTER")?;
-        $registry.add_name(<$crate::ResponseOrigin as stun_types::attribute::AttributeStaticType>::TYPE, "RESPONSE-ORIGIN")?;
-        $registry.add_name(<$crate::OtherAddress as stun_types::attribute::AttributeStaticType>::TYPE, "OTHER-ADDRESS")?;
+        for atype in $crate::KNOWN {
+            if let Some(known) = $crate::known_type(atype.value()) {
+                $registry.add_name(atype, known.name)?;
+            }
+        }
         stun_types::attribute_display!($registry, $crate::MappedAddress)?;
         stun_types::attribute_display!($registry, $crate::ChangeRequest)?;
         stun_types::attribute_display!($registry, $crate::Padding)?;

@@ -9,7 +9,7 @@ mod laws;
 mod response_port;
 mod transmissions;
 
-pub use attribute_types::KNOWN;
+pub use attribute_types::{KNOWN, known_type};
 pub use change::Change;
 pub use kinds::{
     ChangeRequest, ChangeRequestKind, MappedAddress, MappedAddressKind, OtherAddress,

@@ -4,3 +4,4 @@ pub mod Roles
 pub mod Credentials
 pub mod CheckUsernames
 pub mod Symmetry
+pub mod IceTypes

@@ -1,7 +1,12 @@
-//! The attribute types of this crate: their numbers (RFC 8445, section 20.1), a list of them, and
-//! their registration.
+//! The attribute types of this crate: their numbers (RFC 8445, section 20.1), what the RFC says of
+//! each, a list of them, and their registration.
 
-use stun_types::attribute::AttributeType;
+ghost use Rattle.std.specs.Prelude.{◌≡◌};
+ghost use Rattle.std.specs.Option.{option_map};
+ghost use Rattle.stun_types.specs.KnownTypes.{facts};
+ghost use Rattle.ice_attrs.specs.IceTypes.{known_type};
+
+use stun_types::attribute::{AttributeType, KnownType, ValueForm};
 
 /// The type of PRIORITY (RFC 8445, section 16.1).
 pub const PRIORITY: u16 = 0x0024;
@@ -14,6 +19,40 @@ pub const ICE_CONTROLLED: u16 = 0x8029;
 
 /// The type of ICE-CONTROLLING (RFC 8445, section 16.1).
 pub const ICE_CONTROLLING: u16 = 0x802A;
+
+/// A number of 32 bits.
+const NUMBER: ValueForm = ValueForm::Number {
+    width: 4,
+    least: 0,
+    greatest: 0xFFFF_FFFF,
+};
+
+/// The tiebreaker of an agent.
+const TIEBREAKER: ValueForm = ValueForm::Octets { width: 8 };
+
+/// Returns what RFC 8445 says of an attribute type (section 16.1): its name and the form of its
+/// values; `None` for a type that isn't one of ICE.
+///
+/// # Examples
+///
+/// ```
+/// use ice_attrs::known_type;
+///
+/// let known = known_type(0x0024).ok_or("no type of ICE")?;
+/// assert_eq!(rt; known.name, "PRIORITY");
+/// assert_eq!(rt; known.rfc, 8445);
+/// ```
+pub fn known_type(atype: u16) -> Option<KnownType>
+    ensures { option_map facts result ≡ known_type atype }
+{
+    match atype {
+        PRIORITY => Some(KnownType::new("PRIORITY", NUMBER, 8445)),
+        USE_CANDIDATE => Some(KnownType::new("USE-CANDIDATE", ValueForm::Other, 8445)),
+        ICE_CONTROLLED => Some(KnownType::new("ICE-CONTROLLED", TIEBREAKER, 8445)),
+        ICE_CONTROLLING => Some(KnownType::new("ICE-CONTROLLING", TIEBREAKER, 8445)),
+        _ => None,
+    }
+}
 
 /// The types of the attributes of ICE, for `Message::check_attribute_types`.
 ///
@@ -60,10 +99,11 @@ pub const KNOWN: [AttributeType; 4] = [
 #[macro_export]
 macro_rules! register {
     ($registry:ident) => {{
-        $registry.add_name(<$crate::Priority as stun_types::attribute::AttributeStaticType>::TYPE, "PRIORITY")?;
-        $registry.add_name(<$crate::UseCandidate as stun_types::attribute::AttributeStaticType>::TYPE, "USE-CANDIDATE")?;
-        $registry.add_name(<$crate::IceControlled as stun_types::attribute::AttributeStaticType>::TYPE, "ICE-CONTROLLED")?;
-        $registry.add_name(<$crate::IceControlling as stun_types::attribute::AttributeStaticType>::TYPE, "ICE-CONTROLLING")?;
+        for atype in $crate::KNOWN {
+            if let Some(known) = $crate::known_type(atype.value()) {
+                $registry.add_name(atype, known.name)?;
+            }
+        }
         stun_types::attribute_display!($registry, $crate::Priority)?;
         stun_types::attribute_display!($registry, $crate::UseCandidate)?;
         stun_types::attribute_display!($registry, $crate::IceControlled)?;

@@ -13,7 +13,7 @@ mod pacing;
 mod roles;
 mod symmetry;
 
-pub use attribute_types::KNOWN;
+pub use attribute_types::{KNOWN, known_type};
 pub use credentials::{CheckUsername, Ufrag, is_password};
 pub use formula::{pair_priority, priority};
 pub use kinds::{

@@ -1,20 +1,18 @@
 -- How the value of an attribute is printed.
-use Rattle.std.specs.Prelude.{ℕ, Bool, ◌==◌, ◌||◌, List, ◌++◌, length, codes, if◌then◌else◌}
+use Rattle.std.specs.Prelude.{ℕ, ◌==◌, Option, Some, List, ◌++◌, length, codes, if◌then◌else◌}
 use Rattle.std.specs.Fmt.{decimal}
 use Rattle.std.specs.Net.Text.{socket_text}
 use Rattle.std.specs.Option.{option_map_or}
 use Rattle.stun_text.specs.Lists.{with_commas}
-use Rattle.stun_grammar.specs.AttributeTypes.{MAPPED_ADDRESS, UNKNOWN_ATTRIBUTES}
+use Rattle.stun_grammar.specs.AttributeTypes.{UNKNOWN_ATTRIBUTES}
 use Rattle.stun_grammar.specs.Names.{hex, numbered_text}
 use Rattle.stun_grammar.specs.Numbers.{number}
 use Rattle.stun_values.specs.Addresses.{address_fault, address_in, xored_text}
 use Rattle.stun_values.specs.TypeLists.{types_fault, types_in}
 use Rattle.stun_values.specs.Typed.{value_fault, value_text}
-use Rattle.ice_attrs.specs.Ice.{PRIORITY}
-use Rattle.turn_basics.specs.TurnBasics.{LIFETIME, XOR_PEER_ADDRESS}
-use Rattle.turn_attrs.specs.Turn.{XOR_RELAYED_ADDRESS}
-use Rattle.discovery_attrs.specs.Discovery.{RESPONSE_ORIGIN, OTHER_ADDRESS}
-use Rattle.stun_plain_text.specs.NamesOfAll.{type_name}
+use Rattle.stun_types.specs.declared.attribute.known.ValueForm.{ValueForm}
+use Rattle.stun_types.specs.declared.attribute.known.ValueForm.TheVariants.{Number, Address, XorAddress}
+use Rattle.stun_plain_text.specs.NamesOfAll.{type_name, value_form}
 
 -- bytes in hexadecimal
 abbrev pub octets_text : List ℕ → List ℕ
@@ -35,23 +33,16 @@ xor_address_text value =
     option_map_or (λ fault. octets_text value) (address_fault value)
     (xored_text (address_in value))
 
--- which types of ICE, TURN and NAT discovery have a number, an address, and an address that is XORed
-abbrev pub is_number_type : ℕ → Bool
-is_number_type type = (type == PRIORITY) || (type == LIFETIME)
-
-abbrev pub is_address_type : ℕ → Bool
-is_address_type type =
-    (type == MAPPED_ADDRESS) || ((type == RESPONSE_ORIGIN) || (type == OTHER_ADDRESS))
-
-abbrev pub is_xor_address_type : ℕ → Bool
-is_xor_address_type type = (type == XOR_PEER_ADDRESS) || (type == XOR_RELAYED_ADDRESS)
+-- a value by the form of the values of its type
+abbrev pub text_by_form : Option ValueForm → List ℕ → List ℕ
+text_by_form (Some (Number _ _ _)) value = number_text value
+text_by_form (Some Address) value = address_text value
+text_by_form (Some XorAddress) value = xor_address_text value
+text_by_form _ value = octets_text value
 
 -- a value of a type that none of the fifteen typed attributes of RFC 8489 has
 abbrev pub other_value_text : ℕ → List ℕ → List ℕ
-other_value_text type value =
-    if is_number_type type then number_text value else (
-    if is_address_type type then address_text value else (
-    if is_xor_address_type type then xor_address_text value else octets_text value))
+other_value_text type = text_by_form (value_form type)
 
 -- a type, by its number and its name
 abbrev pub type_text : ℕ → List ℕ

@@ -1,5 +1,5 @@
 //! The text of a message for a log or a terminal: in printable ASCII, in one line, with the names of
-//! STUN, ICE, TURN and NAT discovery.
+//! STUN, ICE, TURN and NAT discovery; and what the RFCs say of their attribute types.
 #![tactic(auto)]
 
 mod escaping;
@@ -8,4 +8,5 @@ mod printing;
 mod types;
 mod values;
 
+pub use names::{known_type, value_form};
 pub use printing::write_plain_text;

@@ -1,55 +1,55 @@
-//! The names of attribute types and methods.
+//! What the RFCs say of attribute types, and the names of methods.
 
 ghost use Rattle.std.specs.Prelude.{◌≡◌};
+ghost use Rattle.std.specs.Option.{option_map};
 ghost use Rattle.stun_base.specs.MessageTypes.{class_name};
-ghost use Rattle.stun_plain_text.specs.NamesOfAll.{type_name, method_name};
+ghost use Rattle.stun_types.specs.KnownTypes.{facts};
+ghost use Rattle.stun_plain_text.specs.NamesOfAll.{known_type, value_form, type_name, method_name};
 
-use discovery_attrs::attribute_types::{
-    CHANGE_REQUEST, OTHER_ADDRESS, PADDING, RESPONSE_ORIGIN, RESPONSE_PORT,
-    TRANSACTION_TRANSMIT_COUNTER,
-};
-use ice_attrs::attribute_types::{ICE_CONTROLLED, ICE_CONTROLLING, PRIORITY, USE_CANDIDATE};
 use stun_base::{AttributeType, MessageClass, Method};
-use turn_attrs::attribute_types::{
-    ACCESS_TOKEN, ADDITIONAL_ADDRESS_FAMILY, ADDRESS_ERROR_CODE, CHANNEL_NUMBER, CONNECTION_ID,
-    DATA, DONT_FRAGMENT, EVEN_PORT, ICMP, LIFETIME, MOBILITY_TICKET, REQUESTED_ADDRESS_FAMILY,
-    REQUESTED_TRANSPORT, RESERVATION_TOKEN, THIRD_PARTY_AUTHORIZATION, XOR_PEER_ADDRESS,
-    XOR_RELAYED_ADDRESS,
-};
+use stun_types::attribute::{KnownType, ValueForm};
+
+/// Returns what an RFC says of an attribute type: its name, the form of its values, and which RFC
+/// it is; `None` for a type that neither STUN nor ICE, TURN and NAT discovery have.
+///
+/// # Examples
+///
+/// ```
+/// use stun_plain_text::known_type;
+///
+/// assert_eq!(rt; known_type(0x0024).map(|known| known.name), Some("PRIORITY"));
+/// assert_eq!(rt; known_type(0x7777), None);
+/// ```
+pub fn known_type(atype: u16) -> Option<KnownType>
+    ensures { option_map facts result ≡ known_type atype }
+{
+    if let Some(known) = stun_types::attribute::known_type(atype) {
+        return Some(known);
+    }
+    if let Some(known) = ice_attrs::known_type(atype) {
+        return Some(known);
+    }
+    if let Some(known) = turn_attrs::known_type(atype) {
+        return Some(known);
+    }
+    discovery_attrs::known_type(atype)
+}
+
+/// Returns the form of the values of an attribute type; `None` for a type that [`known_type`]
+/// doesn't know.
+pub fn value_form(atype: u16) -> Option<ValueForm>
+    ensures { result ≡ value_form atype }
+{
+    Some(known_type(atype)?.form)
+}
 
 /// The name of a type, `unknown` of one that neither STUN nor ICE, TURN and NAT discovery have.
 pub(crate) fn type_name(atype: AttributeType) -> &'static str
     ensures { result.now ≡ type_name atype.0 }
 {
-    match atype.value() {
-        PRIORITY => "PRIORITY",
-        USE_CANDIDATE => "USE-CANDIDATE",
-        ICE_CONTROLLED => "ICE-CONTROLLED",
-        ICE_CONTROLLING => "ICE-CONTROLLING",
-        CHANNEL_NUMBER => "CHANNEL-NUMBER",
-        LIFETIME => "LIFETIME",
-        XOR_PEER_ADDRESS => "XOR-PEER-ADDRESS",
-        DATA => "DATA",
-        XOR_RELAYED_ADDRESS => "XOR-RELAYED-ADDRESS",
-        REQUESTED_ADDRESS_FAMILY => "REQUESTED-ADDRESS-FAMILY",
-        EVEN_PORT => "EVEN-PORT",
-        REQUESTED_TRANSPORT => "REQUESTED-TRANSPORT",
-        DONT_FRAGMENT => "DONT-FRAGMENT",
-        ACCESS_TOKEN => "ACCESS-TOKEN",
-        RESERVATION_TOKEN => "RESERVATION-TOKEN",
-        CONNECTION_ID => "CONNECTION-ID",
-        ADDITIONAL_ADDRESS_FAMILY => "ADDITIONAL-ADDRESS-FAMILY",
-        ADDRESS_ERROR_CODE => "ADDRESS-ERROR-CODE",
-        ICMP => "ICMP",
-        THIRD_PARTY_AUTHORIZATION => "THIRD-PARTY-AUTHORIZATION",
-        MOBILITY_TICKET => "MOBILITY-TICKET",
-        CHANGE_REQUEST => "CHANGE-REQUEST",
-        PADDING => "PADDING",
-        RESPONSE_PORT => "RESPONSE-PORT",
-        TRANSACTION_TRANSMIT_COUNTER => "TRANSACTION_TRANSMIT_COUNTER",
-        RESPONSE_ORIGIN => "RESPONSE-ORIGIN",
-        OTHER_ADDRESS => "OTHER-ADDRESS",
-        _ => atype.name(),
+    match known_type(atype.value()) {
+        Some(known) => known.name,
+        None => "unknown",
     }
 }
 

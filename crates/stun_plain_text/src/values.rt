@@ -1,21 +1,19 @@
 //! How attributes are printed.
 
-ghost use Rattle.std.specs.Prelude.{◌≡◌, OnOk};
+ghost use Rattle.std.specs.Prelude.{OnOk};
 ghost use Rattle.stun_attrs.specs.Raw.{raw_type, raw_value};
-ghost use Rattle.stun_plain_text.specs.PlainValues.{octets_text, number_text, address_text, xor_address_text, is_number_type, is_address_type, is_xor_address_type, other_value_text, type_text, other_text, malformed_type_text, malformed_text, typed_or_other_text, attribute_text};
+ghost use Rattle.stun_plain_text.specs.PlainValues.{octets_text, number_text, address_text, xor_address_text, other_value_text, type_text, other_text, malformed_type_text, malformed_text, typed_or_other_text, attribute_text};
 
-use crate::names::type_name;
+use crate::names::{type_name, value_form};
 use crate::types::print_unknown_attributes;
 use byteorder::{BigEndian, ByteOrder};
-use discovery_attrs::attribute_types::{OTHER_ADDRESS, RESPONSE_ORIGIN};
-use ice_attrs::attribute_types::PRIORITY;
 use stun_attrs::{Attribute, RawAttribute};
 use stun_base::{AttributeType, Hex};
-use stun_grammar::attribute_types::{MAPPED_ADDRESS, UNKNOWN_ATTRIBUTES};
+use stun_grammar::attribute_types::UNKNOWN_ATTRIBUTES;
 use stun_grammar::put_numbered;
 use stun_text::{PrintText, TextSink, put_decimal, put_socket};
+use stun_types::attribute::ValueForm;
 use stun_values::{read_address, read_value, write_xored};
-use turn_attrs::attribute_types::{LIFETIME, XOR_PEER_ADDRESS, XOR_RELAYED_ADDRESS};
 
 /// Writes bytes in hexadecimal.
 fn put_octets<S: TextSink>(sink: &mut S, value: &[u8]) -> Result<(), S::Error>
@@ -57,39 +55,15 @@ fn put_xor_address<S: TextSink>(sink: &mut S, value: &[u8]) -> Result<(), S::Err
     }
 }
 
-/// Whether values of this type are numbers of four bytes.
-fn is_number_type(atype: u16) -> bool
-    ensures { result ≡ is_number_type atype }
-{
-    atype == PRIORITY || atype == LIFETIME
-}
-
-/// Whether they are addresses.
-fn is_address_type(atype: u16) -> bool
-    ensures { result ≡ is_address_type atype }
-{
-    atype == MAPPED_ADDRESS || atype == RESPONSE_ORIGIN || atype == OTHER_ADDRESS
-}
-
-/// Whether they are addresses that are XORed.
-fn is_xor_address_type(atype: u16) -> bool
-    ensures { result ≡ is_xor_address_type atype }
-{
-    atype == XOR_PEER_ADDRESS || atype == XOR_RELAYED_ADDRESS
-}
-
 /// Writes a value of a type that has no typed attribute of RFC 8489.
 fn put_other_value<S: TextSink>(sink: &mut S, atype: u16, value: &[u8]) -> Result<(), S::Error>
     ensures { OnOk result (S.wrote sink.old (other_value_text atype value.now) sink.new) }
 {
-    if is_number_type(atype) {
-        put_number(sink, value)
-    } else if is_address_type(atype) {
-        put_address(sink, value)
-    } else if is_xor_address_type(atype) {
-        put_xor_address(sink, value)
-    } else {
-        put_octets(sink, value)
+    match value_form(atype) {
+        Some(ValueForm::Number { .. }) => put_number(sink, value),
+        Some(ValueForm::Address) => put_address(sink, value),
+        Some(ValueForm::XorAddress) => put_xor_address(sink, value),
+        _ => put_octets(sink, value),
     }
 }
 

@@ -1,3 +1,4 @@
+pub mod KnownTypes
 pub mod Message
 pub mod ReadTypes
 pub mod ReadingBack

@@ -1,9 +1,11 @@
 //! Attributes, each a type and a value, and the traits that read and write them.
 
+mod known;
 pub mod typed;
 mod understood;
 
 pub use crate::show::AttributeDisplay;
+pub use known::{KnownType, ValueForm, known_type};
 pub use stun_attrs::{
     Attribute, AttributeFromRaw, AttributeStaticType, AttributeWrite, BorrowValue, EncodeValue,
     RawAttribute, ReadValue, TypedAttribute,

@@ -1,15 +1,14 @@
 -- Addresses as C sees them, and what reading one answers (RFC 8489, sections 14.1 and 14.2).
-use Rattle.std.specs.Prelude.{◌≡◌, ℕ, Bool, ◌||◌, List, take, Option, None, Some, MatchOption, IsSomeAnd, ◌==◌, if◌then◌else◌}
+use Rattle.std.specs.Prelude.{◌≡◌, ℕ, Bool, true, false, List, take, Option, None, Some, MatchOption, IsSomeAnd, ◌==◌, if◌then◌else◌}
 use Rattle.std.specs.Net.Addr.{segments_of}
 use Rattle.std.specs.Net.Socket.{socket_ip, socket_port}
 use Rattle.std.specs.declared.net.ip_addr.IpAddr.{IpAddr}
 use Rattle.std.specs.declared.net.ip_addr.IpAddr.TheVariants.{V4, V6}
 use Rattle.std.specs.declared.net.socket_addr.SocketAddr.{SocketAddr}
-use Rattle.stun_grammar.specs.AttributeTypes.{MAPPED_ADDRESS, XOR_MAPPED_ADDRESS, ALTERNATE_SERVER}
 use Rattle.stun_grammar.specs.Headers.{header_fault, id_field}
-use Rattle.turn_basics.specs.TurnBasics.{XOR_PEER_ADDRESS}
-use Rattle.turn_attrs.specs.Turn.{XOR_RELAYED_ADDRESS}
-use Rattle.discovery_attrs.specs.Discovery.{RESPONSE_ORIGIN, OTHER_ADDRESS}
+use Rattle.stun_types.specs.declared.attribute.known.ValueForm.{ValueForm}
+use Rattle.stun_types.specs.declared.attribute.known.ValueForm.TheVariants.{Address as PlainAddress, XorAddress}
+use Rattle.stun_plain_text.specs.NamesOfAll.{value_form}
 use Rattle.stun_values.specs.Addresses.{octets, octets_count, address_fault, address_in, IsPlain, IsXored}
 use Rattle.stun_types_c.specs.declared.address.Address.{Address}
 use Rattle.stun_types_c.specs.declared.call_result.CallResult.{CallResult}
@@ -60,17 +59,21 @@ ReadsFrom Told value result old new =
     ((result ≡ plain OK) × Told (address_in value) new)
     (λ e. (result ≡ parse_result e) × (new ≡ old))
 
--- the types of attributes whose address is XORed with the transaction ID (RFC 8489, section 14.2, and
--- RFC 8656, sections 18.3 and 18.5), and those whose address isn't (RFC 8489, sections 14.1 and 14.15,
--- and RFC 5780, sections 7.3 and 7.4). Of another type nothing is known
+-- whether the address in attributes of a type is XORed with the transaction ID (RFC 8489, section
+-- 14.2), and whether it is as it is (section 14.1). Of a type that isn't known, neither holds
+abbrev pub is_xored_form : Option ValueForm → Bool
+is_xored_form (Some XorAddress) = true
+is_xored_form _ = false
+
 abbrev pub is_xored_type : ℕ → Bool
-is_xored_type type =
-    (type == XOR_MAPPED_ADDRESS) || ((type == XOR_PEER_ADDRESS) || (type == XOR_RELAYED_ADDRESS))
+is_xored_type type = is_xored_form (value_form type)
+
+abbrev pub is_plain_form : Option ValueForm → Bool
+is_plain_form (Some PlainAddress) = true
+is_plain_form _ = false
 
 abbrev pub is_plain_type : ℕ → Bool
-is_plain_type type =
-    (type == MAPPED_ADDRESS)
-    || ((type == ALTERNATE_SERVER) || ((type == RESPONSE_ORIGIN) || (type == OTHER_ADDRESS)))
+is_plain_type type = is_plain_form (value_form type)
 
 -- what reading the address in an attribute of the message d answers
 abbrev pub ReadsAddress : ShownAttribute → List ℕ → CallResult → Address → Address → Type 0

@@ -1,8 +1,10 @@
 -- Attributes that a message shows, as C sees them (RFC 8489, section 14).
-use Rattle.std.specs.Prelude.{◌≡◌, ℕ, ◌+◌, Bool, true, false, List, [], ◌∷◌, ◌++◌, length, map, take, drop, Option, ◌==◌, if◌then◌else◌, MatchOption, filter, slice_get}
+use Rattle.std.specs.Prelude.{◌≡◌, ◌≤◌, ℕ, ◌+◌, Bool, true, false, List, [], ◌∷◌, ◌++◌, length, map, take, drop, Option, ◌==◌, if◌then◌else◌, MatchOption, filter, slice_get}
 use Rattle.stun_grammar.specs.Chains.{Shown}
 use Rattle.stun_grammar.specs.Showing.{shown}
+use Rattle.stun_read.specs.Iterating.{shown_behind}
 use Rattle.stun_types_c.specs.declared.attribute.ShownAttribute.{ShownAttribute}
+use Rattle.stun_types_c.specs.declared.attribute.Place.{Place}
 use Rattle.stun_types_c.specs.declared.attribute.Cursor.{Cursor}
 
 -- an attribute in C's form: the offset of its value, its type, and its length
@@ -12,6 +14,14 @@ in_c a = record { value_at = a.offset + 4; atype = a.type; length = length a.val
 -- the first of some attributes that has a type
 abbrev pub first_of_type : ℕ → List Shown → Option Shown
 first_of_type type attributes = slice_get (filter (λ a. a.type == type) attributes) 0
+
+-- the first attribute that is left at a place of d, in C's form, and the place after it
+pub record TakesFirst (at : Place) (found : ShownAttribute) (next : Place) (d : List ℕ) : Type 0 where
+  pub within : next.offset ≤ length d
+  pub farther : at.offset + 4 ≤ next.offset
+  pub first : Shown
+  pub shows : shown_behind at.last at.offset d ≡ first ∷ shown_behind next.last next.offset d
+  pub is_first : found ≡ in_c first
 
 -- the attributes that a walk has yet to yield, whatever its cursor: those that d shows, but for as
 -- many as it has yielded; none if the cursor's spare word isn't 0

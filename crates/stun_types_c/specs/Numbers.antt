@@ -1,18 +1,15 @@
 -- Numbers as the values of attributes: of 8, 16, 32 and 64 bits, and big-endian. Which of them the
--- value of an attribute type holds is known of the types of RFC 8489, of ICE (RFC 8445, section
--- 16.1), of TURN (RFC 8656, section 18; RFC 6062, section 6.2), and of discovery (RFC 5780, section
--- 7; RFC 7982, section 3.1).
-use Rattle.std.specs.Prelude.{◌≡◌, ℕ, ◌+◌, ◌-◌, ◌^◌, Bool, true, ◌&&◌, List, [], ◌∷◌, ◌++◌, length, replicate, Option, None, Some, Result, Ok, Err, MatchResult, nat_le, ◌==◌, if◌then◌else◌}
+-- values of an attribute type hold is in the definition `known_type` of each crate of attributes.
+use Rattle.std.specs.Prelude.{◌≡◌, ℕ, ◌+◌, ◌-◌, ◌^◌, Bool, true, ◌&&◌, ◌||◌, List, ◌++◌, length, replicate, Option, None, Some, Result, Ok, Err, MatchResult, nat_le, ◌==◌, if◌then◌else◌}
 use Rattle.std.specs.Option.{option_map, option_map_or, option_or}
 use Rattle.byteorder.specs.Endian.{big_number}
 use Rattle.stun_grammar.specs.declared.error.StunParseError.{StunParseError}
-use Rattle.stun_grammar.specs.AttributeTypes.{MAPPED_ADDRESS, USERNAME, ERROR_CODE, UNKNOWN_ATTRIBUTES, REALM, NONCE, PASSWORD_ALGORITHM, USERHASH, XOR_MAPPED_ADDRESS, PASSWORD_ALGORITHMS, ALTERNATE_DOMAIN, SOFTWARE, ALTERNATE_SERVER}
+use Rattle.stun_grammar.specs.AttributeTypes.{is_ending}
 use Rattle.stun_grammar.specs.Lengths.{exact_fault}
-use Rattle.stun_grammar.specs.ScannedOrder.{has}
-use Rattle.ice_attrs.specs.Ice.{PRIORITY, USE_CANDIDATE, ICE_CONTROLLED, ICE_CONTROLLING}
-use Rattle.turn_basics.specs.TurnBasics.{LIFETIME, XOR_PEER_ADDRESS}
-use Rattle.turn_attrs.specs.Turn.{CHANNEL_NUMBER, XOR_RELAYED_ADDRESS, REQUESTED_ADDRESS_FAMILY, EVEN_PORT, REQUESTED_TRANSPORT, DONT_FRAGMENT, RESERVATION_TOKEN, CONNECTION_ID, ADDITIONAL_ADDRESS_FAMILY, ADDRESS_ERROR_CODE, ICMP, THIRD_PARTY_AUTHORIZATION}
-use Rattle.discovery_attrs.specs.Discovery.{CHANGE_REQUEST, RESPONSE_ORIGIN, OTHER_ADDRESS, TRANSACTION_TRANSMIT_COUNTER, RESPONSE_PORT}
+use Rattle.stun_types.specs.declared.attribute.known.ValueForm.{ValueForm}
+use Rattle.stun_types.specs.declared.attribute.known.ValueForm.TheVariants.{Number, PaddedNumber, Octets}
+use Rattle.discovery_attrs.specs.Discovery.{RESPONSE_PORT}
+use Rattle.stun_plain_text.specs.NamesOfAll.{value_form}
 use Rattle.stun_types_c.specs.declared.call_result.CallResult.{CallResult}
 use Rattle.stun_types_c.specs.declared.attribute.ShownAttribute.{ShownAttribute}
 use Rattle.stun_types_c.specs.declared.numbers.Range.{Range}
@@ -23,59 +20,35 @@ use Rattle.stun_types_c.specs.Writing.{Written, AppendsUnless, any_answer}
 
 -- ---- Which number the value of a type holds
 
--- a family or a protocol, which three bytes follow that are 0
-abbrev pub before_three_zeros : List ℕ
-before_three_zeros =
-    REQUESTED_TRANSPORT ∷ REQUESTED_ADDRESS_FAMILY ∷ ADDITIONAL_ADDRESS_FAMILY ∷ []
+-- how many bytes the number in a value of a form has: none if the value is no number
+abbrev pub width_in : ValueForm → ℕ
+width_in (Number width _ _) = width
+width_in (PaddedNumber width _ _) = width
+width_in (Octets width) = width
+width_in _ = 0
 
--- a channel or a port, which two bytes follow that are 0
-abbrev pub before_two_zeros : List ℕ
-before_two_zeros = CHANNEL_NUMBER ∷ RESPONSE_PORT ∷ []
-
-abbrev pub of_32_bits : List ℕ
-of_32_bits =
-    PRIORITY ∷ LIFETIME ∷ CONNECTION_ID ∷ CHANGE_REQUEST ∷ TRANSACTION_TRANSMIT_COUNTER ∷ []
-
-abbrev pub of_64_bits : List ℕ
-of_64_bits = ICE_CONTROLLED ∷ ICE_CONTROLLING ∷ RESERVATION_TOKEN ∷ ICMP ∷ []
-
--- addresses, texts, errors, lists, hashes, and values of no bytes
-abbrev pub no_numbers : List ℕ
-no_numbers =
-    MAPPED_ADDRESS ∷ USERNAME ∷ ERROR_CODE ∷ UNKNOWN_ATTRIBUTES ∷ REALM ∷ NONCE
-    ∷ PASSWORD_ALGORITHM ∷ USERHASH ∷ XOR_MAPPED_ADDRESS ∷ PASSWORD_ALGORITHMS
-    ∷ ALTERNATE_DOMAIN ∷ SOFTWARE ∷ ALTERNATE_SERVER ∷ USE_CANDIDATE ∷ XOR_PEER_ADDRESS
-    ∷ XOR_RELAYED_ADDRESS ∷ DONT_FRAGMENT ∷ ADDRESS_ERROR_CODE ∷ THIRD_PARTY_AUTHORIZATION
-    ∷ RESPONSE_ORIGIN ∷ OTHER_ADDRESS ∷ []
-
--- how many bytes the number in the value of a type has: none of a type whose value is no number, and
--- any if the type isn't known
-abbrev pub width_of : ℕ → Option ℕ
-width_of type =
-    if has type before_three_zeros then Some 1 else (
-    if type == EVEN_PORT then Some 1 else (
-    if has type before_two_zeros then Some 2 else (
-    if has type of_32_bits then Some 4 else (
-    if has type of_64_bits then Some 8 else (
-    if has type no_numbers then Some 0 else None)))))
-
--- whether a number of so many bytes may be the value of a type
+-- whether a number of so many bytes may be the value of a type. Of a type that isn't known, any may,
+-- and of the three ending types, which an add refuses by another error
 abbrev pub has_width : (width type : ℕ) → Bool
-has_width width type = option_map_or (λ known. known == width) (width_of type) true
+has_width width type =
+    is_ending type || option_map_or (λ form. width_in form == width) (value_form type) true
 
 -- how many bytes that are 0 follow it
-abbrev pub zeros_of : ℕ → ℕ
-zeros_of type =
-    if has type before_three_zeros then 3 else (if has type before_two_zeros then 2 else 0)
+abbrev pub zeros_in : Option ValueForm → ℕ
+zeros_in (Some (PaddedNumber width _ _)) = 4 - width
+zeros_in _ = 0
 
--- from which number to which: a channel (RFC 8656, section 12), and a family by its number, of which
--- ADDITIONAL-ADDRESS-FAMILY holds that of IPv6 alone
+abbrev pub zeros_of : ℕ → ℕ
+zeros_of type = zeros_in (value_form type)
+
+-- from which number to which: any if the RFC doesn't say
+abbrev pub range_in : Option ValueForm → Range
+range_in (Some (Number _ least greatest)) = record { least = least; greatest = greatest }
+range_in (Some (PaddedNumber _ least greatest)) = record { least = least; greatest = greatest }
+range_in _ = record { least = 0; greatest = 2 ^ 64 - 1 }
+
 abbrev pub range_of : ℕ → Range
-range_of type =
-    if type == CHANNEL_NUMBER then record { least = 0x4000; greatest = 0x4FFF } else (
-    if type == REQUESTED_ADDRESS_FAMILY then record { least = 1; greatest = 2 } else (
-    if type == ADDITIONAL_ADDRESS_FAMILY then record { least = 2; greatest = 2 }
-    else record { least = 0; greatest = 2 ^ 64 - 1 }))
+range_of type = range_in (value_form type)
 
 abbrev pub is_in_range : (type n : ℕ) → Bool
 is_in_range type n = nat_le (range_of type).least n && nat_le n (range_of type).greatest

@@ -7,12 +7,11 @@ use crate::attribute::ShownAttribute;
 use crate::call_result::{CallResult, parse_result, plain};
 use crate::codes;
 use crate::values::value_in;
-use discovery_attrs::attribute_types::{OTHER_ADDRESS, RESPONSE_ORIGIN};
 use std::net::{IpAddr, Ipv4Addr, Ipv6Addr, SocketAddr};
 use stun_base::{MessageHeader, TransactionId};
-use stun_grammar::attribute_types::{ALTERNATE_SERVER, MAPPED_ADDRESS, XOR_MAPPED_ADDRESS};
+use stun_plain_text::value_form;
+use stun_types::attribute::ValueForm;
 use stun_values::{read_address, xor_addr};
-use turn_attrs::attribute_types::{XOR_PEER_ADDRESS, XOR_RELAYED_ADDRESS};
 
 /// A transport address.
 #[repr(C)]
@@ -79,17 +78,14 @@ pub(crate) fn socket_of(address: &Address) -> Option<SocketAddr>
 pub(crate) fn is_xored_type(atype: u16) -> bool
     ensures { result ≡ is_xored_type atype }
 {
-    atype == XOR_MAPPED_ADDRESS || atype == XOR_PEER_ADDRESS || atype == XOR_RELAYED_ADDRESS
+    matches!(value_form(atype), Some(ValueForm::XorAddress))
 }
 
 /// Whether they aren't. Of a type that the library doesn't know, neither is known.
 pub(crate) fn is_plain_type(atype: u16) -> bool
     ensures { result ≡ is_plain_type atype }
 {
-    atype == MAPPED_ADDRESS
-        || atype == ALTERNATE_SERVER
-        || atype == RESPONSE_ORIGIN
-        || atype == OTHER_ADDRESS
+    matches!(value_form(atype), Some(ValueForm::Address))
 }
 
 /// Reads the address in an attribute that isn't XORed.

@@ -5,7 +5,7 @@ ghost use Rattle.std.specs.Option.{option_map};
 ghost use Rattle.stun_grammar.specs.Showing.{shown};
 ghost use Rattle.stun_read.specs.Iterating.{shown_behind};
 ghost use Rattle.stun_read.specs.LookingUp.{nth};
-ghost use Rattle.stun_types_c.specs.Attributes.{in_c, first_of_type, left, Steps, Lists, Tells};
+ghost use Rattle.stun_types_c.specs.Attributes.{in_c, first_of_type, left, TakesFirst, Steps, Lists, Tells};
 
 use stun_base::MessageHeader;
 use stun_read::{check_frame, shown_at};
@@ -56,6 +56,27 @@ fn start(bytes: &[u8]) -> Option<Place>
     }
 }
 
+/// The first attribute that is left at a place, and the place after it; `None` if none is left.
+fn step(bytes: &[u8], at: Place) -> Option<(ShownAttribute, Place)>
+    requires { at.offset ≤ length bytes.now }
+    ensures { MatchOption result (shown_behind at.last at.offset bytes.now ≡ [])
+        (λ taken. TakesFirst at taken.0 taken.1 bytes.now) }
+{
+    let (raw, behind) = shown_at(bytes, at.offset, at.last)?;
+    let header = raw.header();
+    let last = header.get_type().value();
+    let found = ShownAttribute {
+        value_at: at.offset + 4,
+        atype: last,
+        length: header.length(),
+    };
+    let next = Place {
+        offset: behind,
+        last,
+    };
+    Some((found, next))
+}
+
 /// The attribute at an index among those that are left.
 fn nth_from(bytes: &[u8], from: Place, index: usize) -> Option<ShownAttribute>
     requires { from.offset ≤ length bytes.now }
@@ -65,21 +86,12 @@ fn nth_from(bytes: &[u8], from: Place, index: usize) -> Option<ShownAttribute>
 {
     let mut at = from;
     let mut before = index;
-    while let Some((raw, behind)) = shown_at(bytes, at.offset, at.last) {
-        let header = raw.header();
-        let last = header.get_type().value();
+    while let Some((found, next)) = step(bytes, at) {
         if before == 0 {
-            return Some(ShownAttribute {
-                value_at: at.offset + 4,
-                atype: last,
-                length: header.length(),
-            });
+            return Some(found);
         }
         before -= 1;
-        at = Place {
-            offset: behind,
-            last,
-        };
+        at = next;
     }
     None
 }
@@ -135,20 +147,10 @@ fn list_from(bytes: &[u8], from: Place, attributes: &mut [ShownAttribute]) -> us
 {
     let mut at = from;
     let mut count = 0;
-    while let Some((raw, behind)) = shown_at(bytes, at.offset, at.last) {
-        let header = raw.header();
-        let last = header.get_type().value();
-        let found = ShownAttribute {
-            value_at: at.offset + 4,
-            atype: last,
-            length: header.length(),
-        };
+    while let Some((found, next)) = step(bytes, at) {
         put_after(count, found, attributes);
         count += 1;
-        at = Place {
-            offset: behind,
-            last,
-        };
+        at = next;
     }
     count
 }
@@ -172,20 +174,11 @@ fn find_from(bytes: &[u8], from: Place, atype: u16) -> Option<ShownAttribute>
         (result ≡ None) (λ a. result ≡ Some (in_c a)) }
 {
     let mut at = from;
-    while let Some((raw, behind)) = shown_at(bytes, at.offset, at.last) {
-        let header = raw.header();
-        let last = header.get_type().value();
-        if last == atype {
-            return Some(ShownAttribute {
-                value_at: at.offset + 4,
-                atype,
-                length: header.length(),
-            });
+    while let Some((found, next)) = step(bytes, at) {
+        if found.atype == atype {
+            return Some(found);
         }
-        at = Place {
-            offset: behind,
-            last,
-        };
+        at = next;
     }
     None
 }

@@ -4,7 +4,7 @@ ghost use Rattle.std.specs.Prelude.{◌≡◌, ◌≤◌, ◌∷◌, [], length,
 ghost use Rattle.std.specs.Option.{option_map};
 ghost use Rattle.stun_grammar.specs.Numbers.{be16, be32, be64};
 ghost use Rattle.stun_types_c.specs.CallResults.{parse_result};
-ghost use Rattle.stun_types_c.specs.Numbers.{width_of, has_width, zeros_of, range_of, is_in_range, number_answer, AddsPadded, AddsNumber, length_fault, value_with_number, ReadsNumber};
+ghost use Rattle.stun_types_c.specs.Numbers.{width_in, has_width, zeros_of, range_of, is_in_range, number_answer, AddsPadded, AddsNumber, length_fault, value_with_number, ReadsNumber};
 
 use crate::attribute::ShownAttribute;
 use crate::call_result::{CallResult, counted, parse_result, plain};
@@ -12,70 +12,13 @@ use crate::codes;
 use crate::values::value_in;
 use crate::writing::add_short;
 use byteorder::{BigEndian, ByteOrder};
-use discovery_attrs::attribute_types::{
-    CHANGE_REQUEST, OTHER_ADDRESS, RESPONSE_ORIGIN, RESPONSE_PORT, TRANSACTION_TRANSMIT_COUNTER,
-};
-use ice_attrs::attribute_types::{ICE_CONTROLLED, ICE_CONTROLLING, PRIORITY, USE_CANDIDATE};
+use discovery_attrs::attribute_types::RESPONSE_PORT;
 use stun_attrs::copy_to_start;
-use stun_grammar::attribute_types::{
-    ALTERNATE_DOMAIN, ALTERNATE_SERVER, ERROR_CODE, MAPPED_ADDRESS, NONCE, PASSWORD_ALGORITHM,
-    PASSWORD_ALGORITHMS, REALM, SOFTWARE, UNKNOWN_ATTRIBUTES, USERHASH, USERNAME,
-    XOR_MAPPED_ADDRESS,
-};
+use stun_grammar::attribute_types::is_ending;
+use stun_plain_text::value_form;
+use stun_types::attribute::ValueForm;
 use stun_values::check_length;
 use stun_write::ResumePoint;
-use turn_attrs::attribute_types::{
-    ADDITIONAL_ADDRESS_FAMILY, ADDRESS_ERROR_CODE, CHANNEL_NUMBER, CONNECTION_ID, DONT_FRAGMENT,
-    EVEN_PORT, ICMP, LIFETIME, REQUESTED_ADDRESS_FAMILY, REQUESTED_TRANSPORT, RESERVATION_TOKEN,
-    THIRD_PARTY_AUTHORIZATION, XOR_PEER_ADDRESS, XOR_RELAYED_ADDRESS,
-};
-
-/// Types whose value is a byte and three bytes that are 0.
-const BEFORE_THREE_ZEROS: [u16; 3] = [
-    REQUESTED_TRANSPORT,
-    REQUESTED_ADDRESS_FAMILY,
-    ADDITIONAL_ADDRESS_FAMILY,
-];
-
-/// Types whose value is two bytes and two bytes that are 0.
-const BEFORE_TWO_ZEROS: [u16; 2] = [CHANNEL_NUMBER, RESPONSE_PORT];
-
-/// Types whose value is a number of 32 bits.
-const OF_32_BITS: [u16; 5] = [
-    PRIORITY,
-    LIFETIME,
-    CONNECTION_ID,
-    CHANGE_REQUEST,
-    TRANSACTION_TRANSMIT_COUNTER,
-];
-
-/// Types whose value is a number of 64 bits.
-const OF_64_BITS: [u16; 4] = [ICE_CONTROLLED, ICE_CONTROLLING, RESERVATION_TOKEN, ICMP];
-
-/// Types whose value is no number.
-const NO_NUMBERS: [u16; 21] = [
-    MAPPED_ADDRESS,
-    USERNAME,
-    ERROR_CODE,
-    UNKNOWN_ATTRIBUTES,
-    REALM,
-    NONCE,
-    PASSWORD_ALGORITHM,
-    USERHASH,
-    XOR_MAPPED_ADDRESS,
-    PASSWORD_ALGORITHMS,
-    ALTERNATE_DOMAIN,
-    SOFTWARE,
-    ALTERNATE_SERVER,
-    USE_CANDIDATE,
-    XOR_PEER_ADDRESS,
-    XOR_RELAYED_ADDRESS,
-    DONT_FRAGMENT,
-    ADDRESS_ERROR_CODE,
-    THIRD_PARTY_AUTHORIZATION,
-    RESPONSE_ORIGIN,
-    OTHER_ADDRESS,
-];
 
 /// The numbers that the value of a type may hold.
 #[derive(Clone, Copy)]
@@ -84,38 +27,28 @@ struct Range {
     greatest: u64,
 }
 
-/// How many bytes the number in the value of a type has: 0 if the value is no number, and `None` if
-/// the type isn't known.
-fn width_of(atype: u16) -> Option<usize>
-    ensures { result ≡ width_of atype }
+/// How many bytes the number in a value of a form has: 0 if the value is no number.
+fn width_in(form: ValueForm) -> usize
+    ensures { result ≡ width_in form }
 {
-    if BEFORE_THREE_ZEROS.contains(&atype) {
-        return Some(1);
+    match form {
+        ValueForm::Number { width, .. }
+        | ValueForm::PaddedNumber { width, .. }
+        | ValueForm::Octets { width } => width,
+        ValueForm::Address | ValueForm::XorAddress | ValueForm::Other => 0,
     }
-    if atype == EVEN_PORT {
-        return Some(1);
-    }
-    if BEFORE_TWO_ZEROS.contains(&atype) {
-        return Some(2);
-    }
-    if OF_32_BITS.contains(&atype) {
-        return Some(4);
-    }
-    if OF_64_BITS.contains(&atype) {
-        return Some(8);
-    }
-    if NO_NUMBERS.contains(&atype) {
-        return Some(0);
-    }
-    None
 }
 
-/// Whether a number of so many bytes may be the value of a type.
+/// Whether a number of so many bytes may be the value of a type. An add refuses the ending types
+/// by another error.
 fn has_width(width: usize, atype: u16) -> bool
     ensures { result ≡ has_width width atype }
 {
-    match width_of(atype) {
-        Some(known) => known == width,
+    if is_ending(atype) {
+        return true;
+    }
+    match value_form(atype) {
+        Some(form) => width_in(form) == width,
         None => true,
     }
 }
@@ -123,42 +56,35 @@ fn has_width(width: usize, atype: u16) -> bool
 /// How many bytes that are 0 follow it.
 fn zeros_of(atype: u16) -> usize
     ensures zeros { result ≡ zeros_of atype }
-    ensures few { result ≤ 3 }
+    ensures few { result ≤ 4 }
 {
-    if BEFORE_THREE_ZEROS.contains(&atype) {
-        return 3;
+    match value_form(atype) {
+        Some(ValueForm::PaddedNumber { width, .. }) => 4usize.saturating_sub(width),
+        _ => 0,
     }
-    if BEFORE_TWO_ZEROS.contains(&atype) {
-        return 2;
-    }
-    0
 }
 
 /// From which number to which.
 fn range_of(atype: u16) -> Range
     ensures { result ≡ range_of atype }
 {
-    if atype == CHANNEL_NUMBER {
-        return Range {
-            least: 0x4000,
-            greatest: 0x4FFF,
-        };
-    }
-    if atype == REQUESTED_ADDRESS_FAMILY {
-        return Range {
-            least: 1,
-            greatest: 2,
-        };
-    }
-    if atype == ADDITIONAL_ADDRESS_FAMILY {
-        return Range {
-            least: 2,
-            greatest: 2,
-        };
-    }
-    Range {
-        least: 0,
-        greatest: u64::MAX,
+    match value_form(atype) {
+        Some(
+            ValueForm::Number {
+                least,
+                greatest,
+                ..
+            }
+            | ValueForm::PaddedNumber {
+                least,
+                greatest,
+                ..
+            },
+        ) => Range { least, greatest },
+        _ => Range {
+            least: 0,
+            greatest: u64::MAX,
+        },
     }
 }
 
@@ -191,7 +117,7 @@ fn add_padded(room: &mut [u8], written: &mut usize, atype: u16, octets: &[u8]) -
         (record { slice = room.old; count = written.old })
         (record { slice = room.new; count = written.new }) }
 {
-    let mut value = [0; 11];
+    let mut value = [0; 12];
     let length = octets.len() + zeros_of(atype);
     copy_to_start(octets, &mut value);
     add_short(room, written, atype, &value[..length])
@@ -335,6 +261,19 @@ fn value_with_number<'a>(
     Ok(value)
 }
 
+/// Reads the number of so many bytes in an attribute's value, by an expression over the value.
+macro_rules! read_number {
+    ($bytes:ident, $attribute:ident, $number:ident, $width:literal, $value:ident => $read:expr) => {
+        match value_with_number($bytes, $attribute, $width) {
+            Ok($value) => {
+                *$number = $read;
+                plain(codes::OK)
+            }
+            Err(answer) => answer,
+        }
+    };
+}
+
 /// Reads a number of 8 bits.
 #[unsafe(no_mangle)]
 pub extern "C" fn stun_types_read_u8(
@@ -344,13 +283,7 @@ pub extern "C" fn stun_types_read_u8(
 ) -> CallResult
     ensures { ReadsNumber 1 attribute.now bytes.now result number.old number.new }
 {
-    match value_with_number(bytes, attribute, 1) {
-        Ok(value) => {
-            *number = value[0];
-            plain(codes::OK)
-        }
-        Err(answer) => answer,
-    }
+    read_number!(bytes, attribute, number, 1, value => value[0])
 }
 
 /// Reads a number of 16 bits.
@@ -362,13 +295,7 @@ pub extern "C" fn stun_types_read_u16(
 ) -> CallResult
     ensures { ReadsNumber 2 attribute.now bytes.now result number.old number.new }
 {
-    match value_with_number(bytes, attribute, 2) {
-        Ok(value) => {
-            *number = BigEndian::read_u16(value);
-            plain(codes::OK)
-        }
-        Err(answer) => answer,
-    }
+    read_number!(bytes, attribute, number, 2, value => BigEndian::read_u16(value))
 }
 
 /// Reads a number of 32 bits.
@@ -380,13 +307,7 @@ pub extern "C" fn stun_types_read_u32(
 ) -> CallResult
     ensures { ReadsNumber 4 attribute.now bytes.now result number.old number.new }
 {
-    match value_with_number(bytes, attribute, 4) {
-        Ok(value) => {
-            *number = BigEndian::read_u32(value);
-            plain(codes::OK)
-        }
-        Err(answer) => answer,
-    }
+    read_number!(bytes, attribute, number, 4, value => BigEndian::read_u32(value))
 }
 
 /// Reads a number of 64 bits.
@@ -398,11 +319,5 @@ pub extern "C" fn stun_types_read_u64(
 ) -> CallResult
     ensures { ReadsNumber 8 attribute.now bytes.now result number.old number.new }
 {
-    match value_with_number(bytes, attribute, 8) {
-        Ok(value) => {
-            *number = BigEndian::read_u64(value);
-            plain(codes::OK)
-        }
-        Err(answer) => answer,
-    }
+    read_number!(bytes, attribute, number, 8, value => BigEndian::read_u64(value))
 }

@@ -4,3 +4,4 @@ pub mod Protocols
 pub mod Reasons
 pub mod Turn
 pub mod Lifetimes
+pub mod TurnTypes

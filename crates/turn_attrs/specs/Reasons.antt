@@ -1,17 +1,14 @@
--- The reasons of TURN's error codes (RFC 8656, section 19; RFC 6062, section 6.3; RFC 8016, section
--- 3.4), to the letter.
-use Rattle.std.specs.Prelude.{ℕ, List, Option, Some, None, codes, ◌==◌, if◌then◌else◌}
+-- The reasons of TURN's error codes.
+use Rattle.std.specs.Prelude.{ℕ, List, [], ◌∷◌, Option, Some, None, codes, ◌==◌, if◌then◌else◌}
+use Rattle.stun_grammar.specs.ScannedOrder.{has}
+use Rattle.stun_attributes.specs.DefaultReasons.{default_reason}
 
+-- the codes of RFC 8656, section 19, and of RFC 6062, section 6.3
+abbrev pub with_default : List ℕ
+with_default = 403 ∷ 437 ∷ 440 ∷ 441 ∷ 442 ∷ 443 ∷ 446 ∷ 447 ∷ 486 ∷ 508 ∷ []
+
+-- and that of RFC 8016, section 3.4
 abbrev pub reason_of : ℕ → Option (List ℕ)
 reason_of code =
-    if code == 403 then Some (codes "Forbidden") else (
     if code == 405 then Some (codes "Mobility Forbidden") else (
-    if code == 437 then Some (codes "Allocation Mismatch") else (
-    if code == 440 then Some (codes "Address Family not Supported") else (
-    if code == 441 then Some (codes "Wrong Credentials") else (
-    if code == 442 then Some (codes "Unsupported Transport Protocol") else (
-    if code == 443 then Some (codes "Peer Address Family Mismatch") else (
-    if code == 446 then Some (codes "Connection Already Exists") else (
-    if code == 447 then Some (codes "Connection Timeout or Failure") else (
-    if code == 486 then Some (codes "Allocation Quota Reached") else (
-    if code == 508 then Some (codes "Insufficient Capacity") else None))))))))))
+    if has code with_default then Some (default_reason code) else None)

@@ -35,7 +35,7 @@ impl AddressErrorCode {
     /// let attribute = AddressErrorCode::new(AddressFamily::IPV6, error);
     /// let mut bytes = [0; 36];
     /// assert_eq!(rt; attribute.write_into(&mut bytes), Ok(36));
-    /// assert_eq!(rt; &bytes, b"\x80\x01\x00\x20\x02\x00\x04\x28Address Family not Supported");
+    /// assert_eq!(rt; &bytes, b"\x80\x01\x00\x20\x02\x00\x04\x28Address Family Not Supported");
     /// ```
     pub fn new(family: AddressFamily, error: ErrorCode) -> Self
         ensures family { failed_family result ≡ family }
@@ -129,7 +129,7 @@ impl PrintText for AddressErrorCode {
     }
 }
 
-/// The family, the code and the reason: `ADDRESS-ERROR-CODE: IPV6 440 'Address Family not
+/// The family, the code and the reason: `ADDRESS-ERROR-CODE: IPV6 440 'Address Family Not
 /// Supported'`.
 impl fmt::Display for AddressErrorCode {
     ghost use Rattle.std.specs.Prelude.{Some, codes, ◌++◌};

@@ -1,8 +1,13 @@
 //! The attribute types of this crate: their numbers (RFC 8656, section 18; RFC 6062, section 6.2;
-//! RFC 7635, section 12; RFC 8016, section 4), a list of them, and their registration. Three of them
-//! come from `turn_basics`.
+//! RFC 7635, section 12; RFC 8016, section 4), what the RFCs say of each, a list of them, and their
+//! registration. Three of them come from `turn_basics`.
 
-use stun_types::attribute::AttributeType;
+ghost use Rattle.std.specs.Prelude.{◌≡◌};
+ghost use Rattle.std.specs.Option.{option_map};
+ghost use Rattle.stun_types.specs.KnownTypes.{facts};
+ghost use Rattle.turn_attrs.specs.TurnTypes.{known_type};
+
+use stun_types::attribute::{AttributeType, KnownType, ValueForm};
 pub use turn_basics::attribute_types::{DATA, LIFETIME, XOR_PEER_ADDRESS};
 
 /// The type of CHANNEL-NUMBER (RFC 8656, section 18.1).
@@ -46,6 +51,89 @@ pub const THIRD_PARTY_AUTHORIZATION: u16 = 0x802E;
 
 /// The type of MOBILITY-TICKET (RFC 8016, section 3.3).
 pub const MOBILITY_TICKET: u16 = 0x8030;
+
+/// The number of a channel (RFC 8656, section 12).
+const CHANNEL: ValueForm = ValueForm::PaddedNumber {
+    width: 2,
+    least: 0x4000,
+    greatest: 0x4FFF,
+};
+
+/// An address family: 1 for IPv4, 2 for IPv6.
+const FAMILY: ValueForm = ValueForm::PaddedNumber {
+    width: 1,
+    least: 1,
+    greatest: 2,
+};
+
+/// The address family of IPv6.
+const FAMILY_IPV6: ValueForm = ValueForm::PaddedNumber {
+    width: 1,
+    least: 2,
+    greatest: 2,
+};
+
+/// The number of a transport protocol.
+const PROTOCOL: ValueForm = ValueForm::PaddedNumber {
+    width: 1,
+    least: 0,
+    greatest: 0xFF,
+};
+
+/// Returns what an RFC says of an attribute type: its name, the form of its values, and which RFC
+/// it is (8656, section 18; 6062, section 6.2; 7635, section 6; 8016, section 3.3); `None` for a
+/// type that isn't one of TURN.
+///
+/// # Examples
+///
+/// ```
+/// use turn_attrs::known_type;
+///
+/// let known = known_type(0x8030).ok_or("no type of TURN")?;
+/// assert_eq!(rt; known.name, "MOBILITY-TICKET");
+/// assert_eq!(rt; known.rfc, 8016);
+/// ```
+pub fn known_type(atype: u16) -> Option<KnownType>
+    ensures { option_map facts result ≡ known_type atype }
+{
+    match atype {
+        CHANNEL_NUMBER => Some(KnownType::new("CHANNEL-NUMBER", CHANNEL, 8656)),
+        XOR_RELAYED_ADDRESS => Some(KnownType::new(
+            "XOR-RELAYED-ADDRESS",
+            ValueForm::XorAddress,
+            8656,
+        )),
+        REQUESTED_ADDRESS_FAMILY => Some(KnownType::new("REQUESTED-ADDRESS-FAMILY", FAMILY, 8656)),
+        EVEN_PORT => Some(KnownType::new("EVEN-PORT", ValueForm::Octets { width: 1 }, 8656)),
+        REQUESTED_TRANSPORT => Some(KnownType::new("REQUESTED-TRANSPORT", PROTOCOL, 8656)),
+        DONT_FRAGMENT => Some(KnownType::new("DONT-FRAGMENT", ValueForm::Other, 8656)),
+        ACCESS_TOKEN => Some(KnownType::new("ACCESS-TOKEN", ValueForm::Other, 7635)),
+        RESERVATION_TOKEN => Some(KnownType::new(
+            "RESERVATION-TOKEN",
+            ValueForm::Octets { width: 8 },
+            8656,
+        )),
+        CONNECTION_ID => Some(KnownType::new(
+            "CONNECTION-ID",
+            ValueForm::Octets { width: 4 },
+            6062,
+        )),
+        ADDITIONAL_ADDRESS_FAMILY => Some(KnownType::new(
+            "ADDITIONAL-ADDRESS-FAMILY",
+            FAMILY_IPV6,
+            8656,
+        )),
+        ADDRESS_ERROR_CODE => Some(KnownType::new("ADDRESS-ERROR-CODE", ValueForm::Other, 8656)),
+        ICMP => Some(KnownType::new("ICMP", ValueForm::Octets { width: 8 }, 8656)),
+        THIRD_PARTY_AUTHORIZATION => Some(KnownType::new(
+            "THIRD-PARTY-AUTHORIZATION",
+            ValueForm::Other,
+            7635,
+        )),
+        MOBILITY_TICKET => Some(KnownType::new("MOBILITY-TICKET", ValueForm::Other, 8016)),
+        _ => turn_basics::known_type(atype),
+    }
+}
 
 /// The types of the attributes of TURN, for `Message::check_attribute_types`.
 ///
@@ -103,23 +191,11 @@ pub const KNOWN: [AttributeType; 17] = [
 #[macro_export]
 macro_rules! register {
     ($registry:ident) => {{
-        $registry.add_name(<$crate::ChannelNumber as stun_types::attribute::AttributeStaticType>::TYPE, "CHANNEL-NUMBER")?;
-        $registry.add_name(<$crate::Lifetime as stun_types::attribute::AttributeStaticType>::TYPE, "LIFETIME")?;
-        $registry.add_name(<$crate::XorPeerAddress as stun_types::attribute::AttributeStaticType>::TYPE, "XOR-PEER-ADDRESS")?;
-        $registry.add_name(<$crate::PeerData as stun_types::attribute::AttributeStaticType>::TYPE, "DATA")?;
-        $registry.add_name(<$crate::XorRelayedAddress as stun_types::attribute::AttributeStaticType>::TYPE, "XOR-RELAYED-ADDRESS")?;
-        $registry.add_name(<$crate::RequestedAddressFamily as stun_types::attribute::AttributeStaticType>::TYPE, "REQUESTED-ADDRESS-FAMILY")?;
-        $registry.add_name(<$crate::EvenPort as stun_types::attribute::AttributeStaticType>::TYPE, "EVEN-PORT")?;
-        $registry.add_name(<$crate::RequestedTransport as stun_types::attribute::AttributeStaticType>::TYPE, "REQUESTED-TRANSPORT")?;
-        $registry.add_name(<$crate::DontFragment as stun_types::attribute::AttributeStaticType>::TYPE, "DONT-FRAGMENT")?;
-        $registry.add_name(<$crate::AccessToken as stun_types::attribute::AttributeStaticType>::TYPE, "ACCESS-TOKEN")?;
-        $registry.add_name(<$crate::ReservationToken as stun_types::attribute::AttributeStaticType>::TYPE, "RESERVATION-TOKEN")?;
-        $registry.add_name(<$crate::ConnectionId as stun_types::attribute::AttributeStaticType>::TYPE, "CONNECTION-ID")?;
-        $registry.add_name(<$crate::AdditionalAddressFamily as stun_types::attribute::AttributeStaticType>::TYPE, "ADDITIONAL-ADDRESS-FAMILY")?;
-        $registry.add_name(<$crate::AddressErrorCode as stun_types::attribute::AttributeStaticType>::TYPE, "ADDRESS-ERROR-CODE")?;
-        $registry.add_name(<$crate::Icmp as stun_types::attribute::AttributeStaticType>::TYPE, "ICMP")?;
-        $registry.add_name(<$crate::ThirdPartyAuthorization as stun_types::attribute::AttributeStaticType>::TYPE, "THIRD-PARTY-AUTHORIZATION")?;
-        $registry.add_name(<$crate::MobilityTicket as stun_types::attribute::AttributeStaticType>::TYPE, "MOBILITY-TICKET")?;
+        for atype in $crate::KNOWN {
+            if let Some(known) = $crate::known_type(atype.value()) {
+                $registry.add_name(atype, known.name)?;
+            }
+        }
         $registry.add_method_name($crate::methods::ALLOCATE, "ALLOCATE")?;
         $registry.add_method_name($crate::methods::REFRESH, "REFRESH")?;
         $registry.add_method_name($crate::methods::SEND, "SEND")?;

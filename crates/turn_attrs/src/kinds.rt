@@ -83,7 +83,7 @@ impl AttributeKind for XorRelayedAddressKind {
 /// ignored.
 ///
 /// Reading refuses another family as `InvalidAttributeData`, and a malformed length by other
-/// errors: a server answers the first with 440, Address Family not Supported (RFC 8656, section
+/// errors: a server answers the first with 440, Address Family Not Supported (RFC 8656, section
 /// 7.2).
 ///
 /// # Examples

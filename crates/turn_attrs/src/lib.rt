@@ -20,7 +20,7 @@ mod protocols;
 mod third_party;
 
 pub use address_error_code::AddressErrorCode;
-pub use attribute_types::KNOWN;
+pub use attribute_types::{KNOWN, known_type};
 pub use channel_data::{ChannelData, ChannelDataError, channel_data_length};
 pub use channels::Channel;
 pub use family::OnlyIpv6;

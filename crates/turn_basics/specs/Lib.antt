@@ -1,1 +1,2 @@
 pub mod TurnBasics
+pub mod BasicTypes

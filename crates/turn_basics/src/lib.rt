@@ -11,5 +11,6 @@ pub mod attribute_types;
 mod kinds;
 mod lifetime;
 
+pub use attribute_types::known_type;
 pub use kinds::{DataKind, PeerData, XorPeerAddress, XorPeerAddressKind};
 pub use lifetime::Lifetime;

@@ -8,6 +8,6 @@ returns c =
     let value = take (length c.args.octets.now + c.zeros_of.result) c.copy_to_start.new.dest in
     let is : value ≡ padded c.args.atype c.args.octets.now =
     ap (λ (d : List ℕ). take (length c.args.octets.now + c.zeros_of.result) d) c.copy_to_start.ensures
-    ∙ is_padded c.args.octets.now c.zeros_of.result 11 (omega (arith, c.requires, c.zeros_of.ensures.few))
+    ∙ is_padded c.args.octets.now c.zeros_of.result 12 (omega (arith, c.requires, c.zeros_of.ensures.few))
     ∙ ap (λ (z : ℕ). c.args.octets.now ++ replicate z 0) c.zeros_of.ensures.zeros in
     adds c.args.atype c.args.octets.now value c.add_short.result _ _ is c.add_short.ensures
