@@ -16,14 +16,14 @@ use Rattle.stun_types.specs.Replies.{shown_types}
 abbrev pub item_type : ℕ × RawAttribute → AttributeType
 item_type item = record { 0 = raw_type item.1 }
 
-abbrev view_type : Shown × Bool → AttributeType
+abbrev pub view_type : Shown × Bool → AttributeType
 view_type view = record { 0 = view.0.type }
 
 items_types : (items : List (ℕ × RawAttribute)) → map item_type items ≡ map view_type (map item_view items)
 items_types [] = refl
 items_types (item ∷ items) = ap (λ (ts : List AttributeType). item_type item ∷ ts) (items_types items)
 
-views_types : (attributes : List Shown) → map view_type (borrowed attributes) ≡ map (λ (a : Shown). record { 0 = a.type }) attributes
+pub views_types : (attributes : List Shown) → map view_type (borrowed attributes) ≡ map (λ (a : Shown). record { 0 = a.type }) attributes
 views_types [] = refl
 views_types (a ∷ attributes) = ap (λ (ts : List AttributeType). record { 0 = a.type } ∷ ts) (views_types attributes)
 

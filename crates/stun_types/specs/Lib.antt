@@ -5,3 +5,4 @@ pub mod Registered
 pub mod Replies
 pub mod Shown
 pub mod Table
+pub mod UnknownTypes
