@@ -30,20 +30,10 @@ use Rattle.stun_server.specs.InSlice.{overlaid}
 use Rattle.stun_server.proofs.ReplyLemmas.{xored_spelled}
 use Rattle.stun_server.proofs.SizesLemmas.{software_length, error_length, short_value, unknown_short, reply_for}
 
--- ---- The types that pass a test, counted
-
--- if the next type passes too, those so far are fewer than all
-pub counted : (test : AttributeType → Bool) (d : List ℕ) (items : List (ℕ × RawAttribute)) (type : AttributeType) → SoFar d items type → test type ≡ true
-    → length (filter test (map item_type items)) + 1 ≤ length (filter test (shown_types d))
-counted test d items type so passes =
-    let front = filter test (map item_type items) in
-    let others = filter test so.others in
-    let whole : filter test (shown_types d) ≡ front ++ type ∷ others =
-    ap (filter test) so.whole ∙ filter-append test (map item_type items) (type ∷ so.others) ∙ ap (λ (b : Bool). front ++ cond b (type ∷ others) others) passes in
-    omega (arith, ap length whole, length-append front (type ∷ others))
+-- ---- The unknown types
 
 -- one more type is written
-pub listed_more : (found : List AttributeType) (x : AttributeType) (dest start : List ℕ) → dest ≡ types_encoding found ++ drop (2 * length found) start
+listed_more : (found : List AttributeType) (x : AttributeType) (dest start : List ℕ) → dest ≡ types_encoding found ++ drop (2 * length found) start
     → take (2 * length found) dest ++ (be16 x.0 ++ drop 2 (drop (2 * length found) dest)) ≡ types_encoding (found ++ x ∷ []) ++ drop (2 * length (found ++ x ∷ [])) start
 listed_more found x dest start is =
     let here = 2 * length found in
@@ -54,30 +44,14 @@ listed_more found x dest start is =
     let rest : drop 2 (drop here dest) ≡ drop (2 * length (found ++ x ∷ [])) start = ap (drop 2) behind ∙ drop-drop 2 here start ∙ ap (λ (k : ℕ). drop k start) next in
     (λ j. before j ++ (be16 x.0 ++ rest j)) ∙ sym (append_assoc front (be16 x.0) (drop (2 * length (found ++ x ∷ [])) start)) ∙ (λ j. sym (flat_map-one type_encoding found x) j ++ drop (2 * length (found ++ x ∷ [])) start)
 
--- the types that pass are written, up to a place
-abbrev pub Written : (test : AttributeType → Bool) (types : List AttributeType) (end : ℕ) (dest start : List ℕ) → Type 0
-Written test types end dest start =
-    let found = filter test types in (end ≡ 2 * length found) × (dest ≡ types_encoding found ++ drop (2 * length found) start)
+-- the types so far are written, up to a place
+abbrev pub Written : (types : List AttributeType) (end : ℕ) (dest start : List ℕ) → Type 0
+Written types end dest start = (end ≡ 2 * length types) × (dest ≡ types_encoding types ++ drop (2 * length types) start)
 
-pub written_passes : (test : AttributeType → Bool) (items : List (ℕ × RawAttribute)) (item : ℕ × RawAttribute) (end next : ℕ) (dest new start : List ℕ) → test (item_type item) ≡ true → Written test (map item_type items) end dest start
-    → next ≡ end + 2 → new ≡ take end dest ++ (be16 (item_type item).0 ++ drop 2 (drop end dest)) → Written test (map item_type (items ++ item ∷ [])) next new start
-written_passes test items item end next dest new start passes so_far next-is new-is =
-    let found = filter test (map item_type items) in
-    let more : filter test (map item_type (items ++ item ∷ [])) ≡ found ++ item_type item ∷ [] = passes_more test items item passes in
-    let here : new ≡ take (2 * length found) dest ++ (be16 (item_type item).0 ++ drop 2 (drop (2 * length found) dest)) =
-    new-is ∙ ap (λ (n : ℕ). take n dest ++ (be16 (item_type item).0 ++ drop 2 (drop n dest))) so_far.0 in
-    let written = here ∙ listed_more found (item_type item) dest start so_far.1 in (
-      omega (arith, ap length more, length-append found (item_type item ∷ []), so_far.0, next-is),
-      written ∙ ap (λ (ts : List AttributeType). types_encoding ts ++ drop (2 * length ts) start) (sym more),
-    )
-
-pub written_fails : (test : AttributeType → Bool) (items : List (ℕ × RawAttribute)) (item : ℕ × RawAttribute) (end next : ℕ) (dest new start : List ℕ) → test (item_type item) ≡ false → Written test (map item_type items) end dest start
-    → next ≡ end → new ≡ dest → Written test (map item_type (items ++ item ∷ [])) next new start
-written_fails test items item end next dest new start fails so_far next-is new-is =
-    let same : filter test (map item_type (items ++ item ∷ [])) ≡ filter test (map item_type items) = fails_more test items item fails in (
-      next-is ∙ so_far.0 ∙ ap (λ (ts : List AttributeType). 2 * length ts) (sym same),
-      new-is ∙ so_far.1 ∙ ap (λ (ts : List AttributeType). types_encoding ts ++ drop (2 * length ts) start) (sym same),
-    )
+pub written_more : (types : List AttributeType) (x : AttributeType) (end next : ℕ) (dest new start : List ℕ) → Written types end dest start → next ≡ end + 2 → new ≡ take end dest ++ (be16 x.0 ++ drop 2 (drop end dest))
+    → Written (types ++ x ∷ []) next new start
+written_more types x end next dest new start so_far next-is new-is =
+    (omega (arith, length-append types (x ∷ []), so_far.0, next-is), new-is ∙ ap (λ (n : ℕ). take n dest ++ (be16 x.0 ++ drop 2 (drop n dest))) so_far.0 ∙ listed_more types x dest start so_far.1)
 
 -- ---- One more attribute
 

@@ -3,37 +3,30 @@
 ghost use Rattle.std.specs.Prelude.{◌≡◌, ◌+◌, ◌*◌, ◌≤◌, ◌++◌, length, take, drop};
 ghost use Rattle.stun_grammar.specs.Numbers.{IsBytes, be16};
 ghost use Rattle.stun_values.specs.TypeLists.{types_encoding};
-ghost use Rattle.stun_types.specs.Replies.{is_unknown, unknown_types};
+ghost use Rattle.stun_types.specs.Replies.{unknown_types};
 ghost use Rattle.stun_server.specs.Reply.{comprehended};
 
 use byteorder::{BigEndian, ByteOrder};
-use stun_attrs::{Attribute, EncodeValue};
+use stun_attrs::EncodeValue;
 use stun_base::AttributeType;
-use stun_read::MessageAttributesIter;
-use stun_types::message::Message;
+use stun_types::message::{Message, UnknownTypes};
+
+/// The types that the server comprehends, of those that require it: none.
+const COMPREHENDED: &[AttributeType] = &[];
 
 /// Each number in a slice is below 256. The function does nothing: its contract is the law.
 fn are_bytes(bytes: &[u8])
     ensures { IsBytes bytes.now }
 {}
 
-/// Whether attributes of this type require comprehension, which the server has of none.
-fn is_unknown(atype: AttributeType) -> bool
-    ensures { result ≡ is_unknown comprehended atype }
-{
-    atype.comprehension_required()
-}
-
-/// How many such types a request shows.
+/// How many types a request shows that aren't comprehended.
 fn unknown_count(request: &[u8]) -> u16
     requires { length (unknown_types comprehended request.now) ≤ 16384 }
     ensures { result ≡ length (unknown_types comprehended request.now) }
 {
     let mut count = 0;
-    for (_offset, attribute) in MessageAttributesIter::new(request) {
-        if is_unknown(attribute.get_type()) {
-            count += 1;
-        }
+    for _atype in UnknownTypes::new(request, COMPREHENDED) {
+        count += 1;
     }
     count
 }
@@ -54,36 +47,33 @@ fn write_unknown(request: &[u8], dest: &mut [u8])
         ++ drop (2 * length (unknown_types comprehended request.now)) dest.old }
 {
     let mut end = 0;
-    for (_offset, attribute) in MessageAttributesIter::new(request) {
-        let atype = attribute.get_type();
-        if is_unknown(atype) {
-            write_type(atype, end, dest);
-            end += 2;
-        }
+    for atype in UnknownTypes::new(request, COMPREHENDED) {
+        write_type(atype, end, dest);
+        end += 2;
     }
 }
 
 /// The value of an UNKNOWN-ATTRIBUTES with these types, in order and as often as the request shows
 /// them (RFC 8489, section 14.13). It takes no memory: it is written straight from the request.
 #[derive(Drop)]
-pub(crate) struct UnknownTypes<'m> {
+pub(crate) struct ListedTypes<'m> {
     request: &'m [u8],
     count: u16,
     ghost count_is: { count ≡ length (unknown_types comprehended request.now) },
     ghost few: { count ≤ 16384 },
 }
 
-impl<'m> UnknownTypes<'m> {
+impl<'m> ListedTypes<'m> {
     ghost use Rattle.stun_types.specs.Message.{message_bytes};
 
     /// Those of a request.
     #[inline(always)]
-    pub(crate) fn of(request: &Message<'m>) -> UnknownTypes<'m>
+    pub(crate) fn of(request: &Message<'m>) -> ListedTypes<'m>
         ensures { result.request.now ≡ message_bytes request.now }
     {
         let request = request.as_bytes();
         are_bytes(request);
-        UnknownTypes {
+        ListedTypes {
             request,
             count: unknown_count(request),
         }
@@ -98,7 +88,7 @@ impl<'m> UnknownTypes<'m> {
     }
 }
 
-impl EncodeValue for UnknownTypes<'_> {
+impl EncodeValue for ListedTypes<'_> {
     ghost bytes = { λ listed. types_encoding (unknown_types comprehended listed.request.now) };
 
     #[tactic(auto, using(stun_values::proofs::ListsLemmas::length_of_twos))]

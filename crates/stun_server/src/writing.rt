@@ -11,7 +11,7 @@ ghost use Rattle.stun_types.specs.Replies.{unknown_reply, unknown_types};
 ghost use Rattle.stun_server.specs.Reply.{comprehended, success_reply, response, unfinished_reply};
 ghost use Rattle.stun_server.specs.InSlice.{overlaid};
 
-use crate::unknown::UnknownTypes;
+use crate::unknown::ListedTypes;
 use crate::values::{OwnName, UnknownAttribute};
 use std::net::SocketAddr;
 use stun_attrs::EncodeValue;
@@ -89,7 +89,7 @@ fn write_success(request: &Message<'_>, source: SocketAddr, slice: &mut [u8]) ->
 
 /// How many bytes the error response 420 has.
 #[inline(always)]
-fn refusal_length(unknown: &UnknownTypes<'_>) -> usize
+fn refusal_length(unknown: &ListedTypes<'_>) -> usize
     requires { 0 < length (unknown_types comprehended unknown.now.request.now) }
     ensures length { let r = unknown.now.request.now in
         result ≡ length (response ErrorClass r (unknown_reply (unknown_types comprehended r))) }
@@ -103,7 +103,7 @@ fn refusal_length(unknown: &UnknownTypes<'_>) -> usize
 
 /// Writes the error response 420 to a binding request that shows unknown types (RFC 8489, section
 /// 6.3.1). Returns how many bytes it has.
-fn write_refusal(request: &Message<'_>, unknown: &UnknownTypes<'_>, slice: &mut [u8]) -> usize
+fn write_refusal(request: &Message<'_>, unknown: &ListedTypes<'_>, slice: &mut [u8]) -> usize
     requires its { unknown.now.request.now ≡ message_bytes request.now }
     requires some { 0 < length (unknown_types comprehended (message_bytes request.now)) }
     requires few { length (unknown_types comprehended (message_bytes request.now)) ≤ 16384 }
@@ -127,7 +127,7 @@ fn write_refusal(request: &Message<'_>, unknown: &UnknownTypes<'_>, slice: &mut 
 pub(crate) fn unfinished_length(
     request: &Message<'_>,
     source: SocketAddr,
-    unknown: &UnknownTypes<'_>,
+    unknown: &ListedTypes<'_>,
 ) -> usize
     requires its { unknown.now.request.now ≡ message_bytes request.now }
     ensures length { result ≡ length (unfinished_reply source (message_bytes request.now)) }
@@ -144,7 +144,7 @@ pub(crate) fn unfinished_length(
 pub(crate) fn write_unfinished(
     request: &Message<'_>,
     source: SocketAddr,
-    unknown: &UnknownTypes<'_>,
+    unknown: &ListedTypes<'_>,
     slice: &mut [u8],
 ) -> usize
     requires its { unknown.now.request.now ≡ message_bytes request.now }

@@ -5,7 +5,7 @@ ghost use Rattle.stun_grammar.specs.AttributeTypes.{FINGERPRINT};
 ghost use Rattle.stun_types.specs.Message.{message_bytes};
 ghost use Rattle.stun_read.specs.LookingUp.{nth};
 
-use crate::unknown::UnknownTypes;
+use crate::unknown::ListedTypes;
 use crate::writing::{unfinished_length, write_fingerprint, write_unfinished};
 use std::alloc::Global;
 use std::net::SocketAddr;
@@ -22,7 +22,7 @@ const FINGERPRINT_LENGTH: usize = 8;
 pub(crate) struct Reply<'m> {
     request: Message<'m>,
     source: SocketAddr,
-    unknown: UnknownTypes<'m>,
+    unknown: ListedTypes<'m>,
     is_finished: bool,
     ghost its: { unknown.request.now ≡ message_bytes request },
     ghost finished: { is_finished ≡ is_some (nth (message_bytes request) FINGERPRINT 0) },
@@ -42,7 +42,7 @@ impl<'m> Reply<'m> {
         Reply {
             request,
             source,
-            unknown: UnknownTypes::of(&request),
+            unknown: ListedTypes::of(&request),
             is_finished: request.has_attribute(AttributeType(attribute_types::FINGERPRINT)),
         }
     }

@@ -1,6 +1,5 @@
 -- The types of the attributes that an iterator over a message has yielded.
 use Rattle.std.proofs.Common.{◌≡◌, ℕ, zero, suc, ◌<◌, Bool, true, false, cond, List, [], ◌∷◌, ◌++◌, length, get_or, take, drop, map, refl, sym, ap, ◌∙◌, arith}
-use Rattle.std.specs.Prelude.{◌≢◌, Result, Ok, Err, OnErr}
 use Rattle.std.specs.List.{filter}
 use Rattle.std.proofs.lemmas.List.{map-append, append-nil}
 use Rattle.std.proofs.lemmas.List.Elements.{filter-append}
@@ -16,14 +15,14 @@ use Rattle.stun_types.specs.Replies.{shown_types}
 abbrev pub item_type : ℕ × RawAttribute → AttributeType
 item_type item = record { 0 = raw_type item.1 }
 
-abbrev view_type : Shown × Bool → AttributeType
+abbrev pub view_type : Shown × Bool → AttributeType
 view_type view = record { 0 = view.0.type }
 
 items_types : (items : List (ℕ × RawAttribute)) → map item_type items ≡ map view_type (map item_view items)
 items_types [] = refl
 items_types (item ∷ items) = ap (λ (ts : List AttributeType). item_type item ∷ ts) (items_types items)
 
-views_types : (attributes : List Shown) → map view_type (borrowed attributes) ≡ map (λ (a : Shown). record { 0 = a.type }) attributes
+pub views_types : (attributes : List Shown) → map view_type (borrowed attributes) ≡ map (λ (a : Shown). record { 0 = a.type }) attributes
 views_types [] = refl
 views_types (a ∷ attributes) = ap (λ (ts : List AttributeType). record { 0 = a.type } ∷ ts) (views_types attributes)
 
@@ -64,19 +63,3 @@ pub fails_more : (test : AttributeType → Bool) (items : List (ℕ × RawAttrib
     → filter test (map item_type (items ++ item ∷ [])) ≡ filter test (map item_type items)
 fails_more test items item e =
     ap (filter test) (map-append item_type items (item ∷ [])) ∙ filter-append test (map item_type items) (item_type item ∷ []) ∙ ap (λ (b : Bool). filter test (map item_type items) ++ cond b (item_type item ∷ []) []) e ∙ append-nil (filter test (map item_type items))
-
-kept : (x : AttributeType) (ts : List AttributeType) (b : Bool) → (ts ≡ [] → ⊥) → cond b (x ∷ ts) ts ≡ [] → ⊥
-kept x ts true not h = absurd cc
-kept x ts false not h = not h
-
--- if the next item passes, some type does
-pub some_passes : (test : AttributeType → Bool) (d : List ℕ) (items : List (ℕ × RawAttribute)) (found : AttributeType) → SoFar d items found → test found ≡ true → filter test (shown_types d) ≢ []
-some_passes test d items found so e none = absurd (not_empty (map item_type items) (sym (ap (filter test) so.whole) ∙ none))
-  where
-    not_empty : (xs : List AttributeType) → filter test (xs ++ found ∷ so.others) ≡ [] → ⊥
-    not_empty [] is = absurd (cc (is, e))
-    not_empty (x ∷ xs) is = kept x (filter test (xs ++ found ∷ so.others)) (test x) (not_empty xs) is
-
-pub on_err : {T E : Type 0} (P : Type 0) (r : Result T E) → P → OnErr r P
-on_err P (Ok x) p = tt
-on_err P (Err e) p = p

@@ -6,3 +6,4 @@ pub mod Registered
 pub mod Replies
 pub mod Shown
 pub mod Table
+pub mod UnknownTypes

@@ -6,6 +6,7 @@ mod look_up;
 mod read;
 mod reply;
 pub mod types;
+mod unknown;
 mod validate;
 pub mod write;
 
@@ -20,6 +21,7 @@ pub use stun_base::{
     StunParseError, StunWriteError, TransactionId, ValidateError,
 };
 pub use stun_read::{MessageAttributesIter, message_length};
+pub use unknown::UnknownTypes;
 pub use write::{
     MessageWrite, MessageWriteExt, MessageWriteMutSlice, MessageWriteVec, ResumePoint, Step,
     write_steps, write_steps_into,

@@ -16,14 +16,14 @@ ghost use Rattle.stun_attributes.specs.ErrorCodes.{error_code, error_reason};
 ghost use Rattle.stun_attributes.specs.Unknown.{listed};
 ghost use Rattle.stun_write.specs.Writers.{BeginsMessage, IsBegun, IsUnchanged, Spends, KeepsHeader, Gains, Pushes, Allocates};
 ghost use Rattle.stun_types.specs.Message.{message_bytes};
-ghost use Rattle.stun_types.specs.Replies.{is_answer_to, response_type, error_attribute, bad_reply, unknown_reply, is_unknown, unknown_types, lacks, check_reply, IsReply, IsReplyAnswer, Replies, attribute_of, IsMakeable, AddsMade};
+ghost use Rattle.stun_types.specs.Replies.{is_answer_to, response_type, error_attribute, bad_reply, unknown_reply, unknown_types, lacks, check_reply, IsReply, IsReplyAnswer, Replies, attribute_of, IsMakeable, AddsMade};
 
-use super::Message;
+use super::{Message, UnknownTypes};
 use std::alloc::{AllocError, Global};
 use stun_attributes::{ErrorCode, Software, UnknownAttributes};
 use stun_attrs::AttributeWrite;
 use stun_base::{AttributeType, MessageClass, MessageType, StunWriteError};
-use stun_write::{MessageWrite, MessageWriteExt, is_among};
+use stun_write::{MessageWrite, MessageWriteExt};
 
 /// An attribute of a reply.
 #[derive(Clone, Copy)]
@@ -124,15 +124,7 @@ fn write_reply<B: MessageWrite>(
     Ok(())
 }
 
-/// Whether an attribute of this type must be understood, and isn't.
-fn must_be_understood(supported: &[AttributeType], atype: AttributeType) -> bool
-    ensures { result ≡ is_unknown supported.now atype }
-{
-    atype.comprehension_required() && !is_among(supported, atype)
-}
-
 /// The unknown types that the message shows.
-#[tactic(auto, using(crate::proofs::ShownTypesLemmas::passes_more, crate::proofs::ShownTypesLemmas::fails_more))]
 fn unknown_types_of(
     alloc: Global,
     message: &Message<'_>,
@@ -144,11 +136,8 @@ fn unknown_types_of(
     ensures some { OnErr result (unknown_types supported.now (message_bytes message.now) ≢ []) }
 {
     let mut found = Vec::new(alloc);
-    for (_offset, attribute) in message.iter_attributes() {
-        let atype = attribute.header().get_type();
-        if must_be_understood(supported, atype) {
-            found.push(atype).map_err(AllocError::from)?;
-        }
+    for atype in UnknownTypes::new(message.as_bytes(), supported) {
+        found.push(atype).map_err(AllocError::from)?;
     }
     Ok(found)
 }

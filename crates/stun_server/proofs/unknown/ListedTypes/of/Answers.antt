@@ -1,7 +1,7 @@
 use Rattle.std.proofs.Common.{ℕ, ◌≤◌, sym, ap, ◌∙◌, subst}
 use Rattle.stun_grammar.specs.Parsing.{parse_fault}
 use Rattle.stun_server.proofs.SizesLemmas.{few_types}
-use Rattle.stun_server.proofs.unknown.UnknownTypes.of.Goals as goal
+use Rattle.stun_server.proofs.unknown.ListedTypes.of.Goals as goal
 
 pub unknown_count-requires : goal.unknown_count-requires
 unknown_count-requires c =

@@ -1,0 +1,13 @@
+-- The unknown types that an iterator has yet to yield.
+use Rattle.std.specs.Prelude.{List, map}
+use Rattle.std.specs.List.{filter}
+use Rattle.stun_grammar.specs.declared.attribute_type.AttributeType.{AttributeType}
+use Rattle.stun_read.specs.Iterating.{items_left}
+use Rattle.stun_types.specs.Replies.{is_unknown}
+use Rattle.stun_types.specs.declared.message.unknown.UnknownTypes.{UnknownTypes}
+
+-- those among the attributes that are left
+abbrev pub types_left : UnknownTypes → List AttributeType
+types_left iterator =
+    filter (is_unknown iterator.supported.now)
+    (map (λ item. record { 0 = item.0.type }) (items_left iterator.attributes))
