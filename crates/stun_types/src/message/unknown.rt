@@ -28,6 +28,7 @@ impl<'m, 's> UnknownTypes<'m, 's> {
     /// ```
     /// use stun_types::attribute::{AttributeType, Username};
     /// use stun_types::message::UnknownTypes;
+    /// use stun_types::prelude::*;
     ///
     /// let bytes = b"\x00\x01\x00\x08\x21\x12\xA4\x42abcdefghijkl\x77\x77\x00\x01a\0\0\0";
     /// let mut unknown = UnknownTypes::new(bytes, &[Username::TYPE]);
