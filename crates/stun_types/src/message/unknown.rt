@@ -21,7 +21,8 @@ impl<'m, 's> UnknownTypes<'m, 's> {
     ghost use Rattle.stun_types.specs.Replies.{unknown_types};
     ghost use Rattle.stun_types.specs.UnknownTypes.{types_left};
 
-    /// Those that `bytes` show and `supported` doesn't list.
+    /// Returns an iterator over the unknown types of a message, of the bytes `bytes`: those that it
+    /// shows, that must be understood, and that `supported` doesn't list. It takes no memory.
     ///
     /// # Examples
     ///
@@ -31,7 +32,8 @@ impl<'m, 's> UnknownTypes<'m, 's> {
     /// use stun_types::prelude::*;
     ///
     /// let bytes = b"\x00\x01\x00\x08\x21\x12\xA4\x42abcdefghijkl\x77\x77\x00\x01a\0\0\0";
-    /// let mut unknown = UnknownTypes::new(bytes, &[Username::TYPE]);
+    /// let supported = [Username::TYPE];
+    /// let mut unknown = UnknownTypes::new(bytes, &supported);
     /// assert_eq!(rt; unknown.next(), Some(AttributeType(0x7777)));
     /// ```
     pub fn new(bytes: &'m [u8], supported: &'s [AttributeType]) -> UnknownTypes<'m, 's>
