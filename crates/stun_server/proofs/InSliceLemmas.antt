@@ -1,11 +1,9 @@
 -- A reply that is written into a slice, piece by piece.
-use Rattle.std.proofs.Common.{◌≡◌, ℕ, ◌+◌, ◌*◌, ◌^◌, ◌<◌, ◌≤◌, Bool, true, false, cond, List, [], ◌∷◌, ◌++◌, length, take, drop, map, refl, sym, ap, ◌∙◌, append_assoc, lit<, arith}
+use Rattle.std.proofs.Common.{◌≡◌, ℕ, ◌+◌, ◌*◌, ◌^◌, ◌<◌, ◌≤◌, Bool, true, false, List, [], ◌∷◌, ◌++◌, length, take, drop, refl, sym, ap, ◌∙◌, append_assoc, lit<, arith}
 use Rattle.std.specs.Prelude.{codes, is_some, if◌then◌else◌}
-use Rattle.std.specs.List.{filter}
 use Rattle.std.specs.declared.net.socket_addr.SocketAddr.{SocketAddr}
 use Rattle.std.proofs.Math.Seq.{drop-append-add}
 use Rattle.std.proofs.lemmas.List.{length-append, take_at, drop_at, drop-drop}
-use Rattle.std.proofs.lemmas.List.Elements.{filter-append}
 use Rattle.stun_grammar.specs.declared.attribute_type.AttributeType.{AttributeType}
 use Rattle.stun_grammar.specs.Numbers.{be16, padded_length}
 use Rattle.stun_grammar.specs.Headers.{id_field}
@@ -17,13 +15,11 @@ use Rattle.stun_grammar.specs.Adding.{appended, grown_length}
 use Rattle.stun_grammar.proofs.WritingLemmas.{length-canonical, length-message}
 use Rattle.stun_grammar.proofs.AddingLemmas.{appended_length, message_more, fingerprint_length}
 use Rattle.stun_base.specs.declared.message_type.MessageClass.TheVariants.{Success, Error as ErrorClass}
-use Rattle.stun_attrs.specs.declared.raw.RawAttribute.{RawAttribute}
 use Rattle.stun_values.specs.Addresses.{address_value, IsXored, xored_value}
 use Rattle.stun_values.specs.ErrorValues.{error_value}
 use Rattle.stun_values.specs.TypeLists.{type_encoding, types_encoding}
 use Rattle.stun_values.proofs.ListsLemmas.{flat_map-one, length_of_twos}
-use Rattle.stun_types.specs.Replies.{shown_types, response_type, own_software, unknown_reply}
-use Rattle.stun_types.proofs.ShownTypesLemmas.{item_type, SoFar, passes_more, fails_more}
+use Rattle.stun_types.specs.Replies.{response_type, own_software, unknown_reply}
 use Rattle.stun_read.specs.LookingUp.{nth}
 use Rattle.stun_server.specs.Reply.{success_reply, response, unfinished_reply, binding_reply}
 use Rattle.stun_server.specs.InSlice.{overlaid}
