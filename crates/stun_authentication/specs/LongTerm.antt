@@ -90,13 +90,14 @@ shows_one_alone d =
     let list = is_some (promised PASSWORD_ALGORITHMS d) in
     (one || list) && not (one && list)
 
--- it shows both (or `shows_one_alone` decides), and the list isn't the one that was sent with the nonce
+-- it shows both (or `shows_one_alone` decides), and the list isn't the one that was sent with the
+-- nonce
 abbrev pub shows_other_list : Known → List ℕ → Bool
 shows_other_list state d =
     option_map_or (λ list. not (is_sent state list)) (promised PASSWORD_ALGORITHMS d) false
 
--- it shows both (or `shows_one_alone` decides), and the algorithm isn't on the list, or is neither MD5 nor
--- SHA-256 without parameters, or more octets follow it
+-- it shows both (or `shows_one_alone` decides), and the algorithm isn't on the list, or is neither
+-- MD5 nor SHA-256 without parameters, or more octets follow it
 abbrev pub chooses_none_listed : List ℕ → Bool
 chooses_none_listed d =
     option_map_or (λ list. not (option_map_or (λ algorithm. is_listed list algorithm) (chosen d) false))
