@@ -508,7 +508,7 @@ static inline void stun_types_key_free(stun_types_key *key) {
    otherwise. */
 typedef struct {
     stun_types_integrity algorithm; /* whose attribute counts, or STUN_TYPES_INTEGRITY_ANY: of both */
-    uint32_t shortest;    /* bytes that a MESSAGE-INTEGRITY-SHA256 has at least (section 14.6): a usage
+    uint32_t min_hmac_length;    /* bytes that a MESSAGE-INTEGRITY-SHA256 has at least (section 14.6): a usage
                              may say 16, 20, 24 or 28; 0 is 32 */
     uint32_t fingerprint; /* not 0: the usage uses FINGERPRINT, as ICE does, and a message without one
                              isn't taken (sections 6.3 and 7) */
@@ -844,7 +844,7 @@ typedef struct {
     uint64_t reliable_wait; /* over TCP, the whole time (Ti) */
     uint32_t requests;      /* how many are sent at most (Rc) */
     uint32_t last_wait;     /* how many times rto is waited after the last (Rm) */
-    uint32_t shortest;      /* bytes that a MESSAGE-INTEGRITY-SHA256 has at least (section 14.6): a
+    uint32_t min_hmac_length;      /* bytes that a MESSAGE-INTEGRITY-SHA256 has at least (section 14.6): a
                                usage may say 16, 20, 24 or 28; 0 is 32 */
     uint32_t fingerprint;   /* not 0: the usage sends FINGERPRINT, so that a response without one is
                                discarded (sections 6.3 and 7) */
@@ -880,7 +880,7 @@ typedef struct {
 
 /* Begins the transaction of a request, which is signed if it is protected. key is that of the
    credential that protects it, and isn't looked at otherwise. Nothing allocates.
-   The errors of stun_types_parse; BAD_ARGUMENT: transport, protection, or schedule->shortest, which
+   The errors of stun_types_parse; BAD_ARGUMENT: transport, protection, or schedule->min_hmac_length, which
    is none of 0, 16, 20, 24, 28 and 32; OUT_OF_RANGE, of no number: one of the schedule is 0, or they
    are too large; NOT_A_REQUEST; NOT_SIGNED, SIGNED: against protection; NO_KEY; NOT_SIGNED: the key of
    a short-term credential works with no integrity attribute of the request; BAD_ARGUMENT: a key of a

@@ -21,7 +21,7 @@ class Address(Structure):
 class Key(Structure):
     _fields_ = [("at", c_void_p), ("held", c_uint64)]
 class Policy(Structure):
-    _fields_ = [("algorithm", c_uint32), ("shortest", c_uint32), ("fingerprint", c_uint32),
+    _fields_ = [("algorithm", c_uint32), ("min_hmac_length", c_uint32), ("fingerprint", c_uint32),
                 ("reserved", c_uint32)]
 class Validated(Structure):
     _fields_ = [("algorithm", c_uint32), ("hmac_length", c_uint32), ("reserved", c_uint64)]

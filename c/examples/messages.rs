@@ -14,7 +14,7 @@ mod stun {
     #[repr(C)]
     pub struct Key { pub at: *mut u8, pub held: u64 }
     #[repr(C)] #[derive(Default)]
-    pub struct Policy { pub algorithm: u32, pub shortest: u32, pub fingerprint: u32, pub reserved: u32 }
+    pub struct Policy { pub algorithm: u32, pub min_hmac_length: u32, pub fingerprint: u32, pub reserved: u32 }
     #[repr(C)] #[derive(Default)]
     pub struct Validated { pub algorithm: u32, pub hmac_length: u32, pub reserved: u64 }
 

@@ -38,7 +38,7 @@ static const place places[] = {
 
     SIZE(cookie, 13), AT(cookie, bytes, 0),
 
-    SIZE(policy, 16), AT(policy, algorithm, 0), AT(policy, shortest, 4), AT(policy, fingerprint, 8),
+    SIZE(policy, 16), AT(policy, algorithm, 0), AT(policy, min_hmac_length, 4), AT(policy, fingerprint, 8),
     AT(policy, reserved, 12),
 
     SIZE(validated, 16), AT(validated, algorithm, 0), AT(validated, hmac_length, 4),
@@ -49,7 +49,7 @@ static const place places[] = {
     AT(authentication, password_algorithm, 16), AT(authentication, reserved, 20),
 
     SIZE(schedule, 40), AT(schedule, rto, 0), AT(schedule, reliable_wait, 8),
-    AT(schedule, requests, 16), AT(schedule, last_wait, 20), AT(schedule, shortest, 24),
+    AT(schedule, requests, 16), AT(schedule, last_wait, 20), AT(schedule, min_hmac_length, 24),
     AT(schedule, fingerprint, 28), AT(schedule, reserved, 32),
 
     SIZE(transaction, 88), AT(transaction, schedule, 0), AT(transaction, last, 40),

@@ -103,7 +103,7 @@ static void test_arguments(void) {
 static void test_strict(void) {
     static const struct {
         const char *name;
-        uint32_t shortest;
+        uint32_t min_hmac_length;
         stun_types_authentication_kind kind;
     } strict[] = {
         {"zeros", 0, STUN_TYPES_REFUSED},
@@ -120,7 +120,7 @@ static void test_strict(void) {
         bytes = hex(CHECK_CUT);
         key = password_key(text("pass"));
         memset(&policy, 0, sizeof policy);
-        policy.shortest = strict[i].shortest;
+        policy.min_hmac_length = strict[i].min_hmac_length;
         authentication = NEW(stun_types_authentication);
         heap_allow(true);
         ANSWERS(stun_types_authenticate_short_term(bytes.bytes, bytes.length, &policy, key,

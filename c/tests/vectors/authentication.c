@@ -72,7 +72,7 @@ static stun_types_policy call_policy(stun_types_integrity *made_for) {
         return policy;
     }
     policy.algorithm = algorithm_of(algorithm);
-    policy.shortest = (uint32_t)strtoul(length, NULL, 10);
+    policy.min_hmac_length = (uint32_t)strtoul(length, NULL, 10);
     while (word != NULL) {
         char *part = next_part(&word, ':');
         if (strcmp(part, "fingerprint") == 0) policy.fingerprint = 1;

@@ -234,7 +234,7 @@ static void read_mechanism(char *word) {
     while ((part = next_part(&word, ':')) != NULL)
         if (strcmp(part, "fingerprint") == 0) script.schedule.fingerprint = 1;
         else if (strncmp(part, "key-", 4) == 0) script.made_for = algorithm_of(part + 4);
-        else script.schedule.shortest = (uint32_t)strtoul(part, NULL, 10);
+        else script.schedule.min_hmac_length = (uint32_t)strtoul(part, NULL, 10);
 }
 
 static void transaction(void) {

@@ -5,7 +5,7 @@ use Rattle.std.specs.Fmt.{decimal}
 use Rattle.stun_grammar.specs.declared.error.StunParseError.{StunParseError}
 use Rattle.stun_grammar.specs.declared.error.StunParseError.TheVariants.{Truncated, TooLarge}
 use Rattle.stun_grammar.specs.Numbers.{be16, number}
-use Rattle.stun_attrs.specs.Reading.{Reads}
+use Rattle.stun_attributes.specs.Reading.{Reads}
 use Rattle.discovery_attrs.specs.declared.change.Change.{Change}
 use Rattle.discovery_attrs.specs.declared.transmissions.Transmissions.{Transmissions}
 use Rattle.discovery_attrs.specs.declared.response_port.ResponsePort.{ResponsePort}

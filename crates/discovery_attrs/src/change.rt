@@ -1,6 +1,6 @@
 use crate::ChangeRequestKind;
 use std::fmt;
-use stun_types::attribute::FieldsKind;
+use stun_types::attribute::PackedKind;
 use stun_types::{PrintText, TextSink};
 
 /// The parts of its address that a server is to change before it answers: the IP address, the port,
@@ -40,7 +40,7 @@ impl fmt::Display for Change {
     }
 }
 
-impl FieldsKind<Change> for ChangeRequestKind {
+impl PackedKind<Change> for ChangeRequestKind {
     ghost use Rattle.discovery_attrs.specs.Discovery.{change_number, change_of};
 
     type Number = u32;

@@ -2,7 +2,7 @@
 
 use crate::{Change, Transmissions, attribute_types};
 use stun_types::attribute::{
-    AddressAttribute, AttributeKind, BytesAttribute, FieldsAttribute, ShortBytes,
+    AddressAttribute, AttributeKind, BytesAttribute, PackedAttribute, ValueBytes,
 };
 
 /// MAPPED-ADDRESS: the address that a request came from, as it is (RFC 8489, section 14.1). The
@@ -55,7 +55,7 @@ impl AttributeKind for MappedAddressKind {
 /// assert_eq!(rt; request.write_into(&mut bytes), Ok(8));
 /// assert_eq!(rt; bytes, [0x00, 0x03, 0x00, 0x04, 0x00, 0x00, 0x00, 0x02]);
 /// ```
-pub type ChangeRequest = FieldsAttribute<ChangeRequestKind, Change>;
+pub type ChangeRequest = PackedAttribute<ChangeRequestKind, Change>;
 
 /// The kind of [`ChangeRequest`].
 pub enum ChangeRequestKind {}
@@ -87,7 +87,7 @@ impl AttributeKind for ChangeRequestKind {
 /// let padding = Padding::new(&[0; 1500])?;
 /// assert_eq!(rt; padding.padded_len(), 1504);
 /// ```
-pub type Padding<'a> = BytesAttribute<PaddingKind, ShortBytes<'a>>;
+pub type Padding<'a> = BytesAttribute<PaddingKind, ValueBytes<'a>>;
 
 /// The kind of [`Padding`].
 pub enum PaddingKind {}
@@ -191,7 +191,7 @@ impl AttributeKind for OtherAddressKind {
 /// assert_eq!(rt; counter.write_into(&mut bytes), Ok(8));
 /// assert_eq!(rt; bytes, [0x80, 0x25, 0x00, 0x04, 0x00, 0x00, 0x03, 0x00]);
 /// ```
-pub type TransactionTransmitCounter = FieldsAttribute<
+pub type TransactionTransmitCounter = PackedAttribute<
     TransactionTransmitCounterKind,
     Transmissions,
 >;

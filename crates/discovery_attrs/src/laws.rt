@@ -9,7 +9,7 @@ ghost use Rattle.discovery_attrs.specs.declared.transmissions.Transmissions.{Tra
 ghost use Rattle.discovery_attrs.specs.Discovery.{change_number, change_of, counts_number, counts_of, port_of, response_port_value, ReadsResponsePort};
 
 /// The number that encodes two flags, or two counts, holds them, so that they are read back
-/// (`stun_kinds::fields_are_read_back`).
+/// (`stun_attributes::packed_attribute_is_read_back`).
 pub fn fields_are_held()
     ensures change { (change : Change) → change_of (change_number change) ≡ Some change }
     ensures counts { (counts : Transmissions) → counts.requests < 256 → counts.responses < 256

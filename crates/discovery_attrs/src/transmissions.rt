@@ -1,6 +1,6 @@
 use crate::TransactionTransmitCounterKind;
 use std::fmt;
-use stun_types::attribute::FieldsKind;
+use stun_types::attribute::PackedKind;
 use stun_types::{PrintText, TextSink};
 
 /// The numbers of times that a request and its response were sent.
@@ -38,7 +38,7 @@ impl fmt::Display for Transmissions {
     }
 }
 
-impl FieldsKind<Transmissions> for TransactionTransmitCounterKind {
+impl PackedKind<Transmissions> for TransactionTransmitCounterKind {
     ghost use Rattle.discovery_attrs.specs.Discovery.{counts_number, counts_of};
 
     type Number = u32;

@@ -3,7 +3,7 @@ use Rattle.std.specs.Prelude.{◌≡◌, ℕ, List, ◌++◌, length, take, drop
 use Rattle.stun_grammar.specs.declared.error.StunParseError.{StunParseError}
 use Rattle.stun_grammar.specs.Lengths.{exact_fault}
 use Rattle.stun_grammar.specs.Numbers.{be16, number}
-use Rattle.stun_attrs.specs.Reading.{Reads}
+use Rattle.stun_attributes.specs.Reading.{Reads}
 use Rattle.examples.specs.declared.own.version.Version.{Version}
 
 abbrev pub SESSION : ℕ

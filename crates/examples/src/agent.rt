@@ -10,7 +10,8 @@ use std::alloc::{AllocError, Global};
 use std::net::SocketAddr;
 use std::time::Duration;
 use stun_transactions::{
-    BeginError, Protection, Received, Schedule, ScheduleError, Transaction, Usage, response_address,
+    BeginError, Protection, Received, ResponsePolicy, Schedule, ScheduleError, Transaction,
+    response_address,
 };
 use stun_types::TransportType;
 use stun_types::message::{IntegrityKey, Message, StunParseError, StunWriteError};
@@ -34,7 +35,7 @@ pub fn transaction_of(
     request: &[u8],
     schedule: Schedule,
     protection: Protection,
-    usage: Usage,
+    usage: ResponsePolicy,
     now: Duration,
 ) -> Result<Transaction, AgentError> {
     let request = Message::from_bytes(request)?;
@@ -81,8 +82,8 @@ impl Check {
         now: Duration,
     ) -> Result<Check, AgentError> {
         let key = IntegrityKey::new(alloc, agent.peer.1.as_bytes(), None)?;
-        let usage = Usage {
-            shortest: 32,
+        let usage = ResponsePolicy {
+            min_hmac_length: 32,
             fingerprint: true,
         };
         let protection = Protection::ShortTerm(key);

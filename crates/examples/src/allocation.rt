@@ -8,7 +8,7 @@ use std::alloc::Global;
 use std::net::SocketAddr;
 use std::time::Duration;
 use stun_authentication::{challenge_of, key_for};
-use stun_transactions::{Protection, Received, Retries, Schedule, Transaction, Usage};
+use stun_transactions::{Protection, Received, ResponsePolicy, Retries, Schedule, Transaction};
 use stun_types::message::Message;
 use turn_attrs::{Lifetime, XorRelayedAddress};
 
@@ -56,7 +56,7 @@ impl<'a> Allocate<'a> {
         now: Duration,
     ) -> Result<Self, AgentError> {
         let request = allocate_request(alloc, id, seconds, None, login)?;
-        let (schedule, usage) = (Schedule::new_default(), Usage::default());
+        let (schedule, usage) = (Schedule::new_default(), ResponsePolicy::default());
         let protection = Protection::FirstLongTerm;
         let transaction = transaction_of(&request, schedule, protection, usage, now)?;
         Ok(Allocate {
@@ -111,7 +111,7 @@ impl<'a> Allocate<'a> {
         }
         let request = allocate_request(alloc, id, self.seconds, Some(&challenge), self.login)?;
         let key = key_for(alloc, &challenge, self.login.0, self.login.1)?;
-        let (schedule, usage) = (Schedule::new_default(), Usage::default());
+        let (schedule, usage) = (Schedule::new_default(), ResponsePolicy::default());
         let protection = Protection::LongTerm(key);
         self.transaction = transaction_of(&request, schedule, protection, usage, now)?;
         self.request = request;

@@ -3,7 +3,7 @@
 use std::alloc::Global;
 use std::net::SocketAddr;
 use std::time::Duration;
-use stun_transactions::{Action, Protection, Received, Schedule, Transaction, Usage};
+use stun_transactions::{Action, Protection, Received, ResponsePolicy, Schedule, Transaction};
 use stun_types::TransportType;
 use stun_types::attribute::XorMappedAddress;
 use stun_types::message::Message;
@@ -35,7 +35,7 @@ pub fn mapped_address<C: Carrier>(
         schedule,
         udp,
         unprotected,
-        Usage::default(),
+        ResponsePolicy::default(),
         carrier.now(),
     )
     .ok()?;

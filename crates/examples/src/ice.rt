@@ -118,7 +118,7 @@ pub fn answer(
     let users = user_of(alloc, agent, check)?;
     let policy = Policy {
         algorithm: None,
-        shortest: 32,
+        min_hmac_length: 32,
         fingerprint: true,
     };
     let vector = MessageWriteVec::new(alloc);

@@ -8,7 +8,7 @@ use stun_types::attribute::RawAttribute;
 use stun_types::attribute_display;
 use stun_types::message::{Message, StunParseError, StunWriteError};
 use stun_types::prelude::*;
-use stun_types::show::{Registry, Shown};
+use stun_types::show::{DisplayWith, Registry};
 
 /// Appends what a LOCATION prints: its name and its text. A text attribute by itself prints the number
 /// of its type instead.
@@ -41,7 +41,7 @@ pub fn lines(alloc: Global, message: &Message<'_>) -> Result<String, StunWriteEr
     let (class, method, id) = (message.class(), message.method(), message.transaction_id());
     write!(text, "{class:?} {method} {id}\n")?;
     for (offset, raw) in message.iter_attributes() {
-        let shown = Shown {
+        let shown = DisplayWith {
             registry: &registry,
             raw: &raw,
         };

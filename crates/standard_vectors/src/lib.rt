@@ -34,7 +34,7 @@ ghost use Rattle.stun_base.specs.MessageTypes.{type_of, class_of, method_of};
 ghost use Rattle.stun_values.specs.declared.algorithm.PasswordAlgorithmValue.TheVariants.{MD5, SHA256};
 ghost use Rattle.stun_values.specs.Addresses.{address_in, address_fault, address_value, IsXored};
 ghost use Rattle.stun_values.specs.Algorithms.{algorithms_fault, algorithms_in, algorithms_encoding};
-ghost use Rattle.stun_values.specs.ErrorValues.{error_fault, told_code, error_value};
+ghost use Rattle.stun_values.specs.ErrorValues.{error_fault, reported_code, error_value};
 ghost use Rattle.stun_values.specs.Typed.{rule_of};
 ghost use Rattle.stun_values.specs.TypeLists.{types_fault, types_in, types_encoding};
 ghost use Rattle.standard_vectors.specs.Digests.{two_blocks, eighty_digits, sha1_of_abc, sha1_of_two_blocks, sha256_of_abc, sha256_of_two_blocks, md5_of_abc, md5_of_digits, question, long_key_text, sha1_case_1, sha1_case_2, sha1_case_6, sha256_case_1, sha256_case_2, sha256_case_6, sha1_of_64, sha1_of_65, sha256_of_64, sha256_of_65};
@@ -303,7 +303,7 @@ pub fn plain_addresses_are_right()
 /// Code 420 in the layout of RFC 8489, section 14.8, and values that are no error code.
 pub fn error_codes_are_right()
     ensures lawful { error_fault (0x00 ∷ 0x00 ∷ 0x04 ∷ 0x14 ∷ codes "Unknown Attribute") ≡ None }
-    ensures code { told_code (0x00 ∷ 0x00 ∷ 0x04 ∷ 0x14 ∷ codes "Unknown Attribute") ≡ 420 }
+    ensures code { reported_code (0x00 ∷ 0x00 ∷ 0x04 ∷ 0x14 ∷ codes "Unknown Attribute") ≡ 420 }
     ensures written { error_value 420 (codes "Unknown Attribute") ≡ 0x00 ∷ 0x00 ∷ 0x04 ∷ 0x14 ∷ codes "Unknown Attribute" }
     ensures no_class { error_fault (0x00 ∷ 0x00 ∷ 0x02 ∷ 0x14 ∷ []) ≡ Some InvalidAttributeData }
     ensures no_number { error_fault (0x00 ∷ 0x00 ∷ 0x04 ∷ 0x64 ∷ []) ≡ Some InvalidAttributeData }

@@ -13,7 +13,7 @@ use Rattle.stun_transactions.specs.declared.guard.Signed.{Signed}
 use Rattle.stun_transactions.specs.declared.received.Outcome.{Outcome}
 use Rattle.stun_transactions.specs.declared.received.Outcome.TheVariants.{NotForThis}
 use Rattle.stun_transactions.specs.declared.terms.Terms.{Terms}
-use Rattle.stun_transactions.specs.declared.usage.Usage.{Usage}
+use Rattle.stun_transactions.specs.declared.response_policy.ResponsePolicy.{ResponsePolicy}
 use Rattle.stun_transactions.specs.Guards.{proof_of, guard_fault, signed_by}
 use Rattle.stun_transactions.specs.Outcomes.{is_open}
 use Rattle.stun_transactions.specs.Receiving.{received_outcome, content, claim_of, discarded}
@@ -35,7 +35,7 @@ same_answer terms r d method id =
     ap (λ (m : ℕ). responds_to m terms.id d) method ∙ ap (λ (i : ℕ). responds_to (method_of (type_field r)) i d) id
 
 -- what is reported of one that answers
-abbrev answered : TransportType → Protection → Usage → Signed → List ℕ → Outcome
+abbrev answered : TransportType → Protection → ResponsePolicy → Signed → List ℕ → Outcome
 answered transport by usage signed d =
     option_map_or (discarded transport (claim_of d)) (guard_fault by usage signed d) (content (proof_of by usage signed d) [] d)
 
@@ -46,7 +46,7 @@ same_guard terms login r d transport signed protection used =
     ap (λ (t : TransportType). answered t terms.protection terms.usage terms.signed d) transport
     ∙ ap (λ (s : Signed). answered Udp terms.protection terms.usage s d) signed
     ∙ ap (λ (p : Protection). answered Udp p terms.usage (signed_by r) d) protection
-    ∙ ap (λ (u : Usage). answered Udp (protection_of login) u (signed_by r) d) used
+    ∙ ap (λ (u : ResponsePolicy). answered Udp (protection_of login) u (signed_by r) d) used
 
 pub received_reported : (terms : Terms) (course : RetransmissionState) (login : Option Login) (r d : List ℕ) → is_open course ≡ true → terms.plan.transport ≡ Udp → terms.method ≡ method_of (type_field r) → terms.id ≡ id_field r
     → terms.signed ≡ signed_by r → terms.protection ≡ protection_of login → terms.usage ≡ usage → received_outcome terms course [] d ≡ reported login r d

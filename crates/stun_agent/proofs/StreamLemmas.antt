@@ -106,12 +106,12 @@ ended source left mid new held held' stream behind piece serving nothing gives =
     let all : (serving.bytes ++ behind) ++ [] ≡ serving.bytes =
     append-nil (serving.bytes ++ behind) ∙ ap (λ (xs : List ℕ). serving.bytes ++ xs) nothing ∙ append-nil serving.bytes in
     let read : Consumes left new serving.bytes = subst (Consumes left new) all (Consumes-append left mid new (serving.bytes ++ behind) [] serving.read gives.read) in
-    let told : Option StreamFault → Option StreamError = option_map (λ fault. record { offset = offset_of (length (concat serving.messages)); fault = fault }) in
+    let reported : Option StreamFault → Option StreamError = option_map (λ fault. record { offset = offset_of (length (concat serving.messages)); fault = fault }) in
     let serves : Serves source left new held held' serving.messages stream.pending None = record {
       input = serving.bytes;
       read = read;
       cut = come.cut;
-      error_is = sym (ap told come.sound);
+      error_is = sym (ap reported come.sound);
       written = serving.written;
     } in
     elim (cases_Bool (eqb (length stream.pending) 0)) [
@@ -146,8 +146,8 @@ part_of held mid new xs ys before part = record {
 reads_last : (source : SocketAddr) (left_ left' held mid : Option (List ℕ)) (stream : Stream) (behind : List ℕ) (taken : ℕ)
     → (come : Serving source left_ left' held mid stream behind) → answer stream behind ≡ Ok taken
     → ReadsFirst left_ left' (come.messages ++ message_in (left stream behind).message)
-reads_last source left_ left' held mid stream behind taken come told =
-    let here = comes room come.bytes come.messages stream behind taken come.come told in
+reads_last source left_ left' held mid stream behind taken come reported =
+    let here = comes room come.bytes come.messages stream behind taken come.come reported in
     let new = left stream behind in
     let messages = come.messages ++ message_in new.message in
     record {
@@ -167,8 +167,8 @@ stopped source left_ left' held mid new stream behind NoReply serving vain = abs
 stopped source left_ left' held mid new stream behind (Run Usage) serving vain = absurd vain.failed
 stopped source left_ left' held mid new stream behind (Run TooLong) serving vain = absurd vain.failed
 stopped source left_ left' held mid new stream behind (Run ReadFailed) serving vain = absurd vain.failed
-stopped source left_ left' held mid new stream behind (NoMessage error) serving (told, keeps) =
-    let says = stops room serving.bytes serving.messages stream behind error serving.come told in (
+stopped source left_ left' held mid new stream behind (NoMessage error) serving (reported, keeps) =
+    let says = stops room serving.bytes serving.messages stream behind error serving.come reported in (
       serving.messages,
       says.rest,
       record {

@@ -20,7 +20,7 @@ use Rattle.stun_attributes.specs.Texts.{text_bytes}
 use Rattle.stun_types.specs.Replies.{is_answer_to}
 use Rattle.stun_transactions.specs.declared.guard.Protection.{Protection}
 use Rattle.stun_transactions.specs.declared.guard.Protection.TheVariants.{Unprotected, ShortTerm}
-use Rattle.stun_transactions.specs.declared.usage.Usage.{Usage}
+use Rattle.stun_transactions.specs.declared.response_policy.ResponsePolicy.{ResponsePolicy}
 use Rattle.stun_transactions.specs.declared.received.Claim.{Claim}
 use Rattle.stun_transactions.specs.declared.received.Discard.{Discard}
 use Rattle.stun_transactions.specs.declared.received.Failure.{Failure}
@@ -61,8 +61,8 @@ protection_of (Some login) = ShortTerm login.key
 
 -- what the usage specifies of the response: a MESSAGE-INTEGRITY-SHA256 has 32 bytes (RFC 8489,
 -- section 14.6), and a FINGERPRINT need not be there
-abbrev pub usage : Usage
-usage = record { shortest = 32; fingerprint = false }
+abbrev pub usage : ResponsePolicy
+usage = record { min_hmac_length = 32; fingerprint = false }
 
 -- ---- What a datagram is
 

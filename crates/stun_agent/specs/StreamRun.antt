@@ -6,7 +6,7 @@ use Rattle.std.specs.List.{All, concat, flat_map}
 use Rattle.std.specs.Io.KnownBytes.{Appends, Consumes, IsAtEnd}
 use Rattle.std.specs.declared.net.socket_addr.SocketAddr.{SocketAddr}
 use Rattle.stun_framing.specs.declared.error.StreamError.{StreamError}
-use Rattle.stun_framing.specs.declared.carries.Carries.TheVariants.{Messages}
+use Rattle.stun_framing.specs.declared.stream_kind.StreamKind.TheVariants.{Messages}
 use Rattle.stun_framing.specs.Framing.{Room, room_of, IsMessage, IsCut}
 use Rattle.stun_framing.specs.Streams.{offset_of}
 use Rattle.stun_framing.specs.Runs.{ending}

@@ -17,9 +17,7 @@ use stun_authentication::Policy;
 use stun_framing::RunError;
 use stun_keys::keys::key_of_bytes;
 use stun_types::attribute::Username;
-use stun_types::message::{
-    IntegrityAlgorithm, ShortTermCredentials, StunWriteError, TransactionId,
-};
+use stun_types::message::{IntegrityAlgorithm, ShortTermCredentials, StunWriteError, TransactionId};
 
 /// What `reply` is to do.
 #[derive(Clone, Copy, PartialEq, Eq)]
@@ -237,7 +235,7 @@ fn changed(policy: Policy, word: &str) -> Option<Policy> {
             ..policy
         }),
         "cut" => Some(Policy {
-            shortest: 16,
+            min_hmac_length: 16,
             ..policy
         }),
         _ => None,

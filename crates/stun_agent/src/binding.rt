@@ -12,15 +12,10 @@ use std::alloc::Global;
 use std::net::SocketAddr;
 use std::time::Duration;
 use stun_framing::RunError;
-use stun_transactions::{
-    Action, Protection, Received, Schedule, Transaction, Usage, response_address,
-};
+use stun_transactions::{Action, Protection, Received, Schedule, Transaction, ResponsePolicy, response_address};
 use stun_types::TransportType;
 use stun_types::attribute::AttributeWrite;
-use stun_types::message::{
-    BINDING, IntegrityAlgorithm, Message, MessageClass, MessageType, MessageWriteVec, Step,
-    TransactionId, write_steps,
-};
+use stun_types::message::{BINDING, IntegrityAlgorithm, Message, MessageClass, MessageType, MessageWriteVec, Step, TransactionId, write_steps};
 use stun_types::prelude::*;
 
 /// What a datagram says of the request.
@@ -122,7 +117,7 @@ fn sent(bytes: &[u8], login: Option<Login>) -> Result<Transaction, RunError>
     };
     let schedule = Schedule::new_default();
     let protection = protection(login);
-    let (usage, now) = (Usage::default(), Duration::ZERO);
+    let (usage, now) = (ResponsePolicy::default(), Duration::ZERO);
     match Transaction::new(
         &request,
         schedule,

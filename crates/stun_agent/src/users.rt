@@ -10,18 +10,9 @@ ghost use Rattle.stun_agent.specs.Issued.{algorithms_of};
 
 use std::alloc::Global;
 use std::net::SocketAddr;
-use stun_authentication::{
-    Accepted, Authentication, Demand, KnownNonce, Logins, Nonces, Policy, Refusal,
-    authenticate_long_term, authenticate_short_term, refuse_long_term, refuse_short_term,
-    security_features,
-};
-use stun_types::attribute::{
-    AttributeStaticType, Fingerprint, KNOWN, Nonce, PasswordAlgorithmValue, PasswordAlgorithms,
-    Realm, XorMappedAddress,
-};
-use stun_types::message::{
-    BINDING, LongTermCredentials, Message, MessageClass, MessageWriteVec, StunWriteError,
-};
+use stun_authentication::{Accepted, Authentication, Demand, NonceState, Logins, Nonces, Policy, Refusal, authenticate_long_term, authenticate_short_term, refuse_long_term, refuse_short_term, security_features};
+use stun_types::attribute::{AttributeStaticType, Fingerprint, KNOWN, Nonce, PasswordAlgorithmValue, PasswordAlgorithms, Realm, XorMappedAddress};
+use stun_types::message::{BINDING, LongTermCredentials, Message, MessageClass, MessageWriteVec, StunWriteError};
 use stun_types::prelude::*;
 
 /// The realm of the users.
@@ -57,14 +48,14 @@ impl Nonces for Issued<'_> {
 
     ghost state_of = { state_of };
 
-    fn nonce(&self, nonce: &[u8]) -> KnownNonce<'_> {
+    fn nonce(&self, nonce: &[u8]) -> NonceState<'_> {
         if nonce == self.fresh.as_bytes() {
-            return KnownNonce::Valid(algorithms_of(nonce));
+            return NonceState::Valid(algorithms_of(nonce));
         }
         if nonce == self.stale.as_bytes() {
-            return KnownNonce::Stale;
+            return NonceState::Stale;
         }
-        KnownNonce::Unknown
+        NonceState::Unknown
     }
 }
 

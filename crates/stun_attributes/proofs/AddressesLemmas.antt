@@ -85,5 +85,5 @@ read_of addr_of a (Err e) plain range spells = absurd spells
 -- the value of an address is read as that address
 pub address_back : {T : Type 0} (addr_of : T → SocketAddr) (a : SocketAddr) (result : Result T StunParseError) → IsPlain a → IsInRange a
     → ReadsAddress addr_of (address_value a) result → IsOkAnd result (λ read. IsInRange (addr_of read) → addr_of read ≡ a)
-address_back {T} addr_of a result plain range told =
-    read_of addr_of a result plain range (subst (λ (o : Option StunParseError). MatchOption o (IsOkAnd result (λ read. Spells (address_value a) (addr_of read))) (λ e. result ≡ Err e)) (readable a range) told)
+address_back {T} addr_of a result plain range reported =
+    read_of addr_of a result plain range (subst (λ (o : Option StunParseError). MatchOption o (IsOkAnd result (λ read. Spells (address_value a) (addr_of read))) (λ e. result ≡ Err e)) (readable a range) reported)

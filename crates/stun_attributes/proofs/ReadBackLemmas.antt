@@ -12,7 +12,7 @@ use Rattle.stun_attributes.specs.declared.password_algorithms.PasswordAlgorithms
 use Rattle.stun_attributes.specs.declared.error_code.ErrorCode.{ErrorCode}
 use Rattle.stun_values.specs.Algorithms.{algorithm_encoding, algorithms_encoding, fault_within, one_algorithm_fault, algorithms_fault}
 use Rattle.stun_attributes.specs.PasswordAlgorithms.{ReadsAlgorithm, ReadsAlgorithms, held_algorithm, held_algorithms}
-use Rattle.stun_values.specs.ErrorValues.{error_value, told_code, error_fault}
+use Rattle.stun_values.specs.ErrorValues.{error_value, reported_code, error_fault}
 use Rattle.stun_attributes.specs.ErrorCodes.{error_code, error_reason, IsError, ReadsError}
 use Rattle.stun_grammar.specs.Lengths.{range_fault}
 use Rattle.stun_grammar.specs.declared.attribute_type.AttributeType.{AttributeType}
@@ -40,9 +40,9 @@ read_one a (Err e) h = absurd h
 
 pub algorithm_back : (attribute : PasswordAlgorithm) (result : Result PasswordAlgorithm StunParseError)
     → ReadsAlgorithm (algorithm_encoding (held_algorithm attribute)) result → IsOkAnd result (λ read. held_algorithm read ≡ held_algorithm attribute)
-algorithm_back attribute result told =
+algorithm_back attribute result reported =
     let a = held_algorithm attribute in
-    read_one a result (subst (λ (o : Option StunParseError). MatchOption o (IsOkAnd result (λ r. algorithm_encoding (held_algorithm r) ≡ take 4 (algorithm_encoding a))) (λ e. result ≡ Err e)) (spelling_read a) told)
+    read_one a result (subst (λ (o : Option StunParseError). MatchOption o (IsOkAnd result (λ r. algorithm_encoding (held_algorithm r) ≡ take 4 (algorithm_encoding a))) (λ e. result ≡ Err e)) (spelling_read a) reported)
 
 -- ---- PASSWORD-ALGORITHMS
 
@@ -80,16 +80,16 @@ read_all xs (Err e) h = h
 pub algorithms_back : (attribute : PasswordAlgorithms) (result : Result PasswordAlgorithms StunParseError) → 0 < length (held_algorithms attribute)
     → ReadsAlgorithms (algorithms_encoding (held_algorithms attribute)) result
     → MatchResult result (λ read. held_algorithms read ≡ held_algorithms attribute) (λ e. e ≡ OutOfMemory)
-algorithms_back attribute result some told =
+algorithms_back attribute result some reported =
     let xs = held_algorithms attribute in
-    read_all xs result (subst (λ (o : Option StunParseError). MatchOption o (MatchResult result (λ r. algorithms_encoding (held_algorithms r) ≡ algorithms_encoding xs) (λ e. e ≡ OutOfMemory)) (λ e. result ≡ Err e)) (spellings_read xs some) told)
+    read_all xs result (subst (λ (o : Option StunParseError). MatchOption o (MatchResult result (λ r. algorithms_encoding (held_algorithms r) ≡ algorithms_encoding xs) (λ e. e ≡ OutOfMemory)) (λ e. result ≡ Err e)) (spellings_read xs some) reported)
 
 -- ---- ERROR-CODE
 
 -- the code and the reason of an attribute are written as a value that has no fault and has the code
 pub error_written : (attribute : ErrorCode)
     → (error_fault (error_value (error_code attribute) (error_reason attribute)) ≡ None)
-    × (told_code (error_value (error_code attribute) (error_reason attribute)) ≡ error_code attribute)
+    × (reported_code (error_value (error_code attribute) (error_reason attribute)) ≡ error_code attribute)
 error_written attribute =
     let written = error_value (error_code attribute) (error_reason attribute) in
     let fits : range_fault 4 767 (length written) ≡ None = rw (le-ltb (length written) 4 (omega arith), le-ltb 767 (length written) (omega (arith, attribute.short))) refl in (
@@ -99,11 +99,11 @@ error_written attribute =
 
 pub error_back : (attribute : ErrorCode) (result : Result ErrorCode StunParseError) → ReadsError (error_value (error_code attribute) (error_reason attribute)) result
     → MatchResult result (IsError (error_code attribute) (error_reason attribute)) (λ e. e ≡ OutOfMemory)
-error_back attribute result told =
+error_back attribute result reported =
     let reason = error_reason attribute in
     let written = error_written attribute in
     subst (λ (k : ℕ). MatchResult result (IsError k reason) (λ e. e ≡ OutOfMemory)) written.1
-    (subst (λ (o : Option StunParseError). MatchOption o (MatchResult result (IsError (told_code (error_value (error_code attribute) reason)) reason) (λ e. e ≡ OutOfMemory)) (λ e. result ≡ Err e)) written.0 told)
+    (subst (λ (o : Option StunParseError). MatchOption o (MatchResult result (IsError (reported_code (error_value (error_code attribute) reason)) reason) (λ e. e ≡ OutOfMemory)) (λ e. result ≡ Err e)) written.0 reported)
 
 -- ---- UNKNOWN-ATTRIBUTES
 
@@ -135,6 +135,6 @@ read_types xs (Err e) small h = h
 pub types_back : (attribute : UnknownAttributes) (result : Result UnknownAttributes StunParseError) → AreTypes (listed attribute)
     → ReadsTypes (types_encoding (listed attribute)) result
     → MatchResult result (λ read. AreTypes (listed read) → listed read ≡ listed attribute) (λ e. e ≡ OutOfMemory)
-types_back attribute result small told =
+types_back attribute result small reported =
     let xs = listed attribute in
-    read_types xs result small (subst (λ (o : Option StunParseError). MatchOption o (MatchResult result (λ r. types_encoding (listed r) ≡ types_encoding xs) (λ e. e ≡ OutOfMemory)) (λ e. result ≡ Err e)) (even_fault xs) told)
+    read_types xs result small (subst (λ (o : Option StunParseError). MatchOption o (MatchResult result (λ r. types_encoding (listed r) ≡ types_encoding xs) (λ e. e ≡ OutOfMemory)) (λ e. result ≡ Err e)) (even_fault xs) reported)

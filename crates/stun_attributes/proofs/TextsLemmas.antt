@@ -17,6 +17,6 @@ fits most value short = rw (le-ltb (length value) 0 (omega arith), le-ltb most (
 -- the bytes of a text are read as that text
 pub read_back : {wanted most : ℕ} (text : TextAttribute wanted most) (result : Result (TextAttribute wanted most) StunParseError)
     → ReadsText most (text_bytes text) result → MatchResult result (λ read. text_bytes read ≡ text_bytes text) (λ e. e ≡ OutOfMemory)
-read_back {wanted} {most} text result told =
+read_back {wanted} {most} text result reported =
     let clear : Rules.text_fault most (text_bytes text) ≡ None = is_text most (text_bytes text) (fits most (text_bytes text) text.short) (IsUtf8-string_bytes text.text) in
-    subst (λ (o : Option StunParseError). MatchOption o (MatchResult result (λ r. text_bytes r ≡ text_bytes text) (λ e. e ≡ OutOfMemory)) (λ e. result ≡ Err e)) clear told
+    subst (λ (o : Option StunParseError). MatchOption o (MatchResult result (λ r. text_bytes r ≡ text_bytes text) (λ e. e ≡ OutOfMemory)) (λ e. result ≡ Err e)) clear reported

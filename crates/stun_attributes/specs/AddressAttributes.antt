@@ -2,7 +2,7 @@
 use Rattle.std.specs.Prelude.{ℕ, List, Result}
 use Rattle.std.specs.declared.net.socket_addr.SocketAddr.{SocketAddr}
 use Rattle.stun_grammar.specs.declared.error.StunParseError.{StunParseError}
-use Rattle.stun_attrs.specs.Reading.{Reads}
+use Rattle.stun_attributes.specs.Reading.{Reads}
 use Rattle.stun_values.specs.Addresses.{address_fault, Spells}
 use Rattle.stun_attributes.specs.declared.mapped.MappedSocketAddr.{MappedSocketAddr}
 use Rattle.stun_attributes.specs.declared.xored.XorSocketAddr.{XorSocketAddr}

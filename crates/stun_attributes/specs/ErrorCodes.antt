@@ -5,8 +5,8 @@ use Rattle.std.specs.Option.{option_map_or}
 use Rattle.stun_grammar.specs.declared.error.StunParseError.{StunParseError}
 use Rattle.stun_grammar.specs.declared.error.StunWriteError.{StunWriteError}
 use Rattle.stun_grammar.specs.declared.error.StunWriteError.TheVariants.{OutOfMemory}
-use Rattle.stun_attrs.specs.Reading.{ReadsInMemory}
-use Rattle.stun_values.specs.ErrorValues.{making_fault, told_code, error_fault}
+use Rattle.stun_attributes.specs.Reading.{ReadsInMemory}
+use Rattle.stun_values.specs.ErrorValues.{making_fault, reported_code, error_fault}
 use Rattle.stun_attributes.specs.DefaultReasons.{default_reason}
 use Rattle.stun_attributes.specs.declared.error_code.ErrorCode.{ErrorCode}
 use Rattle.stun_attributes.specs.declared.error_code.ErrorCodeBuilder.{ErrorCodeBuilder}
@@ -39,4 +39,4 @@ MakesError code reason result =
 
 -- what reading a value answers
 abbrev pub ReadsError : List ℕ → Result ErrorCode StunParseError → Type 0
-ReadsError value = ReadsInMemory (error_fault value) (IsError (told_code value) (drop 4 value))
+ReadsError value = ReadsInMemory (error_fault value) (IsError (reported_code value) (drop 4 value))

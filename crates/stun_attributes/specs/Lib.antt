@@ -1,3 +1,11 @@
+pub mod Checks
+pub mod PrintedAttributes
+pub mod Raw
+pub mod ReadBack
+pub mod Reading
+pub mod Integrity
+pub mod Userhash
+pub mod Kinds
 pub mod AddressAttributes
 pub mod ErrorCodes
 pub mod DefaultReasons

@@ -1,7 +1,7 @@
 -- The algorithms in attributes.
 use Rattle.std.specs.Prelude.{◌≡◌, ℕ, List, take, Result}
 use Rattle.stun_grammar.specs.declared.error.StunParseError.{StunParseError}
-use Rattle.stun_attrs.specs.Reading.{Reads, ReadsInMemory}
+use Rattle.stun_attributes.specs.Reading.{Reads, ReadsInMemory}
 use Rattle.stun_values.specs.Algorithms.{algorithm_encoding, algorithms_encoding, one_algorithm_fault, algorithms_fault}
 use Rattle.stun_values.specs.declared.algorithm.PasswordAlgorithmValue.{PasswordAlgorithmValue}
 use Rattle.stun_attributes.specs.declared.password_algorithm.PasswordAlgorithm.{PasswordAlgorithm}

@@ -5,7 +5,7 @@ use Rattle.stun_grammar.specs.declared.error.StunParseError.{StunParseError}
 use Rattle.stun_grammar.specs.AttributeTypes.{USERNAME, SOFTWARE}
 use Rattle.stun_grammar.specs.Names.{plain_text, quoted_text}
 use Rattle.stun_values.specs.TextValues.{text_fault}
-use Rattle.stun_attrs.specs.Reading.{ReadsInMemory}
+use Rattle.stun_attributes.specs.Reading.{ReadsInMemory}
 use Rattle.stun_attributes.specs.declared.text.TextAttribute.{TextAttribute}
 
 -- the bytes of its text, which are its value

@@ -1,7 +1,7 @@
 -- The types in an UNKNOWN-ATTRIBUTES.
 use Rattle.std.specs.Prelude.{◌≡◌, ℕ, List, Result}
 use Rattle.stun_grammar.specs.declared.error.StunParseError.{StunParseError}
-use Rattle.stun_attrs.specs.Reading.{ReadsInMemory}
+use Rattle.stun_attributes.specs.Reading.{ReadsInMemory}
 use Rattle.stun_values.specs.TypeLists.{types_encoding, types_fault}
 use Rattle.stun_grammar.specs.declared.attribute_type.AttributeType.{AttributeType}
 use Rattle.stun_attributes.specs.declared.unknown_attributes.UnknownAttributes.{UnknownAttributes}

@@ -2,10 +2,10 @@ ghost use Rattle.std.specs.Prelude.{◌≡◌};
 ghost use Rattle.stun_attributes.specs.AddressAttributes.{server_addr};
 
 use crate::MappedSocketAddr;
+use crate::wire::{Attribute, EncodeValue, ReadValue, TypedAttribute};
 use std::alloc::Global;
 use std::fmt;
 use std::net::SocketAddr;
-use stun_attrs::{Attribute, EncodeValue, ReadValue, TypedAttribute};
 use stun_base::StunParseError;
 use stun_grammar::attribute_types;
 use stun_text::{PrintText, TextSink};

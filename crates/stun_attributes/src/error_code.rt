@@ -2,9 +2,9 @@ ghost use Rattle.std.specs.Prelude.{◌≡◌, ◌≤◌, length};
 ghost use Rattle.std.specs.String.{string_bytes};
 ghost use Rattle.stun_values.specs.TextValues.{text_max};
 
+use crate::wire::{EncodeValue, ReadValue, TypedAttribute};
 use std::alloc::Global;
 use std::fmt;
-use stun_attrs::{EncodeValue, ReadValue, TypedAttribute};
 use stun_base::{StunParseError, StunWriteError};
 use stun_grammar::attribute_types;
 use stun_text::{PrintText, TextSink};

@@ -7,7 +7,7 @@ ghost use Rattle.std.specs.declared.net.socket_addr.SocketAddr.{SocketAddr};
 ghost use Rattle.stun_grammar.specs.AttributeTypes.{USERNAME, REALM, NONCE, SOFTWARE, ALTERNATE_DOMAIN};
 ghost use Rattle.stun_grammar.specs.declared.error.StunParseError.{StunParseError};
 ghost use Rattle.stun_grammar.specs.declared.error.StunParseError.TheVariants.{OutOfMemory};
-ghost use Rattle.stun_attrs.specs.ReadBack.{HasOneReadingInMemory, IsReadBack, IsReadBackInMemory};
+ghost use Rattle.stun_attributes.specs.ReadBack.{HasOneReadingInMemory, IsReadBack, IsReadBackInMemory};
 ghost use Rattle.stun_values.specs.Addresses.{address_value, IsInRange, IsPlain, IsXored};
 ghost use Rattle.stun_values.specs.Algorithms.{algorithm_encoding, algorithms_encoding};
 ghost use Rattle.stun_values.specs.ErrorValues.{error_value};
@@ -26,11 +26,11 @@ ghost use Rattle.stun_attributes.specs.PasswordAlgorithms.{ReadsAlgorithm, Reads
 ghost use Rattle.stun_attributes.specs.Texts.{text_bytes};
 ghost use Rattle.stun_attributes.specs.Unknown.{ReadsTypes, listed};
 
+use crate::wire::{Attribute, AttributeFromRaw, EncodeValue, ReadValue};
 use crate::{
     AlternateDomain, AlternateServer, ErrorCode, Nonce, PasswordAlgorithm, PasswordAlgorithms,
     Realm, Software, TextAttribute, UnknownAttributes, Username, XorMappedAddress,
 };
-use stun_attrs::{Attribute, AttributeFromRaw, EncodeValue, ReadValue};
 
 /// A text has one reading, unless out of memory.
 #[tactic(auto, using(crate::proofs::TextsLemmas::read_back))]

@@ -1,13 +1,13 @@
 ghost use Rattle.std.specs.Prelude.{◌≡◌, ◌≤◌, ◌++◌, false, length, drop, IfOk, IfErr};
 ghost use Rattle.stun_base.specs.Data.{is_borrowed};
-ghost use Rattle.stun_attrs.specs.Raw.{raw_data, raw_value, IsRawOf};
+ghost use Rattle.stun_attributes.specs.Raw.{raw_data, raw_value, IsRawOf};
 ghost use Rattle.stun_values.specs.Addresses.{address_value};
 ghost use Rattle.stun_attributes.specs.AddressAttributes.{mapped_addr, ReadsAddress};
 
+use crate::wire::{EncodeValue, RawAttribute, to_owned_raw};
 use std::alloc::Global;
 use std::fmt;
 use std::net::SocketAddr;
-use stun_attrs::{EncodeValue, RawAttribute, to_owned_raw};
 use stun_base::{AttributeType, StunParseError, StunWriteError};
 use stun_text::{PrintText, TextSink, put_socket};
 use stun_values::{address_length, read_address, write_address};

@@ -1,9 +1,9 @@
 ghost use Rattle.std.specs.Prelude.{◌≡◌};
 ghost use Rattle.stun_attributes.specs.PasswordAlgorithms.{held_algorithm};
 
+use crate::wire::{EncodeValue, ReadValue, TypedAttribute};
 use std::alloc::Global;
 use std::fmt;
-use stun_attrs::{EncodeValue, ReadValue, TypedAttribute};
 use stun_base::StunParseError;
 use stun_grammar::attribute_types;
 use stun_text::{PrintText, TextSink};

@@ -1,9 +1,9 @@
 ghost use Rattle.std.specs.Prelude.{◌≡◌, ◌≤◌, ◌/◌, None, length};
 ghost use Rattle.stun_values.specs.Algorithms.{algorithms_encoding, fault_within};
 
+use crate::wire::{EncodeValue, ReadValue, TypedAttribute};
 use std::alloc::{AllocError, Global};
 use std::fmt;
-use stun_attrs::{EncodeValue, ReadValue, TypedAttribute};
 use stun_base::{StunParseError, StunWriteError};
 use stun_grammar::attribute_types;
 use stun_text::{PrintText, TextSink};

@@ -1,9 +1,9 @@
 ghost use Rattle.std.specs.Prelude.{◌≡◌, ◌≤◌, length};
 ghost use Rattle.std.specs.String.{string_bytes};
 
+use crate::wire::{Attribute, BorrowValue, EncodeValue, ReadValue, TypedAttribute, copy_to_start};
 use std::alloc::Global;
 use std::fmt;
-use stun_attrs::{Attribute, BorrowValue, EncodeValue, ReadValue, TypedAttribute, copy_to_start};
 use stun_base::{StunParseError, StunWriteError};
 use stun_grammar::attribute_types;
 use stun_text::{PrintText, TextSink};

@@ -1,10 +1,10 @@
 ghost use Rattle.std.specs.Prelude.{◌≡◌, ◌*◌, ◌≤◌, ◌++◌, length, drop};
 ghost use Rattle.stun_values.specs.TypeLists.{types_encoding};
 
+use crate::wire::{EncodeValue, ReadValue, TypedAttribute};
 use byteorder::{BigEndian, ByteOrder};
 use std::alloc::{AllocError, Global};
 use std::fmt;
-use stun_attrs::{EncodeValue, ReadValue, TypedAttribute};
 use stun_base::{AttributeType, StunParseError, StunWriteError, number_at};
 use stun_grammar::attribute_types;
 use stun_text::{PrintText, TextSink};

@@ -1,10 +1,10 @@
 ghost use Rattle.stun_values.specs.Addresses.{IsPlain};
 
+use crate::wire::{Attribute, EncodeValue, ReadValue, TypedAttribute};
 use crate::{MappedSocketAddr, XorSocketAddr};
 use std::alloc::{AllocError, Global};
 use std::fmt;
 use std::net::SocketAddr;
-use stun_attrs::{Attribute, EncodeValue, ReadValue, TypedAttribute};
 use stun_base::{StunParseError, TransactionId};
 use stun_grammar::attribute_types;
 use stun_text::{PrintText, TextSink};

@@ -3,15 +3,15 @@
 ghost use Rattle.std.specs.Prelude.{◌≡◌, ◌≤◌, ◌++◌, false, length, drop, IfOk, IfErr};
 ghost use Rattle.std.specs.Net.Socket.{socket_ip};
 ghost use Rattle.stun_base.specs.Data.{is_borrowed};
-ghost use Rattle.stun_attrs.specs.Raw.{raw_data, raw_value, IsRawOf};
+ghost use Rattle.stun_attributes.specs.Raw.{raw_data, raw_value, IsRawOf};
 ghost use Rattle.stun_values.specs.Addresses.{address_value, octets, IsXored};
 ghost use Rattle.stun_attributes.specs.AddressAttributes.{written_addr, ReadsAddress};
 
 use crate::MappedSocketAddr;
+use crate::wire::RawAttribute;
 use std::alloc::Global;
 use std::fmt;
 use std::net::SocketAddr;
-use stun_attrs::RawAttribute;
 use stun_base::{AttributeType, StunParseError, StunWriteError, TransactionId};
 use stun_text::{PrintText, TextSink};
 use stun_values::{write_xored, xor_addr};

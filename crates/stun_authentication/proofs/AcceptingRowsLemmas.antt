@@ -171,16 +171,16 @@ never_stale policy keys d e =
     accepts_not_stale k (proof_with policy k d) two.1
 
 reports_stale : (x : Decision) → Tells x (Refused StaleNonce) → x ≡ refuse StaleNonce
-reports_stale (accept key a s) told = absurd told
-reports_stale (refuse refusal) told = ap refuse (sym told)
-reports_stale discard told = absurd told
-reports_stale not_a_request told = absurd told
+reports_stale (accept key a s) reported = absurd reported
+reports_stale (refuse refusal) reported = ap refuse (sym reported)
+reports_stale discard reported = absurd reported
+reports_stale not_a_request reported = absurd reported
 
 none_stale : (policy : Policy) (keys : List ℕ → Option UserKey) (d : List ℕ) → Tells (short.short_term policy keys d) (Refused StaleNonce) → ⊥
-none_stale policy keys d told = never_stale policy keys d (reports_stale (short.short_term policy keys d) told)
+none_stale policy keys d reported = never_stale policy keys d (reports_stale (short.short_term policy keys d) reported)
 
 pub no_nonce : {E : Type 0} (policy : Policy) (keys : List ℕ → Option UserKey) (d : List ℕ) (r : Result Authentication E) → IfOk r (Tells (short.short_term policy keys d)) → IfOk r (λ answer. answer ≢ Refused StaleNonce)
-no_nonce policy keys d (Ok told) h = λ e. none_stale policy keys d (subst (Tells (short.short_term policy keys d)) e h)
+no_nonce policy keys d (Ok reported) h = λ e. none_stale policy keys d (subst (Tells (short.short_term policy keys d)) e h)
 no_nonce policy keys d (Err e) h = tt
 
 -- ---- What an acceptance says

@@ -12,7 +12,7 @@ use Rattle.stun_grammar.specs.AttributeTypes.{IsOrdinary, is_ending}
 use Rattle.stun_grammar.specs.Steps.{add, barring_types}
 use Rattle.stun_grammar.specs.Writing.{message_encoding}
 use Rattle.stun_grammar.proofs.AddingLemmas.{message_more}
-use Rattle.stun_write.specs.Writers.{Writer, Gains, Allocates}
+use Rattle.stun_types.specs.Writers.{Writer, Gains, Allocates}
 use Rattle.stun_authentication.specs.Writing.{no_room, longer, sizes, FailsFor, IsUnended, Lengthens}
 use Rattle.stun_authentication.proofs.TypesLemmas.{free, ending_none, unended_more}
 
@@ -20,10 +20,10 @@ use Rattle.stun_authentication.proofs.TypesLemmas.{free, ending_none, unended_mo
 
 -- what isn't blocked is refused for want of room alone
 answers : (room : Option StunWriteError) (P : Type 0) (result : Result (Unit {0}) StunWriteError) → IsAddAnswer room P result → FailsFor (option_or room None) result
-answers None P (Ok done) told = refl
-answers None P (Err e) told = inl told.0
-answers (Some x) P (Ok done) told = absurd cc
-answers (Some x) P (Err e) told = inr (ap (λ r. Some (error_of x r)) (sym told))
+answers None P (Ok done) reported = refl
+answers None P (Err e) reported = inl reported.0
+answers (Some x) P (Ok done) reported = absurd cc
+answers (Some x) P (Err e) reported = inr (ap (λ r. Some (error_of x r)) (sym reported))
   where
     error_of : StunWriteError → Result (Unit {0}) StunWriteError → StunWriteError
     error_of other (Ok done) = other
@@ -37,9 +37,9 @@ only_room type value types len greatest free = ap (λ (o : Option ℕ). option_o
 pub added : (result : Result (Unit {0}) StunWriteError) (old new : Writer) (type : ℕ) (value : List ℕ) → OnOk result (Gains old new type value) → new.greatest ≡ old.greatest
     → IsAddAnswer (add_refusal (add type value) old.types (length old.bytes) old.greatest) (Allocates old (length value)) result → IsOrdinary type → type < 2 ^ 16 → length value < 2 ^ 16
     → Lengthens result old new (canonical type value ∷ [])
-added result old new type value gains kept told ordinary t v = record {
+added result old new type value gains kept reported ordinary t v = record {
   written = written result gains;
-  answer = λ none. answers room (Allocates old (length value)) result (subst (λ (r : Option StunWriteError). IsAddAnswer r (Allocates old (length value)) result) (only_room type value old.types (length old.bytes) old.greatest (free (add type value) old.types none)) told);
+  answer = λ none. answers room (Allocates old (length value)) result (subst (λ (r : Option StunWriteError). IsAddAnswer r (Allocates old (length value)) result) (only_room type value old.types (length old.bytes) old.greatest (free (add type value) old.types none)) reported);
   unended = λ none. stays result gains none;
   greatest = kept;
   size = sized result gains;
@@ -86,13 +86,13 @@ both_parts greatest len first second = ap (no_room greatest len) (sizes-append f
 
 -- what `?` returns of an error is that error
 passed_on : (result : Result (Unit {0}) StunWriteError) (e : StunWriteError) → IsErr result × IsErrAnd result (λ made. made ≡ e) → result ≡ Err e
-passed_on (Ok done) e told = absurd (cc told.0)
-passed_on (Err made) e told = ap Err told.1
+passed_on (Ok done) e reported = absurd (cc reported.0)
+passed_on (Err made) e reported = ap Err reported.1
 
 -- if some can't be added, more can't
 pub failed : (result : Result (Unit {0}) StunWriteError) (old new : Writer) (e : StunWriteError) (first second : List Attribute) → Lengthens (Err e) old new first
     → IsErr result × IsErrAnd result (λ made. made ≡ e) → Lengthens result old new (first ++ second)
-failed result old new e first second one told = subst (λ (r : Result (Unit {0}) StunWriteError). Lengthens r old new (first ++ second)) (sym (passed_on result e told)) (record {
+failed result old new e first second one reported = subst (λ (r : Result (Unit {0}) StunWriteError). Lengthens r old new (first ++ second)) (sym (passed_on result e reported)) (record {
   written = λ kind id before so_far. tt;
   answer = λ free. elim (one.answer free) [
     | inl memory ↦ inl memory

@@ -68,13 +68,13 @@ entry_at (x ∷ xs) (suc i) d inside =
     behind_first SHA256 xs = refl
 
 -- what `!=` says
-pub differs : (b told : Bool) → told ≡ not b → told ≡ true → b ≡ false
-differs true told is e = absurd (cc (is, e))
-differs false told is e = refl
+pub differs : (b reported : Bool) → reported ≡ not b → reported ≡ true → b ≡ false
+differs true reported is e = absurd (cc (is, e))
+differs false reported is e = refl
 
-pub agrees : (b told : Bool) → told ≡ not b → told ≡ false → b ≡ true
-agrees true told is e = refl
-agrees false told is e = absurd (cc (is, e))
+pub agrees : (b reported : Bool) → reported ≡ not b → reported ≡ false → b ≡ true
+agrees true reported is e = refl
+agrees false reported is e = absurd (cc (is, e))
 
 -- what is left to compare from an index on decides
 abbrev pub rest_decides : List ℕ → List PasswordAlgorithmValue → ℕ → Type 0

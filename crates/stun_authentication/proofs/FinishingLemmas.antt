@@ -17,7 +17,7 @@ use Rattle.stun_grammar.specs.Verdicts.{type_of_algorithm}
 use Rattle.stun_grammar.specs.Writing.{message_encoding}
 use Rattle.stun_grammar.proofs.AddingLemmas.{message_more, fingerprint_length}
 use Rattle.stun_grammar.proofs.HmacLemmas.{hmac_has_length}
-use Rattle.stun_write.specs.Writers.{Writer, Gains, Adds}
+use Rattle.stun_types.specs.Writers.{Writer, Gains, Adds}
 use Rattle.stun_authentication.specs.Writing.{FailsFor, print_sizes, Finishes, signed, finished}
 use Rattle.stun_authentication.proofs.TypesLemmas.{free, free_append}
 
@@ -37,10 +37,10 @@ pub record OneStep (step : Step) (r : Result (Unit {0}) StunWriteError) (old new
   pub greatest : new.greatest ≡ old.greatest
 
 fails : (room : Option StunWriteError) (P : Type 0) (r : Result (Unit {0}) StunWriteError) → IsAddAnswer room P r → FailsFor room r
-fails None P (Ok done) told = refl
-fails None P (Err e) told = inl told.0
-fails (Some x) P (Ok done) told = absurd cc
-fails (Some x) P (Err e) told = inr (ap (λ (q : Result (Unit {0}) StunWriteError). Some (error_of x q)) (sym told))
+fails None P (Ok done) reported = refl
+fails None P (Err e) reported = inl reported.0
+fails (Some x) P (Ok done) reported = absurd cc
+fails (Some x) P (Err e) reported = inr (ap (λ (q : Result (Unit {0}) StunWriteError). Some (error_of x q)) (sym reported))
   where
     error_of : StunWriteError → Result (Unit {0}) StunWriteError → StunWriteError
     error_of other (Ok done) = other
@@ -61,7 +61,7 @@ sign_fits Sha256 = (lit< tt, lit< tt)
 pub sign_step : (a : IntegrityAlgorithm) (key : List ℕ) (P : Type 0) (r : Result (Unit {0}) StunWriteError) (old new : Writer) → Adds r old new (type_of_algorithm a) (integrity_value old.bytes key a)
     → IsAddAnswer (add_refusal (sign a key) old.types (length old.bytes) old.greatest) P r → OneStep (sign a key) r old new
 unfolding appended_by
-sign_step a key P r old new adds told =
+sign_step a key P r old new adds reported =
     let value = integrity_value old.bytes key a in
     let n : length value ≡ digest_length a = hmac_has_length a key (signed_bytes old.bytes a) in
     record {
@@ -71,7 +71,7 @@ sign_step a key P r old new adds told =
           on_ok r (λ (g : Gains old new (type_of_algorithm a) value).
           g.bytes ∙ ap (λ (b : List ℕ). appended b (type_of_algorithm a) (integrity_value b key a)) so_far
           ∙ message_more kind id before (type_of_algorithm a) (integrity_value message key a) (sign_fits a).0 (omega (arith, long, (sign_fits a).1))) adds.ok;
-      answer = λ none. fails _ P r (subst (λ (o : Option StunWriteError). IsAddAnswer o P r) (only_room (sign a key) old.types (length old.bytes) old.greatest none) told);
+      answer = λ none. fails _ P r (subst (λ (o : Option StunWriteError). IsAddAnswer o P r) (only_room (sign a key) old.types (length old.bytes) old.greatest none) reported);
       types = on_ok r (λ (g : Gains old new (type_of_algorithm a) value). g.types) adds.ok;
       size = on_ok r (λ (g : Gains old new (type_of_algorithm a) value). g.size ∙ ap (λ (k : ℕ). grown_length (length old.bytes) k) n) adds.ok;
       greatest = adds.spends.greatest;
@@ -80,7 +80,7 @@ sign_step a key P r old new adds told =
 pub finger_step : (P : Type 0) (r : Result (Unit {0}) StunWriteError) (old new : Writer) → Adds r old new FINGERPRINT (fingerprint_value old.bytes (length old.bytes))
     → IsAddAnswer (add_refusal finger old.types (length old.bytes) old.greatest) P r → OneStep finger r old new
 unfolding appended_by
-finger_step P r old new adds told =
+finger_step P r old new adds reported =
     let value = fingerprint_value old.bytes (length old.bytes) in
     record {
       written = λ kind id before so_far.
@@ -89,7 +89,7 @@ finger_step P r old new adds told =
           on_ok r (λ (g : Gains old new FINGERPRINT value).
           g.bytes ∙ ap (λ (b : List ℕ). appended b FINGERPRINT (fingerprint_value b (length b))) so_far
           ∙ message_more kind id before FINGERPRINT (fingerprint_value message (length message)) (lit< tt) (omega (arith, long))) adds.ok;
-      answer = λ none. fails _ P r (subst (λ (o : Option StunWriteError). IsAddAnswer o P r) (only_room finger old.types (length old.bytes) old.greatest none) told);
+      answer = λ none. fails _ P r (subst (λ (o : Option StunWriteError). IsAddAnswer o P r) (only_room finger old.types (length old.bytes) old.greatest none) reported);
       types = on_ok r (λ (g : Gains old new FINGERPRINT value). g.types) adds.ok;
       size = on_ok r (λ (g : Gains old new FINGERPRINT value). g.size ∙ ap (λ (k : ℕ). grown_length (length old.bytes) k) (fingerprint_length old.bytes (length old.bytes))) adds.ok;
       greatest = adds.spends.greatest;
@@ -101,8 +101,8 @@ abbrev pub Done : (fingerprint : Bool) → Result (Unit {0}) StunWriteError → 
 Done fingerprint r old new a key = Finishes r old new (λ kind id before. finished fingerprint kind id (signed kind id before a key)) (digest_length a ∷ print_sizes fingerprint)
 
 passed_on : (r : Result (Unit {0}) StunWriteError) (e : StunWriteError) → IsErr r × IsErrAnd r (λ made. made ≡ e) → r ≡ Err e
-passed_on (Ok done) e told = absurd (cc told.0)
-passed_on (Err made) e told = ap Err told.1
+passed_on (Ok done) e reported = absurd (cc reported.0)
+passed_on (Err made) e reported = ap Err reported.1
 
 still : (x : Option StunWriteError) (more : Option StunWriteError) (e : StunWriteError) → (e ≡ OutOfMemory) ⊎ (x ≡ Some e) → (e ≡ OutOfMemory) ⊎ (option_or x more ≡ Some e)
 still x more e (inl memory) = inl memory
@@ -110,7 +110,7 @@ still x more e (inr is) = inr (ap (λ (o : Option StunWriteError). option_or o m
 
 -- it can't be signed
 pub unsigned : (fingerprint : Bool) (r : Result (Unit {0}) StunWriteError) (old new : Writer) (a : IntegrityAlgorithm) (key : List ℕ) (e : StunWriteError) → OneStep (sign a key) (Err e) old new → IsErr r × IsErrAnd r (λ made. made ≡ e) → Done fingerprint r old new a key
-unsigned fingerprint r old new a key e one told = subst (λ (q : Result (Unit {0}) StunWriteError). Done fingerprint q old new a key) (sym (passed_on r e told)) (record {
+unsigned fingerprint r old new a key e one reported = subst (λ (q : Result (Unit {0}) StunWriteError). Done fingerprint q old new a key) (sym (passed_on r e reported)) (record {
   written = λ kind id before so_far. tt;
   answer = λ none. still _ _ e (one.answer (free (sign a key) old.types none));
   greatest = one.greatest;
@@ -147,10 +147,10 @@ both_steps u r old mid new a key one two = record {
 }
 
 pub after_error : (r : Result (Unit {0}) StunWriteError) (e : StunWriteError) (old new : Writer) (a : IntegrityAlgorithm) (key : List ℕ) → Done true (Err e) old new a key → IsErr r × IsErrAnd r (λ made. made ≡ e) → Done true r old new a key
-after_error r e old new a key so told = subst (λ (q : Result (Unit {0}) StunWriteError). Done true q old new a key) (sym (passed_on r e told)) so
+after_error r e old new a key so reported = subst (λ (q : Result (Unit {0}) StunWriteError). Done true q old new a key) (sym (passed_on r e reported)) so
 
-pub as_asked : (told fingerprint : Bool) (r : Result (Unit {0}) StunWriteError) (old new : Writer) (a : IntegrityAlgorithm) (key : List ℕ) → told ≡ fingerprint → Done fingerprint r old new a key → Done told r old new a key
-as_asked told fingerprint r old new a key e so = subst (λ (b : Bool). Done b r old new a key) (sym e) so
+pub as_asked : (reported fingerprint : Bool) (r : Result (Unit {0}) StunWriteError) (old new : Writer) (a : IntegrityAlgorithm) (key : List ℕ) → reported ≡ fingerprint → Done fingerprint r old new a key → Done reported r old new a key
+as_asked reported fingerprint r old new a key e so = subst (λ (b : Bool). Done b r old new a key) (sym e) so
 
 -- ---- A FINGERPRINT alone
 

@@ -270,10 +270,10 @@ time_step chars i time one two inside so_far first second =
     let more : take (2 * (i + 1)) chars ≡ front ++ a ∷ b ∷ [] =
     ap (λ (k : ℕ). take k chars) next ∙ take_more chars (2 * i + 1) 0 (omega (arith, inside)) ∙ ap (λ (l : List ℕ). l ++ b ∷ []) (take_more chars (2 * i) 0 (omega (arith, inside))) ∙ append_assoc front (a ∷ []) (b ∷ []) in
     let long : length front ≡ 2 * i = omega (arith, length-take (2 * i) chars, inside) in
-    let told : number (unhexed (take (2 * (i + 1)) chars)) ≡ 256 * number (unhexed front) + (16 * one + two) =
+    let reported : number (unhexed (take (2 * (i + 1)) chars)) ≡ 256 * number (unhexed front) + (16 * one + two) =
     ap (λ (l : List ℕ). number (unhexed l)) more ∙ ap number (unhexed_two i front a b long) ∙ fold-append (λ high byte. 256 * high + byte) 0 (unhexed front) ((16 * digit_of a + digit_of b) ∷ [])
     ∙ ap (λ (x : ℕ). 256 * number (unhexed front) + (16 * x + digit_of b)) (sym first) ∙ ap (λ (y : ℕ). 256 * number (unhexed front) + (16 * one + y)) (sym second) in
-    omega (arith, so_far, told)
+    omega (arith, so_far, reported)
 
 -- what is written at the start of a place
 pub place_written : (dest value start : List ℕ) (n : ℕ) → dest ≡ value ++ drop (length value) start → n ≡ length value → take n dest ≡ value

@@ -27,30 +27,30 @@ use Rattle.stun_authentication.proofs.DecidedLemmas.{neither, none_holds}
 
 -- ---- The proof of a message under a key
 
-proof_as : (policy : Policy) (d : List ℕ) (key : UserKey) (served : Option IntegrityAlgorithm) → counted policy key.made_for ≡ Some served → proof_of policy key d ≡ proved_at policy.shortest d (validated served key.bytes d)
-proof_as policy d key served which = ap (λ (o : Option (Option IntegrityAlgorithm)). option_and_then (λ (m : Option IntegrityAlgorithm). proved_at policy.shortest d (validated m key.bytes d)) o) which
+proof_as : (policy : Policy) (d : List ℕ) (key : UserKey) (served : Option IntegrityAlgorithm) → counted policy key.made_for ≡ Some served → proof_of policy key d ≡ proved_at policy.min_hmac_length d (validated served key.bytes d)
+proof_as policy d key served which = ap (λ (o : Option (Option IntegrityAlgorithm)). option_and_then (λ (m : Option IntegrityAlgorithm). proved_at policy.min_hmac_length d (validated m key.bytes d)) o) which
 
 -- no algorithm counts
 pub none_counts : (policy : Policy) (d : List ℕ) (key : UserKey) → counted policy key.made_for ≡ None → Proves key (proof_of policy key d) None
 none_counts policy d key which =
-    subst (λ (o : Option IntegrityAlgorithm). Proves key o None) (sym (ap (λ (o : Option (Option IntegrityAlgorithm)). option_and_then (λ (m : Option IntegrityAlgorithm). proved_at policy.shortest d (validated m key.bytes d)) o) which)) refl
+    subst (λ (o : Option IntegrityAlgorithm). Proves key o None) (sym (ap (λ (o : Option (Option IntegrityAlgorithm)). option_and_then (λ (m : Option IntegrityAlgorithm). proved_at policy.min_hmac_length d (validated m key.bytes d)) o) which)) refl
 
 as_made : (policy : Policy) (d : List ℕ) (key : UserKey) (served : Option IntegrityAlgorithm) (made : IntegrityKey) → counted policy key.made_for ≡ Some served → IsKey served key.bytes made
-    → proof_of policy key d ≡ proved_at policy.shortest d (verdict (is_checked_type (key_algorithm made)) (λ _. key_bytes made) d)
+    → proof_of policy key d ≡ proved_at policy.min_hmac_length d (verdict (is_checked_type (key_algorithm made)) (λ _. key_bytes made) d)
 as_made policy d key served made which is =
     proof_as policy d key served which
-    ∙ ap (λ (m : Option IntegrityAlgorithm). proved_at policy.shortest d (validated m key.bytes d)) (sym is.algorithm_is)
-    ∙ ap (λ (b : List ℕ). proved_at policy.shortest d (validated (key_algorithm made) b d)) (sym is.bytes_are)
+    ∙ ap (λ (m : Option IntegrityAlgorithm). proved_at policy.min_hmac_length d (validated m key.bytes d)) (sym is.algorithm_is)
+    ∙ ap (λ (b : List ℕ). proved_at policy.min_hmac_length d (validated (key_algorithm made) b d)) (sym is.bytes_are)
 
 -- nothing is proved
 pub none_proved : (policy : Policy) (d : List ℕ) (key : UserKey) (served : Option IntegrityAlgorithm) (made : IntegrityKey) → counted policy key.made_for ≡ Some served → IsKey served key.bytes made
-    → proved_at policy.shortest d (verdict (is_checked_type (key_algorithm made)) (λ _. key_bytes made) d) ≡ None → Proves key (proof_of policy key d) None
+    → proved_at policy.min_hmac_length d (verdict (is_checked_type (key_algorithm made)) (λ _. key_bytes made) d) ≡ None → Proves key (proof_of policy key d) None
 none_proved policy d key served made which is none =
     subst (λ (o : Option IntegrityAlgorithm). Proves key o None) (sym (as_made policy d key served made which is ∙ none)) refl
 
 -- an algorithm is proved, and the key is given back
 pub one_proved : (policy : Policy) (d : List ℕ) (key : UserKey) (served : Option IntegrityAlgorithm) (made back : IntegrityKey) (a : IntegrityAlgorithm) → counted policy key.made_for ≡ Some served → IsKey served key.bytes made
-    → proved_at policy.shortest d (verdict (is_checked_type (key_algorithm made)) (λ _. key_bytes made) d) ≡ Some a → IsKey key.made_for (key_bytes made) back → Proves key (proof_of policy key d) (Some (back, a))
+    → proved_at policy.min_hmac_length d (verdict (is_checked_type (key_algorithm made)) (λ _. key_bytes made) d) ≡ Some a → IsKey key.made_for (key_bytes made) back → Proves key (proof_of policy key d) (Some (back, a))
 one_proved policy d key served made back a which is one same =
     subst (λ (o : Option IntegrityAlgorithm). Proves key o (Some (back, a))) (sym (as_made policy d key served made which is ∙ one))
     (record { algorithm_is = same.algorithm_is; bytes_are = same.bytes_are ∙ is.bytes_are }, refl)
@@ -98,8 +98,8 @@ short_passed policy keys user d key taken class signed named is =
 pub short_user : (policy : Policy) (keys : List ℕ → Option UserKey) (user d : List ℕ) (found : IntegrityKey) (answer : Authentication)
     → is_taken policy d ≡ true → is_response (class_of (type_field d)) ≡ false → is_signed policy d ≡ true → value_of d USERNAME ≡ Some user
     → IsKeyOf (keys user) (Some found) → Tells (short.by_key policy (Some (key_held found)) d) answer → Tells (short.short_term policy keys d) answer
-short_user policy keys user d found answer taken class signed named is told =
-    subst (λ (x : Decision). Tells x answer) (sym (short_passed policy keys user d (Some (key_held found)) taken class signed named (found_key (keys user) found is))) told
+short_user policy keys user d found answer taken class signed named is reported =
+    subst (λ (x : Decision). Tells x answer) (sym (short_passed policy keys user d (Some (key_held found)) taken class signed named (found_key (keys user) found is))) reported
 
 -- no row decides before the key is looked up, and there is one
 pub long_user : (policy : Policy) (realm : List ℕ) (nonces : List ℕ → Known) (keys : Who → List ℕ → PasswordAlgorithmValue → Option UserKey) (d : List ℕ)
@@ -109,7 +109,7 @@ pub long_user : (policy : Policy) (realm : List ℕ) (nonces : List ℕ → Know
     → (long.shows_one_alone d || (long.shows_other_list state d || long.chooses_none_listed d)) ≡ false → chosen ≡ long.chosen d → algorithm ≡ unwrap_or chosen MD5
     → IsKeyOf (keys user realm algorithm) (Some found) → Tells (long.by_key policy state chosen (Some (key_held found)) d) answer
     → Tells (long.long_term policy realm nonces keys d) answer
-long_user policy realm nonces keys d user nonce state chosen algorithm found answer taken class signed names user-is nonce-is state-is algorithms chosen-is by is told =
+long_user policy realm nonces keys d user nonce state chosen algorithm found answer taken class signed names user-is nonce-is state-is algorithms chosen-is by is reported =
     let known : long.nonce_of nonces d ≡ state = ap (λ (o : Option (List ℕ)). option_map_or nonces o unknown) nonce-is ∙ sym state-is in
     let key : long.key_of_user realm keys d ≡ Some (key_held found) =
     ap (λ (o : Option Who). option_and_then (λ (u : Who). keys u realm (unwrap_or (long.chosen d) MD5)) o) user-is
@@ -124,4 +124,4 @@ long_user policy realm nonces keys d user nonce state chosen algorithm found ans
     (ap not taken, (ap (λ (c : MessageClass). not (long.is_request c)) class, (ap not signed, (second.0, (second.1, (third.0, (lists.0, (lists.1, tt))))))))
     ∙ ap (λ (o : Option PasswordAlgorithmValue). long.by_key policy state o (long.key_of_user realm keys d) d) (sym chosen-is)
     ∙ ap (λ (o : Option UserKey). long.by_key policy state chosen o d) key in
-    subst (λ (x : Decision). Tells x answer) (sym same) told
+    subst (λ (x : Decision). Tells x answer) (sym same) reported

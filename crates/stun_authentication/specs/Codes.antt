@@ -5,12 +5,12 @@ use Rattle.stun_grammar.specs.Headers.{type_field}
 use Rattle.stun_base.specs.declared.message_type.MessageClass.{MessageClass}
 use Rattle.stun_base.specs.declared.message_type.MessageClass.TheVariants.{Error as ErrorClass}
 use Rattle.stun_base.specs.MessageTypes.{class_of}
-use Rattle.stun_values.specs.ErrorValues.{error_fault, told_code}
-use Rattle.stun_read.specs.LookingUp.{nth}
+use Rattle.stun_values.specs.ErrorValues.{error_fault, reported_code}
+use Rattle.stun_types.specs.LookingUp.{nth}
 
 -- the code in the value of an ERROR-CODE: one of 300 to 699, with a reason that is a text
 abbrev pub value_code : List ℕ → Option ℕ
-value_code value = if is_some (error_fault value) then None else Some (told_code value)
+value_code value = if is_some (error_fault value) then None else Some (reported_code value)
 
 -- the code in the first ERROR-CODE that d shows
 abbrev pub shown_code : List ℕ → Option ℕ

@@ -2,7 +2,7 @@
 use Rattle.std.specs.Prelude.{ℕ, Bool, List, Option, None, Some, is_some}
 use Rattle.std.specs.Option.{option_map}
 use Rattle.stun_grammar.specs.AttributeTypes.{USERNAME, USERHASH}
-use Rattle.stun_read.specs.LookingUp.{nth}
+use Rattle.stun_types.specs.LookingUp.{nth}
 use Rattle.stun_authentication.specs.declared.identity.Identity.{Identity}
 use Rattle.stun_authentication.specs.declared.identity.Identity.TheVariants.{Name, Hash}
 

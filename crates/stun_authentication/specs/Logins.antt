@@ -3,7 +3,7 @@
 use Rattle.std.specs.Prelude.{ℕ, Bool, List, [], Option, None, Some, find, nat_eq, length, ◌==◌, if◌then◌else◌, option_and_then}
 use Rattle.std.specs.Cmp.Lexicographic.{pointwise}
 use Rattle.std.specs.Option.{option_map}
-use Rattle.stun_integrity.specs.Userhash.{user_hash}
+use Rattle.stun_attributes.specs.Userhash.{user_hash}
 use Rattle.stun_keys.specs.declared.keys.long_term.LongTermCredentials.{LongTermCredentials}
 use Rattle.stun_keys.specs.Keys.{login_username, login_password, long_term_key}
 use Rattle.stun_values.specs.declared.algorithm.PasswordAlgorithmValue.{PasswordAlgorithmValue}

@@ -4,8 +4,8 @@ use Rattle.stun_grammar.specs.declared.integrity_algorithm.IntegrityAlgorithm.{I
 use Rattle.stun_keys.specs.declared.keys.integrity_key.IntegrityKey.{IntegrityKey}
 use Rattle.stun_keys.specs.Keys.{key_bytes, key_algorithm, IsKey}
 use Rattle.stun_values.specs.declared.algorithm.PasswordAlgorithmValue.{PasswordAlgorithmValue}
-use Rattle.stun_authentication.specs.declared.lookups.KnownNonce.{KnownNonce}
-use Rattle.stun_authentication.specs.declared.lookups.KnownNonce.TheVariants.{Valid, Stale, Unknown}
+use Rattle.stun_authentication.specs.declared.lookups.NonceState.{NonceState}
+use Rattle.stun_authentication.specs.declared.lookups.NonceState.TheVariants.{Valid, Stale, Unknown}
 
 -- a user's key: its bytes, and the integrity algorithm that it was made for; None if it works with
 -- both
@@ -33,7 +33,7 @@ pub data Known : Type 0 where
   stale : Known
   unknown : Known
 
-abbrev pub known : KnownNonce → Known
+abbrev pub known : NonceState → Known
 known (Valid algorithms) = valid algorithms.now
 known Stale = stale
 known Unknown = unknown

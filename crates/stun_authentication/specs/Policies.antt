@@ -9,7 +9,7 @@ use Rattle.stun_grammar.specs.AttributeTypes.{MESSAGE_INTEGRITY_SHA256, FINGERPR
 use Rattle.stun_grammar.specs.Verdicts.{type_of_algorithm, is_checked_type, verdict}
 use Rattle.stun_keys.specs.declared.keys.integrity_key.IntegrityKey.{IntegrityKey}
 use Rattle.stun_keys.specs.Keys.{serves, IsKey}
-use Rattle.stun_read.specs.LookingUp.{nth}
+use Rattle.stun_types.specs.LookingUp.{nth}
 use Rattle.stun_authentication.specs.declared.policy.Policy.{Policy}
 use Rattle.stun_authentication.specs.Lookups.{UserKey}
 
@@ -54,13 +54,13 @@ is_signed policy d = shows_served policy.algorithm d
 -- whether the HMAC of this algorithm has at least so many bytes in d: only that of a
 -- MESSAGE-INTEGRITY-SHA256 may be cut (section 14.6)
 abbrev pub has_least_length : ℕ → IntegrityAlgorithm → List ℕ → Bool
-has_least_length shortest Sha1 d = true
-has_least_length shortest Sha256 d =
-    option_map_or (λ a. nat_le shortest (length a.value)) (nth d MESSAGE_INTEGRITY_SHA256 0) false
+has_least_length min_hmac_length Sha1 d = true
+has_least_length min_hmac_length Sha256 d =
+    option_map_or (λ a. nat_le min_hmac_length (length a.value)) (nth d MESSAGE_INTEGRITY_SHA256 0) false
 
 -- whether it has as many as the policy asks for
 abbrev pub is_long_enough : Policy → IntegrityAlgorithm → List ℕ → Bool
-is_long_enough policy algorithm d = has_least_length policy.shortest algorithm d
+is_long_enough policy algorithm d = has_least_length policy.min_hmac_length algorithm d
 
 -- what a validation of d answers with a key, by the algorithms that count: of their attribute, and of
 -- MESSAGE-INTEGRITY-SHA256 if both do
@@ -69,16 +69,16 @@ abbrev pub validated : (served : Option IntegrityAlgorithm) → List ℕ → Lis
 validated served key d = verdict (is_checked_type served) (λ _. key) d
 
 -- the algorithm that it answers, where the HMAC has at least so many bytes
-abbrev pub proved_at : (shortest : ℕ) → List ℕ → Result IntegrityAlgorithm ValidateError
+abbrev pub proved_at : (min_hmac_length : ℕ) → List ℕ → Result IntegrityAlgorithm ValidateError
     → Option IntegrityAlgorithm
-proved_at shortest d (Ok algorithm) =
-    if has_least_length shortest algorithm d then Some algorithm else None
-proved_at shortest d (Err e) = None
+proved_at min_hmac_length d (Ok algorithm) =
+    if has_least_length min_hmac_length algorithm d then Some algorithm else None
+proved_at min_hmac_length d (Err e) = None
 
 -- the same, where it has as many as the policy asks for
 abbrev pub proved_by : Policy → List ℕ → Result IntegrityAlgorithm ValidateError
     → Option IntegrityAlgorithm
-proved_by policy d answer = proved_at policy.shortest d answer
+proved_by policy d answer = proved_at policy.min_hmac_length d answer
 
 -- the algorithm whose HMAC in d is right under the key, if it counts
 abbrev pub proof_of : Policy → UserKey → List ℕ → Option IntegrityAlgorithm

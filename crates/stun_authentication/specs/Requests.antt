@@ -7,7 +7,7 @@ use Rattle.stun_grammar.specs.Attributes.{Attribute, canonical}
 use Rattle.stun_grammar.specs.AttributeTypes.{USERNAME, USERHASH, REALM, NONCE, PASSWORD_ALGORITHM, PASSWORD_ALGORITHMS}
 use Rattle.stun_grammar.specs.Hmac.{digest_length}
 use Rattle.stun_grammar.specs.Writing.{message_encoding}
-use Rattle.stun_integrity.specs.Userhash.{user_hash}
+use Rattle.stun_attributes.specs.Userhash.{user_hash}
 use Rattle.stun_keys.specs.declared.keys.long_term.LongTermCredentials.{LongTermCredentials}
 use Rattle.stun_keys.specs.Keys.{login_username, login_password, long_term_key}
 use Rattle.stun_values.specs.declared.algorithm.PasswordAlgorithmValue.{PasswordAlgorithmValue}

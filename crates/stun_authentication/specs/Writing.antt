@@ -12,7 +12,7 @@ use Rattle.stun_grammar.specs.AttributeTypes.{is_ending}
 use Rattle.stun_grammar.specs.Steps.{sign, finger, with_step}
 use Rattle.stun_grammar.specs.Writing.{message_encoding}
 use Rattle.stun_keys.specs.Keys.{serves}
-use Rattle.stun_write.specs.Writers.{Writer}
+use Rattle.stun_types.specs.Writers.{Writer}
 
 -- ---- What doesn't fit
 

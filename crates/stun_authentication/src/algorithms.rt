@@ -2,13 +2,13 @@
 
 ghost use Rattle.std.specs.Prelude.{◌≡◌, ◌≤◌, nat_eq, length, drop, None, MatchOption};
 ghost use Rattle.std.specs.Cmp.Lexicographic.{pointwise};
-ghost use Rattle.stun_attrs.specs.Raw.{raw_type, raw_value, Finds};
+ghost use Rattle.stun_attributes.specs.Raw.{raw_type, raw_value, Finds};
 ghost use Rattle.stun_grammar.specs.Chains.{first_attribute};
 ghost use Rattle.stun_values.specs.Algorithms.{algorithm_number, algorithms_encoding};
 ghost use Rattle.stun_authentication.specs.Lists.{numbered, named_by, first_named, sole_named, first_listed};
 
-use stun_attrs::{RawAttribute, attribute_at};
-use stun_types::attribute::{Attribute, PasswordAlgorithmValue};
+use stun_attributes::attribute_at;
+use stun_types::attribute::{Attribute, PasswordAlgorithmValue, RawAttribute};
 use stun_values::write_algorithm;
 
 /// Both algorithms.

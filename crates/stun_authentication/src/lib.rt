@@ -99,7 +99,7 @@ pub use laws::{
 pub use login::{answer_challenge, key_for};
 pub use logins::Logins;
 pub use long_term::authenticate_long_term;
-pub use lookups::{KnownNonce, LongTermKeys, Nonces, ShortTermKeys};
+pub use lookups::{LongTermKeys, NonceState, Nonces, ShortTermKeys};
 pub use nonces::{Freshness, NonceMaker, NoncesOf, SECRET_MIN, SecretError};
 pub use policy::{Policy, has_least_length};
 pub use refusing::{refuse_long_term, refuse_short_term};

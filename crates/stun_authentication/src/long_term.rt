@@ -12,7 +12,7 @@ use crate::algorithms::{BOTH, first_listed, is_encoding_of, sole_named};
 use crate::cookie::security_features;
 use crate::identity::{identity_of, value_of};
 use crate::{
-    Accepted, Authentication, Identity, KnownNonce, LongTermKeys, Nonces, Policy, Refusal,
+    Accepted, Authentication, Identity, LongTermKeys, NonceState, Nonces, Policy, Refusal,
 };
 use std::alloc::{AllocError, Global};
 use stun_types::attribute::{
@@ -35,12 +35,12 @@ fn names_of<'a>(request: &Message<'a>) -> Option<(Identity<'a>, &'a [u8])>
 }
 
 /// Whether a list is the one that was sent with the nonce, as far as that is known.
-fn is_sent(state: KnownNonce<'_>, list: &[u8]) -> bool
+fn is_sent(state: NonceState<'_>, list: &[u8]) -> bool
     ensures { result ≡ is_sent (known state.entry) list.now }
 {
     match state {
-        KnownNonce::Valid(sent) => is_encoding_of(list, sent),
-        KnownNonce::Stale | KnownNonce::Unknown => true,
+        NonceState::Valid(sent) => is_encoding_of(list, sent),
+        NonceState::Stale | NonceState::Unknown => true,
     }
 }
 
@@ -51,7 +51,7 @@ fn is_sent(state: KnownNonce<'_>, list: &[u8]) -> bool
 /// `BadRequest` if the nonce promises PASSWORD-ALGORITHMS, and the request shows only one of the
 /// two attributes, a list that wasn't sent with the nonce, or an algorithm that isn't on it.
 fn chosen(
-    state: KnownNonce<'_>,
+    state: NonceState<'_>,
     nonce: &[u8],
     request: &Message<'_>,
 ) -> Result<Option<PasswordAlgorithmValue>, Refusal>
@@ -82,7 +82,7 @@ fn chosen(
 fn by_key(
     request: &Message<'_>,
     policy: Policy,
-    state: KnownNonce<'_>,
+    state: NonceState<'_>,
     chosen: Option<PasswordAlgorithmValue>,
     key: IntegrityKey,
 ) -> Authentication
@@ -93,12 +93,12 @@ fn by_key(
         return Authentication::Refused(Refusal::Unauthenticated);
     };
     match state {
-        KnownNonce::Valid(_) => Authentication::Accepted(Accepted {
+        NonceState::Valid(_) => Authentication::Accepted(Accepted {
             key,
             algorithm,
             reply_algorithm: reply_algorithm(chosen),
         }),
-        KnownNonce::Stale | KnownNonce::Unknown => Authentication::Refused(Refusal::StaleNonce),
+        NonceState::Stale | NonceState::Unknown => Authentication::Refused(Refusal::StaleNonce),
     }
 }
 

@@ -81,7 +81,7 @@ pub trait LongTermKeys {
 
 /// Whether a nonce is valid, and which password algorithms were sent with it.
 #[derive(Clone, Copy, Debug)]
-pub enum KnownNonce<'a> {
+pub enum NonceState<'a> {
     /// The nonce is valid, and was sent with these algorithms in a PASSWORD-ALGORITHMS, in this
     /// order. No algorithms: it was sent without one.
     Valid(&'a [PasswordAlgorithmValue]),
@@ -98,6 +98,6 @@ pub trait Nonces {
     /// Returns what the server knows of a nonce, the value of a NONCE. A nonce is bound to the
     /// address and port that it was sent to (RFC 8489, section 9.2.4): one that came from elsewhere
     /// is unknown.
-    fn nonce(&self, nonce: &[u8]) -> KnownNonce<'_>
+    fn nonce(&self, nonce: &[u8]) -> NonceState<'_>
         ensures { known result ≡ state_of self.now nonce.now };
 }

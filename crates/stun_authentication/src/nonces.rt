@@ -7,10 +7,10 @@ ghost use Rattle.stun_keys.specs.Keys.{key_bytes};
 ghost use Rattle.stun_values.specs.Addresses.{address_value};
 ghost use Rattle.stun_authentication.specs.Nonces.{digit, digits, digit_of, hexed, minted, minted_mac, minting, stated_time, minting_of, freshness, aged, known_as, state_of};
 
-use crate::{KnownNonce, Nonces, SecurityFeatures, nonce_cookie};
+use crate::{NonceState, Nonces, SecurityFeatures, nonce_cookie};
 use std::alloc::Global;
 use std::net::SocketAddr;
-use stun_integrity::same_bytes;
+use stun_attributes::same_bytes;
 use stun_types::attribute::{Nonce, PasswordAlgorithmValue};
 use stun_types::message::{IntegrityKey, StunWriteError};
 use stun_values::{address_length, write_address};
@@ -279,7 +279,7 @@ impl NonceMaker {
     /// use rand::rngs::StdRng;
     /// use rand::{Rng, make_rng};
     /// use std::net::SocketAddr;
-    /// use stun_authentication::{KnownNonce, NonceMaker, Nonces, SecurityFeatures};
+    /// use stun_authentication::{NonceState, NonceMaker, Nonces, SecurityFeatures};
     /// use stun_types::attribute::PasswordAlgorithmValue;
     /// use stun_types::message::IntegrityKey;
     ///
@@ -294,7 +294,7 @@ impl NonceMaker {
     /// let both = [PasswordAlgorithmValue::MD5, PasswordAlgorithmValue::SHA256];
     /// let nonces = maker.nonces(1500, client, &both);
     /// let known = nonces.nonce(nonce.nonce().as_bytes());
-    /// assert!(rt; matches!(known, KnownNonce::Valid(algorithms) if algorithms.len() == 2));
+    /// assert!(rt; matches!(known, NonceState::Valid(algorithms) if algorithms.len() == 2));
     /// ```
     pub fn nonces<'a>(
         &'a self,
@@ -319,11 +319,11 @@ impl Nonces for NoncesOf<'_> {
 
     ghost state_of = { state_of };
 
-    fn nonce(&self, nonce: &[u8]) -> KnownNonce<'_> {
+    fn nonce(&self, nonce: &[u8]) -> NonceState<'_> {
         match self.maker.freshness(self.now, &self.client, nonce) {
-            Freshness::Fresh => KnownNonce::Valid(self.algorithms),
-            Freshness::Stale => KnownNonce::Stale,
-            Freshness::Unknown => KnownNonce::Unknown,
+            Freshness::Fresh => NonceState::Valid(self.algorithms),
+            Freshness::Stale => NonceState::Stale,
+            Freshness::Unknown => NonceState::Unknown,
         }
     }
 }

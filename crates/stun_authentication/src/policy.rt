@@ -23,7 +23,7 @@ use stun_types::message::{IntegrityAlgorithm, IntegrityKey, Message};
 ///
 /// // The checks of ICE have a FINGERPRINT.
 /// let ice = Policy { fingerprint: true, ..Policy::default() };
-/// assert!(rt; ice.algorithm.is_none() && ice.shortest == 32);
+/// assert!(rt; ice.algorithm.is_none() && ice.min_hmac_length == 32);
 /// ```
 #[derive(Clone, Copy, Debug, PartialEq, Eq)]
 pub struct Policy {
@@ -33,14 +33,14 @@ pub struct Policy {
     pub algorithm: Option<IntegrityAlgorithm>,
     /// The least length of the HMAC in a MESSAGE-INTEGRITY-SHA256, in bytes. A usage may say 16,
     /// 20, 24 or 28; otherwise it is 32 (RFC 8489, section 14.6).
-    pub shortest: usize,
+    pub min_hmac_length: usize,
     /// Whether the usage uses FINGERPRINT, as ICE does: a message without one is then discarded
     /// (RFC 8489, sections 6.3 and 7). A message with a wrong one is no message for
     /// `Message::from_bytes`.
     pub fingerprint: bool,
 }
 
-/// Returns `true` if the HMAC of an algorithm has at least `shortest` bytes in a message. That of a
+/// Returns `true` if the HMAC of an algorithm has at least `min_hmac_length` bytes in a message. That of a
 /// MESSAGE-INTEGRITY has 20 always, and only that of a MESSAGE-INTEGRITY-SHA256 may be cut, if the
 /// usage says so (RFC 8489, section 14.6).
 ///
@@ -59,17 +59,17 @@ pub struct Policy {
 /// assert!(rt; !has_least_length(32, IntegrityAlgorithm::Sha256, &message));
 /// ```
 pub fn has_least_length(
-    shortest: usize,
+    min_hmac_length: usize,
     algorithm: IntegrityAlgorithm,
     message: &Message<'_>,
 ) -> bool
-    ensures { result ≡ has_least_length shortest algorithm (message_bytes message.now) }
+    ensures { result ≡ has_least_length min_hmac_length algorithm (message_bytes message.now) }
 {
     match algorithm {
         IntegrityAlgorithm::Sha1 => true,
         IntegrityAlgorithm::Sha256 => {
             match message.raw_attribute(MessageIntegritySha256::TYPE) {
-                Some(raw) => shortest <= raw.value().as_bytes().len(),
+                Some(raw) => min_hmac_length <= raw.value().as_bytes().len(),
                 None => false,
             }
         }
@@ -107,16 +107,16 @@ fn shows_served(served: Option<IntegrityAlgorithm>, message: &Message<'_>) -> bo
 
 /// The algorithm whose HMAC in a message is right under a key, and has enough bytes.
 fn proved_by(
-    shortest: usize,
+    min_hmac_length: usize,
     key: &IntegrityKey,
     message: &Message<'_>,
 ) -> Option<IntegrityAlgorithm>
     ensures { let d = message_bytes message.now in
-        result ≡ proved_at shortest d
+        result ≡ proved_at min_hmac_length d
         (verdict (is_checked_type (key_algorithm key.now)) (λ _. key_bytes key.now) d) }
 {
     match message.validate_integrity_with_key(key) {
-        Ok(algorithm) if has_least_length(shortest, algorithm, message) => Some(algorithm),
+        Ok(algorithm) if has_least_length(min_hmac_length, algorithm, message) => Some(algorithm),
         _ => None,
     }
 }
@@ -125,12 +125,12 @@ impl Default for Policy {
     ghost use Rattle.std.specs.Prelude.{◌≡◌, None, false};
 
     ghost is_default = { λ policy. (policy.algorithm ≡ None)
-        × ((policy.shortest ≡ 32) × (policy.fingerprint ≡ false)) };
+        × ((policy.min_hmac_length ≡ 32) × (policy.fingerprint ≡ false)) };
 
     fn default() -> Self {
         Policy {
             algorithm: None,
-            shortest: 32,
+            min_hmac_length: 32,
             fingerprint: false,
         }
     }
@@ -182,7 +182,7 @@ impl Policy {
         let made_for = key.algorithm();
         let served = common_algorithms(self.algorithm, &key)?;
         let key = key.made_for(served);
-        let algorithm = proved_by(self.shortest, &key, message)?;
+        let algorithm = proved_by(self.min_hmac_length, &key, message)?;
         Some((key.made_for(made_for), algorithm))
     }
 }

@@ -15,7 +15,7 @@ ghost use Rattle.stun_grammar.specs.Steps.{add};
 ghost use Rattle.stun_types.specs.Message.{message_bytes};
 ghost use Rattle.stun_values.specs.Algorithms.{algorithms_encoding};
 ghost use Rattle.stun_values.specs.ErrorValues.{error_value};
-ghost use Rattle.stun_write.specs.Writers.{Allocates, Gains};
+ghost use Rattle.stun_types.specs.Writers.{Allocates, Gains};
 ghost use Rattle.stun_authentication.specs.declared.answer.Refusal.TheVariants.{StaleNonce};
 ghost use Rattle.stun_authentication.specs.Answers.{refusal_code, refusal_reason};
 ghost use Rattle.stun_authentication.specs.Refusing.{demanded, carried, refusal_of, refusal_sizes};

@@ -13,10 +13,10 @@ use crate::identity::value_of;
 use crate::{Challenge, NoRetry};
 use stun_types::attribute::{
     AttributeStaticType, AttributeType, ErrorCode, Nonce, PasswordAlgorithmValue,
-    PasswordAlgorithms, Realm,
+    PasswordAlgorithms, Realm, read_text,
 };
 use stun_types::message::Message;
-use stun_values::{NONCE_MAX, REALM_MAX, read_text};
+use stun_values::{NONCE_MAX, REALM_MAX};
 
 /// Returns `true` if the nonce of a response promises PASSWORD-ALGORITHMS, and the response shows
 /// none: an attacker may have removed it (RFC 8489, sections 9.2.1 and 9.2.5). A client that uses

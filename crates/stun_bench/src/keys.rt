@@ -4,16 +4,12 @@ ghost use Rattle.std.specs.Prelude.{◌≡◌, ◌≤◌, ◌*◌, ◌%◌, ◌^
 ghost use Rattle.stun_grammar.specs.declared.integrity_algorithm.IntegrityAlgorithm.{IntegrityAlgorithm};
 ghost use Rattle.stun_grammar.specs.Verdicts.{is_checked_type, verdict};
 ghost use Rattle.stun_keys.specs.Keys.{IsKey, key_bytes, credentials_key, credentials_algorithm};
-ghost use Rattle.stun_bench.specs.Answers.{none, algorithm_of as algorithm_told, hmac_number, verdict_number};
+ghost use Rattle.stun_bench.specs.Answers.{none, algorithm_of as algorithm_reported, hmac_number, verdict_number};
 
 use crate::reading::{offset_of, prefix};
 use std::alloc::Global;
-use stun_integrity::{hmac_sha1_at, hmac_sha256_at};
-use stun_types::message::keys::{
-    IntegrityAlgorithm, IntegrityKey, LongTermKeyCredentials, MessageIntegrityCredentials,
-    ShortTermCredentials,
-};
-use stun_types::message::{Message, StunWriteError, ValidateError};
+use stun_attributes::{hmac_sha1_at, hmac_sha256_at};
+use stun_types::message::{IntegrityAlgorithm, IntegrityKey, LongTermKeyCredentials, Message, MessageIntegrityCredentials, ShortTermCredentials, StunWriteError, ValidateError};
 
 /// What a workload returns if it can't be run.
 pub const NONE: u64 = u64::MAX;
@@ -27,7 +23,7 @@ fn text(alloc: Global, bytes: &[u8]) -> Option<String>
 
 /// The algorithm of a number: 2 is SHA-256.
 pub fn algorithm_of(number: u32) -> IntegrityAlgorithm
-    ensures { result ≡ algorithm_told number }
+    ensures { result ≡ algorithm_reported number }
 {
     match number {
         2 => IntegrityAlgorithm::Sha256,
@@ -261,7 +257,7 @@ pub extern "C" fn stun_bench_hmac(
     rounds: u64,
 ) -> u64
     ensures { (result ≡ none) ⊎ (result
-        ≡ (rounds * hmac_number (algorithm_told algorithm) password.now message.now) % 2 ^ 64) }
+        ≡ (rounds * hmac_number (algorithm_reported algorithm) password.now message.now) % 2 ^ 64) }
 {
     if message.len() < 20 {
         return NONE;
@@ -282,7 +278,7 @@ pub extern "C" fn stun_bench_hmac_unprepared(
     rounds: u64,
 ) -> u64
     ensures { (result ≡ none) ⊎ (result
-        ≡ (rounds * hmac_number (algorithm_told algorithm) password.now message.now) % 2 ^ 64) }
+        ≡ (rounds * hmac_number (algorithm_reported algorithm) password.now message.now) % 2 ^ 64) }
 {
     if message.len() < 20 {
         return NONE;

@@ -5,7 +5,7 @@ ghost use Rattle.stun_grammar.specs.Checksums.{crc};
 ghost use Rattle.stun_grammar.specs.Parsing.{parse_fault};
 ghost use Rattle.stun_grammar.specs.Showing.{shown};
 ghost use Rattle.stun_grammar.specs.Numbers.{number};
-ghost use Rattle.stun_attrs.specs.Raw.{raw_type, raw_value};
+ghost use Rattle.stun_attributes.specs.Raw.{raw_type, raw_value};
 ghost use Rattle.stun_bench.specs.Answers.{mixed};
 
 use crate::keys::NONE;

@@ -1,7 +1,7 @@
 //! Writing an ICE connectivity check.
 
 ghost use Rattle.std.specs.Prelude.{◌≡◌, ◌≤◌, [], length};
-ghost use Rattle.stun_attrs.specs.Raw.{raw_type};
+ghost use Rattle.stun_attributes.specs.Raw.{raw_type};
 ghost use Rattle.stun_grammar.specs.Adding.{Fits};
 ghost use Rattle.stun_grammar.specs.AttributeTypes.{IsOrdinary};
 
@@ -9,10 +9,7 @@ use crate::keys::{NONE, algorithm_of, short_key};
 use crate::typed::text_answer;
 use std::alloc::Global;
 use stun_types::attribute::{AttributeType, RawAttribute, Username};
-use stun_types::message::{
-    BINDING, IntegrityAlgorithm, IntegrityKey, Message, MessageClass, MessageHeader, MessageType,
-    MessageWriteMutSlice, MessageWriteVec, StunWriteError, TransactionId,
-};
+use stun_types::message::{BINDING, IntegrityAlgorithm, IntegrityKey, Message, MessageClass, MessageHeader, MessageType, MessageWriteMutSlice, MessageWriteVec, StunWriteError, TransactionId};
 use stun_types::prelude::*;
 
 /// The value of PRIORITY.

@@ -18,9 +18,9 @@ use Rattle.stun_grammar.specs.AttributeTypes.{XOR_MAPPED_ADDRESS}
 use Rattle.stun_grammar.specs.Chains.{Shown}
 use Rattle.stun_grammar.specs.Headers.{id_field}
 use Rattle.stun_grammar.specs.Parsing.{parse_fault}
-use Rattle.stun_attrs.specs.Reading.{Reads}
+use Rattle.stun_attributes.specs.Reading.{Reads}
 use Rattle.stun_attributes.proofs.AddressesLemmas.{xored_twice}
-use Rattle.stun_read.specs.LookingUp.{nth}
+use Rattle.stun_types.specs.LookingUp.{nth}
 use Rattle.stun_values.specs.Addresses.{family, octets, mask, xor_bytes, address_fault, Spells, IsXored, IsInRange, IsPlain, xored_value}
 use Rattle.stun_transactions.specs.Mapped.{TellsAddress, ReadsMapped, IsSuccessOf}
 use Rattle.stun_exchanges.specs.Learning.{without_flow, TellsOnly}
@@ -85,8 +85,8 @@ spelled_xored id a x range small spells =
     }
 
 -- so what it reports is the address
-told_once : (id : ℕ) (a read : SocketAddr) → IsInRange a → IsInRange read → TellsAddress id (xored_value id a) read → read ≡ without_flow a
-told_once id a read range other tells =
+reported_once : (id : ℕ) (a read : SocketAddr) → IsInRange a → IsInRange read → TellsAddress id (xored_value id a) read → read ≡ without_flow a
+reported_once id a read range other tells =
     let small = port_fits (socket_port tells.written) (socket_port read) other.port tells.xored.port_is in
     xored_twice id (without_flow a) tells.written read (plain_there a) (range_there a range) (spelled_xored id a tells.written range small tells.spelled) tells.xored
 
@@ -98,13 +98,13 @@ pub tells_only : (a : SocketAddr) (r d : List ℕ) (x : Shown) → IsInRange a �
 tells_only a r d x range parses success found value (Ok None) read = absurd (read.1 success)
 tells_only a r d x range parses success found value (Ok (Some it)) read = λ other.
     let here = subst (λ (o : Option Shown). MatchOption o (Ok it ≡ Err (MissingAttribute (record { 0 = XOR_MAPPED_ADDRESS }))) (λ (s : Shown). Reads (address_fault s.value) (TellsAddress (id_field d) s.value) (Ok it))) found read.2 in
-    let told = subst (λ (v : List ℕ). Reads (address_fault v) (TellsAddress (id_field d) v) (Ok it)) value here in
-    let right = subst (λ (o : Option StunParseError). Reads o (TellsAddress (id_field d) (xored_value (id_field d) a)) (Ok it)) (readable (id_field d) a range) told in
-    told_once (id_field d) a it range other right
+    let reported = subst (λ (v : List ℕ). Reads (address_fault v) (TellsAddress (id_field d) v) (Ok it)) value here in
+    let right = subst (λ (o : Option StunParseError). Reads o (TellsAddress (id_field d) (xored_value (id_field d) a)) (Ok it)) (readable (id_field d) a range) reported in
+    reported_once (id_field d) a it range other right
 tells_only a r d x range parses success found value (Err e) read =
     let none : Result SocketAddr StunParseError = Err e in
     let inside = subst (λ (o : Option StunParseError). MatchOption o (IsSuccessOf r d × ReadsMapped d none) (λ (fault : StunParseError). e ≡ fault)) parses read in
     let here = subst (λ (o : Option Shown). MatchOption o (none ≡ Err (MissingAttribute (record { 0 = XOR_MAPPED_ADDRESS }))) (λ (s : Shown). Reads (address_fault s.value) (TellsAddress (id_field d) s.value) none)) found inside.1 in
-    let told = subst (λ (v : List ℕ). Reads (address_fault v) (TellsAddress (id_field d) v) none) value here in
-    let right = subst (λ (o : Option StunParseError). Reads o (TellsAddress (id_field d) (xored_value (id_field d) a)) none) (readable (id_field d) a range) told in
+    let reported = subst (λ (v : List ℕ). Reads (address_fault v) (TellsAddress (id_field d) v) none) value here in
+    let right = subst (λ (o : Option StunParseError). Reads o (TellsAddress (id_field d) (xored_value (id_field d) a)) none) (readable (id_field d) a range) reported in
     absurd right

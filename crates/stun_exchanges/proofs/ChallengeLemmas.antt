@@ -70,11 +70,11 @@ code_value refusal = error_value (refusal_code refusal) (refusal_reason refusal)
 utf8_of : (bs : List ℕ) → small bs ≡ true → is_utf8 bs ≡ true
 utf8_of bs e = is_utf8-from_IsUtf8 bs (IsUtf8-from_ascii bs (ascii bs e))
 
-code_told : (refusal : Refusal) → asks refusal ≡ true → value_code (code_value refusal) ≡ Some (refusal_code refusal)
+code_reported : (refusal : Refusal) → asks refusal ≡ true → value_code (code_value refusal) ≡ Some (refusal_code refusal)
 unfolding code_value small
-code_told BadRequest e = absurd cc
-code_told Unauthenticated e = ap (λ (b : Bool). if is_some (option_or None (if true && b then None else Some InvalidAttributeData)) then None else Some 401) (utf8_of (codes "Unauthenticated") refl)
-code_told StaleNonce e = ap (λ (b : Bool). if is_some (option_or None (if true && b then None else Some InvalidAttributeData)) then None else Some 438) (utf8_of (codes "Stale Nonce") refl)
+code_reported BadRequest e = absurd cc
+code_reported Unauthenticated e = ap (λ (b : Bool). if is_some (option_or None (if true && b then None else Some InvalidAttributeData)) then None else Some 401) (utf8_of (codes "Unauthenticated") refl)
+code_reported StaleNonce e = ap (λ (b : Bool). if is_some (option_or None (if true && b then None else Some InvalidAttributeData)) then None else Some 438) (utf8_of (codes "Stale Nonce") refl)
 
 code_short : (refusal : Refusal) → asks refusal ≡ true → length (code_value refusal) < 2 ^ 16
 unfolding code_value
@@ -180,8 +180,8 @@ no_repeat tried seen BadRequest offer code e is r = absurd cc
 no_repeat tried seen Unauthenticated offer code e is r = ap (λ (b : Bool). is_code 401 code && b) (r.untried refl) ∙ and_false (is_code 401 code)
 no_repeat tried seen StaleNonce offer code e is r = ap (λ (o : Option ℕ). is_code 401 o && option_map_or (λ (before : List ℕ). pointwise nat_eq before offer.realm) tried false) is
 
-told_text : (value : List ℕ) (o : Option (List ℕ)) → o ≡ Some value → text_fault text_max value ≡ None → option_and_then (λ (v : List ℕ). text_in text_max v) o ≡ Some value
-told_text value o is none =
+reported_text : (value : List ℕ) (o : Option (List ℕ)) → o ≡ Some value → text_fault text_max value ≡ None → option_and_then (λ (v : List ℕ). text_in text_max v) o ≡ Some value
+reported_text value o is none =
     ap (λ (p : Option (List ℕ)). option_and_then (λ (v : List ℕ). text_in text_max v) p) is
     ∙ ap (λ (f : Option StunParseError). if is_some f then None else Some value) none
 
@@ -206,7 +206,7 @@ read_of first missing refusal offer supported a tried seen d asking class lawful
     let code-is : response_code d ≡ Some (refusal_code refusal) =
     ap (λ (c : MessageClass). code_by_class c d) class
     ∙ ap (λ (o : Option Shown). option_and_then (λ (x : Shown). value_code x.value) o) (first d [] (rest ++ s.more) code s.shows refl)
-    ∙ code_told refusal asking in
+    ∙ code_reported refusal asking in
     let list-is = list_there first missing d (code_value refusal) offer.realm offer.nonce list s in
     let nonce-is : value_of d NONCE ≡ Some offer.nonce = value_there first d (code ∷ canonical REALM offer.realm ∷ []) (list_attributes list ++ s.more) (canonical NONCE offer.nonce) s.shows refl in
     let realm-is : value_of d REALM ≡ Some offer.realm = value_there first d (code ∷ []) ((canonical NONCE offer.nonce ∷ list_attributes list) ++ s.more) (canonical REALM offer.realm) s.shows refl in
@@ -215,7 +215,7 @@ read_of first missing refusal offer supported a tried seen d asking class lawful
     (ap (λ (o : Option (List ℕ)). option_map_or (λ (n : List ℕ). promises_algorithms n) o false && not (is_some (list_of d))) nonce-is
     ∙ ap (λ (l : Option (List ℕ)). promises_algorithms offer.nonce && not (is_some l)) list-is ∙ not_down offer.algorithms (promises_algorithms offer.nonce) agrees)
     (ap (λ (l : Option (List ℕ)). is_some seen && not (is_some l)) list-is ∙ kept_list tried seen refusal offer retries))
-    (told_text offer.realm (value_of d REALM) realm-is lawful.realm_is) (told_text offer.nonce (value_of d NONCE) nonce-is lawful.nonce_is) list-is takes
+    (reported_text offer.realm (value_of d REALM) realm-is lawful.realm_is) (reported_text offer.nonce (value_of d NONCE) nonce-is lawful.nonce_is) list-is takes
     (no_repeat tried seen refusal offer (response_code d) asking code-is retries)
 
 -- for the attributes that `refuse_long_term` writes, under an equation

@@ -19,7 +19,7 @@ use Rattle.stun_grammar.specs.Writing.{message_encoding, IsWritable}
 use Rattle.stun_grammar.specs.Steps.{sign, finger, appended_by}
 use Rattle.stun_grammar.proofs.StepsSignedLemmas.{value_is, signed_validates}
 use Rattle.stun_grammar.proofs.WritingLemmas.{shown-message}
-use Rattle.stun_read.specs.LookingUp.{nth}
+use Rattle.stun_types.specs.LookingUp.{nth}
 use Rattle.stun_authentication.specs.Identities.{value_of}
 use Rattle.stun_authentication.specs.Policies.{is_fingerprinted}
 use Rattle.stun_exchanges.specs.Premises.{IsPrinted}

@@ -15,7 +15,7 @@ use Rattle.stun_authentication.specs.Requests.{credentials, user_key}
 use Rattle.stun_exchanges.proofs.ListsLemmas.{takes_first}
 
 cookie_there : ((features : SecurityFeatures) (more : List ℕ) → security_features (cookie features ++ more) ≡ Some features) → security_features offer.nonce ≡ Some (record { password_algorithms = true; username_anonymity = false })
-cookie_there told = told (record { password_algorithms = true; username_anonymity = false }) []
+cookie_there reported = reported (record { password_algorithms = true; username_anonymity = false }) []
 
 list_short : (value : List ℕ) → Some (algorithms_encoding (SHA256 ∷ MD5 ∷ [])) ≡ Some value → length value < 2 ^ 16
 list_short value e =
@@ -33,12 +33,12 @@ small_there true e = absurd (cc e)
 small_there false e = omega arith
 
 pub met : ((features : SecurityFeatures) (more : List ℕ) → security_features (cookie features ++ more) ≡ Some features) → IsMet
-met told = record {
-  offered = record { known = refl; agrees = ap promises (cookie_there told) };
+met reported = record {
+  offered = record { known = refl; agrees = ap promises (cookie_there reported) };
   takes = takes_first;
   short = record { realm_fits = lit< tt; nonce_fits = lit< tt; list_fits = list_short; name_fits = lit< tt };
   class_is = refl;
   own = record { writable = none_writable 0x0001 7 (lit< tt) (lit< tt); own = refl };
-  room = room_of (credentials asked user.name) (user_key asked user) (small_there asked.anonymous (ap is_anonymous (cookie_there told)));
-  serves = record { counts = inl refl; shortest = omega arith; printed = λ e. refl };
+  room = room_of (credentials asked user.name) (user_key asked user) (small_there asked.anonymous (ap is_anonymous (cookie_there reported)));
+  serves = record { counts = inl refl; min_hmac_length = omega arith; printed = λ e. refl };
 }

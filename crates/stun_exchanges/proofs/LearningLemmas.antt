@@ -23,7 +23,7 @@ use Rattle.stun_grammar.proofs.WritingLemmas.{type-message, id-message, parse-me
 use Rattle.stun_base.specs.declared.message_type.MessageClass.{MessageClass}
 use Rattle.stun_base.specs.declared.message_type.MessageClass.TheVariants.{Request, Success, Error as ErrorClass}
 use Rattle.stun_base.specs.MessageTypes.{type_of, class_of, method_of, is_response}
-use Rattle.stun_read.specs.LookingUp.{nth}
+use Rattle.stun_types.specs.LookingUp.{nth}
 use Rattle.stun_values.specs.Addresses.{IsInRange, xored_value}
 use Rattle.stun_values.specs.ErrorValues.{error_value}
 use Rattle.stun_values.specs.TypeLists.{types_encoding}
@@ -79,8 +79,8 @@ abbrev type_of_shown : Shown → AttributeType
 type_of_shown a = record { 0 = a.type }
 
 -- the content of a response that shows no type beyond those of RFC 8489
-content_of : (class : MessageClass) (d : List ℕ) (told : Outcome) → first_beyond [] d ≡ None → class_of (type_field d) ≡ class → content_by_class None class d ≡ told → content None [] d ≡ told
-content_of class d told none is has =
+content_of : (class : MessageClass) (d : List ℕ) (reported : Outcome) → first_beyond [] d ≡ None → class_of (type_field d) ≡ class → content_by_class None class d ≡ reported → content None [] d ≡ reported
+content_of class d reported none is has =
     ap (λ (o : Option AttributeType). option_map_or (λ (type : AttributeType). Outcome.Failed (Failure.UnknownAttribute type)) o (content_by_class None (class_of (type_field d)) d)) none
     ∙ ap (λ (c : MessageClass). content_by_class None c d) is ∙ has
 
@@ -152,9 +152,9 @@ ascii (b ∷ bs) e zero = ltb-true b 128 (first_true (ltb b 128) (small bs) e).0
 ascii (b ∷ bs) e (suc i) = ascii bs (first_true (ltb b 128) (small bs) e).1 i
 
 -- the code in the value of the error is 420
-code_told : value_code (error_value 420 (codes "Unknown Attributes")) ≡ Some 420
+code_reported : value_code (error_value 420 (codes "Unknown Attributes")) ≡ Some 420
 unfolding small
-code_told =
+code_reported =
     let reason = codes "Unknown Attributes" in
     ap (λ (b : Bool). if is_some (option_or None (if true && b then None else Some InvalidAttributeData)) then None else Some 420) (is_utf8-from_IsUtf8 reason (IsUtf8-from_ascii reason (ascii reason refl)))
 
@@ -181,7 +181,7 @@ learns_error classes bits answering found source r (x ∷ xs) bytes request is s
     let class = class_there ErrorClass r all classes done.writable in
     let code_there = (found kind id (own_software ∷ []) (listed ∷ done.more) error done.writable refl (no_other ERROR_CODE done.more refl done.last)).0 in
     let types_there = (found kind id (own_software ∷ error ∷ []) done.more listed done.writable refl (no_other UNKNOWN_ATTRIBUTES done.more refl done.last)).0 in
-    let code : shown_code text ≡ Some 420 = ap (option_and_then (λ (a : Shown). value_code a.value)) code_there ∙ code_told in
+    let code : shown_code text ≡ Some 420 = ap (option_and_then (λ (a : Shown). value_code a.value)) code_there ∙ code_reported in
     record {
       text = text;
       replied = replied_as source r text request (sym (ap (finished r) plain ∙ done.text_is));

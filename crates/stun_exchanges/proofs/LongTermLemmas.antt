@@ -207,11 +207,11 @@ one_user None (Some hash) who e = (refl, refl)
 one_user (Some name) None who e = (refl, refl)
 one_user (Some name) (Some hash) who e = absurd cc
 
-rows : (policy : Policy) (realm : List ℕ) (nonces : List ℕ → Known) (keys : Who → List ℕ → PasswordAlgorithmValue → Option UserKey) (d : List ℕ) (who : Who) (told nonce : List ℕ) (key : UserKey) (xs : List PasswordAlgorithmValue) (list : Option (List ℕ)) (algorithm : PasswordAlgorithmValue) (a : IntegrityAlgorithm)
-    → is_taken policy d ≡ true → class_of (type_field d) ≡ Request → is_signed policy d ≡ true → identity_of d ≡ Some who → value_of d REALM ≡ Some told → value_of d NONCE ≡ Some nonce → nonces nonce ≡ valid xs
+rows : (policy : Policy) (realm : List ℕ) (nonces : List ℕ → Known) (keys : Who → List ℕ → PasswordAlgorithmValue → Option UserKey) (d : List ℕ) (who : Who) (reported nonce : List ℕ) (key : UserKey) (xs : List PasswordAlgorithmValue) (list : Option (List ℕ)) (algorithm : PasswordAlgorithmValue) (a : IntegrityAlgorithm)
+    → is_taken policy d ≡ true → class_of (type_field d) ≡ Request → is_signed policy d ≡ true → identity_of d ≡ Some who → value_of d REALM ≡ Some reported → value_of d NONCE ≡ Some nonce → nonces nonce ≡ valid xs
     → IsProcessed (valid xs) d list algorithm → keys who realm algorithm ≡ Some key → proof_of policy key d ≡ Some a
     → long_term policy realm nonces keys d ≡ accept key a (reply_algorithm (chosen d))
-rows policy realm nonces keys d who told nonce key xs list algorithm a taken class shows user realm-is nonce-is state how known right =
+rows policy realm nonces keys d who reported nonce key xs list algorithm a taken class shows user realm-is nonce-is state how known right =
     let names = one_user (value_of d USERNAME) (value_of d USERHASH) who user in
     let credentials-are : lacks_credentials d ≡ false =
     ap (λ (b : Bool). not (b && (is_some (value_of d REALM) && is_some (value_of d NONCE)))) names.0
@@ -260,5 +260,5 @@ accepted first missing policy nonces keys offer supported algorithm user key fin
     (ap class_of (type-message kind id all writable.type_fits) ∙ class) (is_served policy.algorithm a d served.counts hmac)
     (who_there first missing d before who offer.realm offer.nonce list algorithm shows) (realm_there first d before who offer.realm offer.nonce list algorithm shows) (nonce_there first d before who offer.realm offer.nonce list algorithm shows)
     offered.known how known
-    (proof_is policy a d key both.served both.which hmac served.shortest right)
+    (proof_is policy a d key both.served both.which hmac served.min_hmac_length right)
     ∙ ap (λ (r : IntegrityAlgorithm). accept key a r) how.reply_by

@@ -10,7 +10,7 @@ use Rattle.stun_grammar.specs.AttributeTypes.{MESSAGE_INTEGRITY, MESSAGE_INTEGRI
 use Rattle.stun_grammar.specs.Chains.{Shown}
 use Rattle.stun_grammar.specs.Verdicts.{type_of_algorithm, is_checked_type, verdict}
 use Rattle.stun_keys.specs.Keys.{serves}
-use Rattle.stun_read.specs.LookingUp.{nth}
+use Rattle.stun_types.specs.LookingUp.{nth}
 use Rattle.stun_authentication.specs.declared.policy.Policy.{Policy}
 use Rattle.stun_authentication.specs.Lookups.{UserKey}
 use Rattle.stun_authentication.specs.Policies.{shows_served, has_least_length, common, counted, is_signed_for, validated, proved_by, proof_of}
@@ -60,11 +60,11 @@ pub is_served : (counts : Option IntegrityAlgorithm) (a : IntegrityAlgorithm) (d
 is_served counts a d (inl e) h = ap (λ (o : Option IntegrityAlgorithm). shows_served o d) e ∙ both_served a d (ap (λ (o : Option Shown). is_some o) h.found)
 is_served counts a d (inr e) h = ap (λ (o : Option IntegrityAlgorithm). shows_served o d) e ∙ ap (λ (o : Option Shown). is_some o) h.found
 
-pub long_enough : (shortest : ℕ) (a : IntegrityAlgorithm) (d : List ℕ) → HasHmac d a → shortest ≤ 32 → has_least_length shortest a d ≡ true
-long_enough shortest Sha1 d h short = refl
-long_enough shortest Sha256 d h short =
-    ap (λ (o : Option Shown). option_map_or (λ (x : Shown). nat_le shortest (length x.value)) o false) h.found
-    ∙ ap (λ (n : ℕ). nat_le shortest n) h.size ∙ le-leb shortest 32 short
+pub long_enough : (min_hmac_length : ℕ) (a : IntegrityAlgorithm) (d : List ℕ) → HasHmac d a → min_hmac_length ≤ 32 → has_least_length min_hmac_length a d ≡ true
+long_enough min_hmac_length Sha1 d h short = refl
+long_enough min_hmac_length Sha256 d h short =
+    ap (λ (o : Option Shown). option_map_or (λ (x : Shown). nat_le min_hmac_length (length x.value)) o false) h.found
+    ∙ ap (λ (n : ℕ). nat_le min_hmac_length n) h.size ∙ le-leb min_hmac_length 32 short
 
 pub key_counts : (made_for : Option IntegrityAlgorithm) (a : IntegrityAlgorithm) → serves made_for a ≡ true → Counts made_for a
 key_counts None a e = inl refl
@@ -73,11 +73,11 @@ key_counts (Some Sha1) Sha256 e = absurd cc
 key_counts (Some Sha256) Sha1 e = absurd cc
 key_counts (Some Sha256) Sha256 e = inr refl
 
-pub proof_is : (policy : Policy) (a : IntegrityAlgorithm) (d : List ℕ) (key : UserKey) (served : Option IntegrityAlgorithm) → counted policy key.made_for ≡ Some served → HasHmac d a → policy.shortest ≤ 32 → verdict (is_checked_type served) (λ _. key.bytes) d ≡ Ok a → proof_of policy key d ≡ Some a
+pub proof_is : (policy : Policy) (a : IntegrityAlgorithm) (d : List ℕ) (key : UserKey) (served : Option IntegrityAlgorithm) → counted policy key.made_for ≡ Some served → HasHmac d a → policy.min_hmac_length ≤ 32 → verdict (is_checked_type served) (λ _. key.bytes) d ≡ Ok a → proof_of policy key d ≡ Some a
 proof_is policy a d key served which h short ok =
     ap (λ (o : Option (Option IntegrityAlgorithm)). option_and_then (λ (m : Option IntegrityAlgorithm). proved_by policy d (validated m key.bytes d)) o) which
     ∙ ap (λ (r : Result IntegrityAlgorithm ValidateError). proved_by policy d r) ok
-    ∙ ap (λ (b : Bool). if b then Some a else None) (long_enough policy.shortest a d h short)
+    ∙ ap (λ (b : Bool). if b then Some a else None) (long_enough policy.min_hmac_length a d h short)
 
 -- a message shows an integrity attribute that counts with a key
 pub signed_for : (policy : Policy) (made_for served : Option IntegrityAlgorithm) (a : IntegrityAlgorithm) (d : List ℕ) → counted policy made_for ≡ Some served → Counts served a → HasHmac d a → is_signed_for policy made_for d ≡ true

@@ -5,7 +5,7 @@ use Rattle.std.specs.Option.{option_map_or}
 use Rattle.stun_grammar.specs.Headers.{type_field}
 use Rattle.stun_grammar.specs.Parsing.{parse_fault}
 use Rattle.stun_grammar.specs.AttributeTypes.{FINGERPRINT}
-use Rattle.stun_read.specs.LookingUp.{nth}
+use Rattle.stun_types.specs.LookingUp.{nth}
 use Rattle.stun_base.specs.MessageTypes.{method_of}
 use Rattle.stun_types.specs.Replies.{responds_to, is_answer_to}
 use Rattle.stun_transactions.specs.declared.guard.Protection.{Protection}
@@ -20,13 +20,13 @@ use Rattle.stun_transactions.specs.Terms.{is_answer}
 use Rattle.stun_transactions.specs.Usages.{lacks_fingerprint}
 use Rattle.stun_exchanges.specs.Learning.{IsReceivedAs}
 
-told_of : (ongoing parses answers : Bool) (kept : Option Discard) (out : Discard → Outcome) (taken told : Outcome) → ongoing ≡ true → parses ≡ true → answers ≡ true → kept ≡ None → taken ≡ told
-    → (if ongoing && parses then (if answers then option_map_or out kept taken else NotForThis) else NotForThis) ≡ told
-told_of true true true None out taken told o p a k same = same
-told_of true true true (Some reason) out taken told o p a k same = absurd cc
-told_of true true false kept out taken told o p a k same = absurd cc
-told_of true false answers kept out taken told o p a k same = absurd cc
-told_of false parses answers kept out taken told o p a k same = absurd cc
+reported_of : (ongoing parses answers : Bool) (kept : Option Discard) (out : Discard → Outcome) (taken reported : Outcome) → ongoing ≡ true → parses ≡ true → answers ≡ true → kept ≡ None → taken ≡ reported
+    → (if ongoing && parses then (if answers then option_map_or out kept taken else NotForThis) else NotForThis) ≡ reported
+reported_of true true true None out taken reported o p a k same = same
+reported_of true true true (Some reason) out taken reported o p a k same = absurd cc
+reported_of true true false kept out taken reported o p a k same = absurd cc
+reported_of true false answers kept out taken reported o p a k same = absurd cc
+reported_of false parses answers kept out taken reported o p a k same = absurd cc
 
 -- if the usage sends FINGERPRINT, d shows one if r does
 not_lacking : (used in_r in_d : Bool) → (used && not in_r) ≡ false → (in_r ≡ true → in_d ≡ true) → (used && not in_d) ≡ false
@@ -40,12 +40,12 @@ unguarded false e = refl
 unguarded true e = absurd cc
 
 -- the transaction reports a message that answers the request by what the message has in it
-pub received_as : (told : Outcome) (r d : List ℕ) → parse_fault d ≡ None → is_answer_to r d ≡ true → (is_some (nth r FINGERPRINT 0) ≡ true → is_some (nth d FINGERPRINT 0) ≡ true) → content None [] d ≡ told → IsReceivedAs told r d
-received_as told r d parses answers printed has = record {
+pub received_as : (reported : Outcome) (r d : List ℕ) → parse_fault d ≡ None → is_answer_to r d ≡ true → (is_some (nth r FINGERPRINT 0) ≡ true → is_some (nth d FINGERPRINT 0) ≡ true) → content None [] d ≡ reported → IsReceivedAs reported r d
+received_as reported r d parses answers printed has = record {
   parses = parses;
   answers = answers;
   received_is = λ terms state awaits.
-      told_of (is_open state) (not (is_some (parse_fault d))) (is_answer terms d) (guard_fault terms.protection terms.usage terms.signed d) (discarded terms.plan.transport (claim_of d)) (content (proof_of terms.protection terms.usage terms.signed d) [] d) told
+      reported_of (is_open state) (not (is_some (parse_fault d))) (is_answer terms d) (guard_fault terms.protection terms.usage terms.signed d) (discarded terms.plan.transport (claim_of d)) (content (proof_of terms.protection terms.usage terms.signed d) [] d) reported
       awaits.ongoing
       (ap (λ (o : Option _). not (is_some o)) parses)
       (ap (λ (m : ℕ). responds_to m terms.id d) awaits.method_is ∙ ap (λ (i : ℕ). responds_to (method_of (type_field r)) i d) awaits.id_is ∙ answers)

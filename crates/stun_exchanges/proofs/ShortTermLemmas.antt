@@ -172,7 +172,7 @@ rows policy keys d name key a taken response shows user known signs right =
 
 pub accepted : IsFirst → (policy : Policy) (keys : List ℕ → Option UserKey) (sent served : Option IntegrityAlgorithm) (a : IntegrityAlgorithm) (fingerprint : Bool) (kind id : ℕ) (before : List Attribute) (name : List ℕ) (key : UserKey)
     → is_response (class_of kind) ≡ false → IsOwn kind id before → IsNamed name → HasRoom kind id (short_term_attributes fingerprint sent kind id before name key.bytes)
-    → keys name ≡ Some key → counted policy key.made_for ≡ Some served → checked served sent ≡ Some a → policy.shortest ≤ 32 → IsPrinted policy.fingerprint fingerprint
+    → keys name ≡ Some key → counted policy key.made_for ≡ Some served → checked served sent ≡ Some a → policy.min_hmac_length ≤ 32 → IsPrinted policy.fingerprint fingerprint
     → short_term policy keys (short_term_request fingerprint sent kind id before name key.bytes) ≡ accept key a a
 accepted first policy keys sent served a fingerprint kind id before name key response own named room known common which short printed =
     let bytes = key.bytes in

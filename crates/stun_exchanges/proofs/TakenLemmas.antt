@@ -34,7 +34,7 @@ use Rattle.stun_transactions.specs.declared.received.Outcome.{Outcome}
 use Rattle.stun_transactions.specs.declared.received.Outcome.TheVariants.{NotForThis}
 use Rattle.stun_transactions.specs.declared.retransmission.RetransmissionState.{RetransmissionState}
 use Rattle.stun_transactions.specs.declared.terms.Terms.{Terms}
-use Rattle.stun_transactions.specs.declared.usage.Usage.{Usage}
+use Rattle.stun_transactions.specs.declared.response_policy.ResponsePolicy.{ResponsePolicy}
 use Rattle.stun_transactions.specs.Usages.{lacks_fingerprint}
 use Rattle.stun_authentication.specs.Policies.{proved_at}
 use Rattle.stun_transactions.specs.Guards.{guard_fault, signed_by, is_signed, signs_by, is_unsigned_bad_request, validated, matched_by, proof_of, short_term_fault, long_term_fault, mechanism_fault}
@@ -80,7 +80,7 @@ and_not x false e = absurd cc
 -- ---- What a client takes
 
 -- a response is kept, and authenticated by an algorithm
-pub record IsTaken (protection : Protection) (usage : Usage) (by : Signed) (d : List ℕ) (a : IntegrityAlgorithm) : Type 0 where
+pub record IsTaken (protection : Protection) (usage : ResponsePolicy) (by : Signed) (d : List ℕ) (a : IntegrityAlgorithm) : Type 0 where
   pub kept : guard_fault protection usage by d ≡ None
   pub proof : proof_of protection usage by d ≡ Some a
 
@@ -94,20 +94,20 @@ unprinted : (kind id : ℕ) (xs : List Attribute) (a : IntegrityAlgorithm) (key 
 unprinted kind id xs a key plain = signed_unprinted kind id xs a key (no_print (types xs) plain.ordinary)
 
 -- no FINGERPRINT is missing
-none_lacks : IsFirst → (print : Bool) (kind id : ℕ) (xs : List Attribute) (a : IntegrityAlgorithm) (key : List ℕ) (usage : Usage) → IsOpen kind id xs → HasRoom kind id (finished print kind id (signed kind id xs a key)) → Suits usage print
+none_lacks : IsFirst → (print : Bool) (kind id : ℕ) (xs : List Attribute) (a : IntegrityAlgorithm) (key : List ℕ) (usage : ResponsePolicy) → IsOpen kind id xs → HasRoom kind id (finished print kind id (signed kind id xs a key)) → Suits usage print
     → lacks_fingerprint usage (signed_reply print kind id xs a key) ≡ false
 none_lacks first print kind id xs a key usage plain room suits =
     print_kept first usage.fingerprint print kind id (signed kind id xs a key) (once_writable print kind id xs a key plain.writable plain.ordinary room) (unprinted kind id xs a key plain) suits.printed
 
 -- the reply's HMAC is right, and long enough
-proves : IsFirst → (print : Bool) (kind id : ℕ) (xs : List Attribute) (a : IntegrityAlgorithm) (key : List ℕ) (kept : IntegrityKey) (usage : Usage) → WorksAs key a kept → IsOpen kind id xs
-    → HasRoom kind id (finished print kind id (signed kind id xs a key)) → Suits usage print → proved_at usage.shortest (signed_reply print kind id xs a key) (validated kept (signed_reply print kind id xs a key)) ≡ Some a
+proves : IsFirst → (print : Bool) (kind id : ℕ) (xs : List Attribute) (a : IntegrityAlgorithm) (key : List ℕ) (kept : IntegrityKey) (usage : ResponsePolicy) → WorksAs key a kept → IsOpen kind id xs
+    → HasRoom kind id (finished print kind id (signed kind id xs a key)) → Suits usage print → proved_at usage.min_hmac_length (signed_reply print kind id xs a key) (validated kept (signed_reply print kind id xs a key)) ≡ Some a
 proves first print kind id xs a key kept usage works plain room suits =
     let d = signed_reply print kind id xs a key in
-    ap (λ (r : Result IntegrityAlgorithm ValidateError). proved_at usage.shortest d r) (kept_validates print kind id xs a key kept plain room works)
-    ∙ ap (λ (b : Bool). if b then Some a else None) (long_enough usage.shortest a d (reply_found first print kind id xs a key plain room) suits.shortest)
+    ap (λ (r : Result IntegrityAlgorithm ValidateError). proved_at usage.min_hmac_length d r) (kept_validates print kind id xs a key kept plain room works)
+    ∙ ap (λ (b : Bool). if b then Some a else None) (long_enough usage.min_hmac_length a d (reply_found first print kind id xs a key plain room) suits.min_hmac_length)
 
-pub long_taken : IsFirst → IsMissing → (a : IntegrityAlgorithm) (print : Bool) (kind id : ℕ) (xs : List Attribute) (key : List ℕ) (kept : IntegrityKey) (usage : Usage) (by : Signed) → WorksAs key a kept → IsOpen kind id xs → has NONCE (types xs) ≡ false
+pub long_taken : IsFirst → IsMissing → (a : IntegrityAlgorithm) (print : Bool) (kind id : ℕ) (xs : List Attribute) (key : List ℕ) (kept : IntegrityKey) (usage : ResponsePolicy) (by : Signed) → WorksAs key a kept → IsOpen kind id xs → has NONCE (types xs) ≡ false
     → HasRoom kind id (finished print kind id (signed kind id xs a key)) → Suits usage print → IsTaken (P.LongTerm kept) usage by (signed_reply print kind id xs a key) a
 long_taken first missing a print kind id xs key kept usage by works plain none room suits =
     let d = signed_reply print kind id xs a key in
@@ -122,7 +122,7 @@ long_taken first missing a print kind id xs key kept usage by works plain none r
     }
 
 -- by a short-term credential, of a request that has the integrity attribute of the algorithm
-pub short_taken : IsFirst → (a : IntegrityAlgorithm) (print : Bool) (kind id : ℕ) (xs : List Attribute) (key : List ℕ) (kept : IntegrityKey) (usage : Usage) (by : Signed) → signs_by by a ≡ true → WorksAs key a kept → IsOpen kind id xs
+pub short_taken : IsFirst → (a : IntegrityAlgorithm) (print : Bool) (kind id : ℕ) (xs : List Attribute) (key : List ℕ) (kept : IntegrityKey) (usage : ResponsePolicy) (by : Signed) → signs_by by a ≡ true → WorksAs key a kept → IsOpen kind id xs
     → HasRoom kind id (finished print kind id (signed kind id xs a key)) → Suits usage print → IsTaken (P.ShortTerm kept) usage by (signed_reply print kind id xs a key) a
 short_taken first a print kind id xs key kept usage by asked works plain room suits =
     let d = signed_reply print kind id xs a key in
@@ -135,7 +135,7 @@ short_taken first a print kind id xs key kept usage by asked works plain room su
     }
 
 -- the same of the request that `accepted` speaks of
-pub taken : IsFirst → (sent counts : Option IntegrityAlgorithm) (a : IntegrityAlgorithm) (fingerprint print : Bool) (kind id other : ℕ) (before answer : List Attribute) (name key : List ℕ) (kept : IntegrityKey) (usage : Usage)
+pub taken : IsFirst → (sent counts : Option IntegrityAlgorithm) (a : IntegrityAlgorithm) (fingerprint print : Bool) (kind id other : ℕ) (before answer : List Attribute) (name key : List ℕ) (kept : IntegrityKey) (usage : ResponsePolicy)
     → IsOwn kind id before → IsNamed name → HasRoom kind id (short_term_attributes fingerprint sent kind id before name key) → checked counts sent ≡ Some a → WorksAs key a kept
     → IsOpen other id answer → HasRoom other id (finished print other id (signed other id answer a key)) → Suits usage print
     → IsTaken (P.ShortTerm kept) usage (signed_by (short_term_request fingerprint sent kind id before name key)) (signed_reply print other id answer a key) a
@@ -147,40 +147,40 @@ taken first sent counts a fingerprint print kind id other before answer name key
 
 -- ---- What is reported to the transaction
 
-told_of : (ongoing parses answers : Bool) (kept : Option Discard) (out : Discard → Outcome) (taken : Outcome) → ongoing ≡ true → parses ≡ true → answers ≡ true → kept ≡ None
+reported_of : (ongoing parses answers : Bool) (kept : Option Discard) (out : Discard → Outcome) (taken : Outcome) → ongoing ≡ true → parses ≡ true → answers ≡ true → kept ≡ None
     → (if ongoing && parses then (if answers then option_map_or out kept taken else NotForThis) else NotForThis) ≡ taken
-told_of true true true None out taken o p a k = refl
-told_of true true true (Some reason) out taken o p a k = absurd cc
-told_of true true false kept out taken o p a k = absurd cc
-told_of true false answers kept out taken o p a k = absurd cc
-told_of false parses answers kept out taken o p a k = absurd cc
+reported_of true true true None out taken o p a k = refl
+reported_of true true true (Some reason) out taken o p a k = absurd cc
+reported_of true true false kept out taken o p a k = absurd cc
+reported_of true false answers kept out taken o p a k = absurd cc
+reported_of false parses answers kept out taken o p a k = absurd cc
 
-heard_as : (terms : Terms) (state : RetransmissionState) (understood : List AttributeType) (r d : List ℕ) (plan : Plan) (protection : Protection) (usage : Usage) (a : IntegrityAlgorithm) → AreTerms r plan protection usage terms → is_open state ≡ true → parse_fault d ≡ None → is_answer_to r d ≡ true
+heard_as : (terms : Terms) (state : RetransmissionState) (understood : List AttributeType) (r d : List ℕ) (plan : Plan) (protection : Protection) (usage : ResponsePolicy) (a : IntegrityAlgorithm) → AreTerms r plan protection usage terms → is_open state ≡ true → parse_fault d ≡ None → is_answer_to r d ≡ true
     → IsTaken terms.protection terms.usage terms.signed d a → received_outcome terms state understood d ≡ content (Some a) understood d
 heard_as terms state understood r d plan protection usage a are ongoing parses answers it =
-    told_of (is_open state) (not (is_some (parse_fault d))) (is_answer terms d) (guard_fault terms.protection terms.usage terms.signed d) (discarded terms.plan.transport (claim_of d)) (content (proof_of terms.protection terms.usage terms.signed d) understood d) ongoing
+    reported_of (is_open state) (not (is_some (parse_fault d))) (is_answer terms d) (guard_fault terms.protection terms.usage terms.signed d) (discarded terms.plan.transport (claim_of d)) (content (proof_of terms.protection terms.usage terms.signed d) understood d) ongoing
     (ap (λ (o : Option StunParseError). not (is_some o)) parses)
     (ap (λ (m : ℕ). responds_to m terms.id d) are.method_is ∙ ap (λ (i : ℕ). responds_to (method_of (type_field r)) i d) are.id_is ∙ answers)
     it.kept
     ∙ ap (λ (o : Option IntegrityAlgorithm). content o understood d) it.proof
 
-pub long_heard : IsFirst → IsMissing → (a : IntegrityAlgorithm) (print : Bool) (kind id : ℕ) (xs : List Attribute) (r key : List ℕ) (k : IntegrityKey) (plan : Plan) (usage : Usage) (terms : Terms) (state : RetransmissionState) (understood : List AttributeType)
+pub long_heard : IsFirst → IsMissing → (a : IntegrityAlgorithm) (print : Bool) (kind id : ℕ) (xs : List Attribute) (r key : List ℕ) (k : IntegrityKey) (plan : Plan) (usage : ResponsePolicy) (terms : Terms) (state : RetransmissionState) (understood : List AttributeType)
     → WorksAs key a k → AreTerms r plan (P.LongTerm k) usage terms → is_open state ≡ true → IsOpen kind id xs → has NONCE (types xs) ≡ false → HasRoom kind id (finished print kind id (signed kind id xs a key)) → Suits usage print
     → is_answer_to r (signed_reply print kind id xs a key) ≡ true → received_outcome terms state understood (signed_reply print kind id xs a key) ≡ content (Some a) understood (signed_reply print kind id xs a key)
 long_heard first missing a print kind id xs r key k plan usage terms state understood works are ongoing plain none room suits answers =
     let d = signed_reply print kind id xs a key in
     heard_as terms state understood r d plan (P.LongTerm k) usage a are ongoing (parse-message kind id (finished print kind id (signed kind id xs a key)) (once_writable print kind id xs a key plain.writable plain.ordinary room)) answers
-    (subst (λ (u : Usage). IsTaken terms.protection u terms.signed d a) (sym are.usage_is)
+    (subst (λ (u : ResponsePolicy). IsTaken terms.protection u terms.signed d a) (sym are.usage_is)
     (subst (λ (p : Protection). IsTaken p usage terms.signed d a) (sym are.protection_is)
     (long_taken first missing a print kind id xs key k usage terms.signed works plain none room suits)))
 
 -- the same of a short-term key, which is kept as it is
-pub short_heard : (a : IntegrityAlgorithm) (print : Bool) (kind id : ℕ) (xs : List Attribute) (r key : List ℕ) (k : IntegrityKey) (plan : Plan) (usage : Usage) (terms : Terms) (state : RetransmissionState) (understood : List AttributeType)
+pub short_heard : (a : IntegrityAlgorithm) (print : Bool) (kind id : ℕ) (xs : List Attribute) (r key : List ℕ) (k : IntegrityKey) (plan : Plan) (usage : ResponsePolicy) (terms : Terms) (state : RetransmissionState) (understood : List AttributeType)
     → AreTerms r plan (P.ShortTerm k) usage terms → is_open state ≡ true → IsOpen kind id xs → HasRoom kind id (finished print kind id (signed kind id xs a key)) → is_answer_to r (signed_reply print kind id xs a key) ≡ true
     → IsTaken (P.ShortTerm k) usage (signed_by r) (signed_reply print kind id xs a key) a → received_outcome terms state understood (signed_reply print kind id xs a key) ≡ content (Some a) understood (signed_reply print kind id xs a key)
 short_heard a print kind id xs r key k plan usage terms state understood are ongoing plain room answers it =
     let d = signed_reply print kind id xs a key in
     heard_as terms state understood r d plan (P.ShortTerm k) usage a are ongoing (parse-message kind id (finished print kind id (signed kind id xs a key)) (once_writable print kind id xs a key plain.writable plain.ordinary room)) answers
     (subst (λ (p : Protection). IsTaken p terms.usage terms.signed d a) (sym are.protection_is)
-    (subst (λ (u : Usage). IsTaken (P.ShortTerm k) u terms.signed d a) (sym are.usage_is)
+    (subst (λ (u : ResponsePolicy). IsTaken (P.ShortTerm k) u terms.signed d a) (sym are.usage_is)
     (subst (λ (s : Signed). IsTaken (P.ShortTerm k) usage s d a) (sym are.signed_is) it)))

@@ -23,7 +23,7 @@ abbrev pub nonces : List ℕ → Known
 nonces nonce = valid (SHA256 ∷ MD5 ∷ [])
 
 abbrev pub policy : Policy
-policy = record { algorithm = None; shortest = 32; fingerprint = true }
+policy = record { algorithm = None; min_hmac_length = 32; fingerprint = true }
 
 -- a client that knows both takes the server's first
 abbrev pub asked : Asked

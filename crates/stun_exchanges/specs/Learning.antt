@@ -9,7 +9,7 @@ use Rattle.stun_grammar.specs.Names.{BINDING}
 use Rattle.stun_grammar.specs.Parsing.{parse_fault}
 use Rattle.stun_base.specs.declared.message_type.MessageClass.TheVariants.{Request}
 use Rattle.stun_base.specs.MessageTypes.{class_of, method_of}
-use Rattle.stun_read.specs.LookingUp.{nth}
+use Rattle.stun_types.specs.LookingUp.{nth}
 use Rattle.stun_types.specs.Replies.{is_answer_to, unknown_types}
 use Rattle.stun_values.specs.Addresses.{IsInRange, plain_socket}
 use Rattle.stun_values.specs.TypeLists.{types_encoding}
@@ -45,17 +45,17 @@ pub record Awaits (r : List ℕ) (terms : Terms) (state : RetransmissionState) :
 
 -- d is a message, a response to the request r, and is this for each transaction that waits for one;
 -- nothing authenticates it
-pub record IsReceivedAs (told : Outcome) (r d : List ℕ) : Type 0 where
+pub record IsReceivedAs (reported : Outcome) (r d : List ℕ) : Type 0 where
   pub parses : parse_fault d ≡ None
   pub answers : is_answer_to r d ≡ true
   pub received_is : (terms : Terms) (state : RetransmissionState) → Awaits r terms state
-      → received_outcome terms state [] d ≡ told
+      → received_outcome terms state [] d ≡ reported
 
 -- whatever is read of d, as an answer to r, is this address
 abbrev pub TellsOnly : SocketAddr → (r d : List ℕ) → Type 0
 TellsOnly a r d =
     (result : Result (Option SocketAddr) StunParseError) → ReadsAnswer r d result
-    → IsOkAnd result (λ told. IsSomeAnd told (λ read. IsInRange read → read ≡ a))
+    → IsOkAnd result (λ reported. IsSomeAnd reported (λ read. IsInRange read → read ≡ a))
 
 -- the reply to r, which came from an address, reports this address to the client
 pub record Learns (source : SocketAddr) (r : List ℕ) : Type 0 where

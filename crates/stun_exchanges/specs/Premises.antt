@@ -11,7 +11,7 @@ use Rattle.stun_keys.specs.declared.keys.integrity_key.IntegrityKey.{IntegrityKe
 use Rattle.stun_keys.specs.Keys.{key_bytes, key_algorithm, serves}
 use Rattle.stun_authentication.specs.declared.policy.Policy.{Policy}
 use Rattle.stun_authentication.specs.Lookups.{UserKey}
-use Rattle.stun_transactions.specs.declared.usage.Usage.{Usage}
+use Rattle.stun_transactions.specs.declared.response_policy.ResponsePolicy.{ResponsePolicy}
 
 -- the types of the attributes that say who a client is, and what it was asked to copy
 abbrev pub credential_types : List ℕ
@@ -66,12 +66,12 @@ IsPrinted asked fingerprint = asked ≡ true → fingerprint ≡ true
 pub record Serves (policy : Policy) (algorithm : IntegrityAlgorithm) (fingerprint : Bool)
     : Type 0 where
   pub counts : (policy.algorithm ≡ None) ⊎ (policy.algorithm ≡ Some algorithm)
-  pub shortest : policy.shortest ≤ 32
+  pub min_hmac_length : policy.min_hmac_length ≤ 32
   pub printed : IsPrinted policy.fingerprint fingerprint
 
 -- so does a client's usage
-pub record Suits (usage : Usage) (fingerprint : Bool) : Type 0 where
-  pub shortest : usage.shortest ≤ 32
+pub record Suits (usage : ResponsePolicy) (fingerprint : Bool) : Type 0 where
+  pub min_hmac_length : usage.min_hmac_length ≤ 32
   pub printed : IsPrinted usage.fingerprint fingerprint
 
 -- a user's key with these bytes, that works with an algorithm

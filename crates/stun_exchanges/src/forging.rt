@@ -9,10 +9,10 @@ ghost use Rattle.stun_grammar.specs.AttributeTypes.{MESSAGE_INTEGRITY, MESSAGE_I
 ghost use Rattle.stun_grammar.specs.Numbers.{IsBytes};
 ghost use Rattle.stun_grammar.specs.Sending.{Sent, IsEncodableSent};
 ghost use Rattle.stun_grammar.specs.Verdicts.{is_checked_type, verdict};
-ghost use Rattle.stun_read.specs.LookingUp.{nth};
+ghost use Rattle.stun_types.specs.LookingUp.{nth};
 ghost use Rattle.stun_exchanges.specs.Forging.{IsForgedOrSent};
 
-use stun_read::walks_from_there;
+use stun_types::walks_from_there;
 
 /// A forgery is explicit. Whatever messages were sent, one that validates says what one of them
 /// says; or its integrity attribute is the HMAC, of at least sixteen bytes, of bytes that nobody

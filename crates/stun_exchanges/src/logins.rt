@@ -4,7 +4,7 @@
 
 ghost use Rattle.std.specs.Prelude.{◌≡◌, ◌≢◌, ◌≤◌, ◌<◌, ◌+◌, ◌^◌, ◌++◌, ◌∷◌, ℕ, Bool, true, false, List, [], Option, Some, None, Ok, is_some, length, find};
 ghost use Rattle.stun_grammar.specs.declared.integrity_algorithm.IntegrityAlgorithm.{IntegrityAlgorithm};
-ghost use Rattle.stun_grammar.specs.Attributes.{Attribute};
+ghost use Rattle.stun_grammar.specs.Attributes.{Attribute, types};
 ghost use Rattle.stun_grammar.specs.Writing.{IsWritable};
 ghost use Rattle.stun_base.specs.MessageTypes.{class_of, is_response};
 ghost use Rattle.stun_keys.specs.declared.keys.integrity_key.IntegrityKey.{IntegrityKey};
@@ -12,7 +12,6 @@ ghost use Rattle.stun_authentication.specs.declared.policy.Policy.{Policy};
 ghost use Rattle.stun_authentication.specs.Answers.{accept};
 ghost use Rattle.stun_authentication.specs.ShortTerm.{short_term};
 ghost use Rattle.stun_transactions.specs.declared.guard.Protection.TheVariants as Protection;
-ghost use Rattle.stun_grammar.specs.Attributes.{types};
 ghost use Rattle.stun_grammar.specs.AttributeTypes.{NONCE};
 ghost use Rattle.stun_grammar.specs.ScannedOrder.{has};
 ghost use Rattle.stun_base.specs.declared.message_type.MessageClass.TheVariants.{Request, Error as ErrorClass};
@@ -34,7 +33,7 @@ ghost use Rattle.stun_types.specs.Replies.{is_answer_to};
 ghost use Rattle.stun_transactions.specs.declared.retransmission.RetransmissionState.{RetransmissionState};
 ghost use Rattle.stun_transactions.specs.declared.plan.Plan.{Plan};
 ghost use Rattle.stun_transactions.specs.declared.terms.Terms.{Terms};
-ghost use Rattle.stun_transactions.specs.declared.usage.Usage.{Usage};
+ghost use Rattle.stun_transactions.specs.declared.response_policy.ResponsePolicy.{ResponsePolicy};
 ghost use Rattle.stun_transactions.specs.Outcomes.{is_open};
 ghost use Rattle.stun_transactions.specs.Receiving.{content, received_outcome};
 ghost use Rattle.stun_transactions.specs.Terms.{AreTerms};
@@ -114,7 +113,7 @@ pub fn login_is_accepted()
         ≡ accept key (signing_algorithm asked) (signing_algorithm asked) }
     // with a transaction of a request r that was begun with the key, and waits for a response to it
     ensures heard { (a : IntegrityAlgorithm) (fingerprint : Bool) (kind id : ℕ)
-        (answer : List Attribute) (r key : List ℕ) (k : IntegrityKey) (plan : Plan) (usage : Usage)
+        (answer : List Attribute) (r key : List ℕ) (k : IntegrityKey) (plan : Plan) (usage : ResponsePolicy)
         (terms : Terms) (state : RetransmissionState) (understood : List AttributeType)
         → let reply = signed_reply fingerprint kind id answer a key in
         WorksAs key a k → AreTerms r plan (Protection.LongTerm k) usage terms
@@ -158,7 +157,7 @@ pub fn short_term_login_is_accepted()
         → IsOwn kind id before → IsNamed name
         → HasRoom kind id (short_term_attributes fingerprint sent kind id before name key.bytes)
         → keys name ≡ Some key → counted policy key.made_for ≡ Some served
-        → checked served sent ≡ Some a → policy.shortest ≤ 32
+        → checked served sent ≡ Some a → policy.min_hmac_length ≤ 32
         → IsPrinted policy.fingerprint fingerprint
         → short_term policy keys
         (short_term_request fingerprint sent kind id before name key.bytes)
@@ -166,7 +165,7 @@ pub fn short_term_login_is_accepted()
     // with a transaction of that request that was begun with the key, and waits for a response to it
     ensures heard { (sent counts : Option IntegrityAlgorithm) (a : IntegrityAlgorithm)
         (fingerprint finger : Bool) (kind id other : ℕ) (before answer : List Attribute)
-        (name key : List ℕ) (stored : IntegrityKey) (plan : Plan) (usage : Usage) (terms : Terms)
+        (name key : List ℕ) (stored : IntegrityKey) (plan : Plan) (usage : ResponsePolicy) (terms : Terms)
         (state : RetransmissionState) (understood : List AttributeType)
         → let r = short_term_request fingerprint sent kind id before name key in
         let reply = signed_reply finger other id answer a key in

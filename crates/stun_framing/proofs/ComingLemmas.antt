@@ -30,11 +30,11 @@ stands_so room bytes messages stream coming come = record {
 }
 
 -- an answer says whether a piece was refused
-accepted : (told : Option StreamError) (k taken : ℕ) → answer_of told k ≡ Ok taken → told ≡ None
+accepted : (reported : Option StreamError) (k taken : ℕ) → answer_of reported k ≡ Ok taken → reported ≡ None
 accepted None k taken e = refl
 accepted (Some error) k taken e = absurd cc
 
-refused : (told : Option StreamError) (k : ℕ) (error : StreamError) → answer_of told k ≡ Err error → told ≡ Some error
+refused : (reported : Option StreamError) (k : ℕ) (error : StreamError) → answer_of reported k ≡ Err error → reported ≡ Some error
 refused None k error e = absurd cc
 refused (Some error') k error e = cc
 
@@ -43,15 +43,15 @@ error_stays stream b = elim (cases_Bool (is_whole b)) [ inl whole ↦ rw whole r
 
 pub comes : (room : Room) (bytes : List ℕ) (messages : List (List ℕ)) (stream : Stream) (piece : List ℕ) (taken : ℕ) → HasCome room bytes messages stream → answer stream piece ≡ Ok taken
     → HasCome room (bytes ++ take taken piece) (messages ++ message_in (left stream piece).message) (left stream piece)
-comes room bytes messages stream piece taken come told =
+comes room bytes messages stream piece taken come reported =
     let n = length (concat messages) in
     let new = left stream piece in
     let now = message_in new.message in
     let b = joined stream piece in
     let steps = step room n stream piece piece (stands_so room bytes messages stream piece come) ([], sym (append-nil piece)) in
-    let rest : untaken stream piece piece ≡ drop taken piece = ap (λ (told : Result ℕ StreamError). drop (taken_of told) piece) told in
-    let none_told : refusal stream piece ≡ None = accepted (refusal stream piece) _ taken told in
-    let running : new.error ≡ None = ap (λ (o : Option StreamError). (left_of o stream b).error) none_told ∙ error_stays stream b ∙ come.running in
+    let rest : untaken stream piece piece ≡ drop taken piece = ap (λ (reported : Result ℕ StreamError). drop (taken_of reported) piece) reported in
+    let none_reported : refusal stream piece ≡ None = accepted (refusal stream piece) _ taken reported in
+    let running : new.error ≡ None = ap (λ (o : Option StreamError). (left_of o stream b).error) none_reported ∙ error_stays stream b ∙ come.running in
     let runs = runs_if room new (untaken stream piece piece) steps.stands.ends running in
     let all : concat (messages ++ now) ≡ concat messages ++ concat now = concat-append messages now in
     let count : n + length (concat now) ≡ length (concat (messages ++ now)) = omega (arith, ap length all, length-append (concat messages) (concat now)) in
@@ -81,12 +81,12 @@ comes room bytes messages stream piece taken come told =
 
 pub stops : (room : Room) (bytes : List ℕ) (messages : List (List ℕ)) (stream : Stream) (piece : List ℕ) (error : StreamError) → HasCome room bytes messages stream → answer stream piece ≡ Err error
     → Says room (bytes ++ piece) messages (Some error)
-stops room bytes messages stream piece error come told =
+stops room bytes messages stream piece error come reported =
     let new = left stream piece in
     let ended : Stream = record stream { message = None; error = Some error } in
     let steps = step room (length (concat messages)) stream piece piece (stands_so room bytes messages stream piece come) ([], sym (append-nil piece)) in
-    let rest : untaken stream piece piece ≡ piece = ap (λ (told : Result ℕ StreamError). drop (taken_of told) piece) told in
-    let same : new ≡ ended = ap (λ (o : Option StreamError). left_of o stream (joined stream piece)) (refused (refusal stream piece) _ error told) in
+    let rest : untaken stream piece piece ≡ piece = ap (λ (reported : Result ℕ StreamError). drop (taken_of reported) piece) reported in
+    let same : new ≡ ended = ap (λ (o : Option StreamError). left_of o stream (joined stream piece)) (refused (refusal stream piece) _ error reported) in
     let here : Ended room new (untaken stream piece piece) error = ended_if room new (untaken stream piece piece) error steps.stands.ends (ap (λ (s : Stream). s.error) same) in
     says_ended room (bytes ++ piece) messages ended piece error
     (ap (λ (xs : List ℕ). xs ++ piece) come.cut.joined ∙ append_assoc (concat messages) stream.pending piece)

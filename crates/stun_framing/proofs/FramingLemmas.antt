@@ -13,7 +13,7 @@ use Rattle.stun_grammar.specs.Headers.{magic_cookie, is_header, begins, header_f
 use Rattle.stun_grammar.proofs.HeadersLemmas.{not_begun, begun, not_header, header, header_there, begins_some, begins_from, whole_begins, begins_whole}
 use Rattle.stun_framing.specs.declared.error.StreamFault.{StreamFault}
 use Rattle.stun_framing.specs.declared.error.StreamFault.TheVariants.{NotStun, NotPadded, TooLong}
-use Rattle.stun_framing.specs.declared.carries.Carries.{Carries}
+use Rattle.stun_framing.specs.declared.stream_kind.StreamKind.{StreamKind}
 use Rattle.stun_framing.specs.Framing.{Room, has_channels, begins_channel, channel_length, stated_length, begins_either, header_refusal, size_refusal, field_refusal, length_refusal, stream_fault}
 use Rattle.stun_framing.specs.Streams.{is_whole, of_first}
 use Rattle.stun_framing.specs.Gathering.{wanted_for, IsGathered}
@@ -35,8 +35,8 @@ begins_refused b e = elim (cases_Bool (begins b)) [
   ])
 ]
 
-pub begins_cut : (b : List ℕ) (told : StunParseError) → header_fault b ≡ Some told → (told ≡ Parse.NotStun → ⊥) → begins b ≡ true
-begins_cut b told e other = elim (cases_Bool (begins b)) [
+pub begins_cut : (b : List ℕ) (reported : StunParseError) → header_fault b ≡ Some reported → (reported ≡ Parse.NotStun → ⊥) → begins b ≡ true
+begins_cut b reported e other = elim (cases_Bool (begins b)) [
   | inl there ↦ there
   | inr none ↦ absurd (elim (cases_lt (length b) 20) [
     | inl short ↦ other (cc (e, not_begun b short none))
@@ -100,25 +100,25 @@ stated_stays b more long =
 
 -- ---- Whether a header of either kind begins
 
-pub either_stun : (c : Carries) (b : List ℕ) → begins b ≡ true → begins_either c b ≡ true
+pub either_stun : (c : StreamKind) (b : List ℕ) → begins b ≡ true → begins_either c b ≡ true
 either_stun c b begun = rw begun refl
 
-pub either_channel : (c : Carries) (b : List ℕ) → has_channels c ≡ true → begins_channel b ≡ true → begins_either c b ≡ true
+pub either_channel : (c : StreamKind) (b : List ℕ) → has_channels c ≡ true → begins_channel b ≡ true → begins_either c b ≡ true
 either_channel c b there channel = rw (channel_high b channel, there, channel) refl
 
-pub either_parts : (c : Carries) (b : List ℕ) → begins_either c b ≡ true → (begins b ≡ true) ⊎ ((has_channels c ≡ true) × (begins_channel b ≡ true))
+pub either_parts : (c : StreamKind) (b : List ℕ) → begins_either c b ≡ true → (begins b ≡ true) ⊎ ((has_channels c ≡ true) × (begins_channel b ≡ true))
 either_parts c b e = elim (cases_Bool (begins b)) [
   | inl begun ↦ inl begun
   | inr none ↦ inr (and_parts (has_channels c) (begins_channel b) (sym (ap (λ (x : Bool). x || has_channels c && begins_channel b) none) ∙ e))
 ]
 
-pub begun_if : (c : Carries) (b : List ℕ) → header_refusal c b ≡ None → begins_either c b ≡ true
+pub begun_if : (c : StreamKind) (b : List ℕ) → header_refusal c b ≡ None → begins_either c b ≡ true
 begun_if c b e = elim (cases_Bool (begins_either c b)) [
   | inl there ↦ there
   | inr none ↦ absurd (let refused : header_refusal c b ≡ Some NotStun = ap (λ (x : Bool). if x then None else Some NotStun) none in cc (refused, e))
 ]
 
-pub unrefused : (c : Carries) (b : List ℕ) → begins_either c b ≡ true → header_refusal c b ≡ None
+pub unrefused : (c : StreamKind) (b : List ℕ) → begins_either c b ≡ true → header_refusal c b ≡ None
 unrefused c b e = ap (λ (x : Bool). if x then None else Some NotStun) e
 
 -- ---- The three refusals
@@ -149,8 +149,8 @@ size_is size n e = elim (cases_Bool (leb n size)) [
 field_is : (size n : ℕ) → field_refusal size n ≡ None → (n % 4 ≡ 0) × (20 + n ≤ size)
 field_is size n e = elim (cases_Bool (eqb (n % 4) 0)) [
   | inl padded ↦
-      let told : size_refusal size (20 + n) ≡ None = sym (ap (λ (x : Bool). if x then size_refusal size (20 + n) else Some (NotPadded n)) padded) ∙ e in
-      (eqb-true (n % 4) 0 padded, size_is size (20 + n) told)
+      let reported : size_refusal size (20 + n) ≡ None = sym (ap (λ (x : Bool). if x then size_refusal size (20 + n) else Some (NotPadded n)) padded) ∙ e in
+      (eqb-true (n % 4) 0 padded, size_is size (20 + n) reported)
   | inr loose ↦ absurd (let refused : field_refusal size n ≡ Some (NotPadded n) = rw loose refl in cc (refused, e))
 ]
 
@@ -194,10 +194,10 @@ least_stated b = elim (cases_Bool (begins_channel b)) [
 -- without a fault there is room for as many bytes as are stated, and a STUN message is padded
 pub fits : (room : Room) (b : List ℕ) → stream_fault room b ≡ None → 4 ≤ length b → stated_length b ≤ room.size
 fits room b e long =
-    let told = (faultless room b e).1 in
+    let reported = (faultless room b e).1 in
     elim (cases_Bool (begins_channel b)) [
-      | inl channel ↦ omega (arith, channel_stated b channel, size_is room.size (channel_length b) (sym (channel_refusal room.size b long channel) ∙ told))
-      | inr stun ↦ omega (arith, stun_length b stun, (field_is room.size (length_field b) (sym (stun_refusal room.size b long stun) ∙ told)).1)
+      | inl channel ↦ omega (arith, channel_stated b channel, size_is room.size (channel_length b) (sym (channel_refusal room.size b long channel) ∙ reported))
+      | inr stun ↦ omega (arith, stun_length b stun, (field_is room.size (length_field b) (sym (stun_refusal room.size b long stun) ∙ reported)).1)
     ]
 
 pub padded : (room : Room) (b : List ℕ) → stream_fault room b ≡ None → 4 ≤ length b → begins_channel b ≡ false → length_field b % 4 ≡ 0
@@ -211,7 +211,7 @@ nothing_begins [] none = refl
 nothing_begins (x ∷ b) none = absurd (omega arith)
 
 -- what begins a header, so does each prefix of it
-either_passes : (c : Carries) (b more : List ℕ) → begins_either c (b ++ more) ≡ true → begins_either c b ≡ true
+either_passes : (c : StreamKind) (b more : List ℕ) → begins_either c (b ++ more) ≡ true → begins_either c b ≡ true
 either_passes c b more e = elim (either_parts c (b ++ more) e) [
   | inl begun ↦
       let some = begins_some (b ++ more) begun in
@@ -222,7 +222,7 @@ either_passes c b more e = elim (either_parts c (b ++ more) e) [
   ]
 ]
 
-pub header_passes : (c : Carries) (b more : List ℕ) → header_refusal c (b ++ more) ≡ None → header_refusal c b ≡ None
+pub header_passes : (c : StreamKind) (b more : List ℕ) → header_refusal c (b ++ more) ≡ None → header_refusal c b ≡ None
 header_passes c b more e = unrefused c b (either_passes c b more (begun_if c (b ++ more) e))
 
 -- what has no fault has none before
@@ -278,7 +278,7 @@ fault_of room b fault (inr (none, inl field)) = rw (none, field) refl
 fault_of room b fault (inr (none, inr (field, header))) = rw (none, field, header) refl
 
 -- what begins no header begins none with what follows it
-header_grows : (c : Carries) (b more : List ℕ) (fault : StreamFault) → header_refusal c b ≡ Some fault → header_refusal c (b ++ more) ≡ Some fault
+header_grows : (c : StreamKind) (b more : List ℕ) (fault : StreamFault) → header_refusal c b ≡ Some fault → header_refusal c (b ++ more) ≡ Some fault
 header_grows c b more fault e = elim (cases_Bool (begins_either c (b ++ more))) [
   | inl there ↦ absurd (let passed = header_passes c b more (unrefused c (b ++ more) there) in cc (passed, e))
   | inr none ↦ elim (cases_Bool (begins_either c b)) [
@@ -299,17 +299,17 @@ fault_grows room b more fault e = elim (cases_lt (length b) 4) [
       let cut : take 4 (b ++ more) ≡ b ++ take (4 - length b) more = ap (λ (n : ℕ). take n (b ++ more)) (four b short) ∙ take-append-add b more (4 - length b) in
       let begun : header_refusal room.carries b ≡ Some fault = elim (fault_if room b fault e) [
         | inl first ↦ sym (ap (header_refusal room.carries) whole) ∙ first
-        | inr (none, inl told) ↦ absurd (cc (field, told))
-        | inr (none, inr (told, header)) ↦ header
+        | inr (none, inl reported) ↦ absurd (cc (field, reported))
+        | inr (none, inr (reported, header)) ↦ header
       ] in
       fault_of room (b ++ more) fault (inl (ap (header_refusal room.carries) cut ∙ header_grows room.carries b (take (4 - length b) more) fault begun))
   | inr long ↦
       let first : header_refusal room.carries (take 4 (b ++ more)) ≡ header_refusal room.carries (take 4 b) = ap (header_refusal room.carries) (take-append-le 4 b more long) in
       let field : length_refusal room.size (b ++ more) ≡ length_refusal room.size b = length_stays room.size b more long in
       elim (fault_if room b fault e) [
-        | inl told ↦ fault_of room (b ++ more) fault (inl (first ∙ told))
-        | inr (none, inl told) ↦ fault_of room (b ++ more) fault (inr (first ∙ none, inl (field ∙ told)))
-        | inr (none, inr (told, header)) ↦ fault_of room (b ++ more) fault (inr (first ∙ none, inr (field ∙ told, header_grows room.carries b more fault header)))
+        | inl reported ↦ fault_of room (b ++ more) fault (inl (first ∙ reported))
+        | inr (none, inl reported) ↦ fault_of room (b ++ more) fault (inr (first ∙ none, inl (field ∙ reported)))
+        | inr (none, inr (reported, header)) ↦ fault_of room (b ++ more) fault (inr (first ∙ none, inr (field ∙ reported, header_grows room.carries b more fault header)))
       ]
 ]
   where

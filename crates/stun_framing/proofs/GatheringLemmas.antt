@@ -5,7 +5,7 @@ use Rattle.std.proofs.lemmas.List.{length-append, length-take, take_at, take_min
 use Rattle.std.proofs.Math.Seq.{take-append-add}
 use Rattle.stun_framing.specs.declared.error.StreamFault.{StreamFault}
 use Rattle.stun_framing.specs.declared.gather.Gathered.{Gathered}
-use Rattle.stun_framing.specs.declared.carries.Carries.{Carries}
+use Rattle.stun_framing.specs.declared.stream_kind.StreamKind.{StreamKind}
 use Rattle.stun_framing.specs.Framing.{room_of, stream_fault}
 use Rattle.stun_framing.specs.Gathering.{wanted_for, HoldsStart, HoldsFirst, Refuses}
 use Rattle.stun_framing.proofs.FramingLemmas.{fault_grows, wanted_four, first_sound, gathered_of}
@@ -33,7 +33,7 @@ filled old piece held wanted count within most e =
     ∙ ap (λ (n : ℕ). take n (h ++ piece)) all
 
 -- the first four bytes of b are there
-pub start_held : (carries : Carries) (old new piece : List ℕ) (held start wanted : ℕ) → length new ≡ length old → held ≤ length old → 4 ≤ length old
+pub start_held : (carries : StreamKind) (old new piece : List ℕ) (held start wanted : ℕ) → length new ≡ length old → held ≤ length old → 4 ≤ length old
     → start ≡ min 4 (held + length piece) → take start new ≡ take 4 (take held old ++ piece)
     → stream_fault (room_of carries (length old)) (take start new) ≡ None → wanted ≡ wanted_for (take start new)
     → HoldsStart (take held old ++ piece) (record { held = start; wanted = wanted }) new
@@ -49,7 +49,7 @@ start_held carries old new piece held start wanted same within room count bytes 
     }
 
 -- no message begins with the first bytes of b
-pub first_refused : (carries : Carries) (old new piece : List ℕ) (held count n : ℕ) (fault : StreamFault)
+pub first_refused : (carries : StreamKind) (old new piece : List ℕ) (held count n : ℕ) (fault : StreamFault)
     → take count new ≡ take n (take held old ++ piece) → take held new ≡ take held old
     → stream_fault (room_of carries (length old)) (take count new) ≡ Some fault → Refuses carries held piece fault old new
 first_refused carries old new piece held count n fault bytes stays e =
@@ -61,7 +61,7 @@ first_refused carries old new piece held count n fault bytes stays e =
     }
 
 -- what is wanted of b is there, as far as b has it
-pub first_gathered : (carries : Carries) (old new piece : List ℕ) (held wanted now : ℕ) → length new ≡ length old → wanted ≡ wanted_for (take held old ++ piece)
+pub first_gathered : (carries : StreamKind) (old new piece : List ℕ) (held wanted now : ℕ) → length new ≡ length old → wanted ≡ wanted_for (take held old ++ piece)
     → take now new ≡ take wanted (take held old ++ piece) → now ≤ length new
     → stream_fault (room_of carries (length old)) (take now new) ≡ None
     → HoldsFirst carries (take held old ++ piece) (record { held = now; wanted = wanted }) new
@@ -106,7 +106,7 @@ start_joined old mid piece held start short within holds =
     ∙ cut_behind old piece held start.held short within (start_count old piece mid held start within holds)
 
 -- what is held and refused after them
-pub refused_behind : (carries : Carries) (old mid new piece behind : List ℕ) (held start : ℕ) (fault : StreamFault) → length mid ≡ length old → length new ≡ length mid → held ≤ start → start ≤ length mid
+pub refused_behind : (carries : StreamKind) (old mid new piece behind : List ℕ) (held start : ℕ) (fault : StreamFault) → length mid ≡ length old → length new ≡ length mid → held ≤ start → start ≤ length mid
     → take start mid ++ behind ≡ take held old ++ piece → take held mid ≡ take held old → Refuses carries start behind fault mid new → Refuses carries held piece fault old new
 refused_behind carries old mid new piece behind held start fault same same' within bound joined stays refuses = record {
   fault_is = ap (stream_fault (room_of carries (length old))) (sym joined)
@@ -119,7 +119,7 @@ refused_behind carries old mid new piece behind held start fault same same' with
         sym (take-append-le held (take start xs) (drop start xs) (omega (arith, length-take start xs))) ∙ ap (take held) (take-append-drop start xs)
 
 -- what is gathered after the first four bytes is gathered of all
-pub gathered_behind : (carries : Carries) (old mid new piece behind : List ℕ) (held : ℕ) (start : Gathered) (result : Result Gathered StreamFault) → length mid ≡ length old → length new ≡ length mid
+pub gathered_behind : (carries : StreamKind) (old mid new piece behind : List ℕ) (held : ℕ) (start : Gathered) (result : Result Gathered StreamFault) → length mid ≡ length old → length new ≡ length mid
     → held ≤ start.held → start.held ≤ length mid → take start.held mid ++ behind ≡ take held old ++ piece → take held mid ≡ take held old
     → MatchResult result (λ gathered. HoldsFirst carries (take start.held mid ++ behind) gathered new) (λ fault. Refuses carries start.held behind fault mid new)
     → MatchResult result (λ gathered. HoldsFirst carries (take held old ++ piece) gathered new) (λ fault. Refuses carries held piece fault old new)

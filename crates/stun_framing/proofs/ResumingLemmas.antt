@@ -6,7 +6,7 @@ use Rattle.std.proofs.lemmas.Bool.{cases_lt, cases_Bool, le-leb, leb-true, not-t
 use Rattle.std.proofs.lemmas.List.{length-take}
 use Rattle.stun_framing.specs.declared.error.StreamFault.{StreamFault}
 use Rattle.stun_framing.specs.declared.error.StreamError.{StreamError}
-use Rattle.stun_framing.specs.declared.carries.Carries.{Carries}
+use Rattle.stun_framing.specs.declared.stream_kind.StreamKind.{StreamKind}
 use Rattle.stun_framing.specs.Framing.{Room, room_of, stated_length, stream_fault}
 use Rattle.stun_framing.specs.Gathering.{wanted_for}
 use Rattle.stun_framing.specs.Streams.{Stream, is_whole, of_first, offset_of, joined, can_resume, resumed, answer_of, answer, left, with_bytes, left_of}
@@ -27,13 +27,13 @@ none_by (Some fault) e = absurd cc
 -- ---- Whether bytes can be pending
 
 -- what it means that they can
-pub record Resumes (carries : Carries) (buffer : List ℕ) (held : ℕ) : Type 0 where
+pub record Resumes (carries : StreamKind) (buffer : List ℕ) (held : ℕ) : Type 0 where
   pub room : 20 ≤ length buffer
   pub within : held ≤ length buffer
   pub sound : stream_fault (room_of carries (length buffer)) (take held buffer) ≡ None
   pub part : held < wanted_for (take held buffer)
 
-pub resumes_if : (carries : Carries) (buffer : List ℕ) (held : ℕ) → can_resume carries buffer held ≡ true → Resumes carries buffer held
+pub resumes_if : (carries : StreamKind) (buffer : List ℕ) (held : ℕ) → can_resume carries buffer held ≡ true → Resumes carries buffer held
 resumes_if carries buffer held can =
     let b = take held buffer in
     let fault = stream_fault (room_of carries (length buffer)) b in
@@ -55,7 +55,7 @@ resumes_if carries buffer held can =
 
 -- ---- The stream that goes on
 
-pub resumed_is : (carries : Carries) (buffer : List ℕ) (held : ℕ) → Resumes carries buffer held → IsStream carries buffer (record { held = held; wanted = wanted_for (take held buffer) }) None
+pub resumed_is : (carries : StreamKind) (buffer : List ℕ) (held : ℕ) → Resumes carries buffer held → IsStream carries buffer (record { held = held; wanted = wanted_for (take held buffer) }) None
 resumed_is carries buffer held resumes =
     let b = take held buffer in
     let long : length b ≡ held = omega (arith, length-take held buffer, resumes.within) in
@@ -99,7 +99,7 @@ with_bytes_same stream b running = elim (cases_Bool (is_whole b)) [
   | inr part ↦ rw part (λ i. record stream { pending = b; message = None; error = sym running i })
 ]
 
-left_same : (told : Option StreamError) (stream : Stream) (b : List ℕ) → stream.error ≡ None → left_of told (resumed stream.room stream.offset stream.pending) b ≡ left_of told stream b
+left_same : (reported : Option StreamError) (stream : Stream) (b : List ℕ) → stream.error ≡ None → left_of reported (resumed stream.room stream.offset stream.pending) b ≡ left_of reported stream b
 left_same None stream b running = with_bytes_same stream b running
 left_same (Some error) stream b running = refl
 
@@ -108,7 +108,7 @@ pub goes_on : (stream : Stream) (piece : List ℕ) → stream.error ≡ None
 goes_on stream piece running =
     let b = joined stream piece in
     let fault = stream_fault stream.room b in
-    let told = λ (before : Option StreamError). option_or before (option_map {T = StreamFault} {U = StreamError} (λ f. record { offset = stream.offset; fault = f }) fault) in (
-      ap (λ (before : Option StreamError). answer_of (told before) (length (of_first b) - length stream.pending)) (sym running),
-      left_same (told None) stream b running ∙ ap (λ (before : Option StreamError). left_of (told before) stream b) (sym running),
+    let reported = λ (before : Option StreamError). option_or before (option_map {T = StreamFault} {U = StreamError} (λ f. record { offset = stream.offset; fault = f }) fault) in (
+      ap (λ (before : Option StreamError). answer_of (reported before) (length (of_first b) - length stream.pending)) (sym running),
+      left_same (reported None) stream b running ∙ ap (λ (before : Option StreamError). left_of (reported before) stream b) (sym running),
     )

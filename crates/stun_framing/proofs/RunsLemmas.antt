@@ -140,10 +140,10 @@ stops room n stream coming error stands at fault = record {
 }
 
 -- by how a piece is answered
-by_refusal : (room : Room) (n : ℕ) (stream : Stream) (piece coming : List ℕ) (told : Option StreamError) → refusal stream piece ≡ told
-    → Steps room n stream coming (left_of told stream (joined stream piece)) (drop (taken_of (answer_of told (length (of_first (joined stream piece)) - length stream.pending))) coming)
+by_refusal : (room : Room) (n : ℕ) (stream : Stream) (piece coming : List ℕ) (reported : Option StreamError) → refusal stream piece ≡ reported
+    → Steps room n stream coming (left_of reported stream (joined stream piece)) (drop (taken_of (answer_of reported (length (of_first (joined stream piece)) - length stream.pending))) coming)
     → Steps room n stream coming (left stream piece) (untaken stream piece coming)
-by_refusal room n stream piece coming told e steps =
+by_refusal room n stream piece coming reported e steps =
     subst (λ (o : Option StreamError). Steps room n stream coming (left_of o stream (joined stream piece)) (drop (taken_of (answer_of o (length (of_first (joined stream piece)) - length stream.pending))) coming)) (sym e) steps
 
 -- a piece without a fault
@@ -172,19 +172,19 @@ step_on : (room : Room) (n : ℕ) (stream : Stream) (piece behind : List ℕ) �
 step_on room n stream piece behind stands =
     let coming = piece ++ behind in
     let b = joined stream piece in
-    let told : Option StreamFault → Option StreamError = option_map (λ fault. record { offset = stream.offset; fault = fault }) in
+    let reported : Option StreamFault → Option StreamError = option_map (λ fault. record { offset = stream.offset; fault = fault }) in
     elim (cases_option stream.error) [
       | inr (error, e) ↦
           let ended = ended_if room stream coming error stands.ends e in
-          by_refusal room n stream piece coming (Some error) (ap (λ (o : Option StreamError). option_or o (told (stream_fault stream.room b))) e)
+          by_refusal room n stream piece coming (Some error) (ap (λ (o : Option StreamError). option_or o (reported (stream_fault stream.room b))) e)
           (stops room n stream coming error stands ended.offset_is ended.fault_is)
       | inl running ↦
-          let to_fault : refusal stream piece ≡ told (stream_fault room b) =
-          ap (λ (o : Option StreamError). option_or o (told (stream_fault stream.room b))) running ∙ ap (λ (r : Room). told (stream_fault r b)) stands.room_is in
+          let to_fault : refusal stream piece ≡ reported (stream_fault room b) =
+          ap (λ (o : Option StreamError). option_or o (reported (stream_fault stream.room b))) running ∙ ap (λ (r : Room). reported (stream_fault r b)) stands.room_is in
           elim (cases_option (stream_fault room b)) [
-            | inl sound ↦ by_refusal room n stream piece coming None (to_fault ∙ ap told sound)
+            | inl sound ↦ by_refusal room n stream piece coming None (to_fault ∙ ap reported sound)
                 (goes_on room n stream piece behind stands (runs_if room stream coming stands.ends running) running sound)
-            | inr (fault, e) ↦ by_refusal room n stream piece coming (Some (record { offset = stream.offset; fault = fault })) (to_fault ∙ ap told e)
+            | inr (fault, e) ↦ by_refusal room n stream piece coming (Some (record { offset = stream.offset; fault = fault })) (to_fault ∙ ap reported e)
                 (stops room n stream coming (record { offset = stream.offset; fault = fault }) stands refl
                 (ap (stream_fault room) (sym (append_assoc stream.pending piece behind)) ∙ fault_grows room b behind fault e))
           ]
@@ -236,9 +236,9 @@ begins_standing room bytes = record { room_is = refl; offset_is = refl; ends = r
 
 -- no message begins with bytes that have a fault, or aren't whole
 none_by_fault : (room : Room) (rest : List ℕ) (fault : StreamFault) → stream_fault room rest ≡ Some fault → (m behind : List ℕ) → IsMessage room m → rest ≡ m ++ behind → ⊥
-none_by_fault room rest fault told m behind is e =
+none_by_fault room rest fault reported m behind is e =
     let sound = ap (stream_fault room) e ∙ no_fault_in room m behind is in
-    cc (sound, told)
+    cc (sound, reported)
 
 pub none_by_part : (room : Room) (rest : List ℕ) → is_whole rest ≡ false → (m behind : List ℕ) → IsMessage room m → rest ≡ m ++ behind → ⊥
 none_by_part room rest part m behind is e =
@@ -251,13 +251,13 @@ pub says_ended : (room : Room) (bytes : List ℕ) (messages : List (List ℕ)) (
     → Ended room stream coming error → stream.error ≡ Some error → Says room bytes messages stream.error
 says_ended room bytes messages stream coming error joins each at ended e =
     let rest = stream.pending ++ coming in
-    let told : Option StreamFault → Option StreamError = option_map (λ fault. record { offset = offset_of (length (concat messages)); fault = fault }) in
+    let reported : Option StreamFault → Option StreamError = option_map (λ fault. record { offset = offset_of (length (concat messages)); fault = fault }) in
     let offset = ended.offset_is ∙ at in
-    let whole : Some error ≡ told (Some error.fault) = λ i. Some (record { offset = offset i; fault = error.fault }) in
+    let whole : Some error ≡ reported (Some error.fault) = λ i. Some (record { offset = offset i; fault = error.fault }) in
     record {
       rest = rest;
       cut = record { joined = joins; each = each; last = none_by_fault room rest error.fault ended.fault_is };
-      error_is = e ∙ whole ∙ ap told (sym ended.fault_is);
+      error_is = e ∙ whole ∙ ap reported (sym ended.fault_is);
     }
 
 -- and so does one of which nothing is left
@@ -265,12 +265,12 @@ says_running : (room : Room) (bytes : List ℕ) (messages : List (List ℕ)) (st
     → bytes ≡ concat messages ++ (stream.pending ++ coming) → All (IsMessage room) messages → coming ≡ []
     → Runs room stream → stream.error ≡ None → Says room bytes messages stream.error
 says_running room bytes messages stream coming joins each nothing runs e =
-    let told : Option StreamFault → Option StreamError = option_map (λ fault. record { offset = offset_of (length (concat messages)); fault = fault }) in
+    let reported : Option StreamFault → Option StreamError = option_map (λ fault. record { offset = offset_of (length (concat messages)); fault = fault }) in
     let rest : stream.pending ++ coming ≡ stream.pending = ap (λ (xs : List ℕ). stream.pending ++ xs) nothing ∙ append-nil stream.pending in
     record {
       rest = stream.pending;
       cut = record { joined = joins ∙ ap (λ (xs : List ℕ). concat messages ++ xs) rest; each = each; last = none_by_part room stream.pending runs.part };
-      error_is = e ∙ sym (ap told runs.sound);
+      error_is = e ∙ sym (ap reported runs.sound);
     }
 
 said_by : (room : Room) (bytes : List ℕ) (messages : List (List ℕ)) (stream : Stream) (coming : List ℕ)

@@ -5,7 +5,7 @@ use Rattle.std.specs.Result.{result_map_both}
 use Rattle.std.proofs.lemmas.Bool.{cases_Bool}
 use Rattle.std.proofs.lemmas.List.{length-take, length-take-le, take_min}
 use Rattle.stun_framing.specs.declared.error.StreamError.{StreamError}
-use Rattle.stun_framing.specs.declared.carries.Carries.{Carries}
+use Rattle.stun_framing.specs.declared.stream_kind.StreamKind.{StreamKind}
 use Rattle.stun_framing.specs.Framing.{room_of}
 use Rattle.stun_framing.specs.declared.gather.Gathered.{Gathered}
 use Rattle.stun_framing.specs.declared.stored_stream.Pushed.{Pushed}
@@ -20,7 +20,7 @@ first_stand : (n : ℕ) (buffer : List ℕ) → take (length (take n buffer)) bu
 first_stand n buffer = ap (λ (k : ℕ). take k buffer) (length-take n buffer) ∙ take_min n buffer
 
 -- the bytes of a stream are in its buffer
-stands : (carries : Carries) (buffer : List ℕ) (gathered : Gathered) (offset : ℕ) (error : Option StreamError) → StandsIn (stream_of carries buffer gathered offset error) buffer
+stands : (carries : StreamKind) (buffer : List ℕ) (gathered : Gathered) (offset : ℕ) (error : Option StreamError) → StandsIn (stream_of carries buffer gathered offset error) buffer
 stands carries buffer gathered offset error = elim (cases_Bool (is_all gathered)) [
   | inl all ↦ rw all (record { pending = refl; message = first_stand gathered.held buffer })
   | inr part ↦ rw part (record { pending = first_stand gathered.held buffer; message = tt })
@@ -35,7 +35,7 @@ reported_of taken offset gathered = record {
   message = if is_all gathered then Some gathered.held else None;
 }
 
-reported_is : (carries : Carries) (buffer : List ℕ) (gathered : Gathered) (taken offset : ℕ) (error : Option StreamError) → gathered.held ≤ length buffer → reported_of taken offset gathered ≡ pushed_of (stream_of carries buffer gathered offset error) taken
+reported_is : (carries : StreamKind) (buffer : List ℕ) (gathered : Gathered) (taken offset : ℕ) (error : Option StreamError) → gathered.held ≤ length buffer → reported_of taken offset gathered ≡ pushed_of (stream_of carries buffer gathered offset error) taken
 reported_is carries buffer gathered taken offset error within =
     let held : gathered.held ≡ length (take gathered.held buffer) = sym (length-take-le gathered.held buffer within) in
     elim (cases_Bool (is_all gathered)) [
@@ -44,7 +44,7 @@ reported_is carries buffer gathered taken offset error within =
     ]
 
 -- what is pending if a stream goes on
-pending_held : (carries : Carries) (buffer : List ℕ) (held : ℕ) → Resumes carries buffer held → IsPending carries buffer (record { held = held; wanted = wanted_for (take held buffer) })
+pending_held : (carries : StreamKind) (buffer : List ℕ) (held : ℕ) → Resumes carries buffer held → IsPending carries buffer (record { held = held; wanted = wanted_for (take held buffer) })
 pending_held carries buffer held resumes = record {
   bound = resumes.part;
   within = resumes.within;
@@ -52,12 +52,12 @@ pending_held carries buffer held resumes = record {
 }
 
 -- a piece that goes on
-pub record GoesOn (carries : Carries) (old new piece : List ℕ) (held offset : ℕ) (after : Gathered) : Type 0 where
+pub record GoesOn (carries : StreamKind) (old new piece : List ℕ) (held offset : ℕ) (after : Gathered) : Type 0 where
   pub grows : held ≤ after.held
   pub answer : Ok (reported_of (after.held - held) (offset_behind offset after) after) ≡ pushed (resumed (room_of carries (length old)) offset (take held old)) piece
   pub stands : StandsIn (left (resumed (room_of carries (length old)) offset (take held old)) piece) new
 
-pub goes_on : (carries : Carries) (old new piece : List ℕ) (held offset : ℕ) (before after : Gathered) → can_resume carries old held ≡ true → before ≡ record { held = held; wanted = wanted_for (take held old) }
+pub goes_on : (carries : StreamKind) (old new piece : List ℕ) (held offset : ℕ) (before after : Gathered) → can_resume carries old held ≡ true → before ≡ record { held = held; wanted = wanted_for (take held old) }
     → length new ≡ length old → HoldsFirst carries (take before.held old ++ piece) after new → GoesOn carries old new piece held offset after
 goes_on carries old new piece held offset before after can e same holds =
     let part : Gathered = record { held = held; wanted = wanted_for (take held old) } in
@@ -83,5 +83,5 @@ goes_on carries old new piece held offset before after can e same holds =
     }
 
 -- what is pending is gathered
-pub resumed_gathered : (carries : Carries) (buffer : List ℕ) (held : ℕ) → can_resume carries buffer held ≡ true → IsGathered (room_of carries (length buffer)) (take held buffer) (wanted_for (take held buffer))
+pub resumed_gathered : (carries : StreamKind) (buffer : List ℕ) (held : ℕ) → can_resume carries buffer held ≡ true → IsGathered (room_of carries (length buffer)) (take held buffer) (wanted_for (take held buffer))
 resumed_gathered carries buffer held can = (pending_held carries buffer held (resumes_if carries buffer held can)).sound

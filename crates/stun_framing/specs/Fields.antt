@@ -2,7 +2,7 @@
 -- next begins, and how the stream ended.
 use Rattle.std.specs.Prelude.{ℕ, ◌+◌, ◌<◌, ◌≤◌, Bool, List, length, take, ◌==◌, if◌then◌else◌, Option, None, Some, IsSome}
 use Rattle.stun_framing.specs.declared.error.StreamError.{StreamError}
-use Rattle.stun_framing.specs.declared.carries.Carries.{Carries}
+use Rattle.stun_framing.specs.declared.stream_kind.StreamKind.{StreamKind}
 use Rattle.stun_framing.specs.declared.gather.Gathered.{Gathered}
 use Rattle.stun_framing.specs.Framing.{room_of}
 use Rattle.stun_framing.specs.Gathering.{IsGathered}
@@ -20,7 +20,7 @@ pending_of gathered = if is_all gathered then record { held = 0; wanted = 4 } el
 abbrev pub offset_behind : ℕ → Gathered → ℕ
 offset_behind offset gathered = if is_all gathered then offset_of (offset + gathered.held) else offset
 
-abbrev pub stream_of : Carries → List ℕ → Gathered → (offset : ℕ) → Option StreamError → Stream
+abbrev pub stream_of : StreamKind → List ℕ → Gathered → (offset : ℕ) → Option StreamError → Stream
 stream_of carries buffer gathered offset error = record {
   room = room_of carries (length buffer);
   offset = offset;
@@ -30,7 +30,7 @@ stream_of carries buffer gathered offset error = record {
 }
 
 -- what is true of the fields
-pub record IsStream (carries : Carries) (buffer : List ℕ) (gathered : Gathered)
+pub record IsStream (carries : StreamKind) (buffer : List ℕ) (gathered : Gathered)
     (error : Option StreamError) : Type 0 where
   pub room : 20 ≤ length buffer
   pub bound : gathered.held ≤ length buffer

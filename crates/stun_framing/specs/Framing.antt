@@ -6,22 +6,22 @@ use Rattle.std.specs.List.{All, concat, list_any}
 use Rattle.std.specs.Option.{option_or}
 use Rattle.stun_grammar.specs.Numbers.{padded_length}
 use Rattle.stun_grammar.specs.Headers.{is_header, begins, length_field}
-use Rattle.stun_framing.specs.declared.carries.Carries.{Carries}
-use Rattle.stun_framing.specs.declared.carries.Carries.TheVariants.{Messages, ChannelDataToo}
+use Rattle.stun_framing.specs.declared.stream_kind.StreamKind.{StreamKind}
+use Rattle.stun_framing.specs.declared.stream_kind.StreamKind.TheVariants.{Messages, ChannelDataToo}
 use Rattle.stun_framing.specs.declared.error.StreamFault.{StreamFault}
 use Rattle.stun_framing.specs.declared.error.StreamFault.TheVariants.{NotStun, NotPadded, TooLong}
 
 -- what a stream carries, and how many bytes of a message a buffer takes
 pub record Room : Type 0 where
-  pub carries : Carries
+  pub carries : StreamKind
   pub size : ℕ
 
-abbrev pub room_of : Carries → (size : ℕ) → Room
+abbrev pub room_of : StreamKind → (size : ℕ) → Room
 room_of carries size = record { carries = carries; size = size }
 
 -- ---- ChannelData
 
-abbrev pub has_channels : Carries → Bool
+abbrev pub has_channels : StreamKind → Bool
 has_channels Messages = false
 has_channels ChannelDataToo = true
 
@@ -75,11 +75,11 @@ MayBegin room b =
 -- ---- Why no message begins
 
 -- a header of either kind begins with b
-abbrev pub begins_either : Carries → List ℕ → Bool
+abbrev pub begins_either : StreamKind → List ℕ → Bool
 begins_either carries b = begins b || has_channels carries && begins_channel b
 
 -- no header begins with b
-abbrev pub header_refusal : Carries → List ℕ → Option StreamFault
+abbrev pub header_refusal : StreamKind → List ℕ → Option StreamFault
 header_refusal carries b = if begins_either carries b then None else Some NotStun
 
 -- a message of n bytes is longer than the buffer

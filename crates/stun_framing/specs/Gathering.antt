@@ -1,6 +1,6 @@
 -- The bytes of one message, which are gathered in a buffer until it is whole.
 use Rattle.std.specs.Prelude.{◌≡◌, ℕ, ◌≤◌, List, ◌++◌, length, take, min, nat_lt, if◌then◌else◌, None, Some}
-use Rattle.stun_framing.specs.declared.carries.Carries.{Carries}
+use Rattle.stun_framing.specs.declared.stream_kind.StreamKind.{StreamKind}
 use Rattle.stun_framing.specs.declared.error.StreamFault.{StreamFault}
 use Rattle.stun_framing.specs.declared.gather.Gathered.{Gathered}
 use Rattle.stun_framing.specs.Framing.{Room, room_of, stated_length, stream_fault}
@@ -25,7 +25,7 @@ pub record HoldsStart (b : List ℕ) (gathered : Gathered) (buffer : List ℕ) :
   pub fits : gathered.wanted ≤ length buffer
 
 -- a buffer holds the bytes that belong to the message with which b begins
-pub record HoldsFirst (carries : Carries) (b : List ℕ) (gathered : Gathered) (buffer : List ℕ)
+pub record HoldsFirst (carries : StreamKind) (b : List ℕ) (gathered : Gathered) (buffer : List ℕ)
     : Type 0 where
   pub sound : stream_fault (room_of carries (length buffer)) b ≡ None
   pub bytes : take gathered.held buffer ≡ take (wanted_for b) b
@@ -33,7 +33,7 @@ pub record HoldsFirst (carries : Carries) (b : List ℕ) (gathered : Gathered) (
   pub wanted : gathered.wanted ≡ wanted_for b
 
 -- no message begins with the bytes that are held and a piece, and those that are held stay
-pub record Refuses (carries : Carries) (held : ℕ) (piece : List ℕ) (fault : StreamFault)
+pub record Refuses (carries : StreamKind) (held : ℕ) (piece : List ℕ) (fault : StreamFault)
     (old new : List ℕ) : Type 0 where
   pub fault_is : stream_fault (room_of carries (length old)) (take held old ++ piece) ≡ Some fault
   pub stays : take held new ≡ take held old

@@ -4,7 +4,7 @@ use Rattle.std.specs.Option.{option_or}
 use Rattle.std.specs.Result.{result_map_both}
 use Rattle.stun_framing.specs.declared.error.StreamError.{StreamError}
 use Rattle.stun_framing.specs.declared.stored_stream.Pushed.{Pushed}
-use Rattle.stun_framing.specs.declared.carries.Carries.{Carries}
+use Rattle.stun_framing.specs.declared.stream_kind.StreamKind.{StreamKind}
 use Rattle.stun_framing.specs.Framing.{Room, room_of, stated_length, stream_fault}
 
 -- what it carries and how many bytes the buffer takes, the offset in the stream of the pending bytes, which are those of a
@@ -37,7 +37,7 @@ is_whole b = nat_le 4 (length b) && nat_le (stated_length b) (length b)
 
 -- the first bytes of a buffer, so many, can be pending: the buffer takes a header, and they are the
 -- beginning of a message that it takes too, and not all of it
-abbrev pub can_resume : Carries → (buffer : List ℕ) → (held : ℕ) → Bool
+abbrev pub can_resume : StreamKind → (buffer : List ℕ) → (held : ℕ) → Bool
 can_resume carries buffer held =
     nat_le 20 (length buffer) && nat_le held (length buffer)
     && not (is_some (stream_fault (room_of carries (length buffer)) (take held buffer)))

@@ -5,8 +5,8 @@ ghost use Rattle.stun_grammar.specs.Headers.{begins};
 ghost use Rattle.stun_framing.specs.Framing.{room_of, begins_channel, begins_either, stated_length, header_refusal, size_refusal, field_refusal, length_refusal, stream_fault};
 ghost use Rattle.stun_framing.specs.Gathering.{wanted_for};
 
-use crate::carries::Carries;
 use crate::error::StreamFault;
+use crate::stream_kind::StreamKind;
 use stun_base::{MessageHeader, StunParseError, check_header, number_at, pad_attribute_len};
 
 /// How many bytes state the length of a message: its type, or the number of a channel, and its
@@ -37,12 +37,12 @@ fn begins_channel(bytes: &[u8]) -> bool
 }
 
 /// Whether a header of a message that the stream carries can begin with these bytes.
-fn begins_either(carries: Carries, bytes: &[u8]) -> bool
+fn begins_either(carries: StreamKind, bytes: &[u8]) -> bool
     ensures { result ≡ begins_either carries bytes.now }
 {
     match carries {
-        Carries::Messages => may_begin(bytes),
-        Carries::ChannelDataToo => may_begin(bytes) || begins_channel(bytes),
+        StreamKind::Messages => may_begin(bytes),
+        StreamKind::ChannelDataToo => may_begin(bytes) || begins_channel(bytes),
     }
 }
 
@@ -59,7 +59,7 @@ fn stated_length(bytes: &[u8]) -> usize
 }
 
 /// Why no header begins with these bytes, whatever follows them.
-fn header_refusal(carries: Carries, bytes: &[u8]) -> Option<StreamFault>
+fn header_refusal(carries: StreamKind, bytes: &[u8]) -> Option<StreamFault>
     ensures { result ≡ header_refusal carries bytes.now }
 {
     if begins_either(carries, bytes) {
@@ -110,7 +110,7 @@ fn first_four(bytes: &[u8]) -> &[u8]
 
 /// Why no message for which there is room begins with these bytes.
 #[tactic(auto, unfolding(crate::specs::Framing::stream_fault))]
-pub(crate) fn stream_fault(carries: Carries, room: usize, bytes: &[u8]) -> Option<StreamFault>
+pub(crate) fn stream_fault(carries: StreamKind, room: usize, bytes: &[u8]) -> Option<StreamFault>
     ensures { result ≡ stream_fault (room_of carries room) bytes.now }
 {
     header_refusal(carries, first_four(bytes))
@@ -125,7 +125,7 @@ pub(crate) fn stream_fault(carries: Carries, room: usize, bytes: &[u8]) -> Optio
 ///
 /// Why no message for which there is room begins with them.
 pub(crate) fn wanted_length(
-    carries: Carries,
+    carries: StreamKind,
     room: usize,
     bytes: &[u8],
 ) -> Result<usize, StreamFault>

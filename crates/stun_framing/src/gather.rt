@@ -5,9 +5,9 @@ ghost use Rattle.stun_framing.specs.Framing.{room_of};
 ghost use Rattle.stun_framing.specs.Gathering.{wanted_for, IsGathered, HoldsStart, HoldsFirst, Refuses};
 ghost use Rattle.stun_framing.specs.Streams.{can_resume};
 
-use crate::carries::Carries;
 use crate::error::StreamFault;
 use crate::fault::{START, stream_fault, wanted_length};
+use crate::stream_kind::StreamKind;
 use stun_base::MessageHeader;
 
 /// What a buffer holds of a message: how many bytes, and how many are wanted. Until its first four
@@ -26,7 +26,7 @@ pub(crate) const NOTHING: Gathered = Gathered {
 
 /// What a buffer holds of a message whose first `held` bytes it begins with, unless no message
 /// begins so for which there is room, or they are all of it.
-pub(crate) fn held_part(carries: Carries, buffer: &[u8], held: usize) -> Option<Gathered>
+pub(crate) fn held_part(carries: StreamKind, buffer: &[u8], held: usize) -> Option<Gathered>
     ensures { MatchOption result (can_resume carries buffer.now held ≡ false)
         (λ gathered. (can_resume carries buffer.now held ≡ true)
         × (gathered ≡ record { held = held; wanted = wanted_for (take held buffer.now) })) }
@@ -72,7 +72,7 @@ fn fill(buffer: &mut [u8], held: usize, wanted: usize, piece: &[u8]) -> usize
 ///
 /// As for [`gather`].
 fn gather_start(
-    carries: Carries,
+    carries: StreamKind,
     buffer: &mut [u8],
     held: usize,
     piece: &[u8],
@@ -102,7 +102,7 @@ fn gather_start(
 ///
 /// As for [`gather`].
 fn gather_rest(
-    carries: Carries,
+    carries: StreamKind,
     buffer: &mut [u8],
     gathered: Gathered,
     piece: &[u8],
@@ -132,7 +132,7 @@ fn gather_rest(
 /// Why no message for which there is room begins with the bytes that are gathered and `piece`. The
 /// bytes that are gathered stay.
 pub(crate) fn gather(
-    carries: Carries,
+    carries: StreamKind,
     buffer: &mut [u8],
     gathered: Gathered,
     piece: &[u8],

@@ -2,12 +2,11 @@
 //! (RFC 8489, section 6.2.2).
 //!
 //! A [`MessageStream`] is handed the pieces, and yields each message whole. It has no socket, and it
-//! allocates nothing. [`push_stored`] does the same for a caller that keeps the buffer and two numbers.
+//! allocates nothing. [`push_raw`] does the same for a caller that keeps the buffer and two numbers.
 //!
 //! For programs over standard input and output there are [`read_all`], [`write_all`] and [`RunError`].
 #![tactic(auto)]
 
-mod carries;
 mod error;
 mod fault;
 mod gather;
@@ -16,8 +15,8 @@ mod laws;
 mod message_stream;
 mod run_error;
 mod stored_stream;
+mod stream_kind;
 
-pub use carries::Carries;
 pub use error::{StreamError, StreamFault};
 pub use input_output::{InputError, WriteFailed, read_all, write_all};
 pub use laws::{
@@ -26,4 +25,5 @@ pub use laws::{
 };
 pub use message_stream::{GREATEST_MESSAGE, MessageStream};
 pub use run_error::{FAILED, RunError, arguments_error};
-pub use stored_stream::{Pushed, push_stored};
+pub use stored_stream::{Pushed, push_raw};
+pub use stream_kind::StreamKind;

@@ -3,9 +3,9 @@
 ghost use Rattle.std.specs.Prelude.{◌≡◌};
 ghost use Rattle.stun_framing.specs.Fields.{pending_of, offset_behind};
 
-use crate::carries::Carries;
 use crate::error::StreamError;
 use crate::gather::{Gathered, NOTHING, gather, held_part};
+use crate::stream_kind::StreamKind;
 use std::marker::Model;
 
 /// The greatest length of a message in a stream, in bytes: a buffer of this length takes any.
@@ -69,7 +69,7 @@ pub(crate) fn offset_behind(offset: u64, gathered: Gathered) -> u64
 /// ```
 #[derive(Debug, Drop)]
 pub struct MessageStream<'b> {
-    carries: Carries,
+    carries: StreamKind,
     buffer: &'b mut [u8],
     gathered: Gathered,
     offset: u64,
@@ -89,7 +89,7 @@ impl<'b> Model for MessageStream<'b> {
 
 impl<'b> MessageStream<'b> {
     ghost use Rattle.std.specs.Prelude.{◌≡◌, ◌≤◌, ◌<◌, length, take, true, false, Some, None, IfOk, IfSome, MatchOption};
-    ghost use Rattle.stun_framing.specs.declared.carries.Carries.TheVariants.{Messages};
+    ghost use Rattle.stun_framing.specs.declared.stream_kind.StreamKind.TheVariants.{Messages};
     ghost use Rattle.stun_framing.specs.Framing.{room_of, IsMessage};
     ghost use Rattle.stun_framing.specs.Streams.{begun, resumed, can_resume, answer, left};
 
@@ -103,7 +103,7 @@ impl<'b> MessageStream<'b> {
         requires { 20 ≤ length buffer.old }
         ensures { result ≡ begun (room_of Messages (length buffer.old)) }
     {
-        Self::carrying(Carries::Messages, buffer)
+        Self::carrying(StreamKind::Messages, buffer)
     }
 
     /// Returns a stream of the messages that `carries` names, which gathers them in `buffer`. A
@@ -117,15 +117,15 @@ impl<'b> MessageStream<'b> {
     /// # Examples
     ///
     /// ```
-    /// use stun_framing::{Carries, MessageStream};
+    /// use stun_framing::{StreamKind, MessageStream};
     ///
     /// // Three bytes of data on the channel 0x4000, and one of padding (RFC 8656, section 12.5).
     /// let mut buffer = [0; 1500];
-    /// let mut stream = MessageStream::carrying(Carries::ChannelDataToo, &mut buffer);
+    /// let mut stream = MessageStream::carrying(StreamKind::ChannelDataToo, &mut buffer);
     /// assert_eq!(rt; stream.push(b"\x40\x00\x00\x03abc\x00"), Ok(8));
     /// assert_eq!(rt; stream.message(), Some(b"\x40\x00\x00\x03abc\x00".as_slice()));
     /// ```
-    pub fn carrying(carries: Carries, buffer: &'b mut [u8]) -> MessageStream<'b>
+    pub fn carrying(carries: StreamKind, buffer: &'b mut [u8]) -> MessageStream<'b>
         requires { 20 ≤ length buffer.old }
         ensures { result ≡ begun (room_of carries (length buffer.old)) }
     {
@@ -149,20 +149,20 @@ impl<'b> MessageStream<'b> {
     /// # Examples
     ///
     /// ```
-    /// use stun_framing::{Carries, MessageStream};
+    /// use stun_framing::{StreamKind, MessageStream};
     ///
     /// let mut buffer = [0; 1500];
     /// let mut stream = MessageStream::new(&mut buffer);
     /// stream.push(b"\x00\x01\x00\x00\x21\x12\xA4\x42")?;
     /// let (held, offset) = (stream.pending().len(), stream.offset());
     /// // Later, with the same buffer:
-    /// let resumed = MessageStream::resume(Carries::Messages, &mut buffer, held, offset);
+    /// let resumed = MessageStream::resume(StreamKind::Messages, &mut buffer, held, offset);
     /// let mut stream = resumed.ok_or("no stream left these numbers")?;
     /// assert_eq!(rt; stream.push(b"\xB7\xE7\xA7\x01\xBC\x34\xD6\x86\xFA\x87\xDF\xAE"), Ok(12));
     /// assert!(rt; stream.message().is_some_and(|message| message.len() == 20));
     /// ```
     pub fn resume(
-        carries: Carries,
+        carries: StreamKind,
         buffer: &'b mut [u8],
         held: usize,
         offset: u64,

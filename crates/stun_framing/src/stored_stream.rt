@@ -5,10 +5,10 @@ ghost use Rattle.stun_framing.specs.Framing.{room_of};
 ghost use Rattle.stun_framing.specs.Fields.{is_all};
 ghost use Rattle.stun_framing.specs.Streams.{resumed, can_resume, pushed, left, StandsIn};
 
-use crate::carries::Carries;
 use crate::error::StreamError;
 use crate::gather::{Gathered, gather, held_part};
 use crate::message_stream::{offset_behind, pending_of};
+use crate::stream_kind::StreamKind;
 
 /// The result of pushing a piece to a stream of which the caller keeps the buffer.
 #[derive(Clone, Copy, Debug, PartialEq, Eq)]
@@ -55,7 +55,7 @@ fn whole_length(gathered: Gathered) -> Option<usize>
 /// # Examples
 ///
 /// ```
-/// use stun_framing::{Carries, push_stored};
+/// use stun_framing::{StreamKind, push_raw};
 ///
 /// // A binding request, whose bytes come in two pieces.
 /// let request = b"\x00\x01\x00\x00\x21\x12\xA4\x42\
@@ -65,7 +65,7 @@ fn whole_length(gathered: Gathered) -> Option<usize>
 /// for piece in [&request[..7], &request[7..]] {
 ///     let mut rest = piece;
 ///     while !rest.is_empty() {
-///         let result = push_stored(Carries::Messages, &mut buffer, held, offset, rest);
+///         let result = push_raw(StreamKind::Messages, &mut buffer, held, offset, rest);
 ///         let pushed = result.ok_or("no stream left these numbers")??;
 ///         (held, offset) = (pushed.pending, pushed.offset);
 ///         rest = &rest[pushed.taken..];
@@ -81,8 +81,8 @@ fn whole_length(gathered: Gathered) -> Option<usize>
 /// [`MessageStream::push`]: crate::MessageStream::push
 /// [`MessageStream::resume`]: crate::MessageStream::resume
 #[tactic(auto, using(crate::proofs::StoredLemmas::resumed_gathered))]
-pub fn push_stored(
-    carries: Carries,
+pub fn push_raw(
+    carries: StreamKind,
     buffer: &mut [u8],
     held: usize,
     offset: u64,

@@ -11,7 +11,7 @@ use Rattle.stun_grammar.specs.declared.error.ValidateError.{ValidateError}
 use Rattle.stun_grammar.specs.declared.error.ValidateError.TheVariants.{Parse}
 use Rattle.stun_grammar.specs.Carrying.{Carries, CarriesPrefix}
 use Rattle.stun_grammar.proofs.AuthenticLemmas.{validates, own_algorithm, checks}
-use Rattle.stun_grammar.proofs.AuthenticContentLemmas.{local, local_through, fingerprint_told, same_told, as_both}
+use Rattle.stun_grammar.proofs.AuthenticContentLemmas.{local, local_through, fingerprint_reported, same_reported, as_both}
 use Rattle.stun_grammar.proofs.ParsingLemmas.{parsed_frame}
 use Rattle.stun_grammar.proofs.CarryingLemmas.{carries, carries_prefix}
 use Rattle.stun_grammar.proofs.CarryingExactLemmas.{carried, carried_own}
@@ -20,9 +20,9 @@ use Rattle.stun_grammar.proofs.OriginLemmas.{origin, origin_through}
 pub is_authentic : (key : IntegrityAlgorithm → List ℕ) (d : List ℕ) (a : IntegrityAlgorithm) → IsBytes d → parse_fault d ≡ None → verdict (is_checked_type None) key d ≡ Ok a → IsAuthentic key d a
 is_authentic key d a bytes parsed ok = record {
   covers = let found = validates None key d a ok in (found.0, found.1.covers);
-  told = λ c covers. local key d c a bytes (record { answers = ok; covers = covers });
-  fingerprint = λ c covers. fingerprint_told key d c a bytes parsed (record { answers = ok; covers = covers });
-  same = λ c e covers others v. same_told key d e c a bytes others (record { answers = ok; covers = covers }) v;
+  reported = λ c covers. local key d c a bytes (record { answers = ok; covers = covers });
+  fingerprint = λ c covers. fingerprint_reported key d c a bytes parsed (record { answers = ok; covers = covers });
+  same = λ c e covers others v. same_reported key d e c a bytes others (record { answers = ok; covers = covers }) v;
   origin = λ c sent covers lawful. origin key d c a sent bytes lawful (record { answers = ok; covers = covers });
 }
 
@@ -35,8 +35,8 @@ pub is_authentic_through : (m : Option IntegrityAlgorithm) (key : IntegrityAlgor
 is_authentic_through m key d a bytes parsed ok = record {
   own = own_of m key d a bytes ok;
   covers = let found = validates m key d a ok in (found.0, found.1.covers);
-  told = λ c covers. local_through m key d c a bytes (record { answers = ok; covers = covers });
-  fingerprint = λ c covers last. fingerprint_told key d c a bytes parsed (as_both m key d c a last (record { answers = ok; covers = covers }));
+  reported = λ c covers. local_through m key d c a bytes (record { answers = ok; covers = covers });
+  fingerprint = λ c covers last. fingerprint_reported key d c a bytes parsed (as_both m key d c a last (record { answers = ok; covers = covers }));
   whole = λ c covers last. local key d c a bytes (as_both m key d c a last (record { answers = ok; covers = covers }));
   same = λ c e covers others v. local_through m key d c a bytes (record { answers = ok; covers = covers }) ∙ sym (local_through m key e c a others v);
   origin = λ c sent covers lawful. origin_through m key d c a sent bytes lawful (record { answers = ok; covers = covers });

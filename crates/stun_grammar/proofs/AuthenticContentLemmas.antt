@@ -35,10 +35,10 @@ pub same_content : (k l i j : ℕ) (a b : List Shown) → k ≡ l → i ≡ j �
 same_content k l i j a b p q r = ap (λ (x : ℕ). content_of x i a) p ∙ ap (λ (x : ℕ). content_of l x a) q ∙ ap (λ (x : List Shown). content_of l j x) r
 
 -- the attributes that the covered bytes determine are those through the checked one
-pub told_attributes : (m : Option IntegrityAlgorithm) (key : IntegrityAlgorithm → List ℕ) (d c : List ℕ) (a : IntegrityAlgorithm) (v : Checks m key d c a)
+pub reported_attributes : (m : Option IntegrityAlgorithm) (key : IntegrityAlgorithm → List ℕ) (d c : List ℕ) (a : IntegrityAlgorithm) (v : Checks m key d c a)
     → (authentic c (key a) a).attributes ≡ placed 20 (v.there.splits.before ++ v.there.splits.attribute ∷ [])
 unfolding authentic
-told_attributes m key d c a v =
+reported_attributes m key d c a v =
     let split = v.there.splits in
     let before : chain (drop 20 c) ≡ split.before = ap chain v.prefix_is ∙ (chain-encodings split.before v.there.each).0 in
     let offset : v.x.offset ≡ 20 + length (encodings split.before) = ap (λ (y : Shown). y.offset) split.is in
@@ -58,7 +58,7 @@ local_through m key d c a bytes v =
     let k = checks m key d c a bytes v in
     let split = k.there.splits in
     same_content _ _ _ _ _ _ (sym (ap number k.head_is)) (sym (ap number k.id_is))
-    (ap (through_last (is_checked_type m)) (shown_split m key d c a k) ∙ through_at (is_checked_type m) 20 split.before split.attribute split.behind split.passes split.last ∙ sym (told_attributes m key d c a k))
+    (ap (through_last (is_checked_type m)) (shown_split m key d c a k) ∙ through_at (is_checked_type m) 20 split.before split.attribute split.behind split.passes split.last ∙ sym (reported_attributes m key d c a k))
 
 -- ---- A FINGERPRINT after it
 
@@ -106,7 +106,7 @@ module _ (key : IntegrityAlgorithm → List ℕ) (d c : List ℕ) (a : Integrity
       ap (filter no_fingerprint) in_two ∙ filter-append no_fingerprint (placed 20 prefix_attributes) (placed offset_behind behind)
       ∙ ap (λ (xs : List Shown). xs ++ filter no_fingerprint (placed offset_behind behind)) (kept 20 prefix_attributes none_prefix)
       ∙ ap (λ (xs : List Shown). placed 20 prefix_attributes ++ xs) (left_out offset_behind behind left) ∙ append-nil (placed 20 prefix_attributes) in
-      same_content _ _ _ _ _ _ (sym (ap number v.head_is)) (sym (ap number v.id_is)) (all ∙ sym (told_attributes None key d c a v))
+      same_content _ _ _ _ _ _ (sym (ap number v.head_is)) (sym (ap number v.id_is)) (all ∙ sym (reported_attributes None key d c a v))
 
   -- the offset of what follows the checked attribute
   offset_is : offset_behind ≡ length (c ++ encoding (checked c (key a) a))
@@ -140,7 +140,7 @@ module _ (key : IntegrityAlgorithm → List ℕ) (d c : List ℕ) (a : Integrity
   by_behind [] e h parsed =
       let all : shown d ≡ placed 20 prefix_attributes = in_two ∙ ap (λ (xs : List Attribute). placed 20 prefix_attributes ++ placed offset_behind xs) e ∙ append-nil (placed 20 prefix_attributes) in
       let none : shows_fingerprint d ≡ false = ap (list_any is_fingerprint) all ∙ any_placed 20 prefix_attributes ∙ none_prefix in
-      all ∙ sym (told_attributes None key d c a v) ∙ sym (append-nil (authentic c (key a) a).attributes) ∙ sym (ap (authentic_shown c (key a) a) none)
+      all ∙ sym (reported_attributes None key d c a v) ∙ sym (append-nil (authentic c (key a) a).attributes) ∙ sym (ap (authentic_shown c (key a) a) none)
   by_behind (f ∷ []) e h parsed =
       let is : f.type ≡ FINGERPRINT = fp h in
       let y = shown_as offset_behind FINGERPRINT f.value in
@@ -149,7 +149,7 @@ module _ (key : IntegrityAlgorithm → List ℕ) (d c : List ℕ) (a : Integrity
       let found : find is_fingerprint (shown d) ≡ Some y =
       ap (find is_fingerprint) all ∙ find-append is_fingerprint (placed 20 prefix_attributes) (y ∷ [])
       ∙ ap (λ (o : Option Shown). option_or o (find is_fingerprint (y ∷ []))) (find_none 20 prefix_attributes none_prefix) in
-      all ∙ ap (λ (x : List Shown). x ++ y ∷ []) (sym (told_attributes None key d c a v)) ∙ ap (λ (x : Shown). (authentic c (key a) a).attributes ++ x ∷ []) (fingerprint_at f.value found parsed)
+      all ∙ ap (λ (x : List Shown). x ++ y ∷ []) (sym (reported_attributes None key d c a v)) ∙ ap (λ (x : Shown). (authentic c (key a) a).attributes ++ x ∷ []) (fingerprint_at f.value found parsed)
       ∙ sym (ap (authentic_shown c (key a) a) some)
     where
       fp : (f.type ∷ [] ≡ []) ⊎ (f.type ∷ [] ≡ FINGERPRINT ∷ []) → f.type ≡ FINGERPRINT
@@ -173,19 +173,19 @@ verdict_local key d a bytes e =
     (found.0, found.1.covers, local key d found.0 a bytes found.1)
 
 -- all that is shown is determined, except whether a FINGERPRINT is among it
-pub all_told : (key : IntegrityAlgorithm → List ℕ) (d c : List ℕ) (a : IntegrityAlgorithm) → IsBytes d → parse_fault d ≡ None → Validates None key d c a → shown d ≡ authentic_shown c (key a) a (shows_fingerprint d)
-all_told key d c a bytes parsed v =
+pub all_reported : (key : IntegrityAlgorithm → List ℕ) (d c : List ℕ) (a : IntegrityAlgorithm) → IsBytes d → parse_fault d ≡ None → Validates None key d c a → shown d ≡ authentic_shown c (key a) a (shows_fingerprint d)
+all_reported key d c a bytes parsed v =
     let k = checks None key d c a bytes v in
     by_behind key d c a bytes k k.there.splits.behind refl (left key d c a bytes k) parsed
 
-pub fingerprint_told : (key : IntegrityAlgorithm → List ℕ) (d c : List ℕ) (a : IntegrityAlgorithm) → IsBytes d → parse_fault d ≡ None → Validates None key d c a
+pub fingerprint_reported : (key : IntegrityAlgorithm → List ℕ) (d c : List ℕ) (a : IntegrityAlgorithm) → IsBytes d → parse_fault d ≡ None → Validates None key d c a
     → IfSome (find is_fingerprint (shown d)) (λ x. x ≡ authentic_fingerprint c (key a) a)
 unfolding authentic_fingerprint
-fingerprint_told key d c a bytes parsed v =
+fingerprint_reported key d c a bytes parsed v =
     let k = checks None key d c a bytes v in
     let f = prefix_attributes key d c a bytes k in
     let all : shown d ≡ placed 20 f ++ cond (shows_fingerprint d) (authentic_fingerprint c (key a) a ∷ []) [] =
-    all_told key d c a bytes parsed v ∙ ap (λ (xs : List Shown). xs ++ cond (shows_fingerprint d) (authentic_fingerprint c (key a) a ∷ []) []) (told_attributes None key d c a k) in
+    all_reported key d c a bytes parsed v ∙ ap (λ (xs : List Shown). xs ++ cond (shows_fingerprint d) (authentic_fingerprint c (key a) a ∷ []) []) (reported_attributes None key d c a k) in
     let found : find is_fingerprint (shown d) ≡ find is_fingerprint (cond (shows_fingerprint d) (authentic_fingerprint c (key a) a ∷ []) []) =
     ap (find is_fingerprint) all ∙ find-append is_fingerprint (placed 20 f) (cond (shows_fingerprint d) (authentic_fingerprint c (key a) a ∷ []) [])
     ∙ ap (λ (o : Option Shown). option_or o (find is_fingerprint (cond (shows_fingerprint d) (authentic_fingerprint c (key a) a ∷ []) []))) (find_none 20 f (none_prefix key d c a bytes k)) in
@@ -197,12 +197,12 @@ fingerprint_told key d c a bytes parsed v =
 
 -- two messages with the same covered bytes have the same content, and show the same if both or
 -- neither show a FINGERPRINT
-pub same_told : (key : IntegrityAlgorithm → List ℕ) (d e c : List ℕ) (a : IntegrityAlgorithm) → IsBytes d → IsBytes e → Validates None key d c a → Validates None key e c a → content d ≡ content e
-same_told key d e c a p q v w = local key d c a p v ∙ sym (local key e c a q w)
+pub same_reported : (key : IntegrityAlgorithm → List ℕ) (d e c : List ℕ) (a : IntegrityAlgorithm) → IsBytes d → IsBytes e → Validates None key d c a → Validates None key e c a → content d ≡ content e
+same_reported key d e c a p q v w = local key d c a p v ∙ sym (local key e c a q w)
 
 pub same_shown : (key : IntegrityAlgorithm → List ℕ) (d e c : List ℕ) (a : IntegrityAlgorithm) → IsBytes d → IsBytes e → parse_fault d ≡ None → parse_fault e ≡ None → Validates None key d c a → Validates None key e c a
     → shows_fingerprint d ≡ shows_fingerprint e → shown d ≡ shown e
-same_shown key d e c a p q r s v w same = all_told key d c a p r v ∙ ap (authentic_shown c (key a) a) same ∙ sym (all_told key e c a q s w)
+same_shown key d e c a p q r s v w same = all_reported key d c a p r v ∙ ap (authentic_shown c (key a) a) same ∙ sym (all_reported key e c a q s w)
 
 -- if no integrity attribute is shown after the one that a key wants, wanting both types finds
 -- the same one

@@ -188,9 +188,9 @@ length-chain b = within_short (length b) b
 -- ---- The fault if no attribute begins
 
 -- no attribute begins at an offset, and this is the fault there
-pub record Refused (offset : ℕ) (d : List ℕ) (told : Option StunParseError) : Type 0 where
+pub record Refused (offset : ℕ) (d : List ℕ) (reported : Option StunParseError) : Type 0 where
   pub first_attribute_is : first_attribute (drop offset d) ≡ None
-  pub fault_is : fault offset (drop offset d) ≡ told
+  pub fault_is : fault offset (drop offset d) ≡ reported
 
 pub at_the_end : (offset : ℕ) (d : List ℕ) → offset ≡ length d → Refused offset d None
 unfolding fault

@@ -54,9 +54,9 @@ first_low d e = let there = header_there d e in ltb-true _ _ (and_parts _ _ (sym
 
 -- ---- With the length
 
-pub frame-header : (d : List ℕ) (told : StunParseError) → header_fault d ≡ Some told → frame_fault d ≡ Some told
+pub frame-header : (d : List ℕ) (reported : StunParseError) → header_fault d ≡ Some reported → frame_fault d ≡ Some reported
 unfolding frame_fault
-frame-header d told e = rw e refl
+frame-header d reported e = rw e refl
 
 -- after a header the length decides
 pub frame_is : (d : List ℕ) → header_fault d ≡ None → frame_fault d ≡ exact_fault (20 + length_field d) (length d)
@@ -71,9 +71,9 @@ frame-whole d e whole =
 pub frame_there : (d : List ℕ) → frame_fault d ≡ None → header_fault d ≡ None
 frame_there d e = none_first (header_fault d) (frame-header d) e
   where
-    none_first : (o : Option StunParseError) → ((told : StunParseError) → o ≡ Some told → frame_fault d ≡ Some told) → frame_fault d ≡ None → o ≡ None
+    none_first : (o : Option StunParseError) → ((reported : StunParseError) → o ≡ Some reported → frame_fault d ≡ Some reported) → frame_fault d ≡ None → o ≡ None
     none_first None f e = refl
-    none_first (Some told) f e = absurd (cc (f told refl, e))
+    none_first (Some reported) f e = absurd (cc (f reported refl, e))
 
 -- and there are as many bytes as the header states
 pub framed_length : (d : List ℕ) → frame_fault d ≡ None → length d ≡ 20 + length_field d

@@ -18,7 +18,7 @@ use Rattle.stun_grammar.specs.Authentic.{Content, content, content_through, auth
 use Rattle.stun_grammar.specs.Writing.{message_encoding}
 use Rattle.stun_grammar.specs.Steps.{Step, add, sign, finger, appended_by, with_step, IsEncodable}
 use Rattle.stun_grammar.specs.Sending.{Sent, IsEncodableSent}
-use Rattle.stun_grammar.specs.Origin.{Signature, signs, signed_from, signed, told, IsUnsigned, ComesFrom}
+use Rattle.stun_grammar.specs.Origin.{Signature, signs, signed_from, signed, reported, IsUnsigned, ComesFrom}
 use Rattle.stun_grammar.proofs.ShowingLemmas.{AllByRecursion-append}
 use Rattle.stun_grammar.proofs.AuthenticContentLemmas.{content_of, local, local_through}
 use Rattle.stun_grammar.proofs.StepsSignedLemmas.{appended_is, authentic_encoding}
@@ -43,20 +43,20 @@ signs_is a key b k e =
 
 -- the bytes that a sender signs determine the sender's message through the integrity attribute that
 -- signs them
-pub signed_told : (type id : ℕ) (before : List Attribute) (steps : List Step) (key : List ℕ) (a : IntegrityAlgorithm) → type < 2 ^ 14 → id < 2 ^ 96 → AllByRecursion IsAttribute before → AllByRecursion IsEncodable steps
+pub signed_reported : (type id : ℕ) (before : List Attribute) (steps : List Step) (key : List ℕ) (a : IntegrityAlgorithm) → type < 2 ^ 14 → id < 2 ^ 96 → AllByRecursion IsAttribute before → AllByRecursion IsEncodable steps
     → AllByRecursion (λ s. authentic s.covered key a ≡ content_of type id (placed 20 s.through)) (signed_from type id before steps key a)
 unfolding signed_from
-signed_told type id before [] key a t i each lawful = tt
-signed_told type id before (add k v ∷ steps) key a t i each lawful =
-    signed_told type id (with_step type id before (add k v)) steps key a t i (step_each type id before (add k v) each lawful.0) lawful.1
-signed_told type id before (finger ∷ steps) key a t i each lawful =
-    signed_told type id (with_step type id before finger) steps key a t i (step_each type id before finger each tt) lawful.1
-signed_told type id before (sign b k ∷ steps) key a t i each lawful =
+signed_reported type id before [] key a t i each lawful = tt
+signed_reported type id before (add k v ∷ steps) key a t i each lawful =
+    signed_reported type id (with_step type id before (add k v)) steps key a t i (step_each type id before (add k v) each lawful.0) lawful.1
+signed_reported type id before (finger ∷ steps) key a t i each lawful =
+    signed_reported type id (with_step type id before finger) steps key a t i (step_each type id before finger each tt) lawful.1
+signed_reported type id before (sign b k ∷ steps) key a t i each lawful =
     let message = message_encoding type id before in
     let through = with_step type id before (sign b k) in
     let s : Signature = record { covered = covered_bytes message (length message) (digest_length a); through = through } in
     let P : Signature → Type 0 = λ x. authentic x.covered key a ≡ content_of type id (placed 20 x.through) in
-    let later = signed_told type id through steps key a t i (step_each type id before (sign b k) each tt) lawful.1 in
+    let later = signed_reported type id through steps key a t i (step_each type id before (sign b k) each tt) lawful.1 in
     elim (cases_Bool (signs a key (sign b k))) [
       | inl passed ↦
           let one : P s = authentic_encoding type id before a key t i each ∙ ap (λ (x : Step). content_of type id (placed 20 (with_step type id before x))) (signs_is a key b k passed) in
@@ -90,8 +90,8 @@ search_signatures P c (x ∷ xs) all =
 search_sent : (key : List ℕ) (a : IntegrityAlgorithm) (c : List ℕ) (sent : List Sent) → AllByRecursion IsEncodableSent sent → IsUnsigned sent key a c ⊎ ComesFrom sent key a c (authentic c key a)
 search_sent key a c [] lawful = inl tt
 search_sent key a c (m ∷ sent) lawful =
-    let P : Signature → Type 0 = λ s. authentic s.covered key a ≡ told m s.through in
-    elim (search_signatures P c (signed m key a) (signed_told m.type m.id [] m.steps key a lawful.0.type_fits lawful.0.id_fits tt lawful.0.steps)) [
+    let P : Signature → Type 0 = λ s. authentic s.covered key a ≡ reported m s.through in
+    elim (search_signatures P c (signed m key a) (signed_reported m.type m.id [] m.steps key a lawful.0.type_fits lawful.0.id_fits tt lawful.0.steps)) [
       | inr (s, at, covers, p) ↦ inr (record { message = m; was_sent = first_of_all m sent; signature = s; was_signed = at; covers = covers; tells = ap (λ (t : List ℕ). authentic t key a) (sym covers) ∙ p })
       | inl none ↦ elim (search_sent key a c sent lawful.1) [
         | inl others ↦ inl (none, others)
@@ -112,9 +112,9 @@ origin_through m key d c a sent bytes lawful v = comes_from sent (key a) a c _ _
 
 -- every message in which the covered bytes are signed has the content
 pub origin_each : (key : IntegrityAlgorithm → List ℕ) (d c : List ℕ) (a : IntegrityAlgorithm) (m : Sent) → IsBytes d → IsEncodableSent m → Validates None key d c a
-    → AllByRecursion (λ s. s.covered ≡ c → content d ≡ told m s.through) (signed m (key a) a)
-origin_each key d c a m bytes lawful v = each_of (signed m (key a) a) (signed_told m.type m.id [] m.steps (key a) a lawful.type_fits lawful.id_fits tt lawful.steps)
+    → AllByRecursion (λ s. s.covered ≡ c → content d ≡ reported m s.through) (signed m (key a) a)
+origin_each key d c a m bytes lawful v = each_of (signed m (key a) a) (signed_reported m.type m.id [] m.steps (key a) a lawful.type_fits lawful.id_fits tt lawful.steps)
   where
-    each_of : (xs : List Signature) → AllByRecursion (λ s. authentic s.covered (key a) a ≡ told m s.through) xs → AllByRecursion (λ s. s.covered ≡ c → content d ≡ told m s.through) xs
+    each_of : (xs : List Signature) → AllByRecursion (λ s. authentic s.covered (key a) a ≡ reported m s.through) xs → AllByRecursion (λ s. s.covered ≡ c → content d ≡ reported m s.through) xs
     each_of [] all = tt
     each_of (x ∷ xs) all = (λ covers. local key d c a bytes v ∙ ap (λ (t : List ℕ). authentic t (key a) a) (sym covers) ∙ all.0, each_of xs all.1)

@@ -49,15 +49,15 @@ needs taken a q e = test_closed (taken ++ a ∷ []) q (ap test (append_assoc tak
 
 -- ---- The scan reaches the end
 
-pub ends_at : (d : List ℕ) (offset : ℕ) (taken : List Attribute) (told : Option StunParseError) → ScannedTo d offset taken → first_attribute (drop offset d) ≡ None → fault offset (drop offset d) ≡ told → body_fault d ≡ told
+pub ends_at : (d : List ℕ) (offset : ℕ) (taken : List Attribute) (reported : Option StunParseError) → ScannedTo d offset taken → first_attribute (drop offset d) ≡ None → fault offset (drop offset d) ≡ reported → body_fault d ≡ reported
 unfolding body_fault
-ends_at d offset taken told to none told-is =
+ends_at d offset taken reported to none reported-is =
     let all : chain (drop 20 d) ≡ taken = to.chain_is ∙ ap (λ (xs : List Attribute). taken ++ xs) (chain-none (drop offset d) none) ∙ append-nil taken in
     let scanned : scanned_prefix (chain (drop 20 d)) ≡ taken =
     ap scanned_prefix (to.chain_is ∙ ap (λ (xs : List Attribute). taken ++ xs) (chain-none (drop offset d) none)) ∙ scanned_is taken [] to.fits ∙ ap (λ (xs : List Attribute). taken ++ xs) (longest-nil (λ q. test (taken ++ q))) ∙ append-nil taken in
     let left : rest (drop 20 d) ≡ drop offset d = to.rest_is ∙ rest-none (drop offset d) none in
     let same : eqb (length taken) (length taken) ≡ true = eq-eqb _ _ refl in
-    rw (scanned, all, to.passes, same, left, ← to.offset_is) told-is
+    rw (scanned, all, to.passes, same, left, ← to.offset_is) reported-is
 
 -- ---- The scan meets an attribute
 
@@ -141,25 +141,25 @@ pub goes_on_checked : (d : List ℕ) (offset : ℕ) (taken : List Attribute) (a 
 goes_on_checked d offset taken a to found goes is passes =
     next d offset taken a to found goes (find_first d taken [] a is (fresh taken a to.fits is goes) ∙ ap (λ (k : ℕ). fingerprint_fault d k a.value) (sym to.offset_is) ∙ passes)
 
-pub refuses_at : (d : List ℕ) (offset : ℕ) (taken : List Attribute) (a : Attribute) (told : StunParseError) → ScannedTo d offset taken → first_attribute (drop offset d) ≡ Some a → in_any_order (types taken ++ a.type ∷ []) ≡ true
-    → a.type ≡ FINGERPRINT → fingerprint_fault d offset a.value ≡ Some told → body_fault d ≡ Some told
+pub refuses_at : (d : List ℕ) (offset : ℕ) (taken : List Attribute) (a : Attribute) (reported : StunParseError) → ScannedTo d offset taken → first_attribute (drop offset d) ≡ Some a → in_any_order (types taken ++ a.type ∷ []) ≡ true
+    → a.type ≡ FINGERPRINT → fingerprint_fault d offset a.value ≡ Some reported → body_fault d ≡ Some reported
 unfolding body_fault
-refuses_at d offset taken a told to found goes is refused =
+refuses_at d offset taken a reported to found goes is refused =
     let behind = chain (drop (length (encoding a)) (drop offset d)) in
     let all : chain (drop 20 d) ≡ taken ++ a ∷ behind = to.chain_is ∙ ap (λ (xs : List Attribute). taken ++ xs) (chain-some (drop offset d) a found) in
     let passed : test (taken ++ a ∷ []) ≡ true = ap in_any_order (types-append taken (a ∷ [])) ∙ goes in
     let scanned : scanned_prefix (chain (drop 20 d)) ≡ taken ++ a ∷ longest_prefix (λ q. test (taken ++ a ∷ q)) behind =
     ap scanned_prefix all ∙ scanned_is taken (a ∷ behind) to.fits
     ∙ ap (λ (xs : List Attribute). taken ++ xs) (longest-cons (λ q. test (taken ++ q)) a behind (needs taken a) ∙ cond-true (test (taken ++ a ∷ [])) _ _ passed) in
-    let told-is : first_fingerprint_fault d (placed 20 (taken ++ a ∷ longest_prefix (λ q. test (taken ++ a ∷ q)) behind)) ≡ Some told =
+    let reported-is : first_fingerprint_fault d (placed 20 (taken ++ a ∷ longest_prefix (λ q. test (taken ++ a ∷ q)) behind)) ≡ Some reported =
     find_first d taken _ a is (fresh taken a to.fits is goes) ∙ ap (λ (k : ℕ). fingerprint_fault d k a.value) (sym to.offset_is) ∙ refused in
-    rw (scanned, told-is) refl
+    rw (scanned, reported-is) refl
 
 -- ---- The whole message
 
-pub parse-frame : (d : List ℕ) (told : StunParseError) → frame_fault d ≡ Some told → parse_fault d ≡ Some told
+pub parse-frame : (d : List ℕ) (reported : StunParseError) → frame_fault d ≡ Some reported → parse_fault d ≡ Some reported
 unfolding parse_fault
-parse-frame d told e = rw e refl
+parse-frame d reported e = rw e refl
 
 pub parse-body : (d : List ℕ) → frame_fault d ≡ None → parse_fault d ≡ body_fault d
 unfolding parse_fault
@@ -169,9 +169,9 @@ parse-body d e = rw e refl
 pub parsed_frame : (d : List ℕ) → parse_fault d ≡ None → frame_fault d ≡ None
 parsed_frame d e = no_first (frame_fault d) (parse-frame d)
   where
-    no_first : (o : Option StunParseError) → ((told : StunParseError) → o ≡ Some told → parse_fault d ≡ Some told) → o ≡ None
+    no_first : (o : Option StunParseError) → ((reported : StunParseError) → o ≡ Some reported → parse_fault d ≡ Some reported) → o ≡ None
     no_first None f = refl
-    no_first (Some told) f = absurd (cc (f told refl, e))
+    no_first (Some reported) f = absurd (cc (f reported refl, e))
 
 pub parsed_header : (d : List ℕ) → parse_fault d ≡ None → header_fault d ≡ None
 parsed_header d e = frame_there d (parsed_frame d e)
@@ -179,7 +179,7 @@ parsed_header d e = frame_there d (parsed_frame d e)
 -- ---- The errors that parsing returns
 
 abbrev Tells : Option StunParseError → Type 0
-Tells told = IfSome told IsRefusal
+Tells reported = IfSome reported IsRefusal
 
 tells_or : (a b : Option StunParseError) → Tells a → Tells b → Tells (option_or a b)
 tells_or None b p q = q

@@ -164,6 +164,6 @@ shows d bytes e =
       longest = prefix.longest;
     }
 
-pub nothing : (d : List ℕ) (told : StunParseError) → frame_fault d ≡ Some told → shown d ≡ []
+pub nothing : (d : List ℕ) (reported : StunParseError) → frame_fault d ≡ Some reported → shown d ≡ []
 unfolding shown
-nothing d told e = rw e refl
+nothing d reported e = rw e refl

@@ -69,11 +69,11 @@ both-ordinary k x y = or_from _ _ (ne_eqb k 0x0008 x) (ne_eqb k 0x001C y)
 pub none_ordinary : (k c : ℕ) → both k ≡ true → in_order (k ∷ (c ∷ [])) ≡ true → (c ≡ 0x001C → ⊥) → (c ≡ 0x8028 → ⊥) → ⊥
 none_ordinary k c w e y z = elim (which k) [
   | integrity is ↦
-      let told : in_order (k ∷ (c ∷ [])) ≡ false = ap (λ (x : ℕ). in_order (x ∷ (c ∷ []))) is ∙ pair-integrity c ∙ or_from _ _ (ne_eqb c 0x8028 z) (ne_eqb c 0x001C y) in absurd (cc (e, told))
+      let reported : in_order (k ∷ (c ∷ [])) ≡ false = ap (λ (x : ℕ). in_order (x ∷ (c ∷ []))) is ∙ pair-integrity c ∙ or_from _ _ (ne_eqb c 0x8028 z) (ne_eqb c 0x001C y) in absurd (cc (e, reported))
   | sha256 is ↦
-      let told : in_order (k ∷ (c ∷ [])) ≡ false = ap (λ (x : ℕ). in_order (x ∷ (c ∷ []))) is ∙ pair-sha256 c ∙ ne_eqb c 0x8028 z in absurd (cc (e, told))
-  | fingerprint is ↦ let told : both k ≡ false = ap both is ∙ both-fingerprint in absurd (cc (w, told))
-  | ordinary a b d ↦ let told : both k ≡ false = both-ordinary k a b in absurd (cc (w, told))
+      let reported : in_order (k ∷ (c ∷ [])) ≡ false = ap (λ (x : ℕ). in_order (x ∷ (c ∷ []))) is ∙ pair-sha256 c ∙ ne_eqb c 0x8028 z in absurd (cc (e, reported))
+  | fingerprint is ↦ let reported : both k ≡ false = ap both is ∙ both-fingerprint in absurd (cc (w, reported))
+  | ordinary a b d ↦ let reported : both k ≡ false = both-ordinary k a b in absurd (cc (w, reported))
 ]
 
 is_empty-true : (xs : List ℕ) → is_empty xs ≡ true → xs ≡ []
@@ -87,8 +87,8 @@ behind_last k (c ∷ cs) w e none =
     let pair = order_pair k c cs e in
     let head : both c ≡ false = (or_parts (both c) (list_any both cs) none).0 in
     elim (which c) [
-      | integrity is ↦ let told : both c ≡ true = ap both is ∙ both-integrity in absurd (cc (head, told))
-      | sha256 is ↦ let told : both c ≡ true = ap both is ∙ both-sha256 in absurd (cc (head, told))
+      | integrity is ↦ let reported : both c ≡ true = ap both is ∙ both-integrity in absurd (cc (head, reported))
+      | sha256 is ↦ let reported : both c ≡ true = ap both is ∙ both-sha256 in absurd (cc (head, reported))
       | fingerprint is ↦
           let end : is_empty cs ≡ true = sym (in_order-fingerprint cs) ∙ ap (λ (x : ℕ). in_order (x ∷ cs)) (sym is) ∙ pair.2 in
           inr (ap (λ (x : ℕ). x ∷ cs) is ∙ ap (λ (xs : List ℕ). FINGERPRINT ∷ xs) (is_empty-true cs end))
@@ -123,8 +123,8 @@ pub type_of_both : (k : ℕ) → both k ≡ true → (eqb k FINGERPRINT ≡ fals
 type_of_both k w = elim (which k) [
   | integrity is ↦ (ne_eqb k FINGERPRINT (λ e. absurd (cc (is, e))), rw is refl)
   | sha256 is ↦ (ne_eqb k FINGERPRINT (λ e. absurd (cc (is, e))), rw is refl)
-  | fingerprint is ↦ let told : both k ≡ false = ap both is ∙ both-fingerprint in absurd (cc (w, told))
-  | ordinary a b d ↦ let told : both k ≡ false = both-ordinary k a b in absurd (cc (w, told))
+  | fingerprint is ↦ let reported : both k ≡ false = ap both is ∙ both-fingerprint in absurd (cc (w, reported))
+  | ordinary a b d ↦ let reported : both k ≡ false = both-ordinary k a b in absurd (cc (w, reported))
 ]
 
 -- ---- The covered bytes
@@ -226,11 +226,11 @@ accepted_on key d x algorithm e =
     let right = take (length x.value) (hmac a (key a) (covered_bytes d x.offset (length x.value))) in
     elim (none_or_some (hmac_fault a (length x.value))) [
       | inl none ↦
-          let told : cond (pointwise nat_eq x.value right) (Ok a) (Err IntegrityFailed) ≡ Ok algorithm = rw none at e in
-          let both = ok_cond (pointwise nat_eq x.value right) a algorithm IntegrityFailed told in
+          let reported : cond (pointwise nat_eq x.value right) (Ok a) (Err IntegrityFailed) ≡ Ok algorithm = rw none at e in
+          let both = ok_cond (pointwise nat_eq x.value right) a algorithm IntegrityFailed reported in
           (sym both.1, none, (slice_eq-Decides Decides-eqb x.value right (pointwise nat_eq x.value right) refl).0 both.0)
       | inr (fault, some) ↦
-          let told : Err (Parse fault) ≡ Ok algorithm = rw some at e in absurd cc
+          let reported : Err (Parse fault) ≡ Ok algorithm = rw some at e in absurd cc
     ]
 
 pub accepted : (wanted : ℕ → Bool) (key : IntegrityAlgorithm → List ℕ) (d : List ℕ) (algorithm : IntegrityAlgorithm) → verdict wanted key d ≡ Ok algorithm → Accepts wanted key d algorithm
@@ -238,10 +238,10 @@ unfolding verdict
 accepted wanted key d algorithm e =
     elim (none_or_some (last_shown wanted d)) [
       | inl none ↦
-          let told : Err (Parse (MissingAttribute (record { 0 = 0x0008 }))) ≡ Ok algorithm = rw none at e in absurd cc
+          let reported : Err (Parse (MissingAttribute (record { 0 = 0x0008 }))) ≡ Ok algorithm = rw none at e in absurd cc
       | inr (x, some) ↦
-          let told : verdict_on key d x ≡ Ok algorithm = rw some at e in
-          let on = accepted_on key d x algorithm told in
+          let reported : verdict_on key d x ≡ Ok algorithm = rw some at e in
+          let on = accepted_on key d x algorithm reported in
           record {
             x = x;
             last_is = some;
@@ -265,8 +265,8 @@ pub record Stands (wanted : ℕ → Bool) (d : List ℕ) (x : Shown) : Type 0 wh
 pub stands : (wanted : ℕ → Bool) (d : List ℕ) (x : Shown) → IsBytes d → last_shown wanted d ≡ Some x → Stands wanted d x
 stands wanted d x bytes last = elim (none_or_some (frame_fault d)) [
   | inl frame ↦ shown_stands frame
-  | inr (told, refused) ↦
-      let empty : last_shown wanted d ≡ None = ap (λ (xs : List Shown). find (at_type wanted) (reverse xs)) (nothing d told refused) in absurd (cc (last, empty))
+  | inr (reported, refused) ↦
+      let empty : last_shown wanted d ≡ None = ap (λ (xs : List Shown). find (at_type wanted) (reverse xs)) (nothing d reported refused) in absurd (cc (last, empty))
 ]
   where
     shown_stands : frame_fault d ≡ None → Stands wanted d x
@@ -304,9 +304,9 @@ pub verdict_missing : (wanted : ℕ → Bool) (key : IntegrityAlgorithm → List
 unfolding verdict
 verdict_missing wanted key d none = rw none refl
 
-pub verdict_unlawful : (wanted : ℕ → Bool) (key : IntegrityAlgorithm → List ℕ) (d : List ℕ) (x : Shown) (told : StunParseError) → last_shown wanted d ≡ Some x → hmac_fault (algorithm_of x.type) (length x.value) ≡ Some told → verdict wanted key d ≡ Err (Parse told)
+pub verdict_unlawful : (wanted : ℕ → Bool) (key : IntegrityAlgorithm → List ℕ) (d : List ℕ) (x : Shown) (reported : StunParseError) → last_shown wanted d ≡ Some x → hmac_fault (algorithm_of x.type) (length x.value) ≡ Some reported → verdict wanted key d ≡ Err (Parse reported)
 unfolding verdict verdict_on
-verdict_unlawful wanted key d x told last fault = rw (last, fault) refl
+verdict_unlawful wanted key d x reported last fault = rw (last, fault) refl
 
 -- the test of the value
 abbrev pub value_test : (IntegrityAlgorithm → List ℕ) → List ℕ → Shown → Bool

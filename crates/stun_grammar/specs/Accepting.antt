@@ -23,7 +23,7 @@ FingerprintIsAuthentic d c key algorithm =
 pub record IsAuthentic (key : IntegrityAlgorithm → List ℕ) (d : List ℕ)
     (algorithm : IntegrityAlgorithm) : Type 0 where
   pub covers : (c : List ℕ) × (covered (is_checked_type None) d ≡ Some c)
-  pub told : (c : List ℕ) → covered (is_checked_type None) d ≡ Some c
+  pub reported : (c : List ℕ) → covered (is_checked_type None) d ≡ Some c
       → content d ≡ authentic c (key algorithm) algorithm
   pub fingerprint : (c : List ℕ) → covered (is_checked_type None) d ≡ Some c
       → FingerprintIsAuthentic d c (key algorithm) algorithm
@@ -42,7 +42,7 @@ pub record IsAuthenticThrough (made_for : Option IntegrityAlgorithm)
     (algorithm : IntegrityAlgorithm) : Type 0 where
   pub own : IfSome made_for (λ served. algorithm ≡ served)
   pub covers : (c : List ℕ) × (covered (is_checked_type made_for) d ≡ Some c)
-  pub told : (c : List ℕ) → covered (is_checked_type made_for) d ≡ Some c
+  pub reported : (c : List ℕ) → covered (is_checked_type made_for) d ≡ Some c
       → content_through (is_checked_type made_for) d ≡ authentic c (key algorithm) algorithm
   pub fingerprint : (c : List ℕ) → covered (is_checked_type made_for) d ≡ Some c
       → last_shown (is_checked_type None) d ≡ last_shown (is_checked_type made_for) d

@@ -40,8 +40,8 @@ abbrev pub signed : Sent → List ℕ → IntegrityAlgorithm → List Signature
 signed sent key algorithm = signed_from sent.type sent.id [] sent.steps key algorithm
 
 -- the content of a message through one of its integrity attributes
-abbrev pub told : Sent → List Attribute → Content
-told sent through = record { type = sent.type; id = sent.id; attributes = placed 20 through }
+abbrev pub reported : Sent → List Attribute → Content
+reported sent through = record { type = sent.type; id = sent.id; attributes = placed 20 through }
 
 -- the bytes c were signed in no message that was sent
 abbrev pub IsUnsigned : List Sent → List ℕ → IntegrityAlgorithm → List ℕ → Type 0
@@ -58,4 +58,4 @@ pub record ComesFrom (sent : List Sent) (key : List ℕ) (algorithm : IntegrityA
   pub signature : Signature
   pub was_signed : Contains (signed message key algorithm) signature
   pub covers : signature.covered ≡ c
-  pub tells : content ≡ told message signature.through
+  pub tells : content ≡ reported message signature.through

@@ -160,10 +160,10 @@ impl From<StunParseError> for StunWriteError {
     ghost use Rattle.std.specs.Prelude.{◌≡◌};
     ghost use Rattle.stun_grammar.specs.WriteErrors.{write_error};
 
-    ghost from_gives = { λ told error. error ≡ write_error told };
+    ghost from_gives = { λ reported error. error ≡ write_error reported };
 
-    fn from(told: StunParseError) -> Self {
-        match told {
+    fn from(reported: StunParseError) -> Self {
+        match reported {
             StunParseError::Truncated { expected, actual } => {
                 StunWriteError::TooSmall { expected, actual }
             }
@@ -217,10 +217,10 @@ impl From<StunWriteError> for AddError {
     ghost use Rattle.std.specs.Prelude.{◌≡◌};
     ghost use Rattle.stun_grammar.specs.declared.error.AddError.TheVariants.{Write};
 
-    ghost from_gives = { λ told error. error ≡ Write told };
+    ghost from_gives = { λ reported error. error ≡ Write reported };
 
-    fn from(told: StunWriteError) -> Self {
-        AddError::Write(told)
+    fn from(reported: StunWriteError) -> Self {
+        AddError::Write(reported)
     }
 }
 
@@ -254,9 +254,9 @@ impl From<StunParseError> for ValidateError {
     ghost use Rattle.std.specs.Prelude.{◌≡◌};
     ghost use Rattle.stun_grammar.specs.declared.error.ValidateError.TheVariants.{Parse};
 
-    ghost from_gives = { λ told error. error ≡ Parse told };
+    ghost from_gives = { λ reported error. error ≡ Parse reported };
 
-    fn from(told: StunParseError) -> Self {
-        ValidateError::Parse(told)
+    fn from(reported: StunParseError) -> Self {
+        ValidateError::Parse(reported)
     }
 }

@@ -21,7 +21,7 @@ ghost use Rattle.stun_grammar.specs.Carrying.{Carries, CarriesPrefix};
 ghost use Rattle.stun_grammar.specs.Writing.{message_encoding, IsWritable};
 ghost use Rattle.stun_grammar.specs.Steps.{Step, sign, with_step, IsEncodable, IsOrdinaryStep, value_length, is_signing};
 ghost use Rattle.stun_grammar.specs.Sending.{Sent, body, sent_encoding, MayFollow, IsEncodableSent, IsAccepted};
-ghost use Rattle.stun_grammar.specs.Origin.{Signature, signed, told, IsUnsigned, ComesFrom};
+ghost use Rattle.stun_grammar.specs.Origin.{Signature, signed, reported, IsUnsigned, ComesFrom};
 ghost use Rattle.stun_grammar.specs.declared.integrity_algorithm.IntegrityAlgorithm.{IntegrityAlgorithm};
 
 /// The content of a message that validates is determined by the covered bytes, the key and the
@@ -29,7 +29,7 @@ ghost use Rattle.stun_grammar.specs.declared.integrity_algorithm.IntegrityAlgori
 /// is among them.
 pub fn integrity_is_local()
     // type, transaction ID and all attributes shown but a FINGERPRINT
-    ensures told { (key : IntegrityAlgorithm → List ℕ) (d c : List ℕ) (a : IntegrityAlgorithm)
+    ensures reported { (key : IntegrityAlgorithm → List ℕ) (d c : List ℕ) (a : IntegrityAlgorithm)
         → IsBytes d → Validates None key d c a → content d ≡ authentic c (key a) a }
     // the same from the verdict alone: if it is Ok, some bytes were covered
     ensures verdict { (key : IntegrityAlgorithm → List ℕ) (d : List ℕ) (a : IntegrityAlgorithm)
@@ -68,7 +68,7 @@ pub fn integrity_is_exact()
 /// checked. With a key that has no algorithm, that is the last integrity attribute.
 pub fn integrity_is_local_with_key()
     // type, transaction ID and the attributes shown through the one that was checked
-    ensures told { (made_for : Option IntegrityAlgorithm) (key : IntegrityAlgorithm → List ℕ)
+    ensures reported { (made_for : Option IntegrityAlgorithm) (key : IntegrityAlgorithm → List ℕ)
         (d c : List ℕ) (a : IntegrityAlgorithm)
         → IsBytes d → Validates made_for key d c a
         → content_through (is_checked_type made_for) d ≡ authentic c (key a) a }
@@ -118,7 +118,7 @@ pub fn integrity_has_origin()
     ensures each { (key : IntegrityAlgorithm → List ℕ) (d c : List ℕ) (a : IntegrityAlgorithm)
         (sender : Sent)
         → IsBytes d → IsEncodableSent sender → Validates None key d c a
-        → AllByRecursion (λ s. s.covered ≡ c → content d ≡ told sender s.through)
+        → AllByRecursion (λ s. s.covered ≡ c → content d ≡ reported sender s.through)
         (signed sender (key a) a) }
 {}
 

@@ -4,9 +4,9 @@ use Rattle.std.specs.Prelude.{codes}
 use Rattle.std.specs.List.{flat_map}
 use Rattle.stun_text.specs.Lists.{with_commas, comma_before}
 use Rattle.stun_grammar.specs.Chains.{Shown}
-use Rattle.stun_attrs.specs.Raw.{raw_type, raw_value}
-use Rattle.stun_attrs.specs.declared.raw.RawAttribute.{RawAttribute}
-use Rattle.stun_read.specs.Iterating.{item_view, borrowed}
+use Rattle.stun_attributes.specs.Raw.{raw_type, raw_value}
+use Rattle.stun_attributes.specs.declared.wire.raw.RawAttribute.{RawAttribute}
+use Rattle.stun_types.specs.Iterating.{item_view, borrowed}
 use Rattle.stun_plain_text.specs.PlainMessages.{attributes_text}
 use Rattle.stun_plain_text.specs.PlainValues.{attribute_text}
 

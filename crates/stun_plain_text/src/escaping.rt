@@ -5,7 +5,8 @@ ghost use Rattle.stun_grammar.specs.Names.{hex_byte};
 ghost use Rattle.stun_plain_text.specs.Escaping.{is_plain, escaped_byte, escaped};
 
 use std::convert::Infallible;
-use stun_text::{TextSink, TextSlice, hex_digit};
+use stun_text::hex_digit;
+use stun_types::{TextSink, TextSlice};
 
 /// A slice that takes text, through which text becomes printable ASCII. What isn't is escaped: a
 /// backslash, `x`, and two hexadecimal digits stand for a byte of it, and for a backslash.

@@ -6,8 +6,8 @@ ghost use Rattle.stun_base.specs.MessageTypes.{class_name};
 ghost use Rattle.stun_types.specs.KnownTypes.{facts};
 ghost use Rattle.stun_plain_text.specs.NamesOfAll.{known_type, value_form, type_name, method_name};
 
-use stun_base::{AttributeType, MessageClass, Method};
-use stun_types::attribute::{KnownType, ValueForm};
+use stun_types::attribute::{AttributeType, KnownType, ValueForm};
+use stun_types::message::{MessageClass, Method};
 
 /// Returns what an RFC says of an attribute type: its name, the form of its values, and which RFC
 /// it is; `None` for a type that neither STUN nor ICE, TURN and NAT discovery have.

@@ -2,7 +2,7 @@
 
 ghost use Rattle.std.specs.Prelude.{◌≡◌, ◌++◌, None, OnOk, length};
 ghost use Rattle.stun_grammar.specs.Showing.{frame_fault, shown};
-ghost use Rattle.stun_attrs.specs.Raw.{raw_type, raw_value};
+ghost use Rattle.stun_attributes.specs.Raw.{raw_type, raw_value};
 ghost use Rattle.stun_text.specs.Slices.{laid_over, text_answer, SliceWrote};
 ghost use Rattle.stun_types.specs.Message.{message_bytes};
 ghost use Rattle.stun_plain_text.specs.PlainMessages.{method_text, head_text, attributes_text, message_text, plain_text};
@@ -12,12 +12,12 @@ use crate::escaping::Escaper;
 use crate::names::{class_name, method_name};
 use crate::values::print_attribute;
 use std::convert::Infallible;
-use stun_attrs::RawAttribute;
-use stun_base::{MessageHeader, Method, read_header};
+use stun_base::read_header;
 use stun_grammar::put_numbered;
-use stun_read::iter_framed;
-use stun_text::{PrintText, TextSink, TextSlice, TextTooLong};
-use stun_types::message::Message;
+use stun_types::attribute::RawAttribute;
+use stun_types::message::framed::iter_framed;
+use stun_types::message::{Message, MessageHeader, Method};
+use stun_types::{PrintText, TextSink, TextSlice, TextTooLong};
 
 /// Writes a method, by its number and its name.
 fn put_method<S: TextSink>(sink: &mut S, method: Method) -> Result<(), S::Error>

@@ -6,9 +6,11 @@ ghost use Rattle.stun_values.specs.TypeLists.{types_in};
 ghost use Rattle.stun_plain_text.specs.PlainValues.{type_text, listed_types_text, unknown_attributes_text};
 
 use crate::values::{print_malformed, put_type};
-use stun_base::{AttributeType, number_at};
+use stun_base::number_at;
 use stun_grammar::attribute_types::UNKNOWN_ATTRIBUTES;
-use stun_text::{TextSink, put_comma};
+use stun_text::put_comma;
+use stun_types::TextSink;
+use stun_types::attribute::AttributeType;
 use stun_values::check_types;
 
 /// Writes the type at an index of the list, and what precedes it.

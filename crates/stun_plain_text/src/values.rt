@@ -1,18 +1,18 @@
 //! How attributes are printed.
 
 ghost use Rattle.std.specs.Prelude.{OnOk};
-ghost use Rattle.stun_attrs.specs.Raw.{raw_type, raw_value};
+ghost use Rattle.stun_attributes.specs.Raw.{raw_type, raw_value};
 ghost use Rattle.stun_plain_text.specs.PlainValues.{octets_text, number_text, address_text, xor_address_text, other_value_text, type_text, other_text, malformed_type_text, malformed_text, typed_or_other_text, attribute_text};
 
 use crate::names::{type_name, value_form};
 use crate::types::print_unknown_attributes;
 use byteorder::{BigEndian, ByteOrder};
-use stun_attrs::{Attribute, RawAttribute};
-use stun_base::{AttributeType, Hex};
+use stun_base::Hex;
 use stun_grammar::attribute_types::UNKNOWN_ATTRIBUTES;
 use stun_grammar::put_numbered;
-use stun_text::{PrintText, TextSink, put_decimal, put_socket};
-use stun_types::attribute::ValueForm;
+use stun_text::put_socket;
+use stun_types::attribute::{Attribute, AttributeType, RawAttribute, ValueForm};
+use stun_types::{PrintText, TextSink, put_decimal};
 use stun_values::{read_address, read_value, write_xored};
 
 /// Writes bytes in hexadecimal.

@@ -20,7 +20,7 @@ use Rattle.stun_values.specs.ErrorValues.{error_value}
 use Rattle.stun_values.specs.TypeLists.{type_encoding, types_encoding}
 use Rattle.stun_values.proofs.ListsLemmas.{flat_map-one, length_of_twos}
 use Rattle.stun_types.specs.Replies.{response_type, own_software, unknown_reply}
-use Rattle.stun_read.specs.LookingUp.{nth}
+use Rattle.stun_types.specs.LookingUp.{nth}
 use Rattle.stun_server.specs.Reply.{success_reply, response, unfinished_reply, binding_reply}
 use Rattle.stun_server.specs.InSlice.{overlaid}
 use Rattle.stun_server.proofs.ReplyLemmas.{xored_spelled}
@@ -133,10 +133,10 @@ refusal_in r slice one two three four (x ∷ xs) first second third some few fir
     let error = canonical ERROR_CODE reason in
     let header : first ≡ length (message_encoding kind id []) = omega (arith, first-is, length-message kind id []) in
     let named : second ≡ length (message_encoding kind id (own_software ∷ [])) = omega (arith, first-is, second-is, length-message kind id (own_software ∷ []), software_length) in
-    let told : third ≡ length (message_encoding kind id (own_software ∷ error ∷ [])) = omega (arith, first-is, second-is, third-is, length-message kind id (own_software ∷ error ∷ []), error_length) in
+    let reported : third ≡ length (message_encoding kind id (own_software ∷ error ∷ [])) = omega (arith, first-is, second-is, third-is, length-message kind id (own_software ∷ error ∷ []), error_length) in
     let software : two ≡ overlaid (message_encoding kind id (own_software ∷ [])) slice = grown kind id [] slice one two (codes "stun-types") SOFTWARE first header one-is (lit< tt) (lit< tt) two-is in
     let code : three ≡ overlaid (message_encoding kind id (own_software ∷ error ∷ [])) slice = grown kind id (own_software ∷ []) slice two three reason ERROR_CODE second named software (lit< tt) (lit< tt) three-is in
-    grown kind id (own_software ∷ error ∷ []) slice three four (types_encoding types) UNKNOWN_ATTRIBUTES third told code (lit< tt) (omega (arith, twos, few)) four-is
+    grown kind id (own_software ∷ error ∷ []) slice three four (types_encoding types) UNKNOWN_ATTRIBUTES third reported code (lit< tt) (omega (arith, twos, few)) four-is
 
 -- how long it is
 pub refusal_size : (r : List ℕ) (types : List AttributeType) → 0 < length types → length types ≤ 16384 → length (response ErrorClass r (unknown_reply types)) ≡ grown_length 64 (length (types_encoding types))

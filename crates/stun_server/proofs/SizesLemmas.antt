@@ -30,7 +30,7 @@ use Rattle.stun_grammar.proofs.AuthenticFingerprintLemmas.{shown_right, right_va
 use Rattle.stun_base.specs.declared.message_type.MessageClass.{MessageClass}
 use Rattle.stun_base.specs.declared.message_type.MessageClass.TheVariants.{Request, Indication, Success, Error as ErrorClass}
 use Rattle.stun_base.specs.MessageTypes.{class_of, method_of}
-use Rattle.stun_read.specs.LookingUp.{nth}
+use Rattle.stun_types.specs.LookingUp.{nth}
 use Rattle.stun_values.specs.Addresses.{octets, mask, address_value, IsXored, xored_value}
 use Rattle.stun_values.specs.ErrorValues.{error_value}
 use Rattle.stun_values.specs.TypeLists.{types_encoding}
@@ -216,7 +216,7 @@ reply_there source r t e = parsed (parse_fault r) refl e
   where
     parsed : (o : Option _) → parse_fault r ≡ o → cond (is_some o) None (reply_by_type (class_of (type_field r)) (method_of (type_field r)) source r) ≡ Some t → (parse_fault r ≡ None) × (t ≡ binding_reply source r)
     parsed None is made = (is, by_class (class_of (type_field r)) (method_of (type_field r)) source r t made)
-    parsed (Some told) is made = absurd cc
+    parsed (Some reported) is made = absurd cc
 
 pub small : (source : SocketAddr) (r t : List ℕ) → IsBytes r → reply source r ≡ Some t → IsSmall r t
 small source r t bytes made =

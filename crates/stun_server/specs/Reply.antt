@@ -14,7 +14,7 @@ use Rattle.stun_grammar.specs.Adding.{appended}
 use Rattle.stun_base.specs.declared.message_type.MessageClass.{MessageClass}
 use Rattle.stun_base.specs.declared.message_type.MessageClass.TheVariants.{Request, Success, Error as ErrorClass}
 use Rattle.stun_base.specs.MessageTypes.{class_of, method_of}
-use Rattle.stun_read.specs.LookingUp.{nth}
+use Rattle.stun_types.specs.LookingUp.{nth}
 use Rattle.stun_values.specs.Addresses.{xored_value}
 use Rattle.stun_types.specs.Replies.{response_type, own_software, check_reply}
 

@@ -7,8 +7,7 @@ ghost use Rattle.stun_types.specs.Replies.{unknown_types};
 ghost use Rattle.stun_server.specs.Reply.{comprehended};
 
 use byteorder::{BigEndian, ByteOrder};
-use stun_attrs::EncodeValue;
-use stun_base::AttributeType;
+use stun_types::attribute::{AttributeType, EncodeValue};
 use stun_types::message::{Message, UnknownTypes};
 
 /// The types that the server comprehends, of those that require it: none.

@@ -1,7 +1,7 @@
 //! Values that replies have, whatever the request.
 
-use stun_attrs::{EncodeValue, copy_to_start};
-use stun_types::attribute::ErrorCode;
+use stun_attributes::copy_to_start;
+use stun_types::attribute::{EncodeValue, ErrorCode};
 use stun_values::write_error;
 
 /// The name of this library.

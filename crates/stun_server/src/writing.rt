@@ -14,13 +14,11 @@ ghost use Rattle.stun_server.specs.InSlice.{overlaid};
 use crate::unknown::ListedTypes;
 use crate::values::{OwnName, UnknownAttribute};
 use std::net::SocketAddr;
-use stun_attrs::EncodeValue;
-use stun_base::{AttributeType, MessageHeader, pad_attribute_len};
+use stun_attributes::fingerprint_at;
 use stun_grammar::attribute_types;
-use stun_integrity::fingerprint_at;
-use stun_types::attribute::XorMappedAddress;
-use stun_types::message::{Message, MessageClass, MessageType};
-use stun_write::{append_encoded, append_value, write_message_header};
+use stun_types::attribute::{AttributeType, EncodeValue, XorMappedAddress, pad_attribute_len};
+use stun_types::message::write::{append_encoded, append_value, write_message_header};
+use stun_types::message::{Message, MessageClass, MessageHeader, MessageType};
 
 /// How many bytes a message of `len` bytes has with one more attribute of this value.
 #[inline(always)]

@@ -3,14 +3,14 @@
 ghost use Rattle.std.specs.Prelude.{◌≡◌, is_some};
 ghost use Rattle.stun_grammar.specs.AttributeTypes.{FINGERPRINT};
 ghost use Rattle.stun_types.specs.Message.{message_bytes};
-ghost use Rattle.stun_read.specs.LookingUp.{nth};
+ghost use Rattle.stun_types.specs.LookingUp.{nth};
 
 use crate::unknown::ListedTypes;
 use crate::writing::{unfinished_length, write_fingerprint, write_unfinished};
 use std::alloc::Global;
 use std::net::SocketAddr;
-use stun_base::AttributeType;
 use stun_grammar::attribute_types;
+use stun_types::attribute::AttributeType;
 use stun_types::message::{Message, StunWriteError};
 
 /// How many bytes a FINGERPRINT has, header and value.

@@ -12,17 +12,17 @@ pub report-message : (d : List ℕ) (password : Option (List ℕ)) → parse_fau
 unfolding report
 report-message d password e = rw e refl
 
-pub report-refusal : (d : List ℕ) (password : Option (List ℕ)) (told : StunParseError) → parse_fault d ≡ Some told → report d password ≡ refusal_line told
+pub report-refusal : (d : List ℕ) (password : Option (List ℕ)) (reported : StunParseError) → parse_fault d ≡ Some reported → report d password ≡ refusal_line reported
 unfolding report
-report-refusal d password told e = rw e refl
+report-refusal d password reported e = rw e refl
 
 pub end_of-message : (d : List ℕ) (password : Option (List ℕ)) → parse_fault d ≡ None → end_of d password ≡ end_of_message d password
 unfolding end_of
 end_of-message d password e = rw e refl
 
-pub end_of-refusal : (d : List ℕ) (password : Option (List ℕ)) (told : StunParseError) → parse_fault d ≡ Some told → end_of d password ≡ Refused
+pub end_of-refusal : (d : List ℕ) (password : Option (List ℕ)) (reported : StunParseError) → parse_fault d ≡ Some reported → end_of d password ≡ Refused
 unfolding end_of
-end_of-refusal d password told e = rw e refl
+end_of-refusal d password reported e = rw e refl
 
 -- the report of a message, line by line
 pub made_report : (d bytes : List ℕ) (password : Option (List ℕ)) (header : Header) (empty first second all : List ℕ) → parse_fault d ≡ None → header ≡ header_of d → bytes ≡ d

@@ -5,7 +5,7 @@ ghost use Rattle.stun_grammar.specs.Parsing.{parse_fault};
 ghost use Rattle.stun_grammar.specs.Showing.{shown};
 ghost use Rattle.std.specs.List.{flat_map};
 ghost use Rattle.stun_base.specs.MessageTypes.{header_of};
-ghost use Rattle.stun_attrs.specs.Raw.{raw_type, raw_value};
+ghost use Rattle.stun_attributes.specs.Raw.{raw_type, raw_value};
 ghost use Rattle.stun_types.specs.Message.{message_bytes};
 ghost use Rattle.stun_show.specs.Report.{header_line, value_text, attribute_line, refusal_line, password_verdict, integrity_line, integrity_lines, end_of_verdict, end_of_message, report, end_of};
 ghost use Rattle.std.specs.Option.{option_map};
@@ -14,8 +14,7 @@ use std::alloc::{AllocError, Global};
 use stun_base::Hex;
 use stun_keys::keys::key_of_bytes;
 use stun_types::attribute::RawAttribute;
-use stun_types::message::keys::IntegrityAlgorithm;
-use stun_types::message::{Message, MessageHeader, StunParseError, ValidateError};
+use stun_types::message::{IntegrityAlgorithm, Message, MessageHeader, StunParseError, ValidateError};
 
 /// How a run ends that has written a report.
 #[derive(Debug, Clone, Copy, PartialEq, Eq)]

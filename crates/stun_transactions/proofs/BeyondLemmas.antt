@@ -5,7 +5,7 @@ use Rattle.std.specs.Option.{option_or}
 use Rattle.std.proofs.lemmas.List.{map-append}
 use Rattle.std.proofs.lemmas.List.Folds.{find-append}
 use Rattle.stun_grammar.specs.declared.attribute_type.AttributeType.{AttributeType}
-use Rattle.stun_attrs.specs.declared.raw.RawAttribute.{RawAttribute}
+use Rattle.stun_attributes.specs.declared.wire.raw.RawAttribute.{RawAttribute}
 use Rattle.stun_types.specs.Replies.{shown_types}
 use Rattle.stun_types.proofs.ShownTypesLemmas.{item_type, SoFar}
 

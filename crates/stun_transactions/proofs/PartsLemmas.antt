@@ -15,7 +15,7 @@ use Rattle.stun_transactions.specs.declared.retransmission.Action.{Action}
 use Rattle.stun_transactions.specs.declared.retransmission.Action.TheVariants.{Send, WaitUntil, Ended}
 use Rattle.stun_transactions.specs.declared.retransmission.TransactionEnd.{TransactionEnd}
 use Rattle.stun_transactions.specs.declared.guard.Protection.{Protection}
-use Rattle.stun_transactions.specs.declared.usage.Usage.{Usage}
+use Rattle.stun_transactions.specs.declared.response_policy.ResponsePolicy.{ResponsePolicy}
 use Rattle.stun_transactions.specs.declared.guard.Protection.TheVariants.{Unprotected, FirstLongTerm, ShortTerm, LongTerm}
 use Rattle.stun_transactions.specs.declared.received.Discard.TheVariants.{NotAuthentic, OtherAlgorithm, BidDown, UnsignedBadRequest, NoFingerprint}
 use Rattle.stun_transactions.specs.declared.received.Outcome.{Outcome}
@@ -174,15 +174,15 @@ matching true false e = absurd cc
 matching false true e = absurd cc
 matching false false e = refl
 
-unrefused : (request : Bool) (protected signed : Bool) (told : BeginError) → (if request then mismatch protected signed else Some told) ≡ None → mismatch protected signed ≡ None
-unrefused true protected signed told e = e
-unrefused false protected signed told e = absurd cc
+unrefused : (request : Bool) (protected signed : Bool) (reported : BeginError) → (if request then mismatch protected signed else Some reported) ≡ None → mismatch protected signed ≡ None
+unrefused true protected signed reported e = e
+unrefused false protected signed reported e = absurd cc
 
 agree : (s : Bool) → (if s then not s else s) ≡ false
 agree true = refl
 agree false = refl
 
-pub begins : (r : List ℕ) (schedule : Schedule) (transport : TransportType) (protection : Protection) (usage : Usage) (now : Duration) (transaction : Transaction) → begin_fault protection r ≡ None → Begins r schedule transport protection usage now transaction
+pub begins : (r : List ℕ) (schedule : Schedule) (transport : TransportType) (protection : Protection) (usage : ResponsePolicy) (now : Duration) (transaction : Transaction) → begin_fault protection r ≡ None → Begins r schedule transport protection usage now transaction
     → whole_fault (parts_of transaction) (key_of transaction) ≡ None
 begins r schedule transport protection usage now transaction free so =
     let terms = terms_of transaction in

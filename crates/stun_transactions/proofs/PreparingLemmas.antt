@@ -6,13 +6,13 @@ use Rattle.stun_transactions.specs.declared.guard.Protection.{Protection}
 use Rattle.stun_transactions.specs.declared.guard.Protection.TheVariants.{Unprotected, FirstLongTerm, ShortTerm, LongTerm}
 use Rattle.stun_transactions.specs.declared.guard.Signed.{Signed}
 use Rattle.stun_transactions.specs.declared.terms.Terms.{Terms}
-use Rattle.stun_transactions.specs.declared.usage.Usage.{Usage}
+use Rattle.stun_transactions.specs.declared.response_policy.ResponsePolicy.{ResponsePolicy}
 use Rattle.stun_transactions.specs.Guards.{HasSameKey, proof_of, guard_fault}
 use Rattle.stun_transactions.specs.Receiving.{received_outcome}
 use Rattle.stun_transactions.specs.Terms.{AreSameTerms}
 
 -- by the same key the same is authentic
-proofs : (by other : Protection) (usage : Usage) (signed : Signed) (d : List ℕ) → HasSameKey by other → proof_of other usage signed d ≡ proof_of by usage signed d
+proofs : (by other : Protection) (usage : ResponsePolicy) (signed : Signed) (d : List ℕ) → HasSameKey by other → proof_of other usage signed d ≡ proof_of by usage signed d
 proofs Unprotected other usage signed d is = rw is refl
 proofs FirstLongTerm other usage signed d is = rw is refl
 proofs (ShortTerm key) (ShortTerm kept) usage signed d is = rw (is.algorithm_is, is.bytes_are) refl
@@ -25,7 +25,7 @@ proofs (LongTerm key) FirstLongTerm usage signed d is = elim is [ ]
 proofs (LongTerm key) (ShortTerm kept) usage signed d is = elim is [ ]
 
 -- the same key keeps out the same responses
-guards : (by other : Protection) (usage : Usage) (signed : Signed) (d : List ℕ) → HasSameKey by other → guard_fault other usage signed d ≡ guard_fault by usage signed d
+guards : (by other : Protection) (usage : ResponsePolicy) (signed : Signed) (d : List ℕ) → HasSameKey by other → guard_fault other usage signed d ≡ guard_fault by usage signed d
 guards Unprotected other usage signed d is = rw is refl
 guards FirstLongTerm other usage signed d is = rw is refl
 guards (ShortTerm key) (ShortTerm kept) usage signed d is = rw (is.algorithm_is, is.bytes_are) refl

@@ -183,5 +183,5 @@ receiving_stays terms state understood d =
       sent = same_sent o state;
       last = same_last o state;
       stopped = λ e. same_stopped o state ∙ e;
-      ended = λ e. ap (λ (told : Outcome). after told state) (nothing_received terms state understood d e);
+      ended = λ e. ap (λ (reported : Outcome). after reported state) (nothing_received terms state understood d e);
     }

@@ -6,8 +6,8 @@ use Rattle.std.specs.List.{position, position_or_len}
 use Rattle.std.proofs.lemmas.Bool.{cases_eq, cases_lt}
 use Rattle.std.proofs.lemmas.List.{get_or_past}
 use Rattle.std.specs.declared.time.Duration.{Duration}
-use Rattle.stun_transactions.specs.declared.slots.Task.{Task}
-use Rattle.stun_transactions.specs.declared.slots.Task.TheVariants.{Send, Ended, WaitUntil, Idle}
+use Rattle.stun_transactions.specs.declared.slots.TransactionsAction.{TransactionsAction}
+use Rattle.stun_transactions.specs.declared.slots.TransactionsAction.TheVariants.{Send, Ended, WaitUntil, Idle}
 use Rattle.stun_transactions.specs.declared.transaction.Transaction.{Transaction}
 use Rattle.stun_transactions.specs.Slots.{id_of, has_id, has_turn, is_free, in_slot, place_of, HasDistinctIds, changed, IsWait, PollsSlot, PollsSlots, room_fault, add_fault, IsAdded, Adds, addressee}
 use Rattle.std.specs.Option.{option_map_or}
@@ -16,7 +16,7 @@ use Rattle.stun_grammar.specs.declared.error.StunParseError.{StunParseError}
 use Rattle.stun_grammar.specs.Headers.{id_field}
 use Rattle.stun_grammar.specs.Parsing.{parse_fault}
 use Rattle.stun_transactions.specs.declared.guard.Protection.{Protection}
-use Rattle.stun_transactions.specs.declared.usage.Usage.{Usage}
+use Rattle.stun_transactions.specs.declared.response_policy.ResponsePolicy.{ResponsePolicy}
 use Rattle.stun_transactions.specs.declared.schedule.Schedule.{Schedule}
 use Rattle.stun_transactions.specs.declared.terms.BeginError.{BeginError}
 use Rattle.stun_transactions.specs.Terms.{begin_fault}
@@ -73,7 +73,7 @@ pub changed_distinct : (f : Transaction → Transaction) → ((t : Transaction) 
 changed_distinct f same place slots = distinct_kept slots (changed f place slots) (changed_keeps f same place slots)
 
 -- what a poll leaves in a slot
-polled_was : (a : Option Transaction) (now : Duration) (task : Task) (b : Option Transaction) → PollsSlot a now task b → (u : Transaction) → b ≡ Some u → Was a u
+polled_was : (a : Option Transaction) (now : Duration) (task : TransactionsAction) (b : Option Transaction) → PollsSlot a now task b → (u : Transaction) → b ≡ Some u → Was a u
 polled_was None now task b polls u e = absurd polls
 polled_was (Some t) now (Send id) None polls u e = absurd polls
 polled_was (Some t) now (Send id) (Some v) polls u e =
@@ -83,7 +83,7 @@ polled_was (Some t) now (Ended id end) (Some v) polls u e = absurd polls
 polled_was (Some t) now (WaitUntil until) b polls u e = absurd polls
 polled_was (Some t) now Idle b polls u e = absurd polls
 
-polls_keep : (old : List (Option Transaction)) (now : Duration) (task : Task) (new : List (Option Transaction)) (place : Option ℕ)
+polls_keep : (old : List (Option Transaction)) (now : Duration) (task : TransactionsAction) (new : List (Option Transaction)) (place : Option ℕ)
     → MatchOption place (IsWait old task × (new ≡ old)) (λ at. PollsSlot (in_slot old at) now task (in_slot new at) × (new ≡ slice_set old at (in_slot new at)))
     → Keeps old new
 polls_keep old now task new None waits i u h = record { transaction = u; is = sym (ap (λ slots. in_slot slots i) waits.1) ∙ h; same = refl }
@@ -91,7 +91,7 @@ polls_keep old now task new (Some at) polls i u h =
     written_keeps old at (in_slot new at) (polled_was (in_slot old at) now task (in_slot new at) polls.0) i u (sym (ap (λ slots. in_slot slots i) polls.1) ∙ h)
 
 -- a poll keeps the IDs distinct
-pub polls_distinct : (old : List (Option Transaction)) (now : Duration) (task : Task) (new : List (Option Transaction)) → PollsSlots old now task new → HasDistinctIds old → HasDistinctIds new
+pub polls_distinct : (old : List (Option Transaction)) (now : Duration) (task : TransactionsAction) (new : List (Option Transaction)) → PollsSlots old now task new → HasDistinctIds old → HasDistinctIds new
 polls_distinct old now task new polls = distinct_kept old new (polls_keep old now task new (position (has_turn now) old) polls)
 
 -- why none is added, by whether its ID is in use and whether a slot is free
@@ -202,7 +202,7 @@ by_begin (Some reason) x e = absurd cc
 fault_is : (protection : Protection) (r : List ℕ) (id : ℕ) (slots : List (Option Transaction)) → begin_fault protection r ≡ None → id ≡ id_field r → add_fault protection r slots ≡ room_fault id slots
 fault_is protection r id slots none e = by_begin (begin_fault protection r) (room_fault (id_field r) slots) none ∙ ap (λ n. room_fault n slots) (sym e)
 
-pub begun : (r : List ℕ) (schedule : Schedule) (transport : TransportType) (protection : Protection) (usage : Usage) (now : Duration) (t : Transaction) (old new : List (Option Transaction)) (x : Result Unit AddError)
+pub begun : (r : List ℕ) (schedule : Schedule) (transport : TransportType) (protection : Protection) (usage : ResponsePolicy) (now : Duration) (t : Transaction) (old new : List (Option Transaction)) (x : Result Unit AddError)
     → begin_fault protection r ≡ None → Begins r schedule transport protection usage now t
     → MatchResult x (λ _. (room_fault (id_of t) old ≡ None) × IsAdded t old new) (λ e. (room_fault (id_of t) old ≡ Some e) × (new ≡ old))
     → MatchResult x (λ _. (add_fault protection r old ≡ None) × Adds r schedule transport protection usage now old new) (λ e. (add_fault protection r old ≡ Some e) × (new ≡ old))

@@ -31,7 +31,7 @@ use Rattle.stun_transactions.specs.declared.received.Failure.TheVariants.{Unknow
 use Rattle.stun_transactions.specs.declared.received.Outcome.{Outcome}
 use Rattle.stun_transactions.specs.declared.received.Outcome.TheVariants.{NotForThis, Failed, Error}
 use Rattle.stun_transactions.specs.declared.terms.Terms.{Terms}
-use Rattle.stun_transactions.specs.declared.usage.Usage.{Usage}
+use Rattle.stun_transactions.specs.declared.response_policy.ResponsePolicy.{ResponsePolicy}
 use Rattle.stun_transactions.specs.Guards.{guard_fault, mechanism_fault, proof_of, matched_by, signed_by, is_signed, have_common, signs_by, validated, is_unsigned_bad_request}
 use Rattle.stun_transactions.specs.Outcomes.{is_open}
 use Rattle.stun_transactions.specs.Receiving.{received_outcome, claim_of, discarded, content, content_by_class}
@@ -43,20 +43,20 @@ use Rattle.stun_transactions.specs.Usages.{lacks_fingerprint}
 -- ---- What is authentic
 
 -- what validates, with enough bytes, is authentic
-long_enough : (shortest : ℕ) (d : List ℕ) (b a : IntegrityAlgorithm) (long : Bool) → (if long then Some b else None) ≡ Some a → (b ≡ a) × (long ≡ true)
-long_enough shortest d b a true e = (cc, refl)
-long_enough shortest d b a false e = absurd cc
+long_enough : (min_hmac_length : ℕ) (d : List ℕ) (b a : IntegrityAlgorithm) (long : Bool) → (if long then Some b else None) ≡ Some a → (b ≡ a) × (long ≡ true)
+long_enough min_hmac_length d b a true e = (cc, refl)
+long_enough min_hmac_length d b a false e = absurd cc
 
-proved : (shortest : ℕ) (key : IntegrityKey) (d : List ℕ) (r : Result IntegrityAlgorithm ValidateError) (a : IntegrityAlgorithm) → IsBytes d → parse_fault d ≡ None → validated key d ≡ r
-    → proved_at shortest d r ≡ Some a → IsAuthenticBy shortest key d a
-proved shortest key d (Ok b) a bytes parses e is =
-    let both = long_enough shortest d b a (has_least_length shortest b d) is in
+proved : (min_hmac_length : ℕ) (key : IntegrityKey) (d : List ℕ) (r : Result IntegrityAlgorithm ValidateError) (a : IntegrityAlgorithm) → IsBytes d → parse_fault d ≡ None → validated key d ≡ r
+    → proved_at min_hmac_length d r ≡ Some a → IsAuthenticBy min_hmac_length key d a
+proved min_hmac_length key d (Ok b) a bytes parses e is =
+    let both = long_enough min_hmac_length d b a (has_least_length min_hmac_length b d) is in
     let right : validated key d ≡ Ok a = e ∙ ap (λ (x : IntegrityAlgorithm). Ok x) both.0 in
     record {
       authentic = is_authentic_through (key_algorithm key) (λ _. key_bytes key) d a bytes parses right;
-      long = sym (ap (λ (x : IntegrityAlgorithm). has_least_length shortest x d) both.0) ∙ both.1;
+      long = sym (ap (λ (x : IntegrityAlgorithm). has_least_length min_hmac_length x d) both.0) ∙ both.1;
     }
-proved shortest key d (Err x) a bytes parses e is = absurd cc
+proved min_hmac_length key d (Err x) a bytes parses e is = absurd cc
 
 -- one that matches is one, by which the request is signed
 by_signed : (signed : Signed) (b a : IntegrityAlgorithm) (there : Bool) → signs_by signed b ≡ there → (if there then Some b else None) ≡ Some a → (Some b ≡ Some a) × (signs_by signed a ≡ true)
@@ -74,24 +74,24 @@ either_is_some true x y e = absurd cc
 either_is_some false x y e = absurd cc
 
 -- by a short-term credential it is authentic
-short : (shortest : ℕ) (key : IntegrityKey) (signed : Signed) (d : List ℕ) (other : Bool) (found proof : Option IntegrityAlgorithm) → IsBytes d → parse_fault d ≡ None
-    → proved_at shortest d (validated key d) ≡ found → matched_by signed found ≡ proof
-    → (if is_some proof then None else (if other then Some OtherAlgorithm else Some NotAuthentic)) ≡ None → IsProved (ShortTerm key) shortest signed d proof
-short shortest key signed d other found None bytes parses is matches passes = absurd (either_is_some other OtherAlgorithm NotAuthentic passes)
-short shortest key signed d other found (Some a) bytes parses is matches passes =
+short : (min_hmac_length : ℕ) (key : IntegrityKey) (signed : Signed) (d : List ℕ) (other : Bool) (found proof : Option IntegrityAlgorithm) → IsBytes d → parse_fault d ≡ None
+    → proved_at min_hmac_length d (validated key d) ≡ found → matched_by signed found ≡ proof
+    → (if is_some proof then None else (if other then Some OtherAlgorithm else Some NotAuthentic)) ≡ None → IsProved (ShortTerm key) min_hmac_length signed d proof
+short min_hmac_length key signed d other found None bytes parses is matches passes = absurd (either_is_some other OtherAlgorithm NotAuthentic passes)
+short min_hmac_length key signed d other found (Some a) bytes parses is matches passes =
     let both = matched signed found a matches in
-    (proved shortest key d (validated key d) a bytes parses refl (is ∙ both.0), both.1)
+    (proved min_hmac_length key d (validated key d) a bytes parses refl (is ∙ both.0), both.1)
 
 -- by a long-term one it is, or it is a challenge
-long : (shortest : ℕ) (key : IntegrityKey) (signed : Signed) (d : List ℕ) (asks bid bad : Bool) (proof : Option IntegrityAlgorithm) → IsBytes d → parse_fault d ≡ None
-    → is_challenge d ≡ asks → proved_at shortest d (validated key d) ≡ proof
+long : (min_hmac_length : ℕ) (key : IntegrityKey) (signed : Signed) (d : List ℕ) (asks bid bad : Bool) (proof : Option IntegrityAlgorithm) → IsBytes d → parse_fault d ≡ None
+    → is_challenge d ≡ asks → proved_at min_hmac_length d (validated key d) ≡ proof
     → (if asks then None else (if bid then Some BidDown else (if bad then Some UnsignedBadRequest else (if is_some proof then None else Some NotAuthentic)))) ≡ None
-    → IsProved (LongTerm key) shortest signed d proof
-long shortest key signed d asks bid bad (Some a) bytes parses asked is passes = proved shortest key d (validated key d) a bytes parses refl is
-long shortest key signed d true bid bad None bytes parses asked is passes = asked
-long shortest key signed d false true bad None bytes parses asked is passes = absurd cc
-long shortest key signed d false false true None bytes parses asked is passes = absurd cc
-long shortest key signed d false false false None bytes parses asked is passes = absurd cc
+    → IsProved (LongTerm key) min_hmac_length signed d proof
+long min_hmac_length key signed d asks bid bad (Some a) bytes parses asked is passes = proved min_hmac_length key d (validated key d) a bytes parses refl is
+long min_hmac_length key signed d true bid bad None bytes parses asked is passes = asked
+long min_hmac_length key signed d false true bad None bytes parses asked is passes = absurd cc
+long min_hmac_length key signed d false false true None bytes parses asked is passes = absurd cc
+long min_hmac_length key signed d false false false None bytes parses asked is passes = absurd cc
 
 -- and it is fit
 fit : (d : List ℕ) (authentic asks bid bad : Bool) → is_challenge d ≡ asks → is_bid_down d ≡ bid → is_unsigned_bad_request d ≡ bad
@@ -108,14 +108,14 @@ fit_by FirstLongTerm authentic signed d passes = fit d true (is_challenge d) (is
 fit_by (ShortTerm key) authentic signed d passes = tt
 fit_by (LongTerm key) authentic signed d passes = fit d authentic (is_challenge d) (is_bid_down d) (is_unsigned_bad_request d) refl refl refl passes
 
-proved_as : (p : Protection) (usage : Usage) (signed : Signed) (d : List ℕ) → IsBytes d → parse_fault d ≡ None → mechanism_fault p (is_some (proof_of p usage signed d)) signed d ≡ None
-    → IsProved p usage.shortest signed d (proof_of p usage signed d)
+proved_as : (p : Protection) (usage : ResponsePolicy) (signed : Signed) (d : List ℕ) → IsBytes d → parse_fault d ≡ None → mechanism_fault p (is_some (proof_of p usage signed d)) signed d ≡ None
+    → IsProved p usage.min_hmac_length signed d (proof_of p usage signed d)
 proved_as Unprotected usage signed d bytes parses passes = refl
 proved_as FirstLongTerm usage signed d bytes parses passes = refl
 proved_as (ShortTerm key) usage signed d bytes parses passes =
-    short usage.shortest key signed d (is_signed (signed_by d) && not (have_common signed (signed_by d))) (proved_at usage.shortest d (validated key d)) (proof_of (ShortTerm key) usage signed d) bytes parses refl refl passes
+    short usage.min_hmac_length key signed d (is_signed (signed_by d) && not (have_common signed (signed_by d))) (proved_at usage.min_hmac_length d (validated key d)) (proof_of (ShortTerm key) usage signed d) bytes parses refl refl passes
 proved_as (LongTerm key) usage signed d bytes parses passes =
-    long usage.shortest key signed d (is_challenge d) (is_bid_down d) (is_unsigned_bad_request d) (proof_of (LongTerm key) usage signed d) bytes parses refl refl passes
+    long usage.min_hmac_length key signed d (is_challenge d) (is_bid_down d) (is_unsigned_bad_request d) (proof_of (LongTerm key) usage signed d) bytes parses refl refl passes
 
 -- it shows a FINGERPRINT if one must be there
 shown : (lacks : Bool) (fault : Option Discard) → (if lacks then Some NoFingerprint else fault) ≡ None → (lacks ≡ false) × (fault ≡ None)
@@ -141,29 +141,29 @@ by_types proof None class d taken = by_class proof class d taken
 by_types proof (Some t) class d taken = absurd cc
 
 -- what is taken parses, answers, and isn't kept out
-record Passed (fault : Option StunParseError) (answers : Bool) (kept : Option Discard) (told is : Outcome) : Type 0 where
+record Passed (fault : Option StunParseError) (answers : Bool) (kept : Option Discard) (reported is : Outcome) : Type 0 where
   parses : fault ≡ None
   right : answers ≡ true
   kept_in : kept ≡ None
-  is_told : is ≡ told
+  is_reported : is ≡ reported
 
-passed : (ongoing : Bool) (fault : Option StunParseError) (answers : Bool) (kept : Option Discard) (transport : TransportType) (claim : Claim) (told : Outcome)
-    → is_taken (if ongoing && not (is_some fault) then (if answers then option_map_or (discarded transport claim) kept told else NotForThis) else NotForThis) ≡ true
-    → Passed fault answers kept told (if ongoing && not (is_some fault) then (if answers then option_map_or (discarded transport claim) kept told else NotForThis) else NotForThis)
-passed true None true None transport claim told taken = record { parses = refl; right = refl; kept_in = refl; is_told = refl }
-passed true None true (Some NotAuthentic) Udp claim told taken = absurd cc
-passed true None true (Some NotAuthentic) Tcp claim told taken = absurd cc
-passed true None true (Some OtherAlgorithm) Udp claim told taken = absurd cc
-passed true None true (Some OtherAlgorithm) Tcp claim told taken = absurd cc
-passed true None true (Some BidDown) Udp claim told taken = absurd cc
-passed true None true (Some BidDown) Tcp claim told taken = absurd cc
-passed true None true (Some UnsignedBadRequest) Udp claim told taken = absurd cc
-passed true None true (Some UnsignedBadRequest) Tcp claim told taken = absurd cc
-passed true None true (Some NoFingerprint) Udp claim told taken = absurd cc
-passed true None true (Some NoFingerprint) Tcp claim told taken = absurd cc
-passed true None false kept transport claim told taken = absurd cc
-passed true (Some e) answers kept transport claim told taken = absurd cc
-passed false fault answers kept transport claim told taken = absurd cc
+passed : (ongoing : Bool) (fault : Option StunParseError) (answers : Bool) (kept : Option Discard) (transport : TransportType) (claim : Claim) (reported : Outcome)
+    → is_taken (if ongoing && not (is_some fault) then (if answers then option_map_or (discarded transport claim) kept reported else NotForThis) else NotForThis) ≡ true
+    → Passed fault answers kept reported (if ongoing && not (is_some fault) then (if answers then option_map_or (discarded transport claim) kept reported else NotForThis) else NotForThis)
+passed true None true None transport claim reported taken = record { parses = refl; right = refl; kept_in = refl; is_reported = refl }
+passed true None true (Some NotAuthentic) Udp claim reported taken = absurd cc
+passed true None true (Some NotAuthentic) Tcp claim reported taken = absurd cc
+passed true None true (Some OtherAlgorithm) Udp claim reported taken = absurd cc
+passed true None true (Some OtherAlgorithm) Tcp claim reported taken = absurd cc
+passed true None true (Some BidDown) Udp claim reported taken = absurd cc
+passed true None true (Some BidDown) Tcp claim reported taken = absurd cc
+passed true None true (Some UnsignedBadRequest) Udp claim reported taken = absurd cc
+passed true None true (Some UnsignedBadRequest) Tcp claim reported taken = absurd cc
+passed true None true (Some NoFingerprint) Udp claim reported taken = absurd cc
+passed true None true (Some NoFingerprint) Tcp claim reported taken = absurd cc
+passed true None false kept transport claim reported taken = absurd cc
+passed true (Some e) answers kept transport claim reported taken = absurd cc
+passed false fault answers kept transport claim reported taken = absurd cc
 
 pub right : (terms : Terms) (state : RetransmissionState) (understood : List AttributeType) (d : List ℕ) → IsBytes d → is_taken (received_outcome terms state understood d) ≡ true
     → IsRightResponse terms d (proof_in (received_outcome terms state understood d))
@@ -171,12 +171,12 @@ right terms state understood d bytes taken =
     let proof = proof_of terms.protection terms.usage terms.signed d in
     let p = passed (is_open state) (parse_fault d) (is_answer terms d) (guard_fault terms.protection terms.usage terms.signed d) terms.plan.transport (claim_of d) (content proof understood d) taken in
     let kept = shown (lacks_fingerprint terms.usage d) (mechanism_fault terms.protection (is_some proof) terms.signed d) p.kept_in in
-    let there : is_taken (content proof understood d) ≡ true = sym (ap is_taken p.is_told) ∙ taken in
-    let same : proof_in (received_outcome terms state understood d) ≡ proof = ap proof_in p.is_told ∙ by_types proof (first_beyond understood d) (class_of (type_field d)) d there in
+    let there : is_taken (content proof understood d) ≡ true = sym (ap is_taken p.is_reported) ∙ taken in
+    let same : proof_in (received_outcome terms state understood d) ≡ proof = ap proof_in p.is_reported ∙ by_types proof (first_beyond understood d) (class_of (type_field d)) d there in
     record {
       parses = p.parses;
       answers = p.right;
       fingerprint = kept.0;
       fit = fit_by terms.protection (is_some proof) terms.signed d kept.1;
-      proved = subst (IsProved terms.protection terms.usage.shortest terms.signed d) (sym same) (proved_as terms.protection terms.usage terms.signed d bytes p.parses kept.1);
+      proved = subst (IsProved terms.protection terms.usage.min_hmac_length terms.signed d) (sym same) (proved_as terms.protection terms.usage terms.signed d bytes p.parses kept.1);
     }

@@ -15,7 +15,7 @@ use Rattle.stun_transactions.specs.declared.guard.Protection.TheVariants.{Unprot
 use Rattle.stun_transactions.specs.declared.guard.Signed.{Signed}
 use Rattle.stun_transactions.specs.declared.received.Discard.{Discard}
 use Rattle.stun_transactions.specs.declared.received.Discard.TheVariants.{NotAuthentic, OtherAlgorithm, BidDown, UnsignedBadRequest, NoFingerprint}
-use Rattle.stun_transactions.specs.declared.usage.Usage.{Usage}
+use Rattle.stun_transactions.specs.declared.response_policy.ResponsePolicy.{ResponsePolicy}
 use Rattle.stun_transactions.specs.Usages.{lacks_fingerprint}
 
 -- ---- How a request is protected
@@ -84,12 +84,12 @@ matched_by signed (Some algorithm) = if signs_by signed algorithm then Some algo
 
 -- the algorithm of the attribute that authenticates d, as a response to a request that was protected
 -- so, if one does
-abbrev pub proof_of : Protection → Usage → Signed → List ℕ → Option IntegrityAlgorithm
+abbrev pub proof_of : Protection → ResponsePolicy → Signed → List ℕ → Option IntegrityAlgorithm
 proof_of Unprotected usage signed d = None
 proof_of FirstLongTerm usage signed d = None
 proof_of (ShortTerm key) usage signed d =
-    matched_by signed (proved_at usage.shortest d (validated key d))
-proof_of (LongTerm key) usage signed d = proved_at usage.shortest d (validated key d)
+    matched_by signed (proved_at usage.min_hmac_length d (validated key d))
+proof_of (LongTerm key) usage signed d = proved_at usage.min_hmac_length d (validated key d)
 
 -- ---- Which responses are discarded
 
@@ -124,7 +124,7 @@ mechanism_fault (LongTerm key) authentic signed d = long_term_fault authentic d
 
 -- why d is discarded as a response to a request that was protected so: a FINGERPRINT is missing
 -- if the usage sends them (section 6.3), or the mechanism keeps it out
-abbrev pub guard_fault : Protection → Usage → Signed → List ℕ → Option Discard
+abbrev pub guard_fault : Protection → ResponsePolicy → Signed → List ℕ → Option Discard
 guard_fault protection usage signed d =
     if lacks_fingerprint usage d then Some NoFingerprint
     else mechanism_fault protection (is_some (proof_of protection usage signed d)) signed d

@@ -8,8 +8,8 @@ use Rattle.stun_grammar.specs.Headers.{type_field, id_field}
 use Rattle.stun_grammar.specs.Parsing.{parse_fault}
 use Rattle.stun_base.specs.declared.message_type.MessageClass.TheVariants.{Success}
 use Rattle.stun_base.specs.MessageTypes.{class_of}
-use Rattle.stun_attrs.specs.Reading.{Reads}
-use Rattle.stun_read.specs.LookingUp.{nth}
+use Rattle.stun_attributes.specs.Reading.{Reads}
+use Rattle.stun_types.specs.LookingUp.{nth}
 use Rattle.stun_types.specs.Replies.{is_answer_to}
 use Rattle.stun_values.specs.Addresses.{Spells, IsXored, address_fault}
 

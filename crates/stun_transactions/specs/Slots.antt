@@ -12,11 +12,11 @@ use Rattle.stun_transactions.specs.declared.retransmission.Action.{Action}
 use Rattle.stun_transactions.specs.declared.retransmission.RetransmissionState.{RetransmissionState}
 use Rattle.stun_transactions.specs.declared.retransmission.TransactionEnd.{TransactionEnd}
 use Rattle.stun_transactions.specs.declared.guard.Protection.{Protection}
-use Rattle.stun_transactions.specs.declared.usage.Usage.{Usage}
+use Rattle.stun_transactions.specs.declared.response_policy.ResponsePolicy.{ResponsePolicy}
 use Rattle.stun_transactions.specs.declared.received.Received.{Received}
 use Rattle.stun_transactions.specs.declared.schedule.Schedule.{Schedule}
-use Rattle.stun_transactions.specs.declared.slots.Task.{Task}
-use Rattle.stun_transactions.specs.declared.slots.Task.TheVariants.{Send, Ended, WaitUntil, Idle}
+use Rattle.stun_transactions.specs.declared.slots.TransactionsAction.{TransactionsAction}
+use Rattle.stun_transactions.specs.declared.slots.TransactionsAction.TheVariants.{Send, Ended, WaitUntil, Idle}
 use Rattle.stun_transactions.specs.declared.slots.AddError.{AddError}
 use Rattle.stun_transactions.specs.declared.slots.AddError.TheVariants.{Begin, InUse, Full}
 use Rattle.stun_transactions.specs.declared.transaction.Transaction.{Transaction}
@@ -83,7 +83,7 @@ IsAdded transaction old new =
 
 -- a transaction of the request r begins in the first free slot
 pub record Adds (r : List ℕ) (schedule : Schedule) (transport : TransportType)
-    (protection : Protection) (usage : Usage) (now : Duration)
+    (protection : Protection) (usage : ResponsePolicy) (now : Duration)
     (old new : List (Option Transaction)) : Type 0 where
   pub transaction : Transaction
   pub begins : Begins r schedule transport protection usage now transaction
@@ -113,14 +113,14 @@ soonest [] = None
 soonest (slot ∷ slots) = sooner (wake slot) (soonest slots)
 
 -- what is reported if nothing is to be done
-abbrev pub IsWait : List (Option Transaction) → Task → Type 0
+abbrev pub IsWait : List (Option Transaction) → TransactionsAction → Type 0
 IsWait slots (WaitUntil until) = soonest slots ≡ Some (as_nanos until)
 IsWait slots Idle = soonest slots ≡ None
 IsWait slots task = ⊥
 
 -- what a poll of the transaction in a slot reports, and what the slot holds then: nothing if an end
 -- was reported
-abbrev pub PollsSlot : Option Transaction → Duration → Task → Option Transaction → Type 0
+abbrev pub PollsSlot : Option Transaction → Duration → TransactionsAction → Option Transaction → Type 0
 PollsSlot (Some t) now (Send id) (Some u) =
     (id ≡ id_of t) × (terms_of u ≡ terms_of t)
     × Polls (terms_of t).plan (state_of t) now Action.Send (state_of u)
@@ -132,7 +132,7 @@ PollsSlot _ now task _ = ⊥
 
 -- what a poll of all of them reports and leaves: the first that has something to do is polled, and
 -- each other slot is as it was
-abbrev pub PollsSlots : List (Option Transaction) → Duration → Task → List (Option Transaction)
+abbrev pub PollsSlots : List (Option Transaction) → Duration → TransactionsAction → List (Option Transaction)
     → Type 0
 PollsSlots old now task new =
     MatchOption (position (has_turn now) old) (IsWait old task × (new ≡ old))

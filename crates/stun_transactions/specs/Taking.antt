@@ -31,22 +31,22 @@ proof_in (Error code proof) = proof
 proof_in _ = None
 
 -- d validates with the key by an algorithm, and the HMAC has enough bytes
-pub record IsAuthenticBy (shortest : ℕ) (key : IntegrityKey) (d : List ℕ)
+pub record IsAuthenticBy (min_hmac_length : ℕ) (key : IntegrityKey) (d : List ℕ)
     (algorithm : IntegrityAlgorithm) : Type 0 where
   pub authentic : IsAuthenticThrough (key_algorithm key) (λ _. key_bytes key) d algorithm
-  pub long : has_least_length shortest algorithm d ≡ true
+  pub long : has_least_length min_hmac_length algorithm d ≡ true
 
 -- it does so by the algorithm that is said to authenticate it. By a short-term credential there is
 -- one, by which the request is signed too; by a long-term one there is one, but that a challenge may
 -- have none. Without a key there is none
-abbrev pub IsProved : Protection → (shortest : ℕ) → Signed → List ℕ → Option IntegrityAlgorithm
+abbrev pub IsProved : Protection → (min_hmac_length : ℕ) → Signed → List ℕ → Option IntegrityAlgorithm
     → Type 0
-IsProved Unprotected shortest signed d proof = proof ≡ None
-IsProved FirstLongTerm shortest signed d proof = proof ≡ None
-IsProved (ShortTerm key) shortest signed d proof =
-    IsSomeAnd proof (λ a. IsAuthenticBy shortest key d a × (signs_by signed a ≡ true))
-IsProved (LongTerm key) shortest signed d proof =
-    MatchOption proof (is_challenge d ≡ true) (IsAuthenticBy shortest key d)
+IsProved Unprotected min_hmac_length signed d proof = proof ≡ None
+IsProved FirstLongTerm min_hmac_length signed d proof = proof ≡ None
+IsProved (ShortTerm key) min_hmac_length signed d proof =
+    IsSomeAnd proof (λ a. IsAuthenticBy min_hmac_length key d a × (signs_by signed a ≡ true))
+IsProved (LongTerm key) min_hmac_length signed d proof =
+    MatchOption proof (is_challenge d ≡ true) (IsAuthenticBy min_hmac_length key d)
 
 -- d shows the PASSWORD-ALGORITHMS that its nonce promises, and is no unsigned 400
 pub record IsFit (d : List ℕ) : Type 0 where
@@ -68,4 +68,4 @@ pub record IsRightResponse (terms : Terms) (d : List ℕ)
   pub answers : is_answer terms d ≡ true
   pub fingerprint : lacks_fingerprint terms.usage d ≡ false
   pub fit : IsFitBy terms.protection d
-  pub proved : IsProved terms.protection terms.usage.shortest terms.signed d proof
+  pub proved : IsProved terms.protection terms.usage.min_hmac_length terms.signed d proof

@@ -10,7 +10,7 @@ use Rattle.stun_keys.specs.Keys.{key_algorithm}
 use Rattle.stun_transactions.specs.declared.guard.Protection.{Protection}
 use Rattle.stun_transactions.specs.declared.guard.Protection.TheVariants.{Unprotected, FirstLongTerm, ShortTerm, LongTerm}
 use Rattle.stun_transactions.specs.declared.guard.Signed.{Signed as ShownIntegrity}
-use Rattle.stun_transactions.specs.declared.usage.Usage.{Usage}
+use Rattle.stun_transactions.specs.declared.response_policy.ResponsePolicy.{ResponsePolicy}
 use Rattle.stun_transactions.specs.declared.terms.Terms.{Terms}
 use Rattle.stun_transactions.specs.declared.terms.BeginError.{BeginError}
 use Rattle.stun_transactions.specs.declared.terms.BeginError.TheVariants.{NotARequest, NotSigned, Signed, KeyForOneAlgorithm}
@@ -47,7 +47,7 @@ begin_fault protection r =
     option_or (request_fault (protects protection) r) (key_misfit protection (signed_by r))
 
 -- the terms of the request r
-pub record AreTerms (r : List ℕ) (plan : Plan) (protection : Protection) (usage : Usage)
+pub record AreTerms (r : List ℕ) (plan : Plan) (protection : Protection) (usage : ResponsePolicy)
     (terms : Terms) : Type 0 where
   pub plan_is : terms.plan ≡ plan
   pub method_is : terms.method ≡ method_of (type_field r)

@@ -5,7 +5,7 @@ use Rattle.std.specs.declared.time.Duration.{Duration}
 use Rattle.stun_base.specs.declared.transport.TransportType.{TransportType}
 use Rattle.stun_transactions.specs.declared.schedule.Schedule.{Schedule}
 use Rattle.stun_transactions.specs.declared.guard.Protection.{Protection}
-use Rattle.stun_transactions.specs.declared.usage.Usage.{Usage}
+use Rattle.stun_transactions.specs.declared.response_policy.ResponsePolicy.{ResponsePolicy}
 use Rattle.stun_transactions.specs.declared.retransmission.RetransmissionState.{RetransmissionState}
 use Rattle.stun_transactions.specs.declared.terms.Terms.{Terms}
 use Rattle.stun_transactions.specs.declared.transaction.Transaction.{Transaction}
@@ -22,7 +22,7 @@ state_of transaction = transaction.state
 
 -- a transaction of the request r begins
 pub record Begins (r : List ℕ) (schedule : Schedule) (transport : TransportType)
-    (protection : Protection) (usage : Usage) (now : Duration)
+    (protection : Protection) (usage : ResponsePolicy) (now : Duration)
     (transaction : Transaction) : Type 0 where
   pub terms : AreTerms r (record { schedule = schedule; transport = transport }) protection usage
       (terms_of transaction)

@@ -9,7 +9,7 @@ ghost use Rattle.stun_transactions.specs.Guards.{signed_by, is_signed, is_signed
 use crate::parting::check_key;
 use crate::parts::{Mechanism, PartsError};
 use crate::received::Discard;
-use crate::usage::Usage;
+use crate::response_policy::ResponsePolicy;
 use std::alloc::Global;
 use stun_authentication::{has_least_length, is_bid_down, is_challenge, response_code};
 use stun_types::attribute::{
@@ -103,14 +103,14 @@ pub(crate) fn signed_by(message: &Message<'_>) -> Signed
 /// The algorithm whose HMAC in a message is right under a key, and has enough bytes.
 fn proved_by(
     key: &IntegrityKey,
-    shortest: usize,
+    min_hmac_length: usize,
     message: &Message<'_>,
 ) -> Option<IntegrityAlgorithm>
     ensures { let d = message_bytes message.now in
-        result ≡ proved_at shortest d (validated key.now d) }
+        result ≡ proved_at min_hmac_length d (validated key.now d) }
 {
     match message.validate_integrity_with_key(key) {
-        Ok(algorithm) if has_least_length(shortest, algorithm, message) => Some(algorithm),
+        Ok(algorithm) if has_least_length(min_hmac_length, algorithm, message) => Some(algorithm),
         _ => None,
     }
 }
@@ -232,7 +232,7 @@ impl Protection {
     /// The algorithm of the attribute that authenticates a response, if one does.
     pub(crate) fn proof_of(
         &self,
-        usage: Usage,
+        usage: ResponsePolicy,
         signed: Signed,
         message: &Message<'_>,
     ) -> Option<IntegrityAlgorithm>
@@ -241,9 +241,9 @@ impl Protection {
         match self {
             Protection::Unprotected | Protection::FirstLongTerm => None,
             Protection::ShortTerm(key) => {
-                signed.matched_by(proved_by(key, usage.shortest, message))
+                signed.matched_by(proved_by(key, usage.min_hmac_length, message))
             }
-            Protection::LongTerm(key) => proved_by(key, usage.shortest, message),
+            Protection::LongTerm(key) => proved_by(key, usage.min_hmac_length, message),
         }
     }
 
@@ -267,7 +267,7 @@ impl Protection {
     /// Why a response is discarded, with the proof that it has.
     pub(crate) fn fault(
         &self,
-        usage: Usage,
+        usage: ResponsePolicy,
         signed: Signed,
         proof: Option<IntegrityAlgorithm>,
         message: &Message<'_>,

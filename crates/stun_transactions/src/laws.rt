@@ -19,7 +19,7 @@ ghost use Rattle.stun_transactions.specs.Taking.{is_taken, proof_in, IsRightResp
 ghost use Rattle.stun_base.specs.declared.transport.TransportType.{TransportType};
 ghost use Rattle.stun_transactions.specs.declared.schedule.Schedule.{Schedule};
 ghost use Rattle.stun_transactions.specs.declared.guard.Protection.{Protection};
-ghost use Rattle.stun_transactions.specs.declared.usage.Usage.{Usage};
+ghost use Rattle.stun_transactions.specs.declared.response_policy.ResponsePolicy.{ResponsePolicy};
 ghost use Rattle.stun_transactions.specs.declared.parts.TransactionParts.{TransactionParts};
 ghost use Rattle.stun_transactions.specs.declared.transaction.Transaction.{Transaction};
 ghost use Rattle.stun_transactions.specs.Terms.{begin_fault, AreSameTerms};
@@ -30,7 +30,7 @@ ghost use Rattle.stun_transactions.specs.Runs.{Call, IsRun, Stays, sends, IsSpac
 /// The moments of the requests are those of the schedule if every poll is in time: request number
 /// `k + 1` follows request number `k` after the wait that the schedule gives once `k + 1` requests
 /// were sent, and so the end follows the last one.
-pub fn waits_make_the_row()
+pub fn intervals_sum()
     ensures next { (rto requests last_wait_factor k : ℕ) → k + 1 < requests
         → moment rto (k + 1) ≡ moment rto k + row_wait rto requests last_wait_factor (k + 1) }
     ensures end { (rto requests last_wait_factor : ℕ) → 0 < requests
@@ -110,7 +110,7 @@ pub fn other_calls_stay()
 /// credential need not be. So a 300 that answers a protected request is taken only if it is
 /// authentic.
 #[tactic(auto, using(crate::proofs::TakingLemmas::right))]
-pub fn taken_is_right()
+pub fn accepted_is_authentic()
     ensures { (terms : Terms) (state : RetransmissionState) (understood : List AttributeType)
         (d : List ℕ)
         → IsBytes d → is_taken (received_outcome terms state understood d) ≡ true
@@ -128,7 +128,7 @@ pub fn parts_are_the_whole()
 /// No parts of a transaction are refused, neither when it begins nor after any call.
 pub fn no_parts_are_refused()
     ensures begins { (r : List ℕ) (schedule : Schedule) (transport : TransportType)
-        (protection : Protection) (usage : Usage) (now : Duration) (transaction : Transaction)
+        (protection : Protection) (usage : ResponsePolicy) (now : Duration) (transaction : Transaction)
         → begin_fault protection r ≡ None
         → Begins r schedule transport protection usage now transaction
         → whole_fault (parts_of transaction) (key_of transaction) ≡ None }

@@ -15,6 +15,7 @@ mod parting;
 mod parts;
 mod plan;
 mod received;
+mod response_policy;
 mod retransmission;
 mod retries;
 mod schedule;
@@ -22,21 +23,20 @@ mod slots;
 mod terms;
 mod transaction;
 mod transactions;
-mod usage;
 
 pub use guard::Protection;
 pub use laws::{
-    ends_are_final, first_poll_sends, no_parts_are_refused, other_calls_stay, parts_are_the_whole,
-    requests_are_spaced, stopping_sends_nothing, taken_is_right, waits_make_the_row,
+    accepted_is_authentic, ends_are_final, first_poll_sends, intervals_sum, no_parts_are_refused,
+    other_calls_stay, parts_are_the_whole, requests_are_spaced, stopping_sends_nothing,
 };
 pub use mapped::{mapped_address, response_address};
 pub use parts::{Mechanism, PartsError, TransactionParts};
 pub use received::{Claim, Discard, Failure, Received};
+pub use response_policy::ResponsePolicy;
 pub use retransmission::{Action, TransactionEnd};
 pub use retries::Retries;
 pub use schedule::{Schedule, ScheduleError};
-pub use slots::{AddError, Task};
+pub use slots::{AddError, TransactionsAction};
 pub use terms::BeginError;
 pub use transaction::Transaction;
 pub use transactions::Transactions;
-pub use usage::Usage;

@@ -94,7 +94,7 @@ impl TransactionParts {
     ///
     /// ```
     /// use std::time::Duration;
-    /// use stun_transactions::{PartsError, Protection, Schedule, Transaction, Usage};
+    /// use stun_transactions::{PartsError, Protection, Schedule, Transaction, ResponsePolicy};
     /// use stun_types::TransportType;
     /// use stun_types::message::Message;
     ///
@@ -102,7 +102,7 @@ impl TransactionParts {
     /// let request = Message::from_bytes(
     ///     b"\x00\x01\x00\x00\x21\x12\xA4\x42\xB7\xE7\xA7\x01\xBC\x34\xD6\x86\xFA\x87\xDF\xAE",
     /// )?;
-    /// let (schedule, usage) = (Schedule::new_default(), Usage::default());
+    /// let (schedule, usage) = (Schedule::new_default(), ResponsePolicy::default());
     /// let (udp, open, start) = (TransportType::Udp, Protection::Unprotected, Duration::ZERO);
     /// let transaction = Transaction::new(&request, schedule, udp, open, usage, start)?;
     /// let (mut parts, _key) = transaction.into_parts();
@@ -147,7 +147,7 @@ impl TransactionParts {
     ///
     /// ```
     /// use std::time::Duration;
-    /// use stun_transactions::{Action, Protection, Schedule, Transaction, Usage};
+    /// use stun_transactions::{Action, Protection, Schedule, Transaction, ResponsePolicy};
     /// use stun_types::TransportType;
     /// use stun_types::message::Message;
     ///
@@ -155,7 +155,7 @@ impl TransactionParts {
     /// let request = Message::from_bytes(
     ///     b"\x00\x01\x00\x00\x21\x12\xA4\x42\xB7\xE7\xA7\x01\xBC\x34\xD6\x86\xFA\x87\xDF\xAE",
     /// )?;
-    /// let (schedule, usage) = (Schedule::new_default(), Usage::default());
+    /// let (schedule, usage) = (Schedule::new_default(), ResponsePolicy::default());
     /// let (udp, open, start) = (TransportType::Udp, Protection::Unprotected, Duration::ZERO);
     /// let transaction = Transaction::new(&request, schedule, udp, open, usage, start)?;
     /// let (mut parts, key) = transaction.into_parts();

@@ -1,8 +1,8 @@
 //! The parts of a transaction.
 
+use crate::response_policy::ResponsePolicy;
 use crate::retransmission::TransactionEnd;
 use crate::schedule::Schedule;
-use crate::usage::Usage;
 use std::time::Duration;
 use stun_types::TransportType;
 use stun_types::message::{Method, TransactionId};
@@ -64,7 +64,7 @@ pub struct TransactionParts {
     /// The credential mechanism in use, if one is.
     pub mechanism: Option<Mechanism>,
     /// The requirements of the STUN usage on responses.
-    pub usage: Usage,
+    pub usage: ResponsePolicy,
     /// The number of polls that have answered `Send`.
     pub sent: u32,
     /// The moment of the last poll that answered `Send`, and before the first the moment at which

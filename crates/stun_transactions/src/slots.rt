@@ -17,7 +17,7 @@ use thiserror::Error;
 
 /// What the caller of many transactions has to do, for one of them.
 #[derive(Clone, Copy, Debug, PartialEq, Eq)]
-pub enum Task {
+pub enum TransactionsAction {
     /// Send the request with this ID now.
     Send(TransactionId),
     /// The transaction with this ID has ended, and is gone.
@@ -144,7 +144,7 @@ pub(crate) fn soonest(slots: &[Option<Transaction>]) -> Option<Duration>
 }
 
 /// Polls the transaction in a slot, which has something to do, and frees the slot after an end.
-fn poll_slot(slot: &mut Option<Transaction>, now: Duration) -> Task
+fn poll_slot(slot: &mut Option<Transaction>, now: Duration) -> TransactionsAction
     requires { has_turn now slot.old ≡ true }
     ensures { PollsSlot slot.old now result slot.new }
 {
@@ -153,25 +153,25 @@ fn poll_slot(slot: &mut Option<Transaction>, now: Duration) -> Task
     };
     let id = transaction.id();
     match transaction.poll(now) {
-        Action::Send => Task::Send(id),
+        Action::Send => TransactionsAction::Send(id),
         Action::Ended(end) => {
             *slot = None;
-            Task::Ended(id, end)
+            TransactionsAction::Ended(id, end)
         }
         Action::WaitUntil(_) => unreachable!(),
     }
 }
 
 /// What is to be done now.
-pub(crate) fn poll(slots: &mut [Option<Transaction>], now: Duration) -> Task
+pub(crate) fn poll(slots: &mut [Option<Transaction>], now: Duration) -> TransactionsAction
     ensures { PollsSlots slots.old now result slots.new }
 {
     if let Some(place) = next_turn(slots, now) {
         return poll_slot(&mut slots[place], now);
     }
     match soonest(slots) {
-        Some(until) => Task::WaitUntil(until),
-        None => Task::Idle,
+        Some(until) => TransactionsAction::WaitUntil(until),
+        None => TransactionsAction::Idle,
     }
 }
 

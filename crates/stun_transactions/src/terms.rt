@@ -9,7 +9,7 @@ ghost use Rattle.stun_transactions.specs.Terms.{request_fault, key_misfit, begin
 
 use crate::guard::{Protection, Signed, signed_by};
 use crate::plan::Plan;
-use crate::usage::Usage;
+use crate::response_policy::ResponsePolicy;
 use stun_types::message::{Message, MessageClass, Method, TransactionId};
 use thiserror::Error;
 
@@ -19,7 +19,7 @@ use thiserror::Error;
 ///
 /// ```
 /// use std::time::Duration;
-/// use stun_transactions::{BeginError, Protection, Schedule, Transaction, Usage};
+/// use stun_transactions::{BeginError, Protection, Schedule, Transaction, ResponsePolicy};
 /// use stun_types::TransportType;
 /// use stun_types::message::{IntegrityKey, Message};
 ///
@@ -27,7 +27,7 @@ use thiserror::Error;
 /// let request = Message::from_bytes(
 ///     b"\x00\x01\x00\x00\x21\x12\xA4\x42\xB7\xE7\xA7\x01\xBC\x34\xD6\x86\xFA\x87\xDF\xAE",
 /// )?;
-/// let (schedule, usage) = (Schedule::new_default(), Usage::default());
+/// let (schedule, usage) = (Schedule::new_default(), ResponsePolicy::default());
 /// let (udp, open, start) = (TransportType::Udp, Protection::Unprotected, Duration::ZERO);
 /// let transaction = Transaction::new(&request, schedule, udp, open, usage, start)?;
 /// assert!(rt; transaction.is_ready(start));
@@ -63,7 +63,7 @@ pub struct Terms {
     pub(crate) id: TransactionId,
     pub(crate) signed: Signed,
     pub(crate) protection: Protection,
-    pub(crate) usage: Usage,
+    pub(crate) usage: ResponsePolicy,
 }
 
 /// Which integrity attributes a request shows, if it is one, and is signed exactly if a credential
@@ -108,7 +108,7 @@ impl Terms {
         request: &Message<'_>,
         plan: Plan,
         protection: Protection,
-        usage: Usage,
+        usage: ResponsePolicy,
     ) -> Result<Terms, BeginError>
         ensures { MatchResult result
             (λ terms. (begin_fault protection (message_bytes request.now) ≡ None)

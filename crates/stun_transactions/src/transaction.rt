@@ -5,10 +5,10 @@ use crate::judge::outcome;
 use crate::parts::{PartsError, TransactionParts};
 use crate::plan::Plan;
 use crate::received::{Received, with_message};
+use crate::response_policy::ResponsePolicy;
 use crate::retransmission::{Action, RetransmissionState, TransactionEnd};
 use crate::schedule::Schedule;
 use crate::terms::{BeginError, Terms};
-use crate::usage::Usage;
 use std::alloc::Global;
 use std::time::Duration;
 use stun_types::TransportType;
@@ -28,7 +28,7 @@ use stun_types::message::{IntegrityKey, Message, StunWriteError, TransactionId};
 /// ```
 /// use std::time::Duration;
 /// use stun_transactions::{
-///     Action, Protection, Received, Schedule, Transaction, TransactionEnd, Usage,
+///     Action, Protection, Received, Schedule, Transaction, TransactionEnd, ResponsePolicy,
 ///     response_address,
 /// };
 /// use stun_types::TransportType;
@@ -38,7 +38,7 @@ use stun_types::message::{IntegrityKey, Message, StunWriteError, TransactionId};
 /// let request = Message::from_bytes(
 ///     b"\x00\x01\x00\x00\x21\x12\xA4\x42\xB7\xE7\xA7\x01\xBC\x34\xD6\x86\xFA\x87\xDF\xAE",
 /// )?;
-/// let (schedule, usage) = (Schedule::new_default(), Usage::default());
+/// let (schedule, usage) = (Schedule::new_default(), ResponsePolicy::default());
 /// let (udp, open, start) = (TransportType::Udp, Protection::Unprotected, Duration::ZERO);
 /// let mut transaction = Transaction::new(&request, schedule, udp, open, usage, start)?;
 /// // With each `Send` the caller sends the bytes of the request.
@@ -72,7 +72,7 @@ impl Transaction {
 
     /// Begins a transaction of a request, which is to be sent over a transport, by a schedule. Its
     /// first poll answers `Send`. `usage` is what the STUN usage specifies of responses:
-    /// `Usage::default()` if it specifies nothing.
+    /// `ResponsePolicy::default()` if it specifies nothing.
     ///
     /// # Errors
     ///
@@ -85,7 +85,7 @@ impl Transaction {
         schedule: Schedule,
         transport: TransportType,
         protection: Protection,
-        usage: Usage,
+        usage: ResponsePolicy,
         now: Duration,
     ) -> Result<Transaction, BeginError>
         ensures { MatchResult result
@@ -126,7 +126,7 @@ impl Transaction {
     ///
     /// ```
     /// use std::time::Duration;
-    /// use stun_transactions::{Action, Protection, Schedule, Transaction, Usage};
+    /// use stun_transactions::{Action, Protection, Schedule, Transaction, ResponsePolicy};
     /// use stun_types::TransportType;
     /// use stun_types::message::Message;
     ///
@@ -134,7 +134,7 @@ impl Transaction {
     /// let request = Message::from_bytes(
     ///     b"\x00\x01\x00\x00\x21\x12\xA4\x42\xB7\xE7\xA7\x01\xBC\x34\xD6\x86\xFA\x87\xDF\xAE",
     /// )?;
-    /// let (schedule, usage) = (Schedule::new_default(), Usage::default());
+    /// let (schedule, usage) = (Schedule::new_default(), ResponsePolicy::default());
     /// let (udp, open, start) = (TransportType::Udp, Protection::Unprotected, Duration::ZERO);
     /// let mut transaction = Transaction::new(&request, schedule, udp, open, usage, start)?;
     /// transaction.poll(start);
@@ -194,7 +194,7 @@ impl Transaction {
     ///
     /// ```
     /// use std::time::Duration;
-    /// use stun_transactions::{Mechanism, PartsError, Protection, Schedule, Transaction, Usage};
+    /// use stun_transactions::{Mechanism, PartsError, Protection, Schedule, Transaction, ResponsePolicy};
     /// use stun_types::TransportType;
     /// use stun_types::message::Message;
     ///
@@ -202,7 +202,7 @@ impl Transaction {
     /// let request = Message::from_bytes(
     ///     b"\x00\x01\x00\x00\x21\x12\xA4\x42\xB7\xE7\xA7\x01\xBC\x34\xD6\x86\xFA\x87\xDF\xAE",
     /// )?;
-    /// let (schedule, usage) = (Schedule::new_default(), Usage::default());
+    /// let (schedule, usage) = (Schedule::new_default(), ResponsePolicy::default());
     /// let (udp, open, start) = (TransportType::Udp, Protection::Unprotected, Duration::ZERO);
     /// let transaction = Transaction::new(&request, schedule, udp, open, usage, start)?;
     /// let (mut parts, key) = transaction.into_parts();
@@ -249,7 +249,7 @@ impl Transaction {
     ///
     /// ```
     /// use std::time::Duration;
-    /// use stun_transactions::{Protection, Schedule, Transaction, Usage};
+    /// use stun_transactions::{Protection, Schedule, Transaction, ResponsePolicy};
     /// use stun_types::TransportType;
     /// use stun_types::message::Message;
     ///
@@ -257,7 +257,7 @@ impl Transaction {
     /// let request = Message::from_bytes(
     ///     b"\x00\x01\x00\x00\x21\x12\xA4\x42\xB7\xE7\xA7\x01\xBC\x34\xD6\x86\xFA\x87\xDF\xAE",
     /// )?;
-    /// let (schedule, usage) = (Schedule::new_default(), Usage::default());
+    /// let (schedule, usage) = (Schedule::new_default(), ResponsePolicy::default());
     /// let (udp, open, start) = (TransportType::Udp, Protection::Unprotected, Duration::ZERO);
     /// let mut transaction = Transaction::new(&request, schedule, udp, open, usage, start)?;
     /// assert_eq!(rt; transaction.next_wake(), Some(start));
@@ -292,7 +292,7 @@ impl Transaction {
     ///
     /// ```
     /// use std::time::Duration;
-    /// use stun_transactions::{Action, Protection, Schedule, Transaction, TransactionEnd, Usage};
+    /// use stun_transactions::{Action, Protection, Schedule, Transaction, TransactionEnd, ResponsePolicy};
     /// use stun_types::TransportType;
     /// use stun_types::message::Message;
     ///
@@ -300,7 +300,7 @@ impl Transaction {
     /// let request = Message::from_bytes(
     ///     b"\x00\x01\x00\x00\x21\x12\xA4\x42\xB7\xE7\xA7\x01\xBC\x34\xD6\x86\xFA\x87\xDF\xAE",
     /// )?;
-    /// let (schedule, usage) = (Schedule::new_default(), Usage::default());
+    /// let (schedule, usage) = (Schedule::new_default(), ResponsePolicy::default());
     /// let (udp, open, start) = (TransportType::Udp, Protection::Unprotected, Duration::ZERO);
     /// let mut transaction = Transaction::new(&request, schedule, udp, open, usage, start)?;
     /// // The times of the example in section 6.2.1 of RFC 8489.
@@ -330,7 +330,7 @@ impl Transaction {
     /// ```
     /// use ice_attrs::KNOWN;
     /// use std::time::Duration;
-    /// use stun_transactions::{Protection, Received, Schedule, Transaction, Usage};
+    /// use stun_transactions::{Protection, Received, Schedule, Transaction, ResponsePolicy};
     /// use stun_types::TransportType;
     /// use stun_types::message::{IntegrityAlgorithm, IntegrityKey, Message};
     ///
@@ -348,7 +348,7 @@ impl Transaction {
     ///                  \x00\x20\x00\x08\x00\x01\xA1\x47\xE1\x12\xA6\x43\
     ///                  \x00\x08\x00\x14\x2B\x91\xF5\x99\xFD\x9E\x90\xC3\x8C\x74\x89\xF9\
     ///                  \x2A\xF9\xBA\x53\xF0\x6B\xE7\xD7\x80\x28\x00\x04\xC0\x7D\x4C\x96";
-    /// let (schedule, usage) = (Schedule::new_default(), Usage::default());
+    /// let (schedule, usage) = (Schedule::new_default(), ResponsePolicy::default());
     /// let key = IntegrityKey::new(alloc, b"VOkJxbRl1RmTxUk/WvJxBt", None)?;
     /// let (udp, signed, start) = (TransportType::Udp, Protection::ShortTerm(key), Duration::ZERO);
     /// let mut transaction = Transaction::new(&request, schedule, udp, signed, usage, start)?;
@@ -382,7 +382,7 @@ impl Transaction {
     ///
     /// ```
     /// use std::time::Duration;
-    /// use stun_transactions::{Protection, Received, Schedule, Transaction, Usage};
+    /// use stun_transactions::{Protection, Received, Schedule, Transaction, ResponsePolicy};
     /// use stun_types::TransportType;
     /// use stun_types::message::Message;
     ///
@@ -390,7 +390,7 @@ impl Transaction {
     /// let request = Message::from_bytes(
     ///     b"\x00\x01\x00\x00\x21\x12\xA4\x42\xB7\xE7\xA7\x01\xBC\x34\xD6\x86\xFA\x87\xDF\xAE",
     /// )?;
-    /// let (schedule, usage) = (Schedule::new_default(), Usage::default());
+    /// let (schedule, usage) = (Schedule::new_default(), ResponsePolicy::default());
     /// let (udp, open, start) = (TransportType::Udp, Protection::Unprotected, Duration::ZERO);
     /// let mut transaction = Transaction::new(&request, schedule, udp, open, usage, start)?;
     /// transaction.poll(start);
@@ -432,7 +432,7 @@ impl Transaction {
     ///
     /// ```
     /// use std::time::Duration;
-    /// use stun_transactions::{Protection, Schedule, Transaction, Usage};
+    /// use stun_transactions::{Protection, Schedule, Transaction, ResponsePolicy};
     /// use stun_types::TransportType;
     /// use stun_types::message::Message;
     ///
@@ -440,7 +440,7 @@ impl Transaction {
     /// let request = Message::from_bytes(
     ///     b"\x00\x01\x00\x00\x21\x12\xA4\x42\xB7\xE7\xA7\x01\xBC\x34\xD6\x86\xFA\x87\xDF\xAE",
     /// )?;
-    /// let (schedule, usage) = (Schedule::new_default(), Usage::default());
+    /// let (schedule, usage) = (Schedule::new_default(), ResponsePolicy::default());
     /// let (udp, open, start) = (TransportType::Udp, Protection::Unprotected, Duration::ZERO);
     /// let mut transaction = Transaction::new(&request, schedule, udp, open, usage, start)?;
     /// transaction.poll(start);
@@ -466,7 +466,7 @@ impl Transaction {
     ///
     /// ```
     /// use std::time::Duration;
-    /// use stun_transactions::{Action, Protection, Schedule, Transaction, TransactionEnd, Usage};
+    /// use stun_transactions::{Action, Protection, Schedule, Transaction, TransactionEnd, ResponsePolicy};
     /// use stun_types::TransportType;
     /// use stun_types::message::Message;
     ///
@@ -474,7 +474,7 @@ impl Transaction {
     /// let request = Message::from_bytes(
     ///     b"\x00\x01\x00\x00\x21\x12\xA4\x42\xB7\xE7\xA7\x01\xBC\x34\xD6\x86\xFA\x87\xDF\xAE",
     /// )?;
-    /// let (schedule, usage) = (Schedule::new_default(), Usage::default());
+    /// let (schedule, usage) = (Schedule::new_default(), ResponsePolicy::default());
     /// let (udp, open, start) = (TransportType::Udp, Protection::Unprotected, Duration::ZERO);
     /// let mut transaction = Transaction::new(&request, schedule, udp, open, usage, start)?;
     /// transaction.poll(start);
@@ -515,7 +515,7 @@ impl Transaction {
     ///
     /// ```
     /// use std::time::Duration;
-    /// use stun_transactions::{Action, Protection, Schedule, Transaction, TransactionEnd, Usage};
+    /// use stun_transactions::{Action, Protection, Schedule, Transaction, TransactionEnd, ResponsePolicy};
     /// use stun_types::TransportType;
     /// use stun_types::message::Message;
     ///
@@ -523,7 +523,7 @@ impl Transaction {
     /// let request = Message::from_bytes(
     ///     b"\x00\x01\x00\x00\x21\x12\xA4\x42\xB7\xE7\xA7\x01\xBC\x34\xD6\x86\xFA\x87\xDF\xAE",
     /// )?;
-    /// let (schedule, usage) = (Schedule::new_default(), Usage::default());
+    /// let (schedule, usage) = (Schedule::new_default(), ResponsePolicy::default());
     /// let (udp, open, start) = (TransportType::Udp, Protection::Unprotected, Duration::ZERO);
     /// let mut transaction = Transaction::new(&request, schedule, udp, open, usage, start)?;
     /// transaction.poll(start);

@@ -2,12 +2,12 @@
 
 use crate::guard::Protection;
 use crate::received::Received;
+use crate::response_policy::ResponsePolicy;
 use crate::retransmission::TransactionEnd;
 use crate::schedule::Schedule;
 use crate::slots;
-use crate::slots::{AddError, Task};
+use crate::slots::{AddError, TransactionsAction};
 use crate::transaction::Transaction;
-use crate::usage::Usage;
 use std::array;
 use std::marker::Model;
 use std::time::Duration;
@@ -28,7 +28,7 @@ use stun_types::message::{Message, TransactionId};
 /// ```
 /// use std::time::Duration;
 /// use stun_transactions::{
-///     Protection, Received, Schedule, Task, TransactionEnd, Transactions, Usage,
+///     Protection, Received, Schedule, TransactionsAction, TransactionEnd, Transactions, ResponsePolicy,
 /// };
 /// use stun_types::TransportType;
 /// use stun_types::message::Message;
@@ -37,20 +37,20 @@ use stun_types::message::{Message, TransactionId};
 /// let request = Message::from_bytes(
 ///     b"\x00\x01\x00\x00\x21\x12\xA4\x42\xB7\xE7\xA7\x01\xBC\x34\xD6\x86\xFA\x87\xDF\xAE",
 /// )?;
-/// let (schedule, usage) = (Schedule::new_default(), Usage::default());
+/// let (schedule, usage) = (Schedule::new_default(), ResponsePolicy::default());
 /// let (udp, open, start) = (TransportType::Udp, Protection::Unprotected, Duration::ZERO);
 /// let mut transactions = Transactions::<16>::new();
 /// transactions.begin(&request, schedule, udp, open, usage, start)?;
 /// let id = request.transaction_id();
-/// assert_eq!(rt; transactions.poll(start), Task::Send(id));
-/// assert_eq!(rt; transactions.poll(start), Task::WaitUntil(Duration::from_millis(500)));
+/// assert_eq!(rt; transactions.poll(start), TransactionsAction::Send(id));
+/// assert_eq!(rt; transactions.poll(start), TransactionsAction::WaitUntil(Duration::from_millis(500)));
 /// let response = b"\x01\x01\x00\x0C\x21\x12\xA4\x42\
 ///                  \xB7\xE7\xA7\x01\xBC\x34\xD6\x86\xFA\x87\xDF\xAE\
 ///                  \x00\x20\x00\x08\x00\x01\xA1\x47\xE1\x12\xA6\x43";
 /// let received = transactions.receive(response, &[]);
 /// assert!(rt; matches!(received, Some((found, Received::Success(_, None))) if found == id));
-/// assert_eq!(rt; transactions.poll(start), Task::Ended(id, TransactionEnd::Answered));
-/// assert_eq!(rt; transactions.poll(start), Task::Idle);
+/// assert_eq!(rt; transactions.poll(start), TransactionsAction::Ended(id, TransactionEnd::Answered));
+/// assert_eq!(rt; transactions.poll(start), TransactionsAction::Idle);
 /// ```
 #[derive(Debug, Drop)]
 pub struct Transactions<const N: usize> {
@@ -103,7 +103,7 @@ impl<const N: usize> Transactions<N> {
     /// ```
     /// use std::time::Duration;
     /// use stun_transactions::Protection::Unprotected;
-    /// use stun_transactions::{AddError, Schedule, Transactions, Usage};
+    /// use stun_transactions::{AddError, Schedule, Transactions, ResponsePolicy};
     /// use stun_types::TransportType::Udp;
     /// use stun_types::message::Message;
     ///
@@ -111,7 +111,7 @@ impl<const N: usize> Transactions<N> {
     /// let request = Message::from_bytes(
     ///     b"\x00\x01\x00\x00\x21\x12\xA4\x42\xB7\xE7\xA7\x01\xBC\x34\xD6\x86\xFA\x87\xDF\xAE",
     /// )?;
-    /// let (schedule, usage, start) = (Schedule::new_default(), Usage::default(), Duration::ZERO);
+    /// let (schedule, usage, start) = (Schedule::new_default(), ResponsePolicy::default(), Duration::ZERO);
     /// let mut transactions = Transactions::<16>::new();
     /// let begun = transactions.begin(&request, schedule, Udp, Unprotected, usage, start);
     /// assert_eq!(rt; begun, Ok(()));
@@ -125,7 +125,7 @@ impl<const N: usize> Transactions<N> {
         schedule: Schedule,
         transport: TransportType,
         protection: Protection,
-        usage: Usage,
+        usage: ResponsePolicy,
         now: Duration,
     ) -> Result<(), AddError>
         ensures { MatchResult result
@@ -168,7 +168,7 @@ impl<const N: usize> Transactions<N> {
     /// - `WaitUntil(time)`: nothing before `time`, which is the soonest moment at which one of them
     ///   has something to do, unless a message is received.
     /// - `Idle`: there is no transaction.
-    pub fn poll(&mut self, now: Duration) -> Task
+    pub fn poll(&mut self, now: Duration) -> TransactionsAction
         ensures { PollsSlots self.old now result self.new }
     {
         slots::poll(&mut self.slots, now)
@@ -185,7 +185,7 @@ impl<const N: usize> Transactions<N> {
     /// ```
     /// use std::time::Duration;
     /// use stun_transactions::Protection::Unprotected;
-    /// use stun_transactions::{Schedule, Task, Transactions, Usage};
+    /// use stun_transactions::{Schedule, TransactionsAction, Transactions, ResponsePolicy};
     /// use stun_types::TransportType::Udp;
     /// use stun_types::message::Message;
     ///
@@ -193,10 +193,10 @@ impl<const N: usize> Transactions<N> {
     /// let request = Message::from_bytes(
     ///     b"\x00\x01\x00\x00\x21\x12\xA4\x42\xB7\xE7\xA7\x01\xBC\x34\xD6\x86\xFA\x87\xDF\xAE",
     /// )?;
-    /// let (schedule, usage, start) = (Schedule::new_default(), Usage::default(), Duration::ZERO);
+    /// let (schedule, usage, start) = (Schedule::new_default(), ResponsePolicy::default(), Duration::ZERO);
     /// let mut transactions = Transactions::<16>::new();
     /// transactions.begin(&request, schedule, Udp, Unprotected, usage, start)?;
-    /// assert_eq!(rt; transactions.poll(start), Task::Send(request.transaction_id()));
+    /// assert_eq!(rt; transactions.poll(start), TransactionsAction::Send(request.transaction_id()));
     /// // No transaction has the ID of this response, and the next bytes are no message.
     /// let other = b"\x01\x01\x00\x00\x21\x12\xA4\x42\
     ///               \x78\xAD\x34\x33\xC6\xAD\x72\xC0\x29\xDA\x41\x2E";
@@ -225,7 +225,7 @@ impl<const N: usize> Transactions<N> {
     /// ```
     /// use std::time::Duration;
     /// use stun_transactions::Protection::Unprotected;
-    /// use stun_transactions::{Schedule, Task, Transactions, Usage};
+    /// use stun_transactions::{Schedule, TransactionsAction, Transactions, ResponsePolicy};
     /// use stun_types::TransportType::Udp;
     /// use stun_types::message::Message;
     ///
@@ -233,14 +233,14 @@ impl<const N: usize> Transactions<N> {
     /// let request = Message::from_bytes(
     ///     b"\x00\x01\x00\x00\x21\x12\xA4\x42\xB7\xE7\xA7\x01\xBC\x34\xD6\x86\xFA\x87\xDF\xAE",
     /// )?;
-    /// let (schedule, usage, start) = (Schedule::new_default(), Usage::default(), Duration::ZERO);
+    /// let (schedule, usage, start) = (Schedule::new_default(), ResponsePolicy::default(), Duration::ZERO);
     /// let mut transactions = Transactions::<16>::new();
     /// transactions.begin(&request, schedule, Udp, Unprotected, usage, start)?;
     /// let id = request.transaction_id();
-    /// assert_eq!(rt; transactions.poll(start), Task::Send(id));
+    /// assert_eq!(rt; transactions.poll(start), TransactionsAction::Send(id));
     /// assert!(rt; transactions.stop_sending(id));
     /// // A response is still taken until the transaction would have timed out.
-    /// assert_eq!(rt; transactions.poll(start), Task::WaitUntil(Duration::from_millis(39500)));
+    /// assert_eq!(rt; transactions.poll(start), TransactionsAction::WaitUntil(Duration::from_millis(39500)));
     /// ```
     pub fn stop_sending(&mut self, id: TransactionId) -> bool
         ensures found { result ≡ is_some (place_of id self.old) }

@@ -1,3 +1,25 @@
+mod FramesLemmas
+mod EndingsLemmas
+mod IntegrityScanLemmas
+mod ScanningLemmas
+mod OrdinaryLemmas
+pub mod IteratingLemmas
+pub mod ItemsLemmas
+mod IntegrityAtLemmas
+mod ValidatingLemmas
+mod LookingUpLemmas
+mod FindingLemmas
+mod PrintedMessagesLemmas
+pub mod StandsLemmas
+mod WrittenTypesLemmas
+mod KeptHeadersLemmas
+mod RunsLemmas
+mod RunsAgreeLemmas
+mod ListedLemmas
+mod ResumingLemmas
+mod ResumedLemmas
+mod ResumedAddsLemmas
+mod ResumedParsesLemmas
 mod RepliesLemmas
 pub mod ReadingBackLemmas
 pub mod ShownLemmas

@@ -17,8 +17,8 @@ use Rattle.stun_grammar.proofs.AddingLemmas.{message_more}
 use Rattle.stun_grammar.proofs.AddingRefusedLemmas.{accepted_by_any}
 use Rattle.stun_grammar.proofs.StepsLemmas.{step_writable, none_writable}
 use Rattle.stun_grammar.proofs.WritingLemmas.{parse-message, shown-message}
-use Rattle.stun_read.specs.LookingUp.{IsRead}
-use Rattle.stun_write.specs.Writers.{Writer, Adds, Allocates, Gains, IsBegun}
+use Rattle.stun_types.specs.LookingUp.{IsRead}
+use Rattle.stun_types.specs.Writers.{Writer, Adds, Allocates, Gains, IsBegun}
 use Rattle.stun_types.specs.ReadingBack.{Holds, ShowsFirst}
 
 pub begun_holds : (old new : Writer) (type id : ℕ) → IsBegun old new type id → Holds new type id []

@@ -1,6 +1,6 @@
 -- A reply is written attribute by attribute, up to a refusal.
 use Rattle.std.proofs.Common.{◌≡◌, ℕ, ◌+◌, ◌*◌, ◌/◌, ◌%◌, ◌^◌, ◌<◌, ◌≤◌, ◌⊎◌, Bool, true, false, List, [], ◌∷◌, ◌++◌, length, take, drop, map, get_or, Option, Some, None, Result, Ok, Err, refl, sym, ap, subst, ◌∙◌, append_assoc, arith, inl, inr}
-use Rattle.std.specs.Prelude.{◌≢◌, ◌&&◌, ◌==◌, IsOk, OnOk, IfErr, MatchOption, MatchResult, is_some, if◌then◌else◌}
+use Rattle.std.specs.Prelude.{◌≢◌, ◌&&◌, ◌==◌, IsOk, OnOk, IfErr, MatchOption, MatchResult, is_some, if◌then◌else◌, codes}
 use Rattle.std.specs.Option.{option_or}
 use Rattle.std.proofs.lemmas.Bool.{eq-eqb, cases_lt, lt-ltb, le-ltb}
 use Rattle.std.proofs.lemmas.List.{length-append, map-append, append-nil, drop-drop, take_more, drop_more, drop_all}
@@ -27,8 +27,7 @@ use Rattle.stun_attributes.specs.declared.error_code.ErrorCode.{ErrorCode}
 use Rattle.stun_values.specs.ErrorValues.{error_value, making_fault}
 use Rattle.stun_attributes.specs.ErrorCodes.{error_code, error_reason, IsError, MakesError}
 use Rattle.stun_values.specs.TypeLists.{type_encoding, types_encoding}
-use Rattle.std.specs.Prelude.{codes}
-use Rattle.stun_write.specs.Writers.{Writer, IsBegun, IsUnchanged, Spends, Gains, Adds}
+use Rattle.stun_types.specs.Writers.{Writer, IsBegun, IsUnchanged, Spends, Gains, Adds}
 use Rattle.stun_types.specs.Replies.{is_answer_to, response_type, own_software, error_attribute, unknown_reply, making_refusal, refusal, first_refusal, accepted, IsReply, IsPartOfReply, Replies, attribute_of, AddsMade}
 use Rattle.stun_types.specs.declared.message.reply.ReplyPart.{ReplyPart}
 use Rattle.stun_types.specs.declared.message.reply.ReplyPart.TheVariants.{Software, Error, Types}

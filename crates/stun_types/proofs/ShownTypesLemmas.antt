@@ -6,9 +6,9 @@ use Rattle.std.proofs.lemmas.List.Elements.{filter-append}
 use Rattle.stun_grammar.specs.declared.attribute_type.AttributeType.{AttributeType}
 use Rattle.stun_grammar.specs.Chains.{Shown}
 use Rattle.stun_grammar.specs.Showing.{shown}
-use Rattle.stun_attrs.specs.Raw.{raw_type}
-use Rattle.stun_attrs.specs.declared.raw.RawAttribute.{RawAttribute}
-use Rattle.stun_read.specs.Iterating.{item_view, borrowed}
+use Rattle.stun_attributes.specs.Raw.{raw_type}
+use Rattle.stun_attributes.specs.declared.wire.raw.RawAttribute.{RawAttribute}
+use Rattle.stun_types.specs.Iterating.{item_view, borrowed}
 use Rattle.stun_types.specs.Replies.{shown_types}
 
 -- the type of an item

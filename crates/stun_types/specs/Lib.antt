@@ -1,3 +1,16 @@
+pub mod Iterating
+pub mod Endings
+pub mod Validating
+pub mod LookingUp
+pub mod PrintedMessages
+pub mod Offsets
+pub mod Writers
+pub mod Additions
+pub mod Runs
+pub mod Lending
+pub mod Resuming
+pub mod Listing
+pub mod ResumePoints
 pub mod KnownTypes
 pub mod Message
 pub mod ReadTypes

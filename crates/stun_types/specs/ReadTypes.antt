@@ -1,7 +1,7 @@
 -- By which rule an attribute is read.
 use Rattle.std.specs.Prelude.{ℕ, ◌⊎◌, List, Result}
 use Rattle.stun_grammar.specs.declared.error.StunParseError.{StunParseError}
-use Rattle.stun_attrs.specs.Reading.{ReadsTyped}
+use Rattle.stun_attributes.specs.Reading.{ReadsTyped}
 
 -- whatever one of two readers answers to a type and a value, another type than the wanted one is
 -- refused, and the value of one of that type is read as the rule says

@@ -5,7 +5,7 @@ use Rattle.stun_grammar.specs.Chains.{placed}
 use Rattle.stun_grammar.specs.ScannedOrder.{has}
 use Rattle.stun_grammar.specs.Showing.{shown}
 use Rattle.stun_grammar.specs.Writing.{message_encoding, IsWritable}
-use Rattle.stun_write.specs.Writers.{Writer}
+use Rattle.stun_types.specs.Writers.{Writer}
 
 -- a writer holds a message of these attributes, which may be written
 pub record Holds (w : Writer) (type id : ℕ) (attributes : List Attribute) : Type 0 where

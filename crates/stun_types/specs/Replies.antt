@@ -15,7 +15,7 @@ use Rattle.stun_grammar.specs.Showing.{shown}
 use Rattle.stun_grammar.specs.Writing.{message_encoding, IsWritable}
 use Rattle.stun_grammar.specs.Steps.{add}
 use Rattle.stun_grammar.specs.Adding.{numbers, add_refusal}
-use Rattle.stun_read.specs.LookingUp.{nth}
+use Rattle.stun_types.specs.LookingUp.{nth}
 use Rattle.stun_base.specs.declared.message_type.MessageClass.{MessageClass}
 use Rattle.stun_base.specs.declared.message_type.MessageClass.TheVariants.{Error as ErrorClass}
 use Rattle.stun_base.specs.MessageTypes.{type_of, class_of, method_of, is_response}
@@ -23,7 +23,7 @@ use Rattle.stun_values.specs.ErrorValues.{error_value, making_fault}
 use Rattle.stun_values.specs.TypeLists.{types_encoding}
 use Rattle.stun_types.specs.declared.message.reply.ReplyPart.{ReplyPart}
 use Rattle.stun_types.specs.declared.message.reply.ReplyPart.TheVariants.{Software, Error, Types}
-use Rattle.stun_write.specs.Writers.{Writer, IsUnchanged, Spends, Adds}
+use Rattle.stun_types.specs.Writers.{Writer, IsUnchanged, Spends, Adds}
 
 -- ---- Which response answers a request
 

@@ -10,9 +10,9 @@ use Rattle.stun_grammar.specs.declared.error.StunParseError.{StunParseError}
 use Rattle.stun_grammar.specs.declared.error.StunParseError.TheVariants.{OutOfMemory}
 use Rattle.stun_values.specs.Typed.{is_typed}
 use Rattle.stun_base.specs.Data.{is_borrowed}
-use Rattle.stun_attrs.specs.declared.raw.RawAttribute.{RawAttribute}
-use Rattle.stun_attrs.specs.Raw.{raw_type, raw_data, raw_value}
-use Rattle.stun_attrs.specs.PrintedAttributes.{attribute_text, malformed_text}
+use Rattle.stun_attributes.specs.declared.wire.raw.RawAttribute.{RawAttribute}
+use Rattle.stun_attributes.specs.Raw.{raw_type, raw_data, raw_value}
+use Rattle.stun_attributes.specs.PrintedAttributes.{attribute_text, malformed_text}
 use Rattle.stun_text.specs.declared.slice.TextTooLong.{TextTooLong}
 use Rattle.stun_text.specs.Slices.{laid_over, text_answer}
 use Rattle.stun_types.specs.declared.show.registry.Registry.{Registry}

@@ -2,7 +2,7 @@
 use Rattle.std.specs.Prelude.{List, map}
 use Rattle.std.specs.List.{filter}
 use Rattle.stun_grammar.specs.declared.attribute_type.AttributeType.{AttributeType}
-use Rattle.stun_read.specs.Iterating.{items_left}
+use Rattle.stun_types.specs.Iterating.{items_left}
 use Rattle.stun_types.specs.Replies.{is_unknown}
 use Rattle.stun_types.specs.declared.message.unknown.UnknownTypes.{UnknownTypes}
 

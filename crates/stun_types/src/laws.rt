@@ -7,16 +7,15 @@ ghost use Rattle.stun_attributes.specs.ErrorCodes.{ReadsError};
 ghost use Rattle.stun_attributes.specs.PasswordAlgorithms.{ReadsAlgorithm, ReadsAlgorithms};
 ghost use Rattle.stun_attributes.specs.Texts.{ReadsText};
 ghost use Rattle.stun_attributes.specs.Unknown.{ReadsTypes};
-ghost use Rattle.stun_integrity.specs.Integrity.{ReadsFingerprint, ReadsIntegrity, ReadsIntegritySha256};
-ghost use Rattle.stun_integrity.specs.Userhash.{ReadsUserhash};
+ghost use Rattle.stun_attributes.specs.Integrity.{ReadsFingerprint, ReadsIntegrity, ReadsIntegritySha256};
+ghost use Rattle.stun_attributes.specs.Userhash.{ReadsUserhash};
 ghost use Rattle.stun_types.specs.ReadTypes.{IsReadBy};
 
 use stun_attributes::{
-    AlternateDomain, AlternateServer, ErrorCode, Nonce, PasswordAlgorithm, PasswordAlgorithms,
-    Realm, Software, UnknownAttributes, Username, XorMappedAddress,
+    AlternateDomain, AlternateServer, AttributeFromRaw, ErrorCode, Fingerprint, MessageIntegrity,
+    MessageIntegritySha256, Nonce, PasswordAlgorithm, PasswordAlgorithms, Realm, Software,
+    UnknownAttributes, Userhash, Username, XorMappedAddress,
 };
-use stun_attrs::AttributeFromRaw;
-use stun_integrity::{Fingerprint, MessageIntegrity, MessageIntegritySha256, Userhash};
 
 /// Each of the fifteen types is read under its own number (RFC 8489, section 18.3), by the rule of
 /// its own value: whatever `from_raw_ref` and `from_raw` may return (`reads_ref` and `reads` of

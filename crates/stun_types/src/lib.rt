@@ -49,22 +49,24 @@ pub mod data;
 mod laws;
 pub mod message;
 pub mod prelude;
+mod reading;
 mod reading_back;
 pub mod show;
+mod writing;
 
 pub use laws::types_are_read;
+pub use reading::{found_has_its_type, found_is_there, shown_is_found, walks_from_there};
 pub use reading_back::{added_is_shown, shown_is_read_back, typed_is_read_back};
-pub use stun_attributes::{attribute_types_are_read_back, text_is_read_back, xor_twice};
+pub use stun_attributes::{
+    address_attribute_is_read_back, attribute_types_are_read_back, bytes_are_read_back,
+    empty_is_read_back, integrity_types_are_read_back, number_attribute_is_read_back,
+    number_is_read_back, packed_attribute_is_read_back, text_is_read_back, xor_twice,
+};
 pub use stun_base::{AddressFamily, ParseTransportTypeError, TransportType};
 pub use stun_grammar::{
     fingerprint_has_length, hmac_has_length, length_is_stated, message_grows, step_has_length,
 };
-pub use stun_integrity::integrity_types_are_read_back;
-pub use stun_kinds::{
-    address_attribute_is_read_back, bytes_are_read_back, empty_is_read_back, fields_are_read_back,
-    number_attribute_is_read_back, number_is_read_back,
-};
-pub use stun_read::{found_has_its_type, found_is_there, shown_is_found};
 pub use stun_text::{
     PrintText, TextSink, TextSlice, TextTooLong, put_decimal, put_hex, write_text,
 };
+pub use writing::{appended_resumes, begun_resumes, resumed_parses, writers_agree};

@@ -1,18 +1,18 @@
 //! Messages: a header, and the attributes that follow it.
 
 mod build;
-pub mod keys;
+pub mod framed;
 mod look_up;
 mod read;
 mod reply;
-pub mod types;
 mod unknown;
 mod validate;
 pub mod write;
 
-pub use keys::{
-    IntegrityAlgorithm, IntegrityKey, LongTermCredentials, LongTermKeyCredentials,
-    MessageIntegrityCredentials, ShortTermCredentials,
+pub use crate::reading::{MessageAttributesIter, message_length};
+pub use crate::writing::{
+    MessageWrite, MessageWriteExt, MessageWriteMutSlice, MessageWriteVec, ResumePoint, Step,
+    write_steps, write_steps_into,
 };
 pub use read::Message;
 pub use reply::response_answers;
@@ -20,9 +20,9 @@ pub use stun_base::{
     AddError, BINDING, MAGIC_COOKIE, MessageClass, MessageHeader, MessageType, Method,
     StunParseError, StunWriteError, TransactionId, ValidateError,
 };
-pub use stun_read::{MessageAttributesIter, message_length};
-pub use unknown::UnknownTypes;
-pub use write::{
-    MessageWrite, MessageWriteExt, MessageWriteMutSlice, MessageWriteVec, ResumePoint, Step,
-    write_steps, write_steps_into,
+pub use stun_grammar::IntegrityAlgorithm;
+pub use stun_keys::keys::{
+    IntegrityKey, LongTermCredentials, LongTermKeyCredentials, MessageIntegrityCredentials,
+    ShortTermCredentials,
 };
+pub use unknown::UnknownTypes;

@@ -10,13 +10,15 @@ ghost use Rattle.stun_grammar.specs.AttributeTypes.{IsOrdinary};
 ghost use Rattle.stun_grammar.specs.Parsing.{parse_fault};
 ghost use Rattle.stun_grammar.specs.ScannedOrder.{has};
 ghost use Rattle.stun_grammar.specs.Steps.{add};
-ghost use Rattle.stun_write.specs.Writers.{Writer, Adds, Allocates, IsBegun};
-ghost use Rattle.stun_attrs.specs.ReadBack.{HasOneReading};
-ghost use Rattle.stun_read.specs.LookingUp.{nth, IsRead};
+ghost use Rattle.stun_types.specs.Writers.{Writer, Adds, Allocates, IsBegun};
+ghost use Rattle.stun_attributes.specs.ReadBack.{HasOneReading};
+ghost use Rattle.stun_types.specs.LookingUp.{nth, IsRead};
 ghost use Rattle.stun_types.specs.ReadingBack.{Holds, ShowsFirst};
 
-use stun_attrs::{Attribute, AttributeFromRaw, AttributeStaticType, ReadValue, TypedAttribute};
-use stun_read::shown_is_found;
+use crate::reading::shown_is_found;
+use stun_attributes::{
+    Attribute, AttributeFromRaw, AttributeStaticType, ReadValue, TypedAttribute,
+};
 
 /// What a writer holds after `builder` and after each accepted `add_attribute` parses, and shows
 /// each attribute that was added. The premises are what the contracts of these calls state.

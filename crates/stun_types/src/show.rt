@@ -1,18 +1,18 @@
 //! Names of attribute types and methods, and functions that print attributes, which a user adds to
 //! those of the library, and attributes printed by them.
 
+mod display_with;
 mod own;
 mod printer;
 mod reading;
 mod registry;
-mod shown;
 mod table;
 mod written;
 
+pub use display_with::DisplayWith;
 pub use printer::AttributeDisplay;
 pub use reading::print_read;
 pub use registry::Registry;
-pub use shown::Shown;
 pub use written::ShowTextError;
 
 /// Registers a function that prints the attributes of a type of a user's own: it reads one, by
@@ -30,12 +30,12 @@ pub use written::ShowTextError;
 /// use stun_types::attribute::RawAttribute;
 /// use stun_types::attribute_display;
 /// use stun_types::prelude::*;
-/// use stun_types::show::{Registry, Shown};
+/// use stun_types::show::{Registry, DisplayWith};
 ///
 /// let mut registry = Registry::new(alloc);
 /// attribute_display!(registry, Priority)?;
 /// let raw = RawAttribute::new(Priority::TYPE, &[0, 0, 0, 7])?;
-/// let shown = Shown { registry: &registry, raw: &raw };
+/// let shown = DisplayWith { registry: &registry, raw: &raw };
 /// assert_eq!(rt; format!(in alloc; "{shown}")?.as_str(), "PRIORITY: 7");
 /// ```
 ///

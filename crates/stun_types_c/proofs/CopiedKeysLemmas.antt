@@ -9,17 +9,17 @@ use Rattle.stun_transactions.specs.declared.parts.Mechanism.TheVariants.{ShortTe
 use Rattle.stun_transactions.specs.declared.parts.TransactionParts.{TransactionParts}
 use Rattle.stun_transactions.specs.Guards.{is_signed_for}
 use Rattle.stun_transactions.specs.Parts.{signed_in, signs, parts_fault, key_fault, whole_fault}
-use Rattle.stun_types_c.specs.declared.call_result.CallResult.{CallResult}
-use Rattle.stun_types_c.specs.CallResults.{plain}
+use Rattle.stun_types_c.specs.declared.call_result.CResult.{CResult}
+use Rattle.stun_types_c.specs.CResults.{plain}
 use Rattle.stun_types_c.specs.Codes.{BAD_ARGUMENT, NOT_SIGNED}
 use Rattle.stun_types_c.specs.Transactions.{key_answer, CopiesHeld, Copies}
 
 -- a call that answers nothing is one of a key that works
-works : (works_with : Bool) (answer : CallResult) → (if works_with then None else Some answer) ≡ None → works_with ≡ true
+works : (works_with : Bool) (answer : CResult) → (if works_with then None else Some answer) ≡ None → works_with ≡ true
 works true answer none = refl
 works false answer none = absurd cc
 
-works_not : (for_one : Bool) (answer : CallResult) → (if for_one then Some answer else None) ≡ None → for_one ≡ false
+works_not : (for_one : Bool) (answer : CResult) → (if for_one then Some answer else None) ≡ None → for_one ≡ false
 works_not false answer none = refl
 works_not true answer none = absurd cc
 
@@ -37,7 +37,7 @@ fits (Some LongTerm) signed (Some held) None none copied = elim copied [ ]
 fits (Some LongTerm) signed (Some held) (Some copy) none copied =
     rw (copied.algorithm_is, works_not (is_some (key_algorithm held)) (plain BAD_ARGUMENT) none) refl
 
-by_answer : (mechanism : Option Mechanism) (signed : Signed) (held copy : Option IntegrityKey) (answer : Option CallResult) → key_answer mechanism signed held ≡ answer
+by_answer : (mechanism : Option Mechanism) (signed : Signed) (held copy : Option IntegrityKey) (answer : Option CResult) → key_answer mechanism signed held ≡ answer
     → MatchOption answer (CopiesHeld (signs mechanism) held (Ok copy)) (λ refused. Ok copy ≡ Err refused) → key_fault mechanism signed copy ≡ None
 by_answer mechanism signed held copy None none copied = fits mechanism signed held copy none copied
 by_answer mechanism signed held copy (Some refused) some copied = absurd cc

@@ -12,7 +12,7 @@ use Rattle.stun_keys.specs.declared.keys.credentials.MessageIntegrityCredentials
 use Rattle.stun_keys.specs.declared.keys.credentials.MessageIntegrityCredentials.TheVariants.{LongTerm}
 use Rattle.stun_keys.specs.declared.keys.long_term_key.LongTermKeyCredentials.{LongTermKeyCredentials}
 use Rattle.stun_keys.specs.Keys.{long_term_key, credentials_key}
-use Rattle.stun_types_c.specs.declared.call_result.CallResult.{CallResult}
+use Rattle.stun_types_c.specs.declared.call_result.CResult.{CResult}
 use Rattle.stun_types_c.specs.declared.validating.Validated.{Validated}
 use Rattle.stun_types_c.specs.Validating.{TellsVerdict, Invalidates}
 use Rattle.stun_types_c.specs.Credentials.{texts_refusal, IsLongTerm, WithTexts}
@@ -44,13 +44,13 @@ memory_or_not (Err (Parse OutOfMemory)) = inl refl
 memory_or_not (Err (Parse _)) = inr (λ e. cc)
 
 -- a verdict with credentials of three texts
-pub long_term_validates : (user realm password d : List ℕ) (long : LongTermKeyCredentials) (credentials : MessageIntegrityCredentials) (r : Result IntegrityAlgorithm ValidateError) (result : CallResult) (new : Validated)
+pub long_term_validates : (user realm password d : List ℕ) (long : LongTermKeyCredentials) (credentials : MessageIntegrityCredentials) (r : Result IntegrityAlgorithm ValidateError) (result : CResult) (new : Validated)
     → IsLongTerm user realm password long → credentials ≡ LongTerm long → (r ≢ Err (Parse OutOfMemory) → r ≡ verdict (is_checked_type None) (credentials_key credentials) d) → TellsVerdict d r result new
     → WithTexts user realm password (TellsVerdict d (verdict (is_checked_type None) (λ algorithm. long_term_key algorithm user realm password) d) result new) (λ answer. Invalidates answer result new)
-long_term_validates user realm password d long credentials r result new made is verdict-is told =
+long_term_validates user realm password d long credentials r result new made is verdict-is reported =
     elim (memory_or_not r) [
-      | inl memory ↦ inr (first_is_text user (realm ∷ password ∷ []) made.texts, subst (λ (v : Result IntegrityAlgorithm ValidateError). TellsVerdict d v result new) memory told)
-      | inr other ↦ inl (rw made.texts (subst (λ (v : Result IntegrityAlgorithm ValidateError). TellsVerdict d v result new) (verdict-is other ∙ same_keys) told))
+      | inl memory ↦ inr (first_is_text user (realm ∷ password ∷ []) made.texts, subst (λ (v : Result IntegrityAlgorithm ValidateError). TellsVerdict d v result new) memory reported)
+      | inr other ↦ inl (rw made.texts (subst (λ (v : Result IntegrityAlgorithm ValidateError). TellsVerdict d v result new) (verdict-is other ∙ same_keys) reported))
     ]
   where
     same_keys : verdict (is_checked_type None) (credentials_key credentials) d ≡ verdict (is_checked_type None) (λ algorithm. long_term_key algorithm user realm password) d

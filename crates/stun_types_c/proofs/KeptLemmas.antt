@@ -30,7 +30,7 @@ use Rattle.stun_transactions.specs.declared.received.Outcome.{Outcome}
 use Rattle.stun_transactions.specs.declared.received.Outcome.TheVariants.{NotForThis, Discarded, Failed, Success, Error}
 use Rattle.stun_transactions.specs.declared.schedule.Schedule.{Schedule}
 use Rattle.stun_transactions.specs.declared.transaction.Transaction.{Transaction}
-use Rattle.stun_transactions.specs.declared.usage.Usage.{Usage}
+use Rattle.stun_transactions.specs.declared.response_policy.ResponsePolicy.{ResponsePolicy}
 use Rattle.stun_transactions.specs.Retransmissions.{later, ended_by, stopped_by, Polls}
 use Rattle.stun_transactions.specs.Outcomes.{after}
 use Rattle.stun_transactions.specs.Parts.{plan_in, state_in, at_state, mechanism_of, signs, parts_of, is_signed_otherwise, parts_fault}
@@ -39,11 +39,11 @@ use Rattle.stun_transactions.specs.Guards.{signed_by, is_signed, protects}
 use Rattle.stun_authentication.specs.LongTerm.{is_request}
 use Rattle.stun_transactions.specs.Terms.{mismatch, request_fault, key_misfit, begin_fault}
 use Rattle.stun_transactions.specs.Transactions.{terms_of, state_of, Begins}
-use Rattle.stun_types_c.specs.declared.call_result.CallResult.{CallResult}
-use Rattle.stun_types_c.specs.declared.transactions.KeptTransaction.{KeptTransaction}
-use Rattle.stun_types_c.specs.declared.transactions.Waits.{Waits}
-use Rattle.stun_types_c.specs.declared.transactions.Wanted.{Wanted}
-use Rattle.stun_types_c.specs.CallResults.{plain}
+use Rattle.stun_types_c.specs.declared.call_result.CResult.{CResult}
+use Rattle.stun_types_c.specs.declared.transactions.CTransaction.{CTransaction}
+use Rattle.stun_types_c.specs.declared.transactions.CSchedule.{CSchedule}
+use Rattle.stun_types_c.specs.declared.transactions.CAction.{CAction}
+use Rattle.stun_types_c.specs.CResults.{plain}
 use Rattle.stun_types_c.specs.Codes.{OK}
 use Rattle.stun_types_c.specs.Transactions.{transport_numbered, mechanism_numbered, number_of_end, signed_number, IsAt, millis_of, Schedules, usage_named, TellsParts, Keeps, AreSame, with_state, GoesOn, Ends, StopsKept, PollsKept, wanted_of, begun_in_c}
 
@@ -64,17 +64,17 @@ signed_is n true false is = rw is (refl, refl)
 signed_is n false true is = rw is (refl, refl)
 signed_is n false false is = rw is (refl, refl)
 
-pub bit_told : (n : ℕ) → n ≤ 1 → n ≡ from_bool (n == 1)
-bit_told zero few = refl
-bit_told (suc zero) few = refl
-bit_told (suc (suc n)) few = absurd (omega (arith, few))
+pub bit_reported : (n : ℕ) → n ≤ 1 → n ≡ from_bool (n == 1)
+bit_reported zero few = refl
+bit_reported (suc zero) few = refl
+bit_reported (suc (suc n)) few = absurd (omega (arith, few))
 
-pub signed_told : (n : ℕ) → n ≤ 3 → n ≡ signed_number (n % 2 == 1) (nat_lt 1 n)
-signed_told zero few = refl
-signed_told (suc zero) few = refl
-signed_told (suc (suc zero)) few = refl
-signed_told (suc (suc (suc zero))) few = refl
-signed_told (suc (suc (suc (suc n)))) few = absurd (omega (arith, few))
+pub signed_reported : (n : ℕ) → n ≤ 3 → n ≡ signed_number (n % 2 == 1) (nat_lt 1 n)
+signed_reported zero few = refl
+signed_reported (suc zero) few = refl
+signed_reported (suc (suc zero)) few = refl
+signed_reported (suc (suc (suc zero))) few = refl
+signed_reported (suc (suc (suc (suc n)))) few = absurd (omega (arith, few))
 
 -- a moment of whole milliseconds is reported by their number
 pub whole : (n : ℕ) (moment : Duration) → IsAt n moment → millis_of moment ≡ n
@@ -100,10 +100,10 @@ bit_back false = refl
 
 -- ---- Two transactions of the same numbers
 
-same_meant : (kept : KeptTransaction) (one other : TransactionParts) → TellsParts kept one → TellsParts kept other → AreSame one other
+same_meant : (kept : CTransaction) (one other : TransactionParts) → TellsParts kept one → TellsParts kept other → AreSame one other
 same_meant kept one other a b =
     let shown = signed_is kept.signed_by one.sha1 one.sha256 a.signed in
-    let told = signed_is kept.signed_by other.sha1 other.sha256 b.signed in
+    let reported = signed_is kept.signed_by other.sha1 other.sha256 b.signed in
     record {
       schedule = record {
         rto_is = a.schedule.numbers.rto_is ∙ sym b.schedule.numbers.rto_is;
@@ -114,8 +114,8 @@ same_meant kept one other a b =
       transport = cc (a.transport, b.transport);
       method = a.method ∙ sym b.method;
       id = a.id ∙ sym b.id;
-      sha1 = shown.0 ∙ sym told.0;
-      sha256 = shown.1 ∙ sym told.1;
+      sha1 = shown.0 ∙ sym reported.0;
+      sha256 = shown.1 ∙ sym reported.1;
       mechanism = cc (a.mechanism, b.mechanism);
       usage = cc (a.usage, b.usage);
       sent = a.state.sent ∙ sym b.state.sent;
@@ -126,7 +126,7 @@ same_meant kept one other a b =
       end = sym (end_back one.end) ∙ ap end_numbered (sym a.state.end ∙ b.state.end) ∙ end_back other.end;
     }
 
-pub same_parts : (kept : KeptTransaction) (one other : TransactionParts) → Keeps kept one → Keeps kept other → AreSame one other
+pub same_parts : (kept : CTransaction) (one other : TransactionParts) → Keeps kept one → Keeps kept other → AreSame one other
 same_parts kept one other of_one of_other = same_meant kept one other of_one.tells of_other.tells
 
 same_requests : (one other : Schedule) (transport : TransportType) → one.max_requests ≡ other.max_requests → requests_over one transport ≡ requests_over other transport
@@ -147,7 +147,7 @@ same_fault one other same =
     ) refl
 
 -- numbers whose parts are no transaction's keep none
-pub unsound : (kept : KeptTransaction) (parts other : TransactionParts) (e : PartsError) → TellsParts kept parts → parts_fault parts ≡ Some e → Keeps kept other → ⊥
+pub unsound : (kept : CTransaction) (parts other : TransactionParts) (e : PartsError) → TellsParts kept parts → parts_fault parts ≡ Some e → Keeps kept other → ⊥
 unsound kept parts other e tells fault keeps =
     let same : parts_fault parts ≡ parts_fault other = same_fault parts other (same_meant kept parts other tells keeps.tells) in
     let none : parts_fault other ≡ None = keeps.sound in
@@ -265,7 +265,7 @@ received_whole (Failed failure) state from = record { last = from.last; clock = 
 received_whole (Success proof) state from = record { last = from.last; clock = from.clock }
 received_whole (Error code proof) state from = record { last = from.last; clock = from.clock }
 
-module _ (kept : KeptTransaction) (parts : TransactionParts) (keeps : Keeps kept parts) where
+module _ (kept : CTransaction) (parts : TransactionParts) (keeps : Keeps kept parts) where
   kept_whole : IsWholeState (state_in parts)
   kept_whole = record {
     last = is_whole kept.last parts.last keeps.tells.state.last;
@@ -308,22 +308,22 @@ module _ (kept : KeptTransaction) (parts : TransactionParts) (keeps : Keeps kept
 
 -- ---- The calls
 
-pub ends : (old new : KeptTransaction) (parts ended_parts : TransactionParts) (end : TransactionEnd) (result : CallResult) → Keeps old parts → ended_parts ≡ at_state parts (ended_by end (state_in parts)) → new ≡ with_state old (state_in ended_parts) → result ≡ plain OK
+pub ends : (old new : CTransaction) (parts ended_parts : TransactionParts) (end : TransactionEnd) (result : CResult) → Keeps old parts → ended_parts ≡ at_state parts (ended_by end (state_in parts)) → new ≡ with_state old (state_in ended_parts) → result ≡ plain OK
     → Ends end result old new
 ends old new parts ended_parts end result keeps parts-is new-is ok =
     let new-as = new-is ∙ ap (λ (p : TransactionParts). with_state old (state_in p)) parts-is in
     inr (parts, keeps, (ok, subst (GoesOn parts (ended_by end (state_in parts)) old) (sym new-as) (ended old parts keeps end)))
 
-pub stops : (old new : KeptTransaction) (parts stopped_parts : TransactionParts) (result : CallResult) → Keeps old parts → stopped_parts ≡ at_state parts (stopped_by (state_in parts)) → new ≡ with_state old (state_in stopped_parts) → result ≡ plain OK
+pub stops : (old new : CTransaction) (parts stopped_parts : TransactionParts) (result : CResult) → Keeps old parts → stopped_parts ≡ at_state parts (stopped_by (state_in parts)) → new ≡ with_state old (state_in stopped_parts) → result ≡ plain OK
     → StopsKept result old new
 stops old new parts stopped_parts result keeps parts-is new-is ok =
     let new-as = new-is ∙ ap (λ (p : TransactionParts). with_state old (state_in p)) parts-is in
     inr (parts, keeps, (ok, subst (GoesOn parts (stopped_by (state_in parts)) old) (sym new-as) (stopped old parts keeps)))
 
-pub polls : (now : ℕ) (moment : Duration) (old new : KeptTransaction) (before wanted : Wanted) (parts polled_parts : TransactionParts) (action : Action) (result : CallResult) → IsAt now moment → Keeps old parts
+pub polls : (now : ℕ) (moment : Duration) (old new : CTransaction) (before wanted : CAction) (parts polled_parts : TransactionParts) (action : Action) (result : CResult) → IsAt now moment → Keeps old parts
     → Polls (plan_in parts) (state_in parts) moment action (state_in polled_parts) → new ≡ with_state old (state_in polled_parts) → wanted ≡ wanted_of action → result ≡ plain OK
     → PollsKept now result (record { kept = old; wanted = before }) (record { kept = new; wanted = wanted })
-polls now moment old new before wanted parts polled_parts action result at keeps does new-is told ok =
+polls now moment old new before wanted parts polled_parts action result at keeps does new-is reported ok =
     let state = state_in polled_parts in
     inr (
       parts,
@@ -337,7 +337,7 @@ polls now moment old new before wanted parts polled_parts action result at keeps
           state = state;
           polls = does;
           goes_on = subst (GoesOn parts state old) (sym new-is) (polled old parts keeps now moment action state at does);
-          told = told;
+          reported = reported;
         },
       ),
     )
@@ -367,7 +367,7 @@ as_signed true false (ShortTerm key) free = absurd cc
 as_signed true true (LongTerm key) free = refl
 as_signed true false (LongTerm key) free = absurd cc
 
-pub begun_keeps : (d : List ℕ) (waits : Waits) (transport protection now : ℕ) (schedule : Schedule) (usage : Usage) (over : TransportType) (by : Protection) (moment : Duration) (transaction : Transaction)
+pub begun_keeps : (d : List ℕ) (waits : CSchedule) (transport protection now : ℕ) (schedule : Schedule) (usage : ResponsePolicy) (over : TransportType) (by : Protection) (moment : Duration) (transaction : Transaction)
     → Schedules waits schedule → usage_named waits ≡ Some usage → transport_numbered transport ≡ Some over → mechanism_numbered protection ≡ Some (mechanism_of by) → IsAt now moment → begin_fault by d ≡ None → Begins d schedule over by usage moment transaction
     → Keeps (begun_in_c d waits transport protection now) (parts_of transaction)
 begun_keeps d waits transport protection now schedule usage over by moment transaction scheduled named moves protected at free begins =

@@ -1,4 +1,4 @@
-mod AuthenticatedLemmas
+mod CAuthenticatedLemmas
 mod TwoWords
 mod SharedLemmas
 mod WalksLemmas
@@ -9,7 +9,7 @@ mod CredentialsLemmas
 mod KeptLemmas
 mod CopiedKeysLemmas
 mod StandsLemmas
-mod AskedLemmas
+mod CChallengeLemmas
 mod StepsLemmas
 mod NumbersLemmas
 mod RefusalsLemmas

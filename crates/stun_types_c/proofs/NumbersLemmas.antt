@@ -2,7 +2,7 @@
 use Rattle.std.proofs.Common.{◌≡◌, ℕ, ◌+◌, ◌-◌, ◌≤◌, List, ◌++◌, length, take, drop, replicate, ap, subst, ◌∙◌, arith}
 use Rattle.std.proofs.Math.Seq.{take-append-add}
 use Rattle.std.proofs.lemmas.List.{drop-replicate, take-replicate}
-use Rattle.stun_types_c.specs.declared.call_result.CallResult.{CallResult}
+use Rattle.stun_types_c.specs.declared.call_result.CResult.{CResult}
 use Rattle.stun_types_c.specs.Numbers.{AddsPadded}
 use Rattle.stun_types_c.specs.Numbers as Numbers
 use Rattle.stun_types_c.specs.Writing.{Written, AppendsTo, any_answer}
@@ -15,7 +15,7 @@ padded octets zeros room fits =
     ∙ ap (λ (l : List ℕ). octets ++ l) (take-replicate zeros (room - length octets) 0 (omega (arith, fits)))
 
 -- a value that is a number with its zeros is added
-pub adds : (type : ℕ) (octets value : List ℕ) (result : CallResult) (old new : Written) → value ≡ Numbers.padded type octets
+pub adds : (type : ℕ) (octets value : List ℕ) (result : CResult) (old new : Written) → value ≡ Numbers.padded type octets
     → AppendsTo (any_answer (length old.slice) type value) type (λ _. value) result old new → AddsPadded type octets result old new
 adds type octets value result old new is added =
     subst (λ (v : List ℕ). AppendsTo (any_answer (length old.slice) type v) type (λ _. v) result old new) is added

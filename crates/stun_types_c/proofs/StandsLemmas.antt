@@ -11,7 +11,7 @@ use Rattle.stun_grammar.specs.Showing.{frame_fault, shown_prefix}
 use Rattle.stun_grammar.proofs.ChainsLemmas.{none_or_some}
 use Rattle.stun_grammar.proofs.HeadersLemmas.{frame_there, header_there}
 use Rattle.stun_grammar.proofs.ShowingLemmas.{shows, nothing}
-use Rattle.stun_read.specs.LookingUp.{nth}
+use Rattle.stun_types.specs.LookingUp.{nth}
 use Rattle.stun_types_c.specs.Attributes.{in_c}
 use Rattle.stun_types_c.specs.Values.{value_of}
 
@@ -66,8 +66,8 @@ found d type x bytes e = elim (none_or_some (frame_fault d)) [
       let behind = subst (λ (b : List ℕ). Has b 20 x) (sym s.whole) (among type 20 (shown_prefix (chain (drop 20 d))) s.others x among-is) in
       let header : 20 ≡ 0 + length (take 20 d) = omega (arith, length-take 20 d) in
       subst (λ (b : List ℕ). Has b 0 x) (take-append-drop 20 d) (further 0 (take 20 d) (drop 20 d) x (subst (λ (n : ℕ). Has (drop 20 d) n x) header behind))
-  | inr (told, refused) ↦
-      absurd (cc (ap (λ (xs : List Shown). slice_get (filter (λ (a : Shown). eqb a.type type) xs) 0) (nothing d told refused), e))
+  | inr (reported, refused) ↦
+      absurd (cc (ap (λ (xs : List Shown). slice_get (filter (λ (a : Shown). eqb a.type type) xs) 0) (nothing d reported refused), e))
 ]
 
 range : (d : List ℕ) (x : Shown) → Has d 0 x → (x.offset + 4 + length x.value ≤ length d) × (slice_range d (x.offset + 4) (x.offset + 4 + length x.value) ≡ x.value)

@@ -7,7 +7,7 @@ use Rattle.stun_grammar.specs.declared.attribute_type.AttributeType.{AttributeTy
 use Rattle.stun_grammar.specs.Numbers.{number}
 use Rattle.stun_grammar.specs.Adding.{numbers}
 use Rattle.stun_text.specs.Slices.{laid_over}
-use Rattle.stun_attrs.specs.declared.raw.RawAttribute.{RawAttribute}
+use Rattle.stun_attributes.specs.declared.wire.raw.RawAttribute.{RawAttribute}
 use Rattle.stun_values.specs.TypeLists.{types_within}
 use Rattle.stun_types.proofs.ShownTypesLemmas.{item_type, passes_more, fails_more}
 use Rattle.stun_types_c.specs.TypeLists.{types_numbered}
@@ -71,13 +71,13 @@ numbered_more ns all i here room so_far =
     ∙ sym (map-append (λ (n : ℕ). record { 0 = n }) (take i ns) (get_or ns i 0 ∷ [])) ∙ ap types_numbered (sym (take_more ns i 0 here))
 
 -- the types that pass a test are counted, and their numbers are laid over
-abbrev pub Told : (test : AttributeType → Bool) (types : List AttributeType) (count : ℕ) (places start : List ℕ) → Type 0
-Told test types count places start =
+abbrev pub Reported : (test : AttributeType → Bool) (types : List AttributeType) (count : ℕ) (places start : List ℕ) → Type 0
+Reported test types count places start =
     let found = numbers (filter test types) in (count ≡ length found) × (places ≡ laid_over found start)
 
-pub told_passes : (test : AttributeType → Bool) (items : List (ℕ × RawAttribute)) (item : ℕ × RawAttribute) (count next : ℕ) (places new start : List ℕ) → test (item_type item) ≡ true
-    → Told test (map item_type items) count places start → next ≡ count + 1 → new ≡ set places count (item_type item).0 → Told test (map item_type (items ++ item ∷ [])) next new start
-told_passes test items item count next places new start passes so_far next-is new-is =
+pub reported_passes : (test : AttributeType → Bool) (items : List (ℕ × RawAttribute)) (item : ℕ × RawAttribute) (count next : ℕ) (places new start : List ℕ) → test (item_type item) ≡ true
+    → Reported test (map item_type items) count places start → next ≡ count + 1 → new ≡ set places count (item_type item).0 → Reported test (map item_type (items ++ item ∷ [])) next new start
+reported_passes test items item count next places new start passes so_far next-is new-is =
     let found = numbers (filter test (map item_type items)) in
     let number = (item_type item).0 in
     let more : numbers (filter test (map item_type (items ++ item ∷ []))) ≡ found ++ number ∷ [] =
@@ -88,9 +88,9 @@ told_passes test items item count next places new start passes so_far next-is ne
       laid ∙ ap (λ (l : List ℕ). laid_over l start) (sym more),
     )
 
-pub told_fails : (test : AttributeType → Bool) (items : List (ℕ × RawAttribute)) (item : ℕ × RawAttribute) (count next : ℕ) (places new start : List ℕ) → test (item_type item) ≡ false
-    → Told test (map item_type items) count places start → next ≡ count → new ≡ places → Told test (map item_type (items ++ item ∷ [])) next new start
-told_fails test items item count next places new start fails so_far next-is new-is =
+pub reported_fails : (test : AttributeType → Bool) (items : List (ℕ × RawAttribute)) (item : ℕ × RawAttribute) (count next : ℕ) (places new start : List ℕ) → test (item_type item) ≡ false
+    → Reported test (map item_type items) count places start → next ≡ count → new ≡ places → Reported test (map item_type (items ++ item ∷ [])) next new start
+reported_fails test items item count next places new start fails so_far next-is new-is =
     let same : filter test (map item_type (items ++ item ∷ [])) ≡ filter test (map item_type items) = fails_more test items item fails in (
       next-is ∙ so_far.0 ∙ ap (λ (types : List AttributeType). length (numbers types)) (sym same),
       new-is ∙ so_far.1 ∙ ap (λ (types : List AttributeType). laid_over (numbers types) start) (sym same),

@@ -11,10 +11,10 @@ use Rattle.stun_types.specs.declared.attribute.known.ValueForm.TheVariants.{Addr
 use Rattle.stun_plain_text.specs.NamesOfAll.{value_form}
 use Rattle.stun_values.specs.Addresses.{octets, octets_count, address_fault, address_in, IsPlain, IsXored}
 use Rattle.stun_types_c.specs.declared.address.Address.{Address}
-use Rattle.stun_types_c.specs.declared.call_result.CallResult.{CallResult}
+use Rattle.stun_types_c.specs.declared.call_result.CResult.{CResult}
 use Rattle.stun_types_c.specs.declared.attribute.ShownAttribute.{ShownAttribute}
 use Rattle.stun_types_c.specs.Codes.{OK, BAD_ARGUMENT}
-use Rattle.stun_types_c.specs.CallResults.{plain, parse_result}
+use Rattle.stun_types_c.specs.CResults.{plain, parse_result}
 use Rattle.stun_types_c.specs.Values.{value_of}
 
 -- the number of a family
@@ -52,11 +52,11 @@ Names address named =
     (λ ip. IsSomeAnd named (IsAt ip address.port))
 
 -- what reading the address in a value answers
-abbrev pub ReadsFrom : (SocketAddr → Address → Type 0) → List ℕ → CallResult → Address → Address
+abbrev pub ReadsFrom : (SocketAddr → Address → Type 0) → List ℕ → CResult → Address → Address
     → Type 0
-ReadsFrom Told value result old new =
+ReadsFrom Reported value result old new =
     MatchOption (address_fault value)
-    ((result ≡ plain OK) × Told (address_in value) new)
+    ((result ≡ plain OK) × Reported (address_in value) new)
     (λ e. (result ≡ parse_result e) × (new ≡ old))
 
 -- whether the address in attributes of a type is XORed with the transaction ID (RFC 8489, section
@@ -76,7 +76,7 @@ abbrev pub is_plain_type : ℕ → Bool
 is_plain_type type = is_plain_form (value_form type)
 
 -- what reading the address in an attribute of the message d answers
-abbrev pub ReadsAddress : ShownAttribute → List ℕ → CallResult → Address → Address → Type 0
+abbrev pub ReadsAddress : ShownAttribute → List ℕ → CResult → Address → Address → Type 0
 ReadsAddress attribute d result old new =
     MatchOption (if is_xored_type attribute.atype then None else value_of attribute d)
     ((result ≡ plain BAD_ARGUMENT) × (new ≡ old))
@@ -87,7 +87,7 @@ abbrev pub HoldsXored : ℕ → SocketAddr → Address → Type 0
 HoldsXored id written address = (a : SocketAddr) × (IsXored id written a × Holds a address)
 
 -- the same for an address that is XORed with the transaction ID of d
-abbrev pub ReadsXorAddress : ShownAttribute → List ℕ → CallResult → Address → Address → Type 0
+abbrev pub ReadsXorAddress : ShownAttribute → List ℕ → CResult → Address → Address → Type 0
 ReadsXorAddress attribute d result old new =
     MatchOption (if is_plain_type attribute.atype then None else value_of attribute d)
     ((result ≡ plain BAD_ARGUMENT) × (new ≡ old))

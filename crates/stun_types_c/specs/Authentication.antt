@@ -11,16 +11,16 @@ use Rattle.stun_authentication.specs.Answers.{Decision, accept, refuse, discard,
 use Rattle.stun_authentication.specs.Lookups.{UserKey, Known}
 use Rattle.stun_authentication.specs.LongTerm.{long_term}
 use Rattle.stun_authentication.specs.ShortTerm.{short_term}
-use Rattle.stun_types_c.specs.declared.call_result.CallResult.{CallResult}
-use Rattle.stun_types_c.specs.declared.authentication.Authenticated.{Authenticated}
+use Rattle.stun_types_c.specs.declared.call_result.CResult.{CResult}
+use Rattle.stun_types_c.specs.declared.authentication.CAuthenticated.{CAuthenticated}
 use Rattle.stun_types_c.specs.declared.authentication.KeyUsed.{KeyUsed}
 use Rattle.stun_types_c.specs.declared.authentication.KeyUsed.TheVariants.{ShortTerm, LongTerm}
-use Rattle.stun_types_c.specs.declared.authentication.CountedIntegrity.{CountedIntegrity}
+use Rattle.stun_types_c.specs.declared.authentication.CPolicy.{CPolicy}
 use Rattle.stun_types_c.specs.Codes.{OK, OUT_OF_MEMORY, BAD_ARGUMENT}
-use Rattle.stun_types_c.specs.CallResults.{plain, parse_result}
+use Rattle.stun_types_c.specs.CResults.{plain, parse_result}
 use Rattle.stun_types_c.specs.Keys.{algorithm_named, number_of}
 use Rattle.stun_types_c.specs.PasswordAlgorithms.{password_algorithms_named}
-use Rattle.stun_types_c.specs.Usages.{shortest_named}
+use Rattle.stun_types_c.specs.Usages.{min_hmac_length_named}
 use Rattle.stun_types_c.specs.Users.{held_of, borrowed_of, long_term_key_of, nonce_in}
 
 -- ---- What C passes
@@ -31,14 +31,14 @@ algorithms_counted number =
     if number == 0 then Some None else option_map (λ a. Some a) (algorithm_named number)
 
 -- the policy of C's numbers, whose spare word is 0
-abbrev pub policy_named : CountedIntegrity → Option Policy
+abbrev pub policy_named : CPolicy → Option Policy
 policy_named counted =
-    if counted.reserved == 0 then option_and_then (λ a. option_map (λ shortest. record {
+    if counted.reserved == 0 then option_and_then (λ a. option_map (λ min_hmac_length. record {
       algorithm = a;
-      shortest = shortest;
+      min_hmac_length = min_hmac_length;
       fingerprint = not (counted.fingerprint == 0);
     })
-    (shortest_named counted.shortest))
+    (min_hmac_length_named counted.min_hmac_length))
     (algorithms_counted counted.algorithm) else None
 
 -- what C knows of a nonce, by the number of its state, and the numbers of the algorithms that it
@@ -47,13 +47,13 @@ abbrev pub nonce_named : ℕ → List ℕ → Option Known
 nonce_named state numbers = option_and_then (nonce_in state) (password_algorithms_named numbers)
 
 -- what becomes of d, by the one key that C holds; none if it passes no policy
-abbrev pub by_short_term : CountedIntegrity → Option IntegrityKey → List ℕ → Option Decision
+abbrev pub by_short_term : CPolicy → Option IntegrityKey → List ℕ → Option Decision
 by_short_term counted key d =
     option_map (λ policy. short_term policy (λ user. held_of key) d) (policy_named counted)
 
 -- the same by the keys of both password algorithms; none if it knows no state of the nonce. The
 -- realm makes the keys, and C has made them
-abbrev pub by_long_term : CountedIntegrity → Option Known → (md5 sha256 : Option IntegrityKey)
+abbrev pub by_long_term : CPolicy → Option Known → (md5 sha256 : Option IntegrityKey)
     → List ℕ → Option Decision
 by_long_term counted nonce md5 sha256 d =
     option_and_then (λ policy. option_map (λ known.
@@ -64,7 +64,7 @@ by_long_term counted nonce md5 sha256 d =
 -- ---- What is reported to C
 
 -- what C reads if nothing is decided: a call that failed has written this
-abbrev pub undecided : Authenticated
+abbrev pub undecided : CAuthenticated
 undecided = record {
   kind = 0;
   error_code = 0;
@@ -92,7 +92,7 @@ used_in (LongTerm md5) = Some (borrowed_of md5)
 
 -- a decision in C's numbers: accepted, refused, dropped or not authenticated. The number of the
 -- password algorithm depends on the key
-abbrev pub in_c : (used : Option (Option UserKey)) → Decision → Authenticated
+abbrev pub in_c : (used : Option (Option UserKey)) → Decision → CAuthenticated
 in_c used (accept key algorithm reply) = record {
   kind = 1;
   error_code = 0;
@@ -106,15 +106,15 @@ in_c used discard = record undecided { kind = 3 }
 in_c used not_a_request = record undecided { kind = 4 }
 
 -- a decision is reported; or an allocation failed, and nothing is decided
-abbrev pub TellsDecision : (used : Option (Option UserKey)) → Decision → CallResult → (new : Authenticated)
+abbrev pub TellsDecision : (used : Option (Option UserKey)) → Decision → CResult → (new : CAuthenticated)
     → Type 0
 TellsDecision used decision result new =
     ((result ≡ plain OK) × (new ≡ in_c used decision))
     ⊎ ((result ≡ plain OUT_OF_MEMORY) × (new ≡ undecided))
 
 -- authenticating d: why it is no message, or that C passed what is none, or the decision
-abbrev pub Authenticates : (used : Option (Option UserKey)) → Option Decision → List ℕ → CallResult
-    → (new : Authenticated) → Type 0
+abbrev pub Authenticates : (used : Option (Option UserKey)) → Option Decision → List ℕ → CResult
+    → (new : CAuthenticated) → Type 0
 Authenticates used decided d result new =
     MatchOption (parse_fault d)
     (MatchOption decided

@@ -4,22 +4,22 @@ use Rattle.std.specs.Option.{option_map_or}
 use Rattle.std.specs.Str.{is_utf8}
 use Rattle.stun_grammar.specs.AttributeTypes.{REALM, NONCE, PASSWORD_ALGORITHMS}
 use Rattle.stun_grammar.specs.Parsing.{parse_fault}
-use Rattle.stun_read.specs.LookingUp.{nth}
+use Rattle.stun_types.specs.LookingUp.{nth}
 use Rattle.stun_values.specs.declared.algorithm.PasswordAlgorithmValue.{PasswordAlgorithmValue}
 use Rattle.stun_values.specs.Algorithms.{algorithm_number}
 use Rattle.stun_authentication.specs.declared.challenge.NoRetry.{NoRetry}
 use Rattle.stun_authentication.specs.declared.challenge.NoRetry.TheVariants.{NotAChallenge, BidDown, Incomplete, NoAlgorithm, SameCredentials}
-use Rattle.stun_authentication.specs.Challenges.{Asked, challenge_of, signing_algorithm}
-use Rattle.stun_types_c.specs.declared.call_result.CallResult.{CallResult}
-use Rattle.stun_types_c.specs.declared.challenges.Asked.{Asked as AskedInC}
+use Rattle.stun_authentication.specs.Challenges.{CChallenge, challenge_of, signing_algorithm}
+use Rattle.stun_types_c.specs.declared.call_result.CResult.{CResult}
+use Rattle.stun_types_c.specs.declared.challenges.CChallenge.{CChallenge as CChallengeInC}
 use Rattle.stun_types_c.specs.Codes.{OK, INVALID_DATA, BAD_ARGUMENT, NOT_A_CHALLENGE, BID_DOWN, INCOMPLETE, NO_ALGORITHM, SAME_CREDENTIALS}
-use Rattle.stun_types_c.specs.CallResults.{plain, parse_result, Refuses}
+use Rattle.stun_types_c.specs.CResults.{plain, parse_result, Refuses}
 use Rattle.stun_types_c.specs.Attributes.{in_c as attribute_in_c}
 use Rattle.stun_types_c.specs.Keys.{number_of}
 use Rattle.stun_types_c.specs.PasswordAlgorithms.{password_algorithms_named}
 
 -- why a request isn't sent again
-abbrev pub retry_answer : NoRetry → CallResult
+abbrev pub retry_answer : NoRetry → CResult
 retry_answer NotAChallenge = plain NOT_A_CHALLENGE
 retry_answer BidDown = plain BID_DOWN
 retry_answer Incomplete = plain INCOMPLETE
@@ -31,7 +31,7 @@ abbrev pub value_at : ℕ → List ℕ → ℕ
 value_at type d = option_map_or (λ a. (attribute_in_c a).value_at) (nth d type 0) 0
 
 -- what d asks for, in C's numbers, and where it is in d
-abbrev pub in_c : List ℕ → Asked → AskedInC
+abbrev pub in_c : List ℕ → CChallenge → CChallengeInC
 in_c d asked = record {
   realm_at = value_at REALM d;
   realm_length = length asked.realm;
@@ -46,18 +46,18 @@ in_c d asked = record {
 }
 
 -- what is asked for is in d at the place that is reported to C
-pub record StandsWhereTold (d : List ℕ) (asked : Asked) (told : AskedInC) : Type 0 where
-  pub realm : slice_range d told.realm_at (told.realm_at + told.realm_length) ≡ asked.realm
-  pub nonce : slice_range d told.nonce_at (told.nonce_at + told.nonce_length) ≡ asked.nonce
-  pub list : MatchOption asked.list (told.algorithms_at ≡ 0)
-      (λ list. slice_range d told.algorithms_at (told.algorithms_at + told.algorithms_length) ≡ list)
+pub record StandsWhereReported (d : List ℕ) (asked : CChallenge) (reported : CChallengeInC) : Type 0 where
+  pub realm : slice_range d reported.realm_at (reported.realm_at + reported.realm_length) ≡ asked.realm
+  pub nonce : slice_range d reported.nonce_at (reported.nonce_at + reported.nonce_length) ≡ asked.nonce
+  pub list : MatchOption asked.list (reported.algorithms_at ≡ 0)
+      (λ list. slice_range d reported.algorithms_at (reported.algorithms_at + reported.algorithms_length) ≡ list)
 
 -- the realm in which the refused request had its credentials, if C says that it had some
 abbrev pub tried_in : (was_tried : Bool) → List ℕ → Option (List ℕ)
 tried_in was_tried realm = if was_tried then Some realm else None
 
 -- why it is no text
-abbrev pub tried_answer : Option (List ℕ) → Option CallResult
+abbrev pub tried_answer : Option (List ℕ) → Option CResult
 tried_answer tried =
     option_map_or (λ realm. if is_utf8 realm then None else Some (plain INVALID_DATA)) tried None
 
@@ -66,18 +66,18 @@ abbrev pub seen_in : (was_seen : Bool) → Option (List ℕ)
 seen_in was_seen = if was_seen then Some [] else None
 
 -- what d asks for is reported, or why the request isn't sent again
-abbrev pub TellsChallenge : List ℕ → Result Asked NoRetry → CallResult → (old new : AskedInC)
+abbrev pub TellsChallenge : List ℕ → Result CChallenge NoRetry → CResult → (old new : CChallengeInC)
     → Type 0
-TellsChallenge d told result old new =
-    MatchResult told
+TellsChallenge d reported result old new =
+    MatchResult reported
     (λ asked. (result ≡ plain OK) × (new ≡ in_c d asked))
     (λ reason. (result ≡ retry_answer reason) × (new ≡ old))
 
 -- reading the challenge in d: why it is no message, or the report to a client that supports these
 -- algorithms
 abbrev pub ReadsFor : List PasswordAlgorithmValue → (tried seen : Option (List ℕ)) → (d : List ℕ)
-    → CallResult
-    → (old new : AskedInC) → Type 0
+    → CResult
+    → (old new : CChallengeInC) → Type 0
 ReadsFor supported tried seen d result old new =
     MatchOption (parse_fault d)
     (TellsChallenge d (challenge_of supported tried seen d) result old new)
@@ -85,8 +85,8 @@ ReadsFor supported tried seen d result old new =
 
 -- the same by the numbers of the algorithms
 abbrev pub ReadsChallenge : (numbers : List ℕ) → (tried seen : Option (List ℕ)) → (d : List ℕ)
-    → CallResult
-    → (old new : AskedInC) → Type 0
+    → CResult
+    → (old new : CChallengeInC) → Type 0
 ReadsChallenge numbers tried seen d result old new =
     MatchOption (password_algorithms_named numbers)
     (Refuses (plain BAD_ARGUMENT) result old new)

@@ -7,10 +7,10 @@ use Rattle.turn_attrs.specs.declared.channel_data.ChannelDataError.{ChannelDataE
 use Rattle.turn_attrs.specs.declared.channel_data.ChannelDataError.TheVariants.{NotChannelData, Truncated, TooLarge}
 use Rattle.turn_attrs.specs.Channels.{begin_fault, channel_field, data_length, is_channel}
 use Rattle.turn_attrs.specs.ChannelMessages.{channel_fault}
-use Rattle.stun_types_c.specs.declared.call_result.CallResult.{CallResult}
-use Rattle.stun_types_c.specs.declared.channels.ChannelMessage.{ChannelMessage}
+use Rattle.stun_types_c.specs.declared.call_result.CResult.{CResult}
+use Rattle.stun_types_c.specs.declared.channels.CChannelMessage.{CChannelMessage}
 use Rattle.stun_types_c.specs.Codes.{OK, NOT_STUN, TRUNCATED, TOO_LARGE, TOO_SMALL, OUT_OF_RANGE}
-use Rattle.stun_types_c.specs.CallResults.{plain, counted, Refuses}
+use Rattle.stun_types_c.specs.CResults.{plain, counted, Refuses}
 use Rattle.stun_types_c.specs.Writing.{Written}
 
 -- the number of a protocol, and 0 for none
@@ -24,26 +24,26 @@ protocol_number (Some Rtp) = 5
 protocol_number (Some Quic) = 6
 
 -- why bytes are no ChannelData message
-abbrev pub channel_answer : ChannelDataError → CallResult
+abbrev pub channel_answer : ChannelDataError → CResult
 channel_answer NotChannelData = plain NOT_STUN
 channel_answer (Truncated expected actual) = counted TRUNCATED expected actual
 channel_answer (TooLarge expected actual) = counted TOO_LARGE expected actual
 
 -- why no channel and length begin the bytes: none can, or there are too few to decide
-abbrev pub Partly : ChannelDataError → CallResult → (old new : ℕ) → Type 0
+abbrev pub Partly : ChannelDataError → CResult → (old new : ℕ) → Type 0
 Partly NotChannelData result old new = (result ≡ plain NOT_STUN) × (new ≡ old)
 Partly _ result old new = (result ≡ plain OK) × (new ≡ 0)
 
 -- how many bytes the message has on a stream that begins with these; 0 if there are too few, and
 -- it may begin so
-abbrev pub FramesChannel : List ℕ → CallResult → (old new : ℕ) → Type 0
+abbrev pub FramesChannel : List ℕ → CResult → (old new : ℕ) → Type 0
 FramesChannel b result old new =
     MatchOption (begin_fault b)
     ((result ≡ plain OK) × (new ≡ padded_length (4 + data_length b)))
     (λ e. Partly e result old new)
 
 -- what reading a message answers
-abbrev pub ReadsChannel : List ℕ → CallResult → ChannelMessage → ChannelMessage → Type 0
+abbrev pub ReadsChannel : List ℕ → CResult → CChannelMessage → CChannelMessage → Type 0
 ReadsChannel b result old new =
     MatchOption (channel_fault b)
     ((result ≡ plain OK)
@@ -61,7 +61,7 @@ channel_message padded channel sent =
 -- why no message is written: no channel has the number, its length field can't state how long the
 -- data is, or the slice has no room
 abbrev pub channel_refusal : (padded : Bool) → (channel : ℕ) → (sent slice : List ℕ)
-    → Option CallResult
+    → Option CResult
 channel_refusal padded channel sent slice =
     let n = length (channel_message padded channel sent) in
     if is_channel channel then (
@@ -70,7 +70,7 @@ channel_refusal padded channel sent slice =
     else Some (counted OUT_OF_RANGE 0x4FFF channel)
 
 -- a message is written at the start of a slice, or it is refused; what follows it stays
-abbrev pub WritesChannel : (padded : Bool) → (channel : ℕ) → (sent : List ℕ) → CallResult
+abbrev pub WritesChannel : (padded : Bool) → (channel : ℕ) → (sent : List ℕ) → CResult
     → Written → Written → Type 0
 WritesChannel padded channel sent result old new =
     let message = channel_message padded channel sent in

@@ -5,23 +5,23 @@ use Rattle.std.specs.List.{list_all}
 use Rattle.std.specs.Str.{is_utf8}
 use Rattle.stun_grammar.specs.Parsing.{parse_fault}
 use Rattle.stun_grammar.specs.Verdicts.{is_checked_type, verdict}
-use Rattle.stun_integrity.specs.Userhash.{user_hash}
+use Rattle.stun_attributes.specs.Userhash.{user_hash}
 use Rattle.stun_keys.specs.declared.keys.integrity_key.IntegrityKey.{IntegrityKey}
 use Rattle.stun_keys.specs.declared.keys.long_term_key.LongTermKeyCredentials.{LongTermKeyCredentials}
 use Rattle.stun_values.specs.Algorithms.{integrity_of}
 use Rattle.stun_keys.specs.Keys.{IsKey, long_term_key, long_term_username, long_term_realm, long_term_password}
-use Rattle.stun_types_c.specs.declared.call_result.CallResult.{CallResult}
+use Rattle.stun_types_c.specs.declared.call_result.CResult.{CResult}
 use Rattle.stun_types_c.specs.declared.keys.Hash.{Hash}
 use Rattle.stun_types_c.specs.declared.validating.Validated.{Validated}
 use Rattle.stun_types_c.specs.Codes.{OK, INVALID_DATA, OUT_OF_MEMORY, BAD_ARGUMENT}
-use Rattle.stun_types_c.specs.CallResults.{plain, parse_result, Refuses}
+use Rattle.stun_types_c.specs.CResults.{plain, parse_result, Refuses}
 use Rattle.stun_types_c.specs.PasswordAlgorithms.{password_numbered}
 use Rattle.stun_types_c.specs.Validating.{TellsVerdict, Invalidates}
 
 -- ---- Texts
 
 -- why texts are refused: one of them isn't UTF-8
-abbrev pub texts_refusal : List (List ℕ) → Option CallResult
+abbrev pub texts_refusal : List (List ℕ) → Option CResult
 texts_refusal texts = if list_all is_utf8 texts then None else Some (plain INVALID_DATA)
 
 -- the texts of a long-term credential, in the order in which they are tested and copied
@@ -32,13 +32,13 @@ credential_texts user realm password = user ∷ realm ∷ password ∷ []
 -- is refused; or an allocation failed, and then the first is a text at least: it is tested before any
 -- allocation
 abbrev pub WithTexts : (user realm password : List ℕ) → (Done : Type 0)
-    → (Refused : CallResult → Type 0) → Type 0
+    → (Refused : CResult → Type 0) → Type 0
 WithTexts user realm password Done Refused =
     MatchOption (texts_refusal (credential_texts user realm password)) Done Refused
     ⊎ ((is_utf8 user ≡ true) × Refused (plain OUT_OF_MEMORY))
 
 -- why bytes give no text: they aren't UTF-8, or an allocation failed
-abbrev pub RefusesText : List ℕ → CallResult → Type 0
+abbrev pub RefusesText : List ℕ → CResult → Type 0
 RefusesText bytes answer =
     ((is_utf8 bytes ≡ false) × (answer ≡ plain INVALID_DATA))
     ⊎ ((is_utf8 bytes ≡ true) × (answer ≡ plain OUT_OF_MEMORY))
@@ -52,7 +52,7 @@ pub record IsLongTerm (user realm password : List ℕ)
   pub password_is : long_term_password credentials ≡ password
 
 -- why there are none
-abbrev pub RefusesLongTerm : (user realm password : List ℕ) → CallResult → Type 0
+abbrev pub RefusesLongTerm : (user realm password : List ℕ) → CResult → Type 0
 RefusesLongTerm user realm password answer =
     (texts_refusal (credential_texts user realm password) ≡ Some answer)
     ⊎ ((is_utf8 user ≡ true) × (answer ≡ plain OUT_OF_MEMORY))
@@ -61,7 +61,7 @@ RefusesLongTerm user realm password answer =
 
 -- a handle holds the long-term key by the password algorithm of a number: it serves both integrity
 -- attributes (section 9.2.5)
-abbrev pub HoldsLongTerm : ℕ → (user realm password : List ℕ) → CallResult
+abbrev pub HoldsLongTerm : ℕ → (user realm password : List ℕ) → CResult
     → (old new : Option IntegrityKey) → Type 0
 HoldsLongTerm number user realm password result old new =
     MatchOption (password_numbered number)
@@ -73,7 +73,7 @@ HoldsLongTerm number user realm password result old new =
 
 -- validating d under a password: why it is no message, or the verdict if the password is the key
 -- for both algorithms, or an allocation failed
-abbrev pub ValidatesShortTerm : (password d : List ℕ) → CallResult → Validated → Type 0
+abbrev pub ValidatesShortTerm : (password d : List ℕ) → CResult → Validated → Type 0
 ValidatesShortTerm password d result new =
     MatchOption (parse_fault d)
     (TellsVerdict d (verdict (is_checked_type None) (λ _. password) d) result new
@@ -81,7 +81,7 @@ ValidatesShortTerm password d result new =
     (λ e. Invalidates (parse_result e) result new)
 
 -- the same with a long-term credential, which gives each algorithm its key
-abbrev pub ValidatesLongTerm : (user realm password d : List ℕ) → CallResult → Validated → Type 0
+abbrev pub ValidatesLongTerm : (user realm password d : List ℕ) → CResult → Validated → Type 0
 ValidatesLongTerm user realm password d result new =
     MatchOption (parse_fault d)
     (WithTexts user realm password
@@ -92,7 +92,7 @@ ValidatesLongTerm user realm password d result new =
     (λ e. Invalidates (parse_result e) result new)
 
 -- the hash of a user in a realm is reported, or one of the two isn't UTF-8
-abbrev pub TellsUserhash : (user realm : List ℕ) → CallResult → (old new : Hash) → Type 0
+abbrev pub TellsUserhash : (user realm : List ℕ) → CResult → (old new : Hash) → Type 0
 TellsUserhash user realm result old new =
     MatchOption (texts_refusal (user ∷ realm ∷ []))
     ((result ≡ plain OK) × (new ≡ record { bytes = user_hash user realm }))

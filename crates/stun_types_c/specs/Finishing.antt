@@ -3,32 +3,32 @@ use Rattle.std.specs.Prelude.{Bool, ◌&&◌, Option, None, MatchOption, ◌==�
 use Rattle.stun_grammar.specs.declared.integrity_algorithm.IntegrityAlgorithm.{IntegrityAlgorithm}
 use Rattle.stun_keys.specs.declared.keys.integrity_key.IntegrityKey.{IntegrityKey}
 use Rattle.stun_keys.specs.Keys.{key_bytes}
-use Rattle.stun_types_c.specs.declared.authentication.Authenticated.{Authenticated}
-use Rattle.stun_types_c.specs.declared.call_result.CallResult.{CallResult}
-use Rattle.stun_types_c.specs.CallResults.{plain, Refuses}
+use Rattle.stun_types_c.specs.declared.authentication.CAuthenticated.{CAuthenticated}
+use Rattle.stun_types_c.specs.declared.call_result.CResult.{CResult}
+use Rattle.stun_types_c.specs.CResults.{plain, Refuses}
 use Rattle.stun_types_c.specs.Codes.{BAD_ARGUMENT, NO_KEY}
 use Rattle.stun_types_c.specs.Keys.{algorithm_named}
 use Rattle.stun_types_c.specs.Steps.{Ends}
 use Rattle.stun_types_c.specs.Writing.{Written, serving_answer}
 
 -- the algorithm that signs the reply, if C's numbers are those of an acceptance, whose spare word is 0
-abbrev pub signing_named : Authenticated → Option IntegrityAlgorithm
-signing_named told =
-    if (told.kind == 1) && (told.reserved == 0) then algorithm_named told.reply_algorithm else None
+abbrev pub signing_named : CAuthenticated → Option IntegrityAlgorithm
+signing_named reported =
+    if (reported.kind == 1) && (reported.reserved == 0) then algorithm_named reported.reply_algorithm else None
 
 -- the key that accepted: that by SHA-256 if the acceptance names it, otherwise the first
-abbrev pub key_named : Authenticated → (first sha256 : Option IntegrityKey) → Option IntegrityKey
-key_named told first sha256 = if told.password_algorithm == 2 then sha256 else first
+abbrev pub key_named : CAuthenticated → (first sha256 : Option IntegrityKey) → Option IntegrityKey
+key_named reported first sha256 = if reported.password_algorithm == 2 then sha256 else first
 
 -- the reply is signed, unless the key was made for the other algorithm, and gets a FINGERPRINT, if one
 -- is wanted
-abbrev pub FinishesReply : Authenticated → (first sha256 : Option IntegrityKey) → (fingerprint : Bool)
-    → CallResult → Written
+abbrev pub FinishesReply : CAuthenticated → (first sha256 : Option IntegrityKey) → (fingerprint : Bool)
+    → CResult → Written
     → Written → Type 0
-FinishesReply told first sha256 fingerprint result old new =
-    MatchOption (signing_named told)
+FinishesReply reported first sha256 fingerprint result old new =
+    MatchOption (signing_named reported)
     (Refuses (plain BAD_ARGUMENT) result old new)
-    (λ algorithm. MatchOption (key_named told first sha256)
+    (λ algorithm. MatchOption (key_named reported first sha256)
     (Refuses (plain NO_KEY) result old new)
     (λ key. MatchOption (serving_answer key algorithm)
     (Ends fingerprint algorithm (key_bytes key) result old new)

@@ -8,9 +8,9 @@ use Rattle.stun_grammar.specs.AttributeTypes.{MESSAGE_INTEGRITY, MESSAGE_INTEGRI
 use Rattle.stun_grammar.specs.Verdicts.{type_of_algorithm}
 use Rattle.stun_keys.specs.declared.keys.integrity_key.IntegrityKey.{IntegrityKey}
 use Rattle.stun_keys.specs.Keys.{IsKey, key_bytes, key_algorithm}
-use Rattle.stun_types_c.specs.declared.call_result.CallResult.{CallResult}
+use Rattle.stun_types_c.specs.declared.call_result.CResult.{CResult}
 use Rattle.stun_types_c.specs.Codes.{OK, OUT_OF_MEMORY, BAD_ARGUMENT, NO_KEY, TOO_SMALL}
-use Rattle.stun_types_c.specs.CallResults.{plain, counted, write_result, Refuses}
+use Rattle.stun_types_c.specs.CResults.{plain, counted, write_result, Refuses}
 
 -- the algorithm of a number, which is the type of its integrity attribute, and the number of an
 -- algorithm
@@ -24,7 +24,7 @@ number_of algorithm = type_of_algorithm algorithm
 
 -- a handle holds the key that was made, prepared or not; or an allocation failed, and it holds what it
 -- held
-abbrev pub HoldsMade : Result IntegrityKey StunWriteError → CallResult
+abbrev pub HoldsMade : Result IntegrityKey StunWriteError → CResult
     → (old new : Option IntegrityKey) → Type 0
 HoldsMade (Ok key) result old new =
     ((result ≡ plain OK) × IsSomeAnd new (IsKey (key_algorithm key) (key_bytes key)))
@@ -33,7 +33,7 @@ HoldsMade (Err e) result old new = (result ≡ write_result e) × (new ≡ old)
 
 -- a handle holds a key with these bytes for an algorithm, or an allocation failed and it holds what
 -- it held
-abbrev pub Holds : Option IntegrityAlgorithm → List ℕ → CallResult → (old new : Option IntegrityKey)
+abbrev pub Holds : Option IntegrityAlgorithm → List ℕ → CResult → (old new : Option IntegrityKey)
     → Type 0
 Holds made_for bytes result old new =
     ((result ≡ plain OK) × IsSomeAnd new (IsKey made_for bytes))
@@ -47,7 +47,7 @@ made_for_named number =
 
 -- a handle holds a key with these bytes for the algorithm of a number, or no algorithm has that
 -- number
-abbrev pub HoldsNamed : ℕ → List ℕ → CallResult → (old new : Option IntegrityKey) → Type 0
+abbrev pub HoldsNamed : ℕ → List ℕ → CResult → (old new : Option IntegrityKey) → Type 0
 HoldsNamed number bytes result old new =
     MatchOption (made_for_named number)
     ((result ≡ plain BAD_ARGUMENT) × (new ≡ old))
@@ -58,24 +58,24 @@ abbrev pub made_for_number : Option IntegrityAlgorithm → ℕ
 made_for_number made_for = option_map_or number_of made_for 0
 
 -- a handle holds a copy of a key, or there is none to copy
-abbrev pub HoldsCopy : Option IntegrityKey → CallResult → (old new : Option IntegrityKey) → Type 0
+abbrev pub HoldsCopy : Option IntegrityKey → CResult → (old new : Option IntegrityKey) → Type 0
 HoldsCopy held result old new =
     MatchOption held (Refuses (plain NO_KEY) result old new)
     (λ key. Holds (key_algorithm key) (key_bytes key) result old new)
 
 -- what C reads of a key: its bytes in a slice, how many they are, and what it was made for
-pub record ToldKey : Type 0 where
+pub record ReportedKey : Type 0 where
   pub slice : List ℕ
   pub count : ℕ
   pub algorithm : ℕ
 
 -- why so many bytes are not written: the slice has no room for them
-abbrev pub room_answer : (needed room : ℕ) → Option CallResult
+abbrev pub room_answer : (needed room : ℕ) → Option CResult
 room_answer needed room =
     if nat_lt room needed then Some (counted TOO_SMALL needed room) else None
 
 -- the bytes of a key are written, or there is no key, or no room for them
-abbrev pub TellsKey : Option IntegrityKey → CallResult → (old new : ToldKey) → Type 0
+abbrev pub TellsKey : Option IntegrityKey → CResult → (old new : ReportedKey) → Type 0
 TellsKey held result old new =
     MatchOption held (Refuses (plain NO_KEY) result old new)
     (λ key. MatchOption (room_answer (length (key_bytes key)) (length old.slice))

@@ -1,5 +1,5 @@
 pub mod Codes
-pub mod CallResults
+pub mod CResults
 pub mod CodeTexts
 pub mod Attributes
 pub mod Reading

@@ -9,27 +9,27 @@ use Rattle.stun_transactions.specs.declared.parts.TransactionParts.{TransactionP
 use Rattle.stun_transactions.specs.Parts.{plan_in, state_in}
 use Rattle.stun_transactions.specs.Retransmissions.{due, is_timed}
 use Rattle.stun_transactions.specs.Slots.{sooner}
-use Rattle.stun_types_c.specs.declared.transactions.KeptTransaction.{KeptTransaction}
+use Rattle.stun_types_c.specs.declared.transactions.CTransaction.{CTransaction}
 use Rattle.stun_types_c.specs.Transactions.{MatchKept}
 
 -- ---- Which transaction a response is for
 
 -- whether the request with this ID was sent, and its transaction has not ended
-abbrev pub waits_for : ℕ → KeptTransaction → Bool
+abbrev pub waits_for : ℕ → CTransaction → Bool
 waits_for id kept =
     nat_lt 0 kept.sent && (kept.end == 0 && number kept.id.bytes == id)
 
 -- the place of the transaction that a response is for, by the transaction ID in its header; none
 -- if no response begins so
-abbrev pub addressee : List ℕ → List KeptTransaction → Option ℕ
+abbrev pub addressee : List ℕ → List CTransaction → Option ℕ
 addressee d kept =
     if is_some (header_fault d) then None else (
     if is_response (class_of (type_field d)) then position (waits_for (id_field d)) kept else None)
 
 -- a number is written; or there is none, and C's stays
 abbrev pub TellsNumber : Option ℕ → Bool → (old new : ℕ) → Type 0
-TellsNumber told result old new =
-    MatchOption told ((result ≡ false) × (new ≡ old)) (λ number. (result ≡ true) × (new ≡ number))
+TellsNumber reported result old new =
+    MatchOption reported ((result ≡ false) × (new ≡ old)) (λ number. (result ≡ true) × (new ≡ number))
 
 -- ---- When something is to be done
 
@@ -40,28 +40,28 @@ wake_in parts =
     else Some (min (min (due (plan_in parts) (state_in parts)) max_nanos / 1_000_000) (2 ^ 64 - 1))
 
 -- when the transaction that C keeps is to be polled; what keeps none never is
-abbrev pub WakesAt : KeptTransaction → Option ℕ → Type 0
-WakesAt kept told = MatchKept kept (told ≡ None) (λ parts. told ≡ wake_in parts)
+abbrev pub WakesAt : CTransaction → Option ℕ → Type 0
+WakesAt kept reported = MatchKept kept (reported ≡ None) (λ parts. reported ≡ wake_in parts)
 
 -- the soonest of these moments
-abbrev pub SoonestOf : List KeptTransaction → Option ℕ → Type 0
-SoonestOf [] told = told ≡ None
-SoonestOf (kept ∷ more) told =
-    (first later : Option ℕ) × WakesAt kept first × SoonestOf more later × (told ≡ sooner first later)
+abbrev pub SoonestOf : List CTransaction → Option ℕ → Type 0
+SoonestOf [] reported = reported ≡ None
+SoonestOf (kept ∷ more) reported =
+    (first later : Option ℕ) × WakesAt kept first × SoonestOf more later × (reported ≡ sooner first later)
 
-abbrev pub TellsSoonest : List KeptTransaction → Bool → (old new : ℕ) → Type 0
+abbrev pub TellsSoonest : List CTransaction → Bool → (old new : ℕ) → Type 0
 TellsSoonest kept result old new =
-    (told : Option ℕ) × SoonestOf kept told × TellsNumber told result old new
+    (reported : Option ℕ) × SoonestOf kept reported × TellsNumber reported result old new
 
 -- ---- How long a response took
 
 -- the time from when the request was sent to now, in milliseconds, where a response was taken and a
 -- single request was sent
-abbrev pub TakesTime : (now : ℕ) → KeptTransaction → Option ℕ → Type 0
-TakesTime now kept told =
-    MatchKept kept (told ≡ None)
-    (λ parts. told ≡ (if is_timed (state_in parts) then Some (now - kept.last) else None))
+abbrev pub TakesTime : (now : ℕ) → CTransaction → Option ℕ → Type 0
+TakesTime now kept reported =
+    MatchKept kept (reported ≡ None)
+    (λ parts. reported ≡ (if is_timed (state_in parts) then Some (now - kept.last) else None))
 
-abbrev pub TellsRoundTrip : (now : ℕ) → KeptTransaction → Bool → (old new : ℕ) → Type 0
+abbrev pub TellsRoundTrip : (now : ℕ) → CTransaction → Bool → (old new : ℕ) → Type 0
 TellsRoundTrip now kept result old new =
-    (told : Option ℕ) × TakesTime now kept told × TellsNumber told result old new
+    (reported : Option ℕ) × TakesTime now kept reported × TellsNumber reported result old new

@@ -10,11 +10,11 @@ use Rattle.stun_types.specs.declared.attribute.known.ValueForm.{ValueForm}
 use Rattle.stun_types.specs.declared.attribute.known.ValueForm.TheVariants.{Number, PaddedNumber, Octets}
 use Rattle.discovery_attrs.specs.Discovery.{RESPONSE_PORT}
 use Rattle.stun_plain_text.specs.NamesOfAll.{value_form}
-use Rattle.stun_types_c.specs.declared.call_result.CallResult.{CallResult}
+use Rattle.stun_types_c.specs.declared.call_result.CResult.{CResult}
 use Rattle.stun_types_c.specs.declared.attribute.ShownAttribute.{ShownAttribute}
 use Rattle.stun_types_c.specs.declared.numbers.Range.{Range}
 use Rattle.stun_types_c.specs.Codes.{OK, INVALID_DATA, OUT_OF_RANGE, BAD_ARGUMENT}
-use Rattle.stun_types_c.specs.CallResults.{plain, counted, parse_result, Refuses}
+use Rattle.stun_types_c.specs.CResults.{plain, counted, parse_result, Refuses}
 use Rattle.stun_types_c.specs.Values.{value_of}
 use Rattle.stun_types_c.specs.Writing.{Written, AppendsUnless, any_answer}
 
@@ -56,7 +56,7 @@ is_in_range type n = nat_le (range_of type).least n && nat_le n (range_of type).
 -- ---- Adding one
 
 -- why a number of so many bytes isn't added as the value of a type
-abbrev pub number_answer : (width type n : ℕ) → Option CallResult
+abbrev pub number_answer : (width type n : ℕ) → Option CResult
 number_answer width type n =
     if has_width width type then
     (if is_in_range type n then None
@@ -68,18 +68,18 @@ abbrev pub padded : (type : ℕ) → (octets : List ℕ) → List ℕ
 padded type octets = octets ++ replicate (zeros_of type) 0
 
 -- it is added, or the call says why not
-abbrev pub AddsUnless : Option CallResult → (type : ℕ) → (octets : List ℕ) → CallResult → Written
+abbrev pub AddsUnless : Option CResult → (type : ℕ) → (octets : List ℕ) → CResult → Written
     → Written
     → Type 0
 AddsUnless fault type octets result old new =
     AppendsUnless fault (any_answer (length old.slice) type (padded type octets)) type
     (λ _. padded type octets) result old new
 
-abbrev pub AddsPadded : (type : ℕ) → (octets : List ℕ) → CallResult → Written → Written → Type 0
+abbrev pub AddsPadded : (type : ℕ) → (octets : List ℕ) → CResult → Written → Written → Type 0
 AddsPadded = AddsUnless None
 
 -- a number is added, if it may be the value of the type
-abbrev pub AddsNumber : (type n : ℕ) → (octets : List ℕ) → CallResult → Written → Written → Type 0
+abbrev pub AddsNumber : (type n : ℕ) → (octets : List ℕ) → CResult → Written → Written → Type 0
 AddsNumber type n octets = AddsUnless (number_answer (length octets) type n) type octets
 
 -- ---- Reading one
@@ -92,7 +92,7 @@ length_fault width type length =
     else exact_fault (width + zeros_of type) length
 
 -- why no number of so many bytes is read in the value of a type
-abbrev pub reading_answer : (width type : ℕ) → List ℕ → Option CallResult
+abbrev pub reading_answer : (width type : ℕ) → List ℕ → Option CResult
 reading_answer width type value =
     if has_width width type then
     option_or (option_map parse_result (length_fault width type (length value)))
@@ -100,14 +100,14 @@ reading_answer width type value =
     else Some (plain BAD_ARGUMENT)
 
 -- the value of an attribute of the message d that begins with such a number, or why it doesn't
-abbrev pub value_with_number : (width : ℕ) → ShownAttribute → List ℕ → Result (List ℕ) CallResult
+abbrev pub value_with_number : (width : ℕ) → ShownAttribute → List ℕ → Result (List ℕ) CResult
 value_with_number width attribute d =
     option_map_or (λ value.
     option_map_or (λ answer. Err answer) (reading_answer width attribute.atype value) (Ok value))
     (value_of attribute d) (Err (plain BAD_ARGUMENT))
 
 -- that number is read; the zeros that follow it may be anything
-abbrev pub ReadsNumber : (width : ℕ) → ShownAttribute → List ℕ → CallResult → (old new : ℕ) → Type 0
+abbrev pub ReadsNumber : (width : ℕ) → ShownAttribute → List ℕ → CResult → (old new : ℕ) → Type 0
 ReadsNumber width attribute d result old new =
     MatchResult (value_with_number width attribute d)
     (λ value. (result ≡ plain OK) × (new ≡ big_number width value))

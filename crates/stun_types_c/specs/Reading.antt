@@ -4,10 +4,10 @@ use Rattle.stun_grammar.specs.Headers.{Begins, length_field, type_field}
 use Rattle.stun_base.specs.declared.message_type.MessageClass.{MessageClass}
 use Rattle.stun_base.specs.declared.message_type.MessageClass.TheVariants.{Request, Indication, Success, Error as ErrorClass}
 use Rattle.stun_base.specs.MessageTypes.{class_of, method_of}
-use Rattle.stun_types_c.specs.declared.call_result.CallResult.{CallResult}
+use Rattle.stun_types_c.specs.declared.call_result.CResult.{CResult}
 use Rattle.stun_types_c.specs.declared.reading.Header.{Header}
 use Rattle.stun_types_c.specs.Codes.{OK, NOT_STUN}
-use Rattle.stun_types_c.specs.CallResults.{plain}
+use Rattle.stun_types_c.specs.CResults.{plain}
 
 -- how many bytes the message has that begins with these, or 0 if its header isn't whole
 abbrev pub whole_length : List ℕ → ℕ
@@ -15,7 +15,7 @@ whole_length d = if nat_lt (length d) 20 then 0 else 20 + length_field d
 
 -- what a prefix of a stream says: how long the message is that begins so, or that none does, and
 -- then nothing is reported
-abbrev pub Frames : List ℕ → CallResult → (old new : ℕ) → Type 0
+abbrev pub Frames : List ℕ → CResult → (old new : ℕ) → Type 0
 Frames d result old new =
     (Begins d × (result ≡ plain OK) × (new ≡ whole_length d))
     ⊎ (¬ Begins d × (result ≡ plain NOT_STUN) × (new ≡ old))

@@ -20,9 +20,9 @@ use Rattle.stun_authentication.specs.Cookies.{cookie, promises_algorithms}
 use Rattle.stun_authentication.specs.LongTerm.{is_request}
 use Rattle.stun_authentication.specs.Refusing.{demanded, refusal_of, refusal_sizes}
 use Rattle.stun_authentication.specs.Writing.{no_room}
-use Rattle.stun_types_c.specs.declared.call_result.CallResult.{CallResult}
+use Rattle.stun_types_c.specs.declared.call_result.CResult.{CResult}
 use Rattle.stun_types_c.specs.declared.refusals.Cookie.{Cookie}
-use Rattle.stun_types_c.specs.CallResults.{plain, counted, parse_result, write_result, Refuses}
+use Rattle.stun_types_c.specs.CResults.{plain, counted, parse_result, write_result, Refuses}
 use Rattle.stun_types_c.specs.Codes.{OK, TOO_LARGE, INVALID_DATA, OUT_OF_MEMORY, TOO_SMALL, BAD_ARGUMENT, NOT_A_REQUEST}
 use Rattle.stun_types_c.specs.PasswordAlgorithms.{password_algorithms_named}
 use Rattle.stun_types_c.specs.Writing.{Written}
@@ -30,7 +30,7 @@ use Rattle.stun_types_c.specs.Writing.{Written}
 -- ---- What C passes
 
 -- why d is no request
-abbrev pub message_answer : List ℕ → Option CallResult
+abbrev pub message_answer : List ℕ → Option CResult
 message_answer d =
     option_or (option_map parse_result (parse_fault d))
     (if is_request (class_of (type_field d)) then None else Some (plain NOT_A_REQUEST))
@@ -45,7 +45,7 @@ long_term_refusal code =
     if code == 438 then Some StaleNonce else short_term_refusal code
 
 -- why bytes aren't the text of a REALM or a NONCE
-abbrev pub text_answer : List ℕ → Option CallResult
+abbrev pub text_answer : List ℕ → Option CResult
 text_answer bytes =
     if is_utf8 bytes then
     (if nat_lt text_max (length bytes) then Some (counted TOO_LARGE text_max (length bytes)) else None)
@@ -57,7 +57,7 @@ agrees nonce [] = not (promises_algorithms nonce)
 agrees nonce (algorithm ∷ algorithms) = promises_algorithms nonce
 
 -- why a realm, a nonce and algorithms ask for nothing
-abbrev pub demand_answer : (realm nonce : List ℕ) → List PasswordAlgorithmValue → Option CallResult
+abbrev pub demand_answer : (realm nonce : List ℕ) → List PasswordAlgorithmValue → Option CResult
 demand_answer realm nonce algorithms =
     option_or (text_answer realm) (option_or (text_answer nonce)
     (if agrees nonce algorithms then None else Some (plain BAD_ARGUMENT)))
@@ -76,13 +76,13 @@ IsDemand realm nonce algorithms demand =
 -- ---- The response
 
 -- why a slice has no room for a message
-abbrev pub room_answer : (message slice : List ℕ) → Option CallResult
+abbrev pub room_answer : (message slice : List ℕ) → Option CResult
 room_answer message slice =
     if nat_lt (length slice) (length message)
     then Some (counted TOO_SMALL (length message) (length slice)) else None
 
 -- a message is written at the start of a slice, if that has room for it
-abbrev pub Delivers : List ℕ → CallResult → Written → Written → Type 0
+abbrev pub Delivers : List ℕ → CResult → Written → Written → Type 0
 Delivers message result old new =
     MatchOption (room_answer message old.slice)
     ((result ≡ plain OK) × (new ≡ record {
@@ -92,7 +92,7 @@ Delivers message result old new =
     (λ answer. Refuses answer result old new)
 
 -- the response that refuses r is written, unless an allocation fails
-abbrev pub WritesRefusal : List ℕ → Refusal → Option Demand → CallResult → Written → Written → Type 0
+abbrev pub WritesRefusal : List ℕ → Refusal → Option Demand → CResult → Written → Written → Type 0
 WritesRefusal r refusal demand result old new =
     MatchOption (no_room None 20 (refusal_sizes r refusal demand))
     (Delivers (refusal_of r refusal demand) result old new)
@@ -100,7 +100,7 @@ WritesRefusal r refusal demand result old new =
     ⊎ Refuses (plain OUT_OF_MEMORY) result old new
 
 -- the same under short-term credentials, by the number of the code
-abbrev pub RefusesShortTerm : List ℕ → (code : ℕ) → CallResult → Written → Written → Type 0
+abbrev pub RefusesShortTerm : List ℕ → (code : ℕ) → CResult → Written → Written → Type 0
 RefusesShortTerm r code result old new =
     MatchOption (message_answer r)
     (MatchOption (short_term_refusal code)
@@ -110,7 +110,7 @@ RefusesShortTerm r code result old new =
 
 -- what asks for something is written, or the call says why nothing is asked for
 abbrev pub RefusesDemanding : List ℕ → Refusal → (realm nonce : List ℕ)
-    → List PasswordAlgorithmValue → CallResult → Written
+    → List PasswordAlgorithmValue → CResult → Written
     → Written → Type 0
 RefusesDemanding r refusal realm nonce algorithms result old new =
     MatchOption (demand_answer realm nonce algorithms)
@@ -120,7 +120,7 @@ RefusesDemanding r refusal realm nonce algorithms result old new =
     ⊎ Refuses (plain OUT_OF_MEMORY) result old new
 
 -- the same under long-term credentials, by the numbers of the code and of the algorithms
-abbrev pub RefusesLongTerm : List ℕ → (code : ℕ) → (realm nonce numbers : List ℕ) → CallResult
+abbrev pub RefusesLongTerm : List ℕ → (code : ℕ) → (realm nonce numbers : List ℕ) → CResult
     → Written
     → Written → Type 0
 RefusesLongTerm r code realm nonce numbers result old new =
@@ -148,7 +148,7 @@ features_number features =
     from_bool features.password_algorithms + 2 * from_bool features.username_anonymity
 
 -- the nonce cookie of the features of a number is written, or no features have this number
-abbrev pub TellsCookie : ℕ → CallResult → (old new : Cookie) → Type 0
+abbrev pub TellsCookie : ℕ → CResult → (old new : Cookie) → Type 0
 TellsCookie number result old new =
     MatchOption (features_named number)
     (Refuses (plain BAD_ARGUMENT) result old new)
@@ -156,5 +156,5 @@ TellsCookie number result old new =
 
 -- the features that a nonce promises, or that it begins with no nonce cookie, and C's number stays
 abbrev pub TellsFeatures : Option SecurityFeatures → Bool → (old new : ℕ) → Type 0
-TellsFeatures told result old new =
-    (result ≡ is_some told) × (new ≡ option_map_or features_number told old)
+TellsFeatures reported result old new =
+    (result ≡ is_some reported) × (new ≡ option_map_or features_number reported old)

@@ -4,28 +4,28 @@ use Rattle.std.specs.declared.net.socket_addr.SocketAddr.{SocketAddr}
 use Rattle.stun_server.specs.Reply.{reply}
 use Rattle.stun_server.specs.InSlice.{answer_in, slice_after}
 use Rattle.stun_types_c.specs.declared.address.Address.{Address}
-use Rattle.stun_types_c.specs.declared.call_result.CallResult.{CallResult}
+use Rattle.stun_types_c.specs.declared.call_result.CResult.{CResult}
 use Rattle.stun_types_c.specs.Codes.{OK, BAD_ARGUMENT}
 use Rattle.stun_types_c.specs.Addresses.{ip_named, IsAt}
-use Rattle.stun_types_c.specs.CallResults.{plain, write_result}
+use Rattle.stun_types_c.specs.CResults.{plain, write_result}
 
 -- how many bytes are written, and 0 if no reply is owed
-abbrev pub length_told : Option ℕ → ℕ
-length_told None = 0
-length_told (Some length) = length
+abbrev pub length_reported : Option ℕ → ℕ
+length_reported None = 0
+length_reported (Some length) = length
 
 -- the reply to a datagram is written at the start of the slice, or there is none, or it has no room
 -- and the slice stays
-abbrev pub RepliesTo : SocketAddr → List ℕ → CallResult → (old new : List ℕ) → (before after : ℕ)
+abbrev pub RepliesTo : SocketAddr → List ℕ → CResult → (old new : List ℕ) → (before after : ℕ)
     → Type 0
 RepliesTo source datagram result old new before after =
     (new ≡ slice_after (reply source datagram) old)
     × MatchResult (answer_in (reply source datagram) (length old))
-    (λ told. (result ≡ plain OK) × (after ≡ length_told told))
+    (λ reported. (result ≡ plain OK) × (after ≡ length_reported reported))
     (λ e. (result ≡ write_result e) × (after ≡ before))
 
 -- the same for a datagram that came from the address that C's form names, if it names one
-abbrev pub RepliesAt : Address → List ℕ → CallResult → (old new : List ℕ) → (before after : ℕ)
+abbrev pub RepliesAt : Address → List ℕ → CResult → (old new : List ℕ) → (before after : ℕ)
     → Type 0
 RepliesAt address datagram result old new before after =
     MatchOption (ip_named address)

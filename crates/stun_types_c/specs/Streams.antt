@@ -1,31 +1,31 @@
 -- Streams of messages, as C keeps them between its calls (RFC 8489, section 6.2.2).
 use Rattle.std.specs.Prelude.{◌≡◌, ℕ, ◌==◌, ◌&&◌, true, false, List, length, take, Option, None, Some, Result, Ok, Err}
 use Rattle.std.specs.Option.{option_map_or}
-use Rattle.stun_framing.specs.declared.carries.Carries.TheVariants.{Messages}
+use Rattle.stun_framing.specs.declared.stream_kind.StreamKind.TheVariants.{Messages}
 use Rattle.stun_framing.specs.declared.error.StreamError.{StreamError}
 use Rattle.stun_framing.specs.declared.error.StreamFault.{StreamFault}
 use Rattle.stun_framing.specs.declared.error.StreamFault.TheVariants.{NotStun, NotPadded, TooLong}
 use Rattle.stun_framing.specs.Framing.{room_of}
 use Rattle.stun_framing.specs.Streams.{Stream, resumed, can_resume, refusal, answer, left, StandsIn}
-use Rattle.stun_types_c.specs.declared.call_result.CallResult.{CallResult}
-use Rattle.stun_types_c.specs.declared.streams.KeptStream.{KeptStream}
+use Rattle.stun_types_c.specs.declared.call_result.CResult.{CResult}
+use Rattle.stun_types_c.specs.declared.streams.CStream.{CStream}
 use Rattle.stun_types_c.specs.Codes.{OK, NOT_STUN, TOO_LARGE, BAD_ARGUMENT, NOT_PADDED}
-use Rattle.stun_types_c.specs.CallResults.{plain, counted}
+use Rattle.stun_types_c.specs.CResults.{plain, counted}
 
 -- why no message begins after the last one, in a buffer of so many bytes
-abbrev pub fault_result : (room : ℕ) → StreamFault → CallResult
+abbrev pub fault_result : (room : ℕ) → StreamFault → CResult
 fault_result room NotStun = plain NOT_STUN
 fault_result room (NotPadded field) = counted NOT_PADDED 0 field
 fault_result room (TooLong stated) = counted TOO_LARGE room stated
 
 -- the stream that resumes what C keeps: an offset, and as many bytes at the start of its buffer
 -- as are pending
-abbrev pub stream_kept : KeptStream → (buffer : List ℕ) → Stream
+abbrev pub stream_kept : CStream → (buffer : List ℕ) → Stream
 stream_kept kept buffer =
     resumed (room_of Messages (length buffer)) kept.offset (take kept.pending buffer)
 
 -- what C keeps of a stream, and how long the message is that the last piece completed, or 0
-abbrev pub kept_of : Stream → KeptStream
+abbrev pub kept_of : Stream → CStream
 kept_of stream = record {
   offset = stream.offset;
   pending = length stream.pending;
@@ -34,7 +34,7 @@ kept_of stream = record {
 }
 
 -- the answer to a piece: OK, or why no message begins after the last one
-abbrev pub piece_answer : (room : ℕ) → Option StreamError → CallResult
+abbrev pub piece_answer : (room : ℕ) → Option StreamError → CResult
 piece_answer room None = plain OK
 piece_answer room (Some error) = fault_result room error.fault
 
@@ -46,7 +46,7 @@ taken_after before (Err error) = before
 -- the bytes at the start of a piece that belong to the message that is coming are taken, or no
 -- message begins so: C keeps the stream that the piece leaves, whose bytes are in the buffer; or
 -- what C keeps is no stream's, and all stays
-abbrev pub PushesPiece : (piece buffer filled : List ℕ) → CallResult → (old new : KeptStream)
+abbrev pub PushesPiece : (piece buffer filled : List ℕ) → CResult → (old new : CStream)
     → (before after : ℕ) → Type 0
 PushesPiece piece buffer filled result old new before after =
     let stream = stream_kept old buffer in

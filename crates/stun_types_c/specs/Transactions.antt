@@ -35,7 +35,7 @@ use Rattle.stun_transactions.specs.declared.schedule.ScheduleError.{ScheduleErro
 use Rattle.stun_transactions.specs.declared.terms.BeginError.{BeginError}
 use Rattle.stun_transactions.specs.declared.terms.BeginError.TheVariants.{NotARequest, NotSigned, Signed, KeyForOneAlgorithm}
 use Rattle.stun_transactions.specs.declared.transaction.Transaction.{Transaction}
-use Rattle.stun_transactions.specs.declared.usage.Usage.{Usage}
+use Rattle.stun_transactions.specs.declared.response_policy.ResponsePolicy.{ResponsePolicy}
 use Rattle.stun_transactions.specs.Retransmissions.{Polls, ended_by, stopped_by}
 use Rattle.stun_transactions.specs.Guards.{signed_by, is_signed_for}
 use Rattle.stun_transactions.specs.Outcomes.{after}
@@ -44,15 +44,15 @@ use Rattle.stun_transactions.specs.Receiving.{received_outcome}
 use Rattle.stun_transactions.specs.Schedules.{schedule_fault, IsSchedule}
 use Rattle.stun_transactions.specs.Terms.{request_fault}
 use Rattle.stun_transactions.specs.Transactions.{terms_of, state_of}
-use Rattle.stun_types_c.specs.declared.call_result.CallResult.{CallResult}
-use Rattle.stun_types_c.specs.declared.transactions.KeptTransaction.{KeptTransaction}
-use Rattle.stun_types_c.specs.declared.transactions.ReceivedOutcome.{ReceivedOutcome}
-use Rattle.stun_types_c.specs.declared.transactions.Waits.{Waits}
-use Rattle.stun_types_c.specs.declared.transactions.Wanted.{Wanted}
-use Rattle.stun_types_c.specs.CallResults.{plain, parse_result}
+use Rattle.stun_types_c.specs.declared.call_result.CResult.{CResult}
+use Rattle.stun_types_c.specs.declared.transactions.CTransaction.{CTransaction}
+use Rattle.stun_types_c.specs.declared.transactions.CReceived.{CReceived}
+use Rattle.stun_types_c.specs.declared.transactions.CSchedule.{CSchedule}
+use Rattle.stun_types_c.specs.declared.transactions.CAction.{CAction}
+use Rattle.stun_types_c.specs.CResults.{plain, parse_result}
 use Rattle.stun_types_c.specs.Keys.{number_of}
 use Rattle.stun_types_c.specs.TypeLists.{types_numbered}
-use Rattle.stun_types_c.specs.Usages.{shortest_named}
+use Rattle.stun_types_c.specs.Usages.{min_hmac_length_named}
 use Rattle.stun_types_c.specs.Codes.{OK, OUT_OF_MEMORY, OUT_OF_RANGE, BAD_ARGUMENT, NO_KEY, NOT_A_REQUEST, NOT_SIGNED, SIGNED}
 
 -- ---- What each number means
@@ -96,28 +96,28 @@ abbrev pub millis_of : Duration → ℕ
 millis_of moment = min (as_nanos moment / 1_000_000) (2 ^ 64 - 1)
 
 -- why no schedule has these numbers
-abbrev pub waits_fault : Waits → Option ScheduleError
+abbrev pub waits_fault : CSchedule → Option ScheduleError
 waits_fault waits = schedule_fault waits.rto waits.requests waits.last_wait
 
 -- the schedule of these numbers
-pub record Schedules (waits : Waits) (schedule : Schedule) : Type 0 where
+pub record Schedules (waits : CSchedule) (schedule : Schedule) : Type 0 where
   pub sound : waits_fault waits ≡ None
   pub numbers :
       IsSchedule waits.rto waits.requests waits.last_wait waits.reliable_wait schedule
 
 -- what the usage specifies of responses, where the spare word is 0
-abbrev pub usage_named : Waits → Option Usage
+abbrev pub usage_named : CSchedule → Option ResponsePolicy
 usage_named waits =
-    if waits.reserved == 0 then option_map (λ shortest. record {
-      shortest = shortest;
+    if waits.reserved == 0 then option_map (λ min_hmac_length. record {
+      min_hmac_length = min_hmac_length;
       fingerprint = not (waits.fingerprint == 0);
     })
-    (shortest_named waits.shortest) else None
+    (min_hmac_length_named waits.min_hmac_length) else None
 
 -- ---- Which transaction C keeps
 
 -- how far it has come
-pub record TellsState (kept : KeptTransaction) (state : RetransmissionState) : Type 0 where
+pub record TellsState (kept : CTransaction) (state : RetransmissionState) : Type 0 where
   pub sent : state.sent ≡ kept.sent
   pub last : IsAt kept.last state.last
   pub clock : IsAt kept.clock state.clock
@@ -126,7 +126,7 @@ pub record TellsState (kept : KeptTransaction) (state : RetransmissionState) : T
   pub end : kept.end ≡ number_of_end state.end
 
 -- its parts
-pub record TellsParts (kept : KeptTransaction) (parts : TransactionParts) : Type 0 where
+pub record TellsParts (kept : CTransaction) (parts : TransactionParts) : Type 0 where
   pub schedule : Schedules kept.schedule parts.schedule
   pub transport : transport_numbered kept.transport ≡ Some parts.transport
   pub method : parts.method ≡ kept.method
@@ -139,16 +139,16 @@ pub record TellsParts (kept : KeptTransaction) (parts : TransactionParts) : Type
   pub state : TellsState kept (state_in parts)
 
 -- the numbers keep a transaction of these parts
-pub record Keeps (kept : KeptTransaction) (parts : TransactionParts) : Type 0 where
+pub record Keeps (kept : CTransaction) (parts : TransactionParts) : Type 0 where
   pub tells : TellsParts kept parts
   pub sound : parts_fault parts ≡ None
 
 -- they keep none
-abbrev pub KeepsNone : KeptTransaction → Type 0
+abbrev pub KeepsNone : CTransaction → Type 0
 KeepsNone kept = (parts : TransactionParts) → ¬ Keeps kept parts
 
 -- P if they keep none, and Q of the transaction that they keep
-abbrev pub MatchKept : KeptTransaction → Type 0 → (TransactionParts → Type 0) → Type 0
+abbrev pub MatchKept : CTransaction → Type 0 → (TransactionParts → Type 0) → Type 0
 MatchKept kept P Q =
     (KeepsNone kept × P) ⊎ ((parts : TransactionParts) × Keeps kept parts × Q parts)
 
@@ -173,7 +173,7 @@ pub record AreSame (one other : TransactionParts) : Type 0 where
 -- ---- What calls leave
 
 -- the numbers of the same transaction that has come so far
-abbrev pub with_state : KeptTransaction → RetransmissionState → KeptTransaction
+abbrev pub with_state : CTransaction → RetransmissionState → CTransaction
 with_state kept state = record kept {
   sent = state.sent;
   last = millis_of state.last;
@@ -185,36 +185,36 @@ with_state kept state = record kept {
 
 -- a transaction goes on, and nothing of it is lost
 pub record GoesOn (parts : TransactionParts) (state : RetransmissionState)
-    (old new : KeptTransaction) : Type 0 where
+    (old new : CTransaction) : Type 0 where
   pub numbers : new ≡ with_state old state
   pub keeps : Keeps new (at_state parts state)
 
 -- the transaction that C keeps ends, unless it has ended
-abbrev pub Ends : TransactionEnd → CallResult → KeptTransaction → KeptTransaction → Type 0
+abbrev pub Ends : TransactionEnd → CResult → CTransaction → CTransaction → Type 0
 Ends end result old new =
     MatchKept old ((result ≡ plain BAD_ARGUMENT) × (new ≡ old))
     (λ parts. (result ≡ plain OK) × GoesOn parts (ended_by end (state_in parts)) old new)
 
 -- the transaction that C keeps sends nothing more, unless it has ended
-abbrev pub StopsKept : CallResult → KeptTransaction → KeptTransaction → Type 0
+abbrev pub StopsKept : CResult → CTransaction → CTransaction → Type 0
 StopsKept result old new =
     MatchKept old ((result ≡ plain BAD_ARGUMENT) × (new ≡ old))
     (λ parts. (result ≡ plain OK) × GoesOn parts (stopped_by (state_in parts)) old new)
 
 -- what C reads if nothing is decided: a call that fails writes this
-abbrev pub nothing_wanted : Wanted
+abbrev pub nothing_wanted : CAction
 nothing_wanted = record { kind = 0; end = 0; until = 0; reserved = 0 }
 
 -- what is wanted, in C's numbers
-abbrev pub wanted_of : Action → Wanted
+abbrev pub wanted_of : Action → CAction
 wanted_of Send = record nothing_wanted { kind = 1 }
 wanted_of (WaitUntil until) = record nothing_wanted { kind = 2; until = millis_of until }
 wanted_of (Ended end) = record nothing_wanted { kind = 3; end = end_number end }
 
 -- what C keeps, and what it has to do
 pub record Polled : Type 0 where
-  pub kept : KeptTransaction
-  pub wanted : Wanted
+  pub kept : CTransaction
+  pub wanted : CAction
 
 -- a transaction of these parts is polled at a moment
 pub record PollsParts (parts : TransactionParts) (now : ℕ) (old new : Polled) : Type 0 where
@@ -224,10 +224,10 @@ pub record PollsParts (parts : TransactionParts) (now : ℕ) (old new : Polled) 
   pub state : RetransmissionState
   pub polls : Polls (plan_in parts) (state_in parts) moment action state
   pub goes_on : GoesOn parts state old.kept new.kept
-  pub told : new.wanted ≡ wanted_of action
+  pub reported : new.wanted ≡ wanted_of action
 
 -- the transaction that C keeps is polled, unless it keeps none
-abbrev pub PollsKept : ℕ → CallResult → Polled → Polled → Type 0
+abbrev pub PollsKept : ℕ → CResult → Polled → Polled → Type 0
 PollsKept now result old new =
     MatchKept old.kept
     ((result ≡ plain BAD_ARGUMENT) × (new ≡ record old { wanted = nothing_wanted }))
@@ -240,7 +240,7 @@ abbrev pub signed_in : List ℕ → ℕ
 signed_in d = signed_number (signed_by d).sha1 (signed_by d).sha256
 
 -- what is answered if no transaction begins
-abbrev pub request_answer : BeginError → CallResult
+abbrev pub request_answer : BeginError → CResult
 request_answer NotARequest = plain NOT_A_REQUEST
 request_answer NotSigned = plain NOT_SIGNED
 request_answer Signed = plain SIGNED
@@ -251,7 +251,7 @@ request_answer KeyForOneAlgorithm = plain BAD_ARGUMENT
 -- them (RFC 8489, section 9.1.2); or it is the long-term one, whose key serves both (section 9.2.5),
 -- and the key was made for one
 abbrev pub key_answer : Option Mechanism → ShownIntegrity → Option IntegrityKey
-    → Option CallResult
+    → Option CResult
 key_answer None signed held = None
 key_answer (Some FirstLongTerm) signed held = None
 key_answer (Some ShortTerm) signed None = Some (plain NO_KEY)
@@ -262,16 +262,16 @@ key_answer (Some LongTerm) signed (Some key) =
     if is_some (key_algorithm key) then Some (plain BAD_ARGUMENT) else None
 
 -- why no transaction begins by a mechanism, or by none: by the schedule, the request or the key
-abbrev pub terms_answer : Waits → Option Mechanism → Option IntegrityKey → List ℕ
-    → Option CallResult
+abbrev pub terms_answer : CSchedule → Option Mechanism → Option IntegrityKey → List ℕ
+    → Option CResult
 terms_answer waits mechanism held d =
     if is_some (waits_fault waits) then Some (plain OUT_OF_RANGE)
     else option_or (option_map request_answer (request_fault (signs mechanism) d))
     (key_answer mechanism (signed_by d) held)
 
 -- why none begins with the bytes d: they are no message, or a number has no meaning, or by the terms
-abbrev pub begin_answer : Waits → (transport protection : ℕ) → Option IntegrityKey → List ℕ
-    → Option CallResult
+abbrev pub begin_answer : CSchedule → (transport protection : ℕ) → Option IntegrityKey → List ℕ
+    → Option CResult
 begin_answer waits transport protection held d =
     option_or (option_map parse_result (parse_fault d))
     (if is_some (transport_numbered transport) && is_some (usage_named waits) then
@@ -280,7 +280,7 @@ begin_answer waits transport protection held d =
     else Some (plain BAD_ARGUMENT))
 
 -- the numbers of a transaction of the request d that begins
-abbrev pub begun_in_c : List ℕ → Waits → (transport protection now : ℕ) → KeptTransaction
+abbrev pub begun_in_c : List ℕ → CSchedule → (transport protection now : ℕ) → CTransaction
 begun_in_c d waits transport protection now = record {
   schedule = waits;
   last = now;
@@ -298,8 +298,8 @@ begun_in_c d waits transport protection now = record {
 }
 
 -- a transaction of the request d begins, or it is reported why none does, and nothing changes
-abbrev pub BeginsKept : List ℕ → Waits → (transport protection now : ℕ) → Option IntegrityKey
-    → CallResult → KeptTransaction → KeptTransaction → Type 0
+abbrev pub BeginsKept : List ℕ → CSchedule → (transport protection now : ℕ) → Option IntegrityKey
+    → CResult → CTransaction → CTransaction → Type 0
 BeginsKept d waits transport protection now held result old new =
     MatchOption (begin_answer waits transport protection held d)
     ((result ≡ plain OK) × (new ≡ begun_in_c d waits transport protection now))
@@ -323,11 +323,11 @@ abbrev pub proof_number : Option IntegrityAlgorithm → ℕ
 proof_number proof = option_map_or number_of proof 0
 
 -- what C reads if nothing is decided: a call that fails writes this
-abbrev pub nothing_received : ReceivedOutcome
+abbrev pub nothing_received : CReceived
 nothing_received = record { kind = 0; number = 0; algorithm = 0; reserved = 0 }
 
 -- what a message is for a transaction, in C's numbers
-abbrev pub outcome_in_c : Outcome → ReceivedOutcome
+abbrev pub outcome_in_c : Outcome → CReceived
 outcome_in_c NotForThis = nothing_received
 outcome_in_c (Discarded reason claim) =
     record nothing_received { kind = discard_kind reason; number = claim_number claim }
@@ -343,18 +343,18 @@ outcome_in_c (Error code proof) =
 
 -- what C keeps, and what received bytes are
 pub record ReceivedState : Type 0 where
-  pub kept : KeptTransaction
-  pub reported : ReceivedOutcome
+  pub kept : CTransaction
+  pub reported : CReceived
 
 -- a call answers no: the transaction stays, and nothing is decided of what was received
-abbrev pub Ignores : CallResult → CallResult → ReceivedState → ReceivedState → Type 0
+abbrev pub Ignores : CResult → CResult → ReceivedState → ReceivedState → Type 0
 Ignores answer result old new =
     (result ≡ answer) × (new ≡ record old { reported = nothing_received })
 
 -- the key of a transaction: none if no credential protects its request, otherwise a copy of the one
 -- that a handle holds; or an allocation failed
 abbrev pub CopiesHeld : (protected : Bool) → Option IntegrityKey
-    → Result (Option IntegrityKey) CallResult → Type 0
+    → Result (Option IntegrityKey) CResult → Type 0
 CopiesHeld true (Some held) made =
     MatchResult made (λ key. IsSomeAnd key (IsKey (key_algorithm held) (key_bytes held)))
     (λ answer. answer ≡ plain OUT_OF_MEMORY)
@@ -363,7 +363,7 @@ CopiesHeld false held made = made ≡ Ok None
 
 -- the same, or why the key that a handle holds isn't that of the transaction of these parts
 abbrev pub Copies : TransactionParts → Option IntegrityKey
-    → Result (Option IntegrityKey) CallResult → Type 0
+    → Result (Option IntegrityKey) CResult → Type 0
 Copies parts held made =
     MatchOption (key_answer parts.mechanism (signed_of parts) held)
     (CopiesHeld (signs parts.mechanism) held made)
@@ -387,16 +387,16 @@ pub record ReceivesParts (parts : TransactionParts) (key : Option IntegrityKey)
 
 -- the same with the key of a handle, if there is one
 abbrev pub ReceivesWith : Option IntegrityKey → (understood d : List ℕ) → TransactionParts
-    → CallResult
+    → CResult
     → ReceivedState → ReceivedState → Type 0
 ReceivesWith held understood d parts result old new =
-    (made : Result (Option IntegrityKey) CallResult) × Copies parts held made
+    (made : Result (Option IntegrityKey) CResult) × Copies parts held made
     × MatchResult made
     (λ key. (result ≡ plain OK) × ReceivesParts parts key (types_numbered understood) d old new)
     (λ answer. Ignores answer result old new)
 
 -- the same for the transaction that C keeps, by a client that understands at most 64 types
-abbrev pub ReceivesKept : Option IntegrityKey → (understood d : List ℕ) → CallResult → ReceivedState
+abbrev pub ReceivesKept : Option IntegrityKey → (understood d : List ℕ) → CResult → ReceivedState
     → ReceivedState
     → Type 0
 ReceivesKept held understood d result old new =

@@ -5,10 +5,10 @@ use Rattle.stun_grammar.specs.Adding.{numbers}
 use Rattle.stun_text.specs.Slices.{laid_over}
 use Rattle.stun_values.specs.TypeLists.{types_fault, types_in}
 use Rattle.stun_types.specs.Replies.{unknown_types}
-use Rattle.stun_types_c.specs.declared.call_result.CallResult.{CallResult}
+use Rattle.stun_types_c.specs.declared.call_result.CResult.{CResult}
 use Rattle.stun_types_c.specs.declared.attribute.ShownAttribute.{ShownAttribute}
 use Rattle.stun_types_c.specs.Codes.{OK, BAD_ARGUMENT, INVALID_DATA}
-use Rattle.stun_types_c.specs.CallResults.{plain}
+use Rattle.stun_types_c.specs.CResults.{plain}
 use Rattle.stun_types_c.specs.Values.{value_of}
 
 -- the types of these numbers, in order
@@ -26,7 +26,7 @@ LeavesTypes old new before after = (new ≡ old) × (after ≡ before)
 
 -- what reading the types in an attribute of the message d answers: as many as there is room for are
 -- laid over C's numbers, and all are counted
-abbrev pub ReadsTypes : ShownAttribute → List ℕ → CallResult → (old new : List ℕ) →
+abbrev pub ReadsTypes : ShownAttribute → List ℕ → CResult → (old new : List ℕ) →
     (before after : ℕ)
     → Type 0
 ReadsTypes attribute d result old new before after =

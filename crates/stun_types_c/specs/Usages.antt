@@ -6,6 +6,6 @@ abbrev pub is_hmac_length : ℕ → Bool
 is_hmac_length n = (n == 16) || ((n == 20) || ((n == 24) || ((n == 28) || (n == 32))))
 
 -- how many bytes it has at least, by a number: 0 names 32, since only a usage may allow fewer
-abbrev pub shortest_named : ℕ → Option ℕ
-shortest_named number =
+abbrev pub min_hmac_length_named : ℕ → Option ℕ
+min_hmac_length_named number =
     if number == 0 then Some 32 else (if is_hmac_length number then Some number else None)

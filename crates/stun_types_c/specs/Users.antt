@@ -7,8 +7,8 @@ use Rattle.stun_keys.specs.declared.keys.integrity_key.IntegrityKey.{IntegrityKe
 use Rattle.stun_values.specs.declared.algorithm.PasswordAlgorithmValue.{PasswordAlgorithmValue}
 use Rattle.stun_values.specs.declared.algorithm.PasswordAlgorithmValue.TheVariants.{MD5, SHA256}
 use Rattle.stun_authentication.specs.Lookups.{UserKey, key_held, Known, valid, stale, unknown}
-use Rattle.stun_types_c.specs.declared.authentication.NonceState.{NonceState}
-use Rattle.stun_types_c.specs.declared.authentication.NonceState.TheVariants.{Valid, Stale, Unknown}
+use Rattle.stun_types_c.specs.declared.authentication.CNonceState.{CNonceState}
+use Rattle.stun_types_c.specs.declared.authentication.CNonceState.TheVariants.{Valid, Stale, Unknown}
 use Rattle.stun_types_c.specs.declared.authentication.OneNonce.{OneNonce}
 
 -- a user's key, if C has one: its bytes, and the integrity algorithm that it was made for
@@ -26,7 +26,7 @@ long_term_key_of md5 sha256 MD5 = md5
 long_term_key_of md5 sha256 SHA256 = sha256
 
 -- a nonce that is valid was sent with these algorithms
-abbrev pub known_nonce : NonceState → List PasswordAlgorithmValue → Known
+abbrev pub known_nonce : CNonceState → List PasswordAlgorithmValue → Known
 known_nonce Valid sent = valid sent
 known_nonce Stale sent = stale
 known_nonce Unknown sent = unknown
@@ -37,7 +37,7 @@ known_of one = known_nonce one.state (take one.sent.count one.sent.all)
 
 -- the state of a nonce by its number: 0 says that it is unknown, 1 that it is valid, and 2 that it
 -- was valid once
-abbrev pub state_named : ℕ → Option NonceState
+abbrev pub state_named : ℕ → Option CNonceState
 state_named number =
     if number == 0 then Some Unknown
     else (if number == 1 then Some Valid else (if number == 2 then Some Stale else None))

@@ -1,10 +1,10 @@
 -- Values of attributes of a message, and what reading an error answers (RFC 8489, section 14.8).
 use Rattle.std.specs.Prelude.{◌≡◌, ℕ, ◌+◌, ◌-◌, List, length, slice_range, Option, None, Some, nat_lt, if◌then◌else◌, MatchOption}
-use Rattle.stun_values.specs.ErrorValues.{error_fault, told_code}
-use Rattle.stun_types_c.specs.declared.call_result.CallResult.{CallResult}
+use Rattle.stun_values.specs.ErrorValues.{error_fault, reported_code}
+use Rattle.stun_types_c.specs.declared.call_result.CResult.{CResult}
 use Rattle.stun_types_c.specs.declared.attribute.ShownAttribute.{ShownAttribute}
 use Rattle.stun_types_c.specs.Codes.{OK, BAD_ARGUMENT}
-use Rattle.stun_types_c.specs.CallResults.{plain, parse_result}
+use Rattle.stun_types_c.specs.CResults.{plain, parse_result}
 
 -- the value of an attribute of the message d, as far as that is within d
 abbrev pub value_of : ShownAttribute → List ℕ → Option (List ℕ)
@@ -19,18 +19,18 @@ pub record ErrorOut : Type 0 where
   pub reason_length : ℕ
 
 -- the error in a value that begins at an offset
-abbrev pub error_told : ℕ → List ℕ → ErrorOut
-error_told at value = record {
-  code = told_code value;
+abbrev pub error_reported : ℕ → List ℕ → ErrorOut
+error_reported at value = record {
+  code = reported_code value;
   reason_at = at + 4;
   reason_length = length value - 4;
 }
 
 -- what reading the error in an attribute of d answers
-abbrev pub ReadsError : ShownAttribute → List ℕ → CallResult → ErrorOut → ErrorOut → Type 0
+abbrev pub ReadsError : ShownAttribute → List ℕ → CResult → ErrorOut → ErrorOut → Type 0
 ReadsError attribute d result old new =
     MatchOption (value_of attribute d)
     ((result ≡ plain BAD_ARGUMENT) × (new ≡ old))
     (λ value. MatchOption (error_fault value)
-    ((result ≡ plain OK) × (new ≡ error_told attribute.value_at value))
+    ((result ≡ plain OK) × (new ≡ error_reported attribute.value_at value))
     (λ e. (result ≡ parse_result e) × (new ≡ old)))

@@ -17,14 +17,14 @@ use Rattle.stun_keys.specs.declared.keys.integrity_key.IntegrityKey.{IntegrityKe
 use Rattle.stun_keys.specs.Keys.{key_bytes, key_algorithm, serves}
 use Rattle.stun_values.specs.Addresses.{address_value, IsXored}
 use Rattle.stun_values.specs.ErrorValues.{error_value, making_fault}
-use Rattle.stun_write.specs.Resuming.{resume_fault}
-use Rattle.stun_write.specs.ResumePoints.{any_in, step_in}
-use Rattle.stun_types_c.specs.declared.call_result.CallResult.{CallResult}
+use Rattle.stun_types.specs.Resuming.{resume_fault}
+use Rattle.stun_types.specs.ResumePoints.{any_in, step_in}
+use Rattle.stun_types_c.specs.declared.call_result.CResult.{CResult}
 use Rattle.stun_types_c.specs.declared.address.Address.{Address}
 use Rattle.stun_types_c.specs.declared.reading.Id.{Id}
 use Rattle.stun_types_c.specs.Addresses.{ip_named, IsAt, is_xored_type, is_plain_type}
 use Rattle.stun_types_c.specs.Codes.{OK, TOO_LARGE, TOO_SMALL, INVALID_DATA, BAD_ARGUMENT, NO_KEY}
-use Rattle.stun_types_c.specs.CallResults.{plain, counted, write_result, add_result, Refuses}
+use Rattle.stun_types_c.specs.CResults.{plain, counted, write_result, add_result, Refuses}
 use Rattle.stun_types_c.specs.Keys.{algorithm_named}
 
 -- a slice, and how many bytes of it are a message
@@ -33,14 +33,14 @@ pub record Written : Type 0 where
   pub count : ℕ
 
 -- why no message begins: the type isn't one, or the slice has no room for a header
-abbrev pub begin_answer : ℕ → List ℕ → Option CallResult
+abbrev pub begin_answer : ℕ → List ℕ → Option CResult
 begin_answer type slice =
     if nat_lt type (2 ^ 14) then (
     if nat_lt (length slice) 20 then Some (counted TOO_SMALL 20 (length slice)) else None)
     else Some (plain BAD_ARGUMENT)
 
 -- a message begins: its header, with no attributes, and what the slice held after it
-abbrev pub Begins : ℕ → Id → CallResult → Written → Written → Type 0
+abbrev pub Begins : ℕ → Id → CResult → Written → Written → Type 0
 Begins type id result old new =
     MatchOption (begin_answer type old.slice)
     ((result ≡ plain OK) × (new ≡ record {
@@ -51,7 +51,7 @@ Begins type id result old new =
 
 -- an attribute of a type and a value is appended to the message, or it is refused; what comes
 -- after the message stays
-abbrev pub Appends : Option CallResult → ℕ → List ℕ → CallResult → Written → Written → Type 0
+abbrev pub Appends : Option CResult → ℕ → List ℕ → CResult → Written → Written → Type 0
 Appends refusal type value result old new =
     MatchOption refusal
     ((result ≡ plain OK) × (new ≡ record {
@@ -62,16 +62,16 @@ Appends refusal type value result old new =
     (λ answer. Refuses answer result old new)
 
 -- why an attribute of any type isn't added to a message in a slice of so many bytes
-abbrev pub any_answer : ℕ → ℕ → List ℕ → List ℕ → Option CallResult
+abbrev pub any_answer : ℕ → ℕ → List ℕ → List ℕ → Option CResult
 any_answer size type value message = option_map add_result (any_in size type value message)
 
 -- why a step isn't taken there
-abbrev pub step_answer : ℕ → Step → List ℕ → Option CallResult
+abbrev pub step_answer : ℕ → Step → List ℕ → Option CResult
 step_answer size step message = option_map write_result (step_in size step message)
 
 -- the same if what is written is tested first, and then the value, whatever the message
-abbrev pub AppendsUnless : Option CallResult → (List ℕ → Option CallResult) → ℕ
-    → (List ℕ → List ℕ) → CallResult → Written → Written → Type 0
+abbrev pub AppendsUnless : Option CResult → (List ℕ → Option CResult) → ℕ
+    → (List ℕ → List ℕ) → CResult → Written → Written → Type 0
 AppendsUnless fault refusal type value result old new =
     let message = take old.count old.slice in
     MatchOption (resume_fault old.slice old.count)
@@ -80,22 +80,22 @@ AppendsUnless fault refusal type value result old new =
     (λ answer. Refuses answer result old new))
     (λ _. Refuses (plain BAD_ARGUMENT) result old new)
 
-abbrev pub AppendsTo : (List ℕ → Option CallResult) → ℕ → (List ℕ → List ℕ) → CallResult
+abbrev pub AppendsTo : (List ℕ → Option CResult) → ℕ → (List ℕ → List ℕ) → CResult
     → Written → Written → Type 0
 AppendsTo = AppendsUnless None
 
 -- why there can be no value of n bytes or numbers
-abbrev pub long_answer : ℕ → ℕ → Option CallResult
+abbrev pub long_answer : ℕ → ℕ → Option CResult
 long_answer most n = if nat_lt most n then Some (counted TOO_LARGE most n) else None
 
 -- an attribute of a type and a value is added
-abbrev pub AddsValue : ℕ → List ℕ → CallResult → Written → Written → Type 0
+abbrev pub AddsValue : ℕ → List ℕ → CResult → Written → Written → Type 0
 AddsValue type value result old new =
     AppendsUnless (long_answer 65535 (length value)) (any_answer (length old.slice) type value) type
     (λ _. value) result old new
 
 -- an address of C's form is added as it is, under no type whose addresses are XORed
-abbrev pub AddsAddress : Address → ℕ → CallResult → Written → Written → Type 0
+abbrev pub AddsAddress : Address → ℕ → CResult → Written → Written → Type 0
 AddsAddress address type result old new =
     MatchOption (if is_xored_type type then None else ip_named address) (Refuses (plain BAD_ARGUMENT) result old new)
     (λ ip. (a : SocketAddr) × IsAt ip address.port a
@@ -104,7 +104,7 @@ AddsAddress address type result old new =
 
 -- an address of C's form is added XORed with the transaction ID in the slice, under no type whose
 -- addresses aren't
-abbrev pub AddsXorAddress : Address → ℕ → CallResult → Written → Written → Type 0
+abbrev pub AddsXorAddress : Address → ℕ → CResult → Written → Written → Type 0
 AddsXorAddress address type result old new =
     MatchOption (if is_plain_type type then None else ip_named address) (Refuses (plain BAD_ARGUMENT) result old new)
     (λ ip. MatchOption (header_fault old.slice)
@@ -114,20 +114,20 @@ AddsXorAddress address type result old new =
     (λ _. Refuses (plain BAD_ARGUMENT) result old new))
 
 -- why there is no such error: its code is none of 300 to 699, or its reason is too long or no text
-abbrev pub error_answer : ℕ → List ℕ → Option CallResult
+abbrev pub error_answer : ℕ → List ℕ → Option CResult
 error_answer code reason =
     option_or (option_map write_result (making_fault code reason))
     (if is_utf8 reason then None else Some (plain INVALID_DATA))
 
 -- an ERROR-CODE is added (RFC 8489, section 14.8)
-abbrev pub AddsError : ℕ → List ℕ → CallResult → Written → Written → Type 0
+abbrev pub AddsError : ℕ → List ℕ → CResult → Written → Written → Type 0
 AddsError code reason result old new =
     let value = error_value code reason in
     AppendsUnless (error_answer code reason) (any_answer (length old.slice) ERROR_CODE value) ERROR_CODE
     (λ _. value) result old new
 
 -- an UNKNOWN-ATTRIBUTES is added (RFC 8489, section 14.13)
-abbrev pub AddsTypes : List ℕ → CallResult → Written → Written → Type 0
+abbrev pub AddsTypes : List ℕ → CResult → Written → Written → Type 0
 AddsTypes types result old new =
     let value = flat_map be16 types in
     AppendsUnless (long_answer 32767 (length types))
@@ -135,12 +135,12 @@ AddsTypes types result old new =
     result old new
 
 -- why a key doesn't sign by an algorithm: it was made for the other one
-abbrev pub serving_answer : IntegrityKey → IntegrityAlgorithm → Option CallResult
+abbrev pub serving_answer : IntegrityKey → IntegrityAlgorithm → Option CResult
 serving_answer key algorithm =
     if serves (key_algorithm key) algorithm then None else Some (plain BAD_ARGUMENT)
 
 -- the integrity attribute of an algorithm is added (RFC 8489, sections 14.5 and 14.6)
-abbrev pub Signs : Option IntegrityKey → ℕ → CallResult → Written → Written → Type 0
+abbrev pub Signs : Option IntegrityKey → ℕ → CResult → Written → Written → Type 0
 Signs held number result old new =
     MatchOption (resume_fault old.slice old.count)
     (MatchOption (algorithm_named number) (Refuses (plain BAD_ARGUMENT) result old new)

@@ -4,13 +4,13 @@ ghost use Rattle.std.specs.Prelude.{◌≡◌};
 ghost use Rattle.stun_types_c.specs.Addresses.{ipv4_named, ipv6_named, Holds, HoldsXored, Names, is_xored_type, is_plain_type, ReadsFrom, ReadsAddress, ReadsXorAddress};
 
 use crate::attribute::ShownAttribute;
-use crate::call_result::{CallResult, parse_result, plain};
+use crate::call_result::{CResult, parse_result, plain};
 use crate::codes;
 use crate::values::value_in;
 use std::net::{IpAddr, Ipv4Addr, Ipv6Addr, SocketAddr};
-use stun_base::{MessageHeader, TransactionId};
 use stun_plain_text::value_form;
 use stun_types::attribute::ValueForm;
+use stun_types::message::{MessageHeader, TransactionId};
 use stun_values::{read_address, xor_addr};
 
 /// A transport address.
@@ -94,7 +94,7 @@ pub extern "C" fn stun_types_read_address(
     bytes: &[u8],
     attribute: &ShownAttribute,
     address: &mut Address,
-) -> CallResult
+) -> CResult
     ensures { ReadsAddress attribute.now bytes.now result address.old address.new }
 {
     if is_xored_type(attribute.atype) {
@@ -113,7 +113,7 @@ pub extern "C" fn stun_types_read_address(
 }
 
 /// Reads the address in a value that is XORed with this transaction ID.
-fn read_xored(value: &[u8], transaction: TransactionId, address: &mut Address) -> CallResult
+fn read_xored(value: &[u8], transaction: TransactionId, address: &mut Address) -> CResult
     ensures { ReadsFrom (HoldsXored transaction) value.now result address.old address.new }
 {
     match read_address(value) {
@@ -131,7 +131,7 @@ pub extern "C" fn stun_types_read_xor_address(
     bytes: &[u8],
     attribute: &ShownAttribute,
     address: &mut Address,
-) -> CallResult
+) -> CResult
     ensures { ReadsXorAddress attribute.now bytes.now result address.old address.new }
 {
     if is_plain_type(attribute.atype) {

@@ -11,7 +11,7 @@ ghost use Rattle.stun_types_c.specs.Answering.{challenge_in, HoldsAsked, HoldsFo
 ghost use Rattle.stun_types_c.specs.KeyHandles.{held_key, shared_key};
 ghost use Rattle.stun_types_c.specs.Steps.{AddsOne, AddsEach};
 
-use crate::call_result::{CallResult, counted, parse_result, plain};
+use crate::call_result::{CResult, counted, parse_result, plain};
 use crate::challenges::no_retry;
 use crate::codes;
 use crate::key_handle::KeyHandle;
@@ -26,12 +26,11 @@ use stun_grammar::attribute_types::{
     NONCE, PASSWORD_ALGORITHM, PASSWORD_ALGORITHMS, REALM, USERHASH, USERNAME,
 };
 use stun_types::attribute::{PasswordAlgorithmValue, Userhash};
-use stun_types::message::Message;
-use stun_types::message::keys::IntegrityKey;
+use stun_types::message::{IntegrityKey, Message};
 use stun_values::{USERNAME_MAX, write_algorithm};
 
 /// The challenge in a response, for a client that supports the algorithms of these numbers.
-fn challenge_in<'a>(response: &'a [u8], supported: &[u16]) -> Result<Challenge<'a>, CallResult>
+fn challenge_in<'a>(response: &'a [u8], supported: &[u16]) -> Result<Challenge<'a>, CResult>
     ensures { MatchResult result
         (λ challenge. challenge_in supported.now response.now ≡ Ok (asked_by challenge))
         (λ answer. challenge_in supported.now response.now ≡ Err answer) }
@@ -56,7 +55,7 @@ fn hold_key(
     challenge: &Challenge<'_>,
     user: &[u8],
     password: &[u8],
-) -> CallResult
+) -> CResult
     ensures { HoldsAsked (asked_by challenge.now) user.now password.now result
         (held_key key.old) (held_key key.new) }
 {
@@ -78,7 +77,7 @@ pub extern "C" fn stun_types_key_for(
     supported: &[u16],
     user: &[u8],
     password: &[u8],
-) -> CallResult
+) -> CResult
     ensures { HoldsFor supported.now response.now user.now password.now result
         (held_key key.old) (held_key key.new) }
 {
@@ -89,7 +88,7 @@ pub extern "C" fn stun_types_key_for(
 }
 
 /// A name that isn't too long for a USERNAME.
-fn name_in(name: &[u8]) -> Result<&str, CallResult>
+fn name_in(name: &[u8]) -> Result<&str, CResult>
     ensures { MatchResult result
         (λ text. (name_answer name.now ≡ None) × (text.now ≡ name.now)
         × (length text.now ≤ username_max))
@@ -110,7 +109,7 @@ fn add_identity(
     written: &mut usize,
     challenge: &Challenge<'_>,
     name: &str,
-) -> CallResult
+) -> CResult
     requires { length name.now ≤ username_max }
     ensures { let asked = asked_by challenge.now in
         AddsOne (identity_attribute (identity asked.anonymous asked.realm name.now)) result
@@ -130,7 +129,7 @@ fn add_list(
     written: &mut usize,
     list: &[u8],
     algorithm: PasswordAlgorithmValue,
-) -> CallResult
+) -> CResult
     requires { length list.now ≤ 65535 }
     ensures { AddsEach (algorithm_attributes (Some list.now) algorithm) result
         (record { slice = room.old; count = written.old })
@@ -146,7 +145,7 @@ fn add_list(
 }
 
 /// Adds NONCE, and PASSWORD-ALGORITHMS and PASSWORD-ALGORITHM, if the challenge has a list.
-fn add_nonce(room: &mut [u8], written: &mut usize, challenge: &Challenge<'_>) -> CallResult
+fn add_nonce(room: &mut [u8], written: &mut usize, challenge: &Challenge<'_>) -> CResult
     ensures { let asked = asked_by challenge.now in
         AddsEach (canonical NONCE_TYPE asked.nonce ∷ algorithm_attributes asked.list asked.algorithm)
         result
@@ -164,7 +163,7 @@ fn add_nonce(room: &mut [u8], written: &mut usize, challenge: &Challenge<'_>) ->
 }
 
 /// Adds REALM, and what follows it.
-fn add_copies(room: &mut [u8], written: &mut usize, challenge: &Challenge<'_>) -> CallResult
+fn add_copies(room: &mut [u8], written: &mut usize, challenge: &Challenge<'_>) -> CResult
     ensures { let asked = asked_by challenge.now in
         AddsEach (canonical REALM_TYPE asked.realm ∷ canonical NONCE_TYPE asked.nonce
         ∷ algorithm_attributes asked.list asked.algorithm) result
@@ -184,7 +183,7 @@ fn add_credentials(
     written: &mut usize,
     challenge: &Challenge<'_>,
     name: &str,
-) -> CallResult
+) -> CResult
     requires { length name.now ≤ username_max }
     ensures { AddsEach (credentials (asked_by challenge.now) name.now) result
         (record { slice = room.old; count = written.old })
@@ -205,7 +204,7 @@ fn add_answer(
     name: &str,
     key: &IntegrityKey,
     fingerprint: bool,
-) -> CallResult
+) -> CResult
     requires { length name.now ≤ username_max }
     ensures { AddsAnswer (asked_by challenge.now) name.now fingerprint (key_bytes key.now) result
         (record { slice = room.old; count = written.old })
@@ -229,7 +228,7 @@ pub extern "C" fn stun_types_answer_challenge(
     user: &[u8],
     key: &SharedKey,
     fingerprint: bool,
-) -> CallResult
+) -> CResult
     ensures { AnswersChallenge supported.now response.now user.now fingerprint
         (shared_key key.now) result
         (record { slice = room.old; count = written.old })

@@ -3,12 +3,12 @@
 ghost use Rattle.std.specs.Prelude.{◌≡◌, ◌≤◌, ◌<◌, [], false, length, Some, None, IfSome, MatchOption, slice_get, slice_set};
 ghost use Rattle.std.specs.Option.{option_map};
 ghost use Rattle.stun_grammar.specs.Showing.{shown};
-ghost use Rattle.stun_read.specs.Iterating.{shown_behind};
-ghost use Rattle.stun_read.specs.LookingUp.{nth};
+ghost use Rattle.stun_types.specs.Iterating.{shown_behind};
+ghost use Rattle.stun_types.specs.LookingUp.{nth};
 ghost use Rattle.stun_types_c.specs.Attributes.{in_c, first_of_type, left, TakesFirst, Steps, Lists, Tells};
 
-use stun_base::MessageHeader;
-use stun_read::{check_frame, shown_at};
+use stun_types::message::MessageHeader;
+use stun_types::message::framed::{check_frame, shown_at};
 
 /// An attribute that a message shows.
 #[repr(C)]

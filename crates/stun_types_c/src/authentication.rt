@@ -11,31 +11,30 @@ ghost use Rattle.stun_types_c.specs.KeyHandles.{shared_key};
 ghost use Rattle.stun_types_c.specs.Users.{held_of, borrowed_of, long_term_key_of, known_of, state_named};
 ghost use Rattle.stun_types_c.specs.Authentication.{policy_named, nonce_named, password_used, number_used, used_in, in_c, by_short_term, by_long_term, undecided, TellsDecision, Authenticates};
 
-use crate::call_result::{CallResult, parse_result, plain};
+use crate::call_result::{CResult, parse_result, plain};
 use crate::codes;
 use crate::keys::{algorithm_of, number_of};
-use crate::password_algorithms::{FewAlgorithms, algorithms_of};
+use crate::password_algorithms::{AlgorithmList, algorithms_of};
 use crate::shared_key::SharedKey;
-use crate::usages::shortest_of;
+use crate::usages::min_hmac_length_of;
 use std::alloc::{AllocError, Global};
+use stun_attributes::same_bytes;
 use stun_authentication::{
-    Authentication, Identity, KnownNonce, LongTermKeys, Nonces, Policy, ShortTermKeys,
+    Authentication, Identity, LongTermKeys, NonceState, Nonces, Policy, ShortTermKeys,
     authenticate_long_term, authenticate_short_term,
 };
-use stun_integrity::same_bytes;
 use stun_keys::keys::key_of_bytes;
 use stun_types::attribute::PasswordAlgorithmValue;
-use stun_types::message::Message;
-use stun_types::message::keys::IntegrityKey;
+use stun_types::message::{IntegrityKey, Message};
 
 /// Which messages are taken, and which integrity attributes count.
 #[repr(C)]
 #[derive(Clone, Copy, Drop)]
-pub struct CountedIntegrity {
+pub struct CPolicy {
     /// The number of an algorithm, or 0 for both.
     pub algorithm: u32,
     /// How many bytes a MESSAGE-INTEGRITY-SHA256 has at least: 16, 20, 24, 28 or 32, and 0 for 32.
-    pub shortest: u32,
+    pub min_hmac_length: u32,
     /// 0, unless the usage uses FINGERPRINT: a message without one is then discarded.
     pub fingerprint: u32,
     /// 0.
@@ -45,7 +44,7 @@ pub struct CountedIntegrity {
 /// What becomes of a message that a server authenticates.
 #[repr(C)]
 #[derive(Clone, Copy, Drop)]
-pub struct Authenticated {
+pub struct CAuthenticated {
     /// 0: nothing is decided; 1: accepted; 2: refused; 3: discarded; 4: not authenticated.
     pub kind: u32,
     /// The code of the error response, if it is refused.
@@ -61,7 +60,7 @@ pub struct Authenticated {
 }
 
 /// What a call leaves that decides nothing.
-const UNDECIDED: Authenticated = Authenticated {
+const UNDECIDED: CAuthenticated = CAuthenticated {
     kind: 0,
     error_code: 0,
     algorithm: 0,
@@ -119,7 +118,7 @@ impl LongTermKeys for OneUser<'_> {
 
 /// What a caller knows of a nonce.
 #[derive(Clone, Copy)]
-enum NonceState {
+enum CNonceState {
     /// The server doesn't know it.
     Unknown,
     /// It is valid.
@@ -131,8 +130,8 @@ enum NonceState {
 /// What a caller knows of the one nonce that a request shows.
 #[derive(Drop)]
 struct OneNonce {
-    state: NonceState,
-    sent: FewAlgorithms,
+    state: CNonceState,
+    sent: AlgorithmList,
 }
 
 impl Nonces for OneNonce {
@@ -140,23 +139,23 @@ impl Nonces for OneNonce {
 
     ghost state_of = { λ one _. known_of one };
 
-    fn nonce(&self, _nonce: &[u8]) -> KnownNonce<'_> {
+    fn nonce(&self, _nonce: &[u8]) -> NonceState<'_> {
         match self.state {
-            NonceState::Valid => KnownNonce::Valid(self.sent.as_slice()),
-            NonceState::Stale => KnownNonce::Stale,
-            NonceState::Unknown => KnownNonce::Unknown,
+            CNonceState::Valid => NonceState::Valid(self.sent.as_slice()),
+            CNonceState::Stale => NonceState::Stale,
+            CNonceState::Unknown => NonceState::Unknown,
         }
     }
 }
 
 /// The state of a nonce, by its number.
-fn state_named(number: u32) -> Option<NonceState>
+fn state_named(number: u32) -> Option<CNonceState>
     ensures { result ≡ state_named number }
 {
     match number {
-        0 => Some(NonceState::Unknown),
-        1 => Some(NonceState::Valid),
-        2 => Some(NonceState::Stale),
+        0 => Some(CNonceState::Unknown),
+        1 => Some(CNonceState::Valid),
+        2 => Some(CNonceState::Stale),
         _ => None,
     }
 }
@@ -172,7 +171,7 @@ fn nonce_of(state: u32, algorithms: &[u16]) -> Option<OneNonce>
 }
 
 /// The policy of C's numbers.
-pub(crate) fn policy_of(counted: &CountedIntegrity) -> Option<Policy>
+pub(crate) fn policy_of(counted: &CPolicy) -> Option<Policy>
     ensures { result ≡ policy_named counted.now }
 {
     if counted.reserved != 0 {
@@ -182,10 +181,10 @@ pub(crate) fn policy_of(counted: &CountedIntegrity) -> Option<Policy>
         0 => None,
         number => Some(algorithm_of(number)?),
     };
-    let shortest = shortest_of(counted.shortest)?;
+    let min_hmac_length = min_hmac_length_of(counted.min_hmac_length)?;
     Some(Policy {
         algorithm,
-        shortest,
+        min_hmac_length,
         fingerprint: counted.fingerprint != 0,
     })
 }
@@ -220,12 +219,12 @@ fn number_used(used: KeyUsed<'_>, key: &IntegrityKey) -> u32
 }
 
 /// An answer, as C's numbers.
-fn in_c(answer: &Authentication, used: KeyUsed<'_>) -> Authenticated
+fn in_c(answer: &Authentication, used: KeyUsed<'_>) -> CAuthenticated
     ensures { (decision : Decision) → Tells decision answer.now
         → result ≡ in_c (used_in used.entry) decision }
 {
     match answer {
-        Authentication::Accepted(accepted) => Authenticated {
+        Authentication::Accepted(accepted) => CAuthenticated {
             kind: 1,
             error_code: 0,
             algorithm: number_of(accepted.algorithm),
@@ -233,16 +232,16 @@ fn in_c(answer: &Authentication, used: KeyUsed<'_>) -> Authenticated
             password_algorithm: number_used(used, &accepted.key),
             reserved: 0,
         },
-        Authentication::Refused(refusal) => Authenticated {
+        Authentication::Refused(refusal) => CAuthenticated {
             kind: 2,
             error_code: u32::from(refusal.code()),
             ..UNDECIDED
         },
-        Authentication::Discarded => Authenticated {
+        Authentication::Discarded => CAuthenticated {
             kind: 3,
             ..UNDECIDED
         },
-        Authentication::NotARequest => Authenticated {
+        Authentication::NotARequest => CAuthenticated {
             kind: 4,
             ..UNDECIDED
         },
@@ -253,8 +252,8 @@ fn in_c(answer: &Authentication, used: KeyUsed<'_>) -> Authenticated
 fn tell(
     answer: Result<Authentication, AllocError>,
     used: KeyUsed<'_>,
-    out: &mut Authenticated,
-) -> CallResult
+    out: &mut CAuthenticated,
+) -> CResult
     ensures { (decision : Decision) → IfOk answer (Tells decision)
         → TellsDecision (used_in used.entry) decision result out.new }
 {
@@ -282,10 +281,10 @@ fn key_in(key: &SharedKey) -> Option<&IntegrityKey>
 pub extern "C" fn stun_types_authenticate_short_term(
     alloc: Global,
     bytes: &[u8],
-    policy: &CountedIntegrity,
+    policy: &CPolicy,
     key: &SharedKey,
-    out: &mut Authenticated,
-) -> CallResult
+    out: &mut CAuthenticated,
+) -> CResult
     ensures { let decided = by_short_term policy.now (shared_key key.now) bytes.now in
         Authenticates None decided bytes.now result out.new }
 {
@@ -325,13 +324,13 @@ fn long_term_decision(
 pub extern "C" fn stun_types_authenticate_long_term(
     alloc: Global,
     bytes: &[u8],
-    policy: &CountedIntegrity,
+    policy: &CPolicy,
     nonce_state: u32,
     algorithms: &[u16],
     md5_key: &SharedKey,
     sha256_key: &SharedKey,
-    out: &mut Authenticated,
-) -> CallResult
+    out: &mut CAuthenticated,
+) -> CResult
     ensures { let nonce = nonce_named nonce_state algorithms.now in
         let decided = by_long_term policy.now nonce (shared_key md5_key.now)
         (shared_key sha256_key.now) bytes.now in

@@ -1,7 +1,7 @@
 //! What a call returns.
 
 ghost use Rattle.std.specs.Prelude.{◌≡◌};
-ghost use Rattle.stun_types_c.specs.CallResults.{plain, about, counted, parse_result, write_result, add_result, validate_result};
+ghost use Rattle.stun_types_c.specs.CResults.{plain, about, counted, parse_result, write_result, add_result, validate_result};
 
 use crate::codes;
 use stun_grammar::attribute_types::{FINGERPRINT, MESSAGE_INTEGRITY};
@@ -10,7 +10,7 @@ use stun_types::message::{AddError, StunParseError, StunWriteError, ValidateErro
 /// What a call returns: `codes::OK`, or why it did nothing.
 #[repr(C)]
 #[derive(Clone, Copy, Drop)]
-pub struct CallResult {
+pub struct CResult {
     /// One of `codes`.
     pub code: u32,
     /// The type of the attribute that the code is about, or 0.
@@ -22,10 +22,10 @@ pub struct CallResult {
 }
 
 /// A code alone.
-pub(crate) fn plain(code: u32) -> CallResult
+pub(crate) fn plain(code: u32) -> CResult
     ensures { result ≡ plain code }
 {
-    CallResult {
+    CResult {
         code,
         atype: 0,
         expected: 0,
@@ -34,10 +34,10 @@ pub(crate) fn plain(code: u32) -> CallResult
 }
 
 /// A code about an attribute of a type.
-pub(crate) fn about(code: u32, atype: u16) -> CallResult
+pub(crate) fn about(code: u32, atype: u16) -> CResult
     ensures { result ≡ about code atype }
 {
-    CallResult {
+    CResult {
         code,
         atype: u32::from(atype),
         expected: 0,
@@ -46,10 +46,10 @@ pub(crate) fn about(code: u32, atype: u16) -> CallResult
 }
 
 /// A code with what is needed or allowed, and what there is.
-pub(crate) fn counted(code: u32, expected: usize, actual: usize) -> CallResult
+pub(crate) fn counted(code: u32, expected: usize, actual: usize) -> CResult
     ensures { result ≡ counted code expected actual }
 {
-    CallResult {
+    CResult {
         code,
         atype: 0,
         expected: expected as u64,
@@ -58,7 +58,7 @@ pub(crate) fn counted(code: u32, expected: usize, actual: usize) -> CallResult
 }
 
 /// Why bytes aren't read.
-pub(crate) fn parse_result(error: StunParseError) -> CallResult
+pub(crate) fn parse_result(error: StunParseError) -> CResult
     ensures { result ≡ parse_result error }
 {
     match error {
@@ -81,7 +81,7 @@ pub(crate) fn parse_result(error: StunParseError) -> CallResult
 }
 
 /// Why an attribute or a message isn't made or written.
-pub(crate) fn write_result(error: StunWriteError) -> CallResult
+pub(crate) fn write_result(error: StunWriteError) -> CResult
     ensures { result ≡ write_result error }
 {
     match error {
@@ -103,7 +103,7 @@ pub(crate) fn write_result(error: StunWriteError) -> CallResult
 }
 
 /// Why an attribute of any type isn't added.
-pub(crate) fn add_result(error: AddError) -> CallResult
+pub(crate) fn add_result(error: AddError) -> CResult
     ensures { result ≡ add_result error }
 {
     match error {
@@ -113,7 +113,7 @@ pub(crate) fn add_result(error: AddError) -> CallResult
 }
 
 /// Why a message isn't valid.
-pub(crate) fn validate_result(error: ValidateError) -> CallResult
+pub(crate) fn validate_result(error: ValidateError) -> CResult
     ensures { result ≡ validate_result error }
 {
     match error {

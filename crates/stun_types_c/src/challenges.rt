@@ -6,10 +6,10 @@ ghost use Rattle.stun_authentication.specs.Challenges.{asked_by};
 ghost use Rattle.stun_types_c.specs.Challenges.{retry_answer, value_at, in_c, tried_in, tried_answer, seen_in, ReadsFor, ReadsChallenge};
 
 use crate::attribute::first_shown;
-use crate::call_result::{CallResult, parse_result, plain};
+use crate::call_result::{CResult, parse_result, plain};
 use crate::codes;
 use crate::keys::number_of;
-use crate::password_algorithms::{FewAlgorithms, algorithms_of};
+use crate::password_algorithms::{AlgorithmList, algorithms_of};
 use crate::values::text_in;
 use stun_authentication::{Challenge, NoRetry, challenge_of};
 use stun_grammar::attribute_types::{NONCE, PASSWORD_ALGORITHMS, REALM};
@@ -19,7 +19,7 @@ use stun_types::message::Message;
 /// What a 401 or a 438 asks the next request to carry.
 #[repr(C)]
 #[derive(Clone, Copy, Drop)]
-pub struct Asked {
+pub struct CChallenge {
     /// The offset of the realm in the response.
     pub realm_at: usize,
     /// How many bytes it has.
@@ -43,7 +43,7 @@ pub struct Asked {
 }
 
 /// Why a request isn't sent again.
-pub(crate) fn no_retry(reason: NoRetry) -> CallResult
+pub(crate) fn no_retry(reason: NoRetry) -> CResult
     ensures { result ≡ retry_answer reason }
 {
     match reason {
@@ -66,10 +66,10 @@ fn value_at(response: &[u8], atype: u16) -> usize
 }
 
 /// A challenge, as C sees it.
-fn in_c(response: &[u8], challenge: &Challenge<'_>) -> Asked
+fn in_c(response: &[u8], challenge: &Challenge<'_>) -> CChallenge
     ensures { result ≡ in_c response.now (asked_by challenge.now) }
 {
-    Asked {
+    CChallenge {
         realm_at: value_at(response, REALM),
         realm_length: challenge.realm().len(),
         nonce_at: value_at(response, NONCE),
@@ -87,9 +87,9 @@ fn in_c(response: &[u8], challenge: &Challenge<'_>) -> Asked
 }
 
 /// The realm in which credentials were tried, if C passes one; an error if it isn't UTF-8.
-fn tried_in(was_tried: bool, realm: &[u8]) -> Result<Option<&str>, CallResult>
+fn tried_in(was_tried: bool, realm: &[u8]) -> Result<Option<&str>, CResult>
     ensures { let tried = tried_in was_tried realm.now in MatchResult result
-        (λ told. (tried_answer tried ≡ None) × (option_map (λ text. text.now) told ≡ tried))
+        (λ reported. (tried_answer tried ≡ None) × (option_map (λ text. text.now) reported ≡ tried))
         (λ answer. tried_answer tried ≡ Some answer) }
 {
     if !was_tried {
@@ -111,11 +111,11 @@ fn seen_in(was_seen: bool) -> Option<&'static [u8]>
 /// What a response asks for.
 fn asked_by(
     response: &[u8],
-    supported: &FewAlgorithms,
+    supported: &AlgorithmList,
     tried: Option<&str>,
     seen: Option<&[u8]>,
-    asked: &mut Asked,
-) -> CallResult
+    asked: &mut CChallenge,
+) -> CResult
     ensures { ReadsFor (take supported.now.count supported.now.all)
         (option_map (λ text. text.now) tried.entry) (option_map (λ list. list.now) seen.entry)
         response.now result asked.old asked.new }
@@ -141,8 +141,8 @@ pub extern "C" fn stun_types_challenge_of(
     was_tried: bool,
     tried: &[u8],
     was_seen: bool,
-    asked: &mut Asked,
-) -> CallResult
+    asked: &mut CChallenge,
+) -> CResult
     ensures { ReadsChallenge supported.now (tried_in was_tried tried.now) (seen_in was_seen)
         response.now result asked.old asked.new }
 {

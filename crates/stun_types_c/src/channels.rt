@@ -4,7 +4,7 @@ ghost use Rattle.std.specs.Prelude.{◌≡◌};
 ghost use Rattle.turn_attrs.specs.Protocols.{protocol};
 ghost use Rattle.stun_types_c.specs.Channels.{protocol_number, channel_answer, FramesChannel, ReadsChannel, WritesChannel};
 
-use crate::call_result::{CallResult, counted, plain, write_result};
+use crate::call_result::{CResult, counted, plain, write_result};
 use crate::codes;
 use turn_attrs::{
     Channel, ChannelData, ChannelDataError, Protocol, channel_data_length, protocol_of,
@@ -13,7 +13,7 @@ use turn_attrs::{
 /// A ChannelData message, as in its bytes.
 #[repr(C)]
 #[derive(Clone, Copy, Drop)]
-pub struct ChannelMessage {
+pub struct CChannelMessage {
     /// The offset of the data.
     pub data_at: usize,
     /// The number of the channel, 0x4000 to 0x4FFF.
@@ -39,7 +39,7 @@ pub extern "C" fn stun_types_protocol_of(first: u8) -> u32
 }
 
 /// Why bytes are no ChannelData message.
-fn channel_answer(error: ChannelDataError) -> CallResult
+fn channel_answer(error: ChannelDataError) -> CResult
     ensures { result ≡ channel_answer error }
 {
     match error {
@@ -56,7 +56,7 @@ fn channel_answer(error: ChannelDataError) -> CallResult
 /// How many bytes the ChannelData message has that begins here on a stream; 0 if more bytes are
 /// needed to decide.
 #[unsafe(no_mangle)]
-pub extern "C" fn stun_types_channel_data_length(bytes: &[u8], whole: &mut usize) -> CallResult
+pub extern "C" fn stun_types_channel_data_length(bytes: &[u8], whole: &mut usize) -> CResult
     ensures { FramesChannel bytes.now result whole.old whole.new }
 {
     match channel_data_length(bytes) {
@@ -76,13 +76,13 @@ pub extern "C" fn stun_types_channel_data_length(bytes: &[u8], whole: &mut usize
 #[unsafe(no_mangle)]
 pub extern "C" fn stun_types_read_channel_data(
     bytes: &[u8],
-    message: &mut ChannelMessage,
-) -> CallResult
+    message: &mut CChannelMessage,
+) -> CResult
     ensures { ReadsChannel bytes.now result message.old message.new }
 {
     match ChannelData::from_bytes(bytes) {
         Ok(read) => {
-            *message = ChannelMessage {
+            *message = CChannelMessage {
                 data_at: 4,
                 channel: read.channel().number(),
                 length: read.data().len() as u16,
@@ -102,7 +102,7 @@ pub extern "C" fn stun_types_write_channel_data(
     padded: bool,
     room: &mut [u8],
     written: &mut usize,
-) -> CallResult
+) -> CResult
     ensures { WritesChannel padded channel «data».now result
         (record { slice = room.old; count = written.old })
         (record { slice = room.new; count = written.new }) }

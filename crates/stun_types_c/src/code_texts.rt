@@ -5,7 +5,7 @@ ghost use Rattle.stun_text.specs.Slices.{laid_over, counted};
 ghost use Rattle.stun_types_c.specs.CodeTexts.{code_text, ended_text};
 
 use crate::codes;
-use stun_text::{PrintText, TextSink, write_text};
+use stun_types::{PrintText, TextSink, write_text};
 
 /// A short English text for a code.
 fn code_text(code: u32) -> &'static str

@@ -5,21 +5,20 @@ ghost use Rattle.std.specs.Option.{option_copied};
 ghost use Rattle.stun_types_c.specs.Finishing.{signing_named, key_named, FinishesReply};
 ghost use Rattle.stun_types_c.specs.KeyHandles.{shared_key};
 
-use crate::authentication::Authenticated;
-use crate::call_result::{CallResult, plain};
+use crate::authentication::CAuthenticated;
+use crate::call_result::{CResult, plain};
 use crate::codes;
 use crate::keys::algorithm_of;
 use crate::shared_key::SharedKey;
 use crate::steps::end;
-use stun_types::message::IntegrityAlgorithm;
-use stun_types::message::keys::IntegrityKey;
+use stun_types::message::{IntegrityAlgorithm, IntegrityKey};
 
 /// The algorithm that signs the reply, if these are the numbers of an acceptance.
-fn signing_named(told: &Authenticated) -> Option<IntegrityAlgorithm>
-    ensures { result ≡ signing_named told.now }
+fn signing_named(reported: &CAuthenticated) -> Option<IntegrityAlgorithm>
+    ensures { result ≡ signing_named reported.now }
 {
-    if told.kind == 1 && told.reserved == 0 {
-        algorithm_of(told.reply_algorithm)
+    if reported.kind == 1 && reported.reserved == 0 {
+        algorithm_of(reported.reply_algorithm)
     } else {
         None
     }
@@ -27,14 +26,14 @@ fn signing_named(told: &Authenticated) -> Option<IntegrityAlgorithm>
 
 /// The key that accepted.
 fn key_named<'a>(
-    told: &Authenticated,
+    reported: &CAuthenticated,
     first: &'a SharedKey,
     sha256: &'a SharedKey,
 ) -> Option<&'a IntegrityKey>
     ensures { option_copied result
-        ≡ key_named told.now (shared_key first.now) (shared_key sha256.now) }
+        ≡ key_named reported.now (shared_key first.now) (shared_key sha256.now) }
 {
-    if told.password_algorithm == 2 {
+    if reported.password_algorithm == 2 {
         sha256.key()
     } else {
         first.key()
@@ -47,19 +46,19 @@ fn key_named<'a>(
 pub extern "C" fn stun_types_finish_reply(
     room: &mut [u8],
     written: &mut usize,
-    told: &Authenticated,
+    reported: &CAuthenticated,
     first: &SharedKey,
     sha256: &SharedKey,
     fingerprint: bool,
-) -> CallResult
-    ensures { FinishesReply told.now (shared_key first.now) (shared_key sha256.now) fingerprint result
+) -> CResult
+    ensures { FinishesReply reported.now (shared_key first.now) (shared_key sha256.now) fingerprint result
         (record { slice = room.old; count = written.old })
         (record { slice = room.new; count = written.new }) }
 {
-    let Some(algorithm) = signing_named(told) else {
+    let Some(algorithm) = signing_named(reported) else {
         return plain(codes::BAD_ARGUMENT);
     };
-    match key_named(told, first, sha256) {
+    match key_named(reported, first, sha256) {
         Some(key) if !key.serves(algorithm) => plain(codes::BAD_ARGUMENT),
         Some(key) => end(room, written, key, algorithm, fingerprint),
         None => plain(codes::NO_KEY),

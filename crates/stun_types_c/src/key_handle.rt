@@ -5,7 +5,7 @@ ghost use Rattle.stun_types_c.specs.KeyMemory.{keys_in};
 use crate::box_parts::BoxParts;
 use crate::key_place::KeyPlace;
 use std::alloc::Global;
-use stun_types::message::keys::IntegrityKey;
+use stun_types::message::IntegrityKey;
 
 /// A key on the heap, or none: in C `struct { void *at; uint64_t held; }`, 16 bytes, of which
 /// `{ NULL, 0 }` holds no key.

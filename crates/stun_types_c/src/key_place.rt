@@ -6,7 +6,7 @@ use crate::box_parts::BoxParts;
 use std::alloc::Global;
 use std::marker::{Model, Send};
 use std::ptr::null_mut;
-use stun_types::message::keys::IntegrityKey;
+use stun_types::message::IntegrityKey;
 
 /// The address of a key, or no key. It owns the key: `value` is `None`, and it owns nothing, or it
 /// is the key at `at`, which nothing else owns or frees.

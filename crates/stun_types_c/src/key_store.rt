@@ -7,7 +7,7 @@ ghost use denote.Param.Send.{IsSend, IsSync};
 
 use crate::key_handle::KeyHandle;
 use std::alloc::{AllocError, Global};
-use stun_types::message::keys::IntegrityKey;
+use stun_types::message::IntegrityKey;
 
 /// Puts a key into a handle, in memory that `alloc` gives, and frees what the handle held before.
 ///

@@ -8,7 +8,7 @@ ghost use Rattle.stun_types_c.specs.KeyHandles.{held_key, shared_key};
 ghost use Rattle.stun_types_c.specs.Keys.{algorithm_named, number_of, made_for_number, Holds, HoldsNamed, HoldsMade, HoldsCopy, TellsKey};
 ghost use Rattle.stun_types_c.specs.Credentials.{RefusesText, IsLongTerm, RefusesLongTerm, HoldsLongTerm, TellsUserhash};
 
-use crate::call_result::{CallResult, counted, plain, write_result};
+use crate::call_result::{CResult, counted, plain, write_result};
 use crate::codes;
 use crate::key_handle::KeyHandle;
 use crate::key_store::{hold, release};
@@ -17,8 +17,9 @@ use crate::shared_key::SharedKey;
 use crate::values::text_in;
 use std::alloc::{AllocError, Global};
 use stun_types::attribute::Userhash;
-use stun_types::message::StunWriteError;
-use stun_types::message::keys::{IntegrityAlgorithm, IntegrityKey, LongTermKeyCredentials};
+use stun_types::message::{
+    IntegrityAlgorithm, IntegrityKey, LongTermKeyCredentials, StunWriteError,
+};
 
 /// The algorithm of a number, the type of its integrity attribute.
 pub(crate) fn algorithm_of(number: u32) -> Option<IntegrityAlgorithm>
@@ -47,7 +48,7 @@ pub(crate) fn hold_made(
     alloc: Global,
     key: &mut KeyHandle,
     made: Result<IntegrityKey, StunWriteError>,
-) -> CallResult
+) -> CResult
     ensures { HoldsMade made result (held_key key.old) (held_key key.new) }
 {
     match made {
@@ -80,7 +81,7 @@ pub extern "C" fn stun_types_key_short_term(
     alloc: Global,
     key: &mut KeyHandle,
     password: &[u8],
-) -> CallResult
+) -> CResult
     ensures { Holds None password.now result (held_key key.old) (held_key key.new) }
 {
     hold_made(alloc, key, IntegrityKey::new(alloc, password, None))
@@ -93,7 +94,7 @@ pub extern "C" fn stun_types_key_from_bytes(
     key: &mut KeyHandle,
     bytes: &[u8],
     algorithm: u32,
-) -> CallResult
+) -> CResult
     ensures { HoldsNamed algorithm bytes.now result (held_key key.old) (held_key key.new) }
 {
     let algorithm = match algorithm {
@@ -112,7 +113,7 @@ pub extern "C" fn stun_types_key_copy(
     alloc: Global,
     key: &mut KeyHandle,
     from: &SharedKey,
-) -> CallResult
+) -> CResult
     ensures { HoldsCopy (shared_key from.now) result (held_key key.old) (held_key key.new) }
 {
     match from.key() {
@@ -138,7 +139,7 @@ pub extern "C" fn stun_types_key_bytes(
     room: &mut [u8],
     written: &mut usize,
     algorithm: &mut u32,
-) -> CallResult
+) -> CResult
     ensures { TellsKey (shared_key key.now) result
         (record { slice = room.old; count = written.old; algorithm = algorithm.old })
         (record { slice = room.new; count = written.new; algorithm = algorithm.new }) }
@@ -169,7 +170,7 @@ pub extern "C" fn stun_types_keys_free(alloc: Global, keys: &mut [KeyHandle])
 }
 
 /// A text of C's bytes, in memory that `alloc` gives.
-fn text_of(alloc: Global, bytes: &[u8]) -> Result<String, CallResult>
+fn text_of(alloc: Global, bytes: &[u8]) -> Result<String, CResult>
     ensures { MatchResult result
         (λ text. (is_utf8 bytes.now ≡ true) × (string_bytes text ≡ bytes.now))
         (RefusesText bytes.now) }
@@ -189,7 +190,7 @@ pub(crate) fn long_term_of(
     user: &[u8],
     realm: &[u8],
     password: &[u8],
-) -> Result<LongTermKeyCredentials, CallResult>
+) -> Result<LongTermKeyCredentials, CResult>
     ensures { MatchResult result (IsLongTerm user.now realm.now password.now)
         (RefusesLongTerm user.now realm.now password.now) }
 {
@@ -208,7 +209,7 @@ pub extern "C" fn stun_types_key_long_term(
     realm: &[u8],
     password: &[u8],
     algorithm: u32,
-) -> CallResult
+) -> CResult
     ensures { HoldsLongTerm algorithm user.now realm.now password.now result
         (held_key key.old) (held_key key.new) }
 {
@@ -234,7 +235,7 @@ pub struct Hash {
 
 /// The hash by which a request names its user.
 #[unsafe(no_mangle)]
-pub extern "C" fn stun_types_userhash(user: &[u8], realm: &[u8], hash: &mut Hash) -> CallResult
+pub extern "C" fn stun_types_userhash(user: &[u8], realm: &[u8], hash: &mut Hash) -> CResult
     ensures { TellsUserhash user.now realm.now result hash.old hash.new }
 {
     let (Some(user), Some(realm)) = (text_in(user), text_in(realm)) else {

@@ -2,21 +2,21 @@
 
 ghost use Rattle.std.specs.Prelude.{◌≡◌, ℕ, List, Option, Some, Ok, IfSome};
 ghost use Rattle.stun_values.specs.declared.algorithm.PasswordAlgorithmValue.{PasswordAlgorithmValue};
-ghost use Rattle.stun_read.specs.LookingUp.{nth};
-ghost use Rattle.stun_authentication.specs.Challenges.{Asked, challenge_of};
+ghost use Rattle.stun_types.specs.LookingUp.{nth};
+ghost use Rattle.stun_authentication.specs.Challenges.{CChallenge, challenge_of};
 ghost use Rattle.stun_types_c.specs.Attributes.{in_c};
-ghost use Rattle.stun_types_c.specs.Challenges.{in_c as asked_in_c, StandsWhereTold};
+ghost use Rattle.stun_types_c.specs.Challenges.{in_c as asked_in_c, StandsWhereReported};
 ghost use Rattle.stun_types_c.specs.Values.{value_of};
 
 /// The value of an attribute that is found is at the place that is reported to C.
-pub fn found_value_stands_where_it_is_told(bytes: &[u8])
+pub fn found_value_stands_where_it_is_reported(bytes: &[u8])
     ensures { (type : ℕ) → IfSome (nth bytes.now type 0)
         (λ a. value_of (in_c a) bytes.now ≡ Some a.value) }
 {}
 
 /// So do the texts and the list that a challenge asks for.
-pub fn asked_texts_stand_where_they_are_told(response: &[u8])
-    ensures { (supported : List PasswordAlgorithmValue) (tried seen : Option (List ℕ)) (asked : Asked)
+pub fn asked_texts_stand_where_they_are_reported(response: &[u8])
+    ensures { (supported : List PasswordAlgorithmValue) (tried seen : Option (List ℕ)) (asked : CChallenge)
         → challenge_of supported tried seen response.now ≡ Ok asked
-        → StandsWhereTold response.now asked (asked_in_c response.now asked) }
+        → StandsWhereReported response.now asked (asked_in_c response.now asked) }
 {}

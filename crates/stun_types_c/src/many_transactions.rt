@@ -5,26 +5,25 @@ ghost use Rattle.std.specs.List.{position};
 ghost use Rattle.stun_transactions.specs.Slots.{sooner};
 ghost use Rattle.stun_types_c.specs.ManyTransactions.{waits_for, addressee, WakesAt, SoonestOf, TakesTime, TellsNumber, TellsSoonest, TellsRoundTrip};
 
-use crate::transactions::{KeptTransaction, millis, moment_of, parts_of};
-use stun_base::MessageHeader;
-use stun_types::message::TransactionId;
+use crate::transactions::{CTransaction, millis, moment_of, parts_of};
+use stun_types::message::{MessageHeader, TransactionId};
 
 /// Whether the request with this ID was sent, and its transaction has not ended.
-fn waits_for(kept: &KeptTransaction, id: TransactionId) -> bool
+fn waits_for(kept: &CTransaction, id: TransactionId) -> bool
     ensures { result ≡ waits_for id kept.now }
 {
     kept.sent > 0 && kept.end == 0 && TransactionId::from_bytes(&kept.id.bytes) == id
 }
 
 /// The place of the transaction with this ID that waits for a response.
-fn place_of(kept: &[KeptTransaction], id: TransactionId) -> Option<usize>
+fn place_of(kept: &[CTransaction], id: TransactionId) -> Option<usize>
     ensures { result ≡ position (waits_for id) kept.now }
 {
     kept.iter().position(|one| waits_for(one, id))
 }
 
 /// The place of the transaction that a response is for.
-fn addressee(bytes: &[u8], kept: &[KeptTransaction]) -> Option<usize>
+fn addressee(bytes: &[u8], kept: &[CTransaction]) -> Option<usize>
     ensures { result ≡ addressee bytes.now kept.now }
 {
     let Ok(header) = MessageHeader::from_bytes(bytes) else {
@@ -39,7 +38,7 @@ fn addressee(bytes: &[u8], kept: &[KeptTransaction]) -> Option<usize>
 /// The place of the transaction that received bytes are for; false if there is none.
 #[unsafe(no_mangle)]
 pub extern "C" fn stun_types_transactions_find(
-    kept: &[KeptTransaction],
+    kept: &[CTransaction],
     bytes: &[u8],
     place: &mut usize,
 ) -> bool
@@ -55,7 +54,7 @@ pub extern "C" fn stun_types_transactions_find(
 }
 
 /// When the transaction that C keeps is to be polled.
-fn wake(kept: &KeptTransaction) -> Option<u64>
+fn wake(kept: &CTransaction) -> Option<u64>
     ensures { WakesAt kept.now result }
 {
     let parts = parts_of(kept)?;
@@ -77,21 +76,21 @@ fn sooner(first: Option<u64>, later: Option<u64>) -> Option<u64>
 }
 
 /// The soonest moment at which one of the transactions is to be polled.
-fn soonest(kept: &[KeptTransaction]) -> Option<u64>
+fn soonest(kept: &[CTransaction]) -> Option<u64>
     ensures { SoonestOf kept.now result }
 {
-    let mut told = None;
+    let mut reported = None;
     let mut left = kept.len();
     'walk: while left > 0 {
         left -= 1;
-        told = sooner(wake(&kept[left]), told);
+        reported = sooner(wake(&kept[left]), reported);
     }
-    told
+    reported
 }
 
 /// The soonest moment at which one of the transactions is to be polled; false if none is.
 #[unsafe(no_mangle)]
-pub extern "C" fn stun_types_transactions_next(kept: &[KeptTransaction], until: &mut u64) -> bool
+pub extern "C" fn stun_types_transactions_next(kept: &[CTransaction], until: &mut u64) -> bool
     ensures { TellsSoonest kept.now result until.old until.new }
 {
     match soonest(kept) {
@@ -104,7 +103,7 @@ pub extern "C" fn stun_types_transactions_next(kept: &[KeptTransaction], until: 
 }
 
 /// How long a response took, if that is known.
-fn round_trip(kept: &KeptTransaction, now: u64) -> Option<u64>
+fn round_trip(kept: &CTransaction, now: u64) -> Option<u64>
     ensures { TakesTime now kept.now result }
 {
     let parts = parts_of(kept)?;
@@ -117,15 +116,15 @@ fn round_trip(kept: &KeptTransaction, now: u64) -> Option<u64>
 /// How long a response took, in milliseconds; false if that isn't known.
 #[unsafe(no_mangle)]
 pub extern "C" fn stun_types_transaction_round_trip(
-    kept: &KeptTransaction,
+    kept: &CTransaction,
     now: u64,
     time: &mut u64,
 ) -> bool
     ensures { TellsRoundTrip now kept.now result time.old time.new }
 {
     match round_trip(kept, now) {
-        Some(told) => {
-            *time = told;
+        Some(reported) => {
+            *time = reported;
             true
         }
         None => false,

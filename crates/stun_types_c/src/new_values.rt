@@ -5,7 +5,7 @@ ghost use Rattle.std.specs.List.{flat_map};
 ghost use Rattle.stun_grammar.specs.Numbers.{be16};
 
 use byteorder::{BigEndian, ByteOrder};
-use stun_attrs::EncodeValue;
+use stun_types::attribute::EncodeValue;
 use stun_values::write_error;
 
 /// A code and a reason of an error (RFC 8489, section 14.8).

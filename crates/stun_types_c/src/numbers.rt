@@ -3,22 +3,21 @@
 ghost use Rattle.std.specs.Prelude.{◌≡◌, ◌≤◌, ◌∷◌, [], length, None, Ok, Err, MatchResult};
 ghost use Rattle.std.specs.Option.{option_map};
 ghost use Rattle.stun_grammar.specs.Numbers.{be16, be32, be64};
-ghost use Rattle.stun_types_c.specs.CallResults.{parse_result};
+ghost use Rattle.stun_types_c.specs.CResults.{parse_result};
 ghost use Rattle.stun_types_c.specs.Numbers.{width_in, has_width, zeros_of, range_of, is_in_range, number_answer, AddsPadded, AddsNumber, length_fault, value_with_number, ReadsNumber};
 
 use crate::attribute::ShownAttribute;
-use crate::call_result::{CallResult, counted, parse_result, plain};
+use crate::call_result::{CResult, counted, parse_result, plain};
 use crate::codes;
 use crate::values::value_in;
 use crate::writing::add_short;
 use byteorder::{BigEndian, ByteOrder};
 use discovery_attrs::attribute_types::RESPONSE_PORT;
-use stun_attrs::copy_to_start;
+use stun_attributes::copy_to_start;
 use stun_grammar::attribute_types::is_ending;
 use stun_plain_text::value_form;
-use stun_types::attribute::ValueForm;
-use stun_values::check_length;
-use stun_write::ResumePoint;
+use stun_types::attribute::{ValueForm, check_length};
+use stun_types::message::ResumePoint;
 
 /// The numbers that the value of a type may hold.
 #[derive(Clone, Copy)]
@@ -97,7 +96,7 @@ fn is_in_range(atype: u16, number: u64) -> bool
 }
 
 /// Why a number of so many bytes isn't added as the value of a type.
-fn number_answer(width: usize, atype: u16, number: u64) -> Option<CallResult>
+fn number_answer(width: usize, atype: u16, number: u64) -> Option<CResult>
     ensures { result ≡ number_answer width atype number }
 {
     if !has_width(width, atype) {
@@ -111,7 +110,7 @@ fn number_answer(width: usize, atype: u16, number: u64) -> Option<CallResult>
 }
 
 /// Adds a number, by its bytes, with the zeros that follow it.
-fn add_padded(room: &mut [u8], written: &mut usize, atype: u16, octets: &[u8]) -> CallResult
+fn add_padded(room: &mut [u8], written: &mut usize, atype: u16, octets: &[u8]) -> CResult
     requires { length octets.now ≤ 8 }
     ensures { AddsPadded atype octets.now result
         (record { slice = room.old; count = written.old })
@@ -130,7 +129,7 @@ fn add_number(
     atype: u16,
     number: u64,
     octets: &[u8],
-) -> CallResult
+) -> CResult
     requires { length octets.now ≤ 8 }
     ensures { AddsNumber atype number octets.now result
         (record { slice = room.old; count = written.old })
@@ -152,7 +151,7 @@ pub extern "C" fn stun_types_add_u8(
     written: &mut usize,
     atype: u16,
     number: u8,
-) -> CallResult
+) -> CResult
     ensures { AddsNumber atype number (number ∷ []) result
         (record { slice = room.old; count = written.old })
         (record { slice = room.new; count = written.new }) }
@@ -167,7 +166,7 @@ pub extern "C" fn stun_types_add_u16(
     written: &mut usize,
     atype: u16,
     number: u16,
-) -> CallResult
+) -> CResult
     ensures { AddsNumber atype number (be16 number) result
         (record { slice = room.old; count = written.old })
         (record { slice = room.new; count = written.new }) }
@@ -188,7 +187,7 @@ pub extern "C" fn stun_types_add_u32(
     written: &mut usize,
     atype: u16,
     number: u32,
-) -> CallResult
+) -> CResult
     ensures { AddsNumber atype number (be32 number) result
         (record { slice = room.old; count = written.old })
         (record { slice = room.new; count = written.new }) }
@@ -209,7 +208,7 @@ pub extern "C" fn stun_types_add_u64(
     written: &mut usize,
     atype: u16,
     number: u64,
-) -> CallResult
+) -> CResult
     ensures { AddsNumber atype number (be64 number) result
         (record { slice = room.old; count = written.old })
         (record { slice = room.new; count = written.new }) }
@@ -218,7 +217,7 @@ pub extern "C" fn stun_types_add_u64(
 }
 
 /// Checks the length of a value that is a number of so many bytes, with the zeros that follow it.
-fn length_answer(width: usize, atype: u16, value: &[u8]) -> Option<CallResult>
+fn length_answer(width: usize, atype: u16, value: &[u8]) -> Option<CResult>
     requires { width ≤ 8 }
     ensures answer { result
         ≡ option_map parse_result (length_fault width atype (length value.now)) }
@@ -238,7 +237,7 @@ fn value_with_number<'a>(
     bytes: &'a [u8],
     attribute: &ShownAttribute,
     width: usize,
-) -> Result<&'a [u8], CallResult>
+) -> Result<&'a [u8], CResult>
     requires least { 1 ≤ width }
     requires greatest { width ≤ 8 }
     ensures { MatchResult result
@@ -280,7 +279,7 @@ pub extern "C" fn stun_types_read_u8(
     bytes: &[u8],
     attribute: &ShownAttribute,
     number: &mut u8,
-) -> CallResult
+) -> CResult
     ensures { ReadsNumber 1 attribute.now bytes.now result number.old number.new }
 {
     read_number!(bytes, attribute, number, 1, value => value[0])
@@ -292,7 +291,7 @@ pub extern "C" fn stun_types_read_u16(
     bytes: &[u8],
     attribute: &ShownAttribute,
     number: &mut u16,
-) -> CallResult
+) -> CResult
     ensures { ReadsNumber 2 attribute.now bytes.now result number.old number.new }
 {
     read_number!(bytes, attribute, number, 2, value => BigEndian::read_u16(value))
@@ -304,7 +303,7 @@ pub extern "C" fn stun_types_read_u32(
     bytes: &[u8],
     attribute: &ShownAttribute,
     number: &mut u32,
-) -> CallResult
+) -> CResult
     ensures { ReadsNumber 4 attribute.now bytes.now result number.old number.new }
 {
     read_number!(bytes, attribute, number, 4, value => BigEndian::read_u32(value))
@@ -316,7 +315,7 @@ pub extern "C" fn stun_types_read_u64(
     bytes: &[u8],
     attribute: &ShownAttribute,
     number: &mut u64,
-) -> CallResult
+) -> CResult
     ensures { ReadsNumber 8 attribute.now bytes.now result number.old number.new }
 {
     read_number!(bytes, attribute, number, 8, value => BigEndian::read_u64(value))

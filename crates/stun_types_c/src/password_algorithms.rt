@@ -11,13 +11,13 @@ const MOST: usize = 16;
 
 /// At most sixteen password algorithms.
 #[derive(Clone, Copy)]
-pub(crate) struct FewAlgorithms {
+pub(crate) struct AlgorithmList {
     all: [PasswordAlgorithmValue; 16],
     count: usize,
     ghost few: { count ≤ 16 },
 }
 
-impl FewAlgorithms {
+impl AlgorithmList {
     /// The algorithms.
     pub(crate) fn as_slice(&self) -> &[PasswordAlgorithmValue]
         ensures { result.now ≡ take self.now.count self.now.all }
@@ -39,7 +39,7 @@ pub(crate) fn password_of(number: u32) -> Option<PasswordAlgorithmValue>
 
 /// The algorithms of these numbers; `None` if one has another number, or there are more than
 /// sixteen.
-pub(crate) fn algorithms_of(numbers: &[u16]) -> Option<FewAlgorithms>
+pub(crate) fn algorithms_of(numbers: &[u16]) -> Option<AlgorithmList>
     ensures { password_algorithms_named numbers.now
         ≡ option_map (λ list. take list.count list.all) result }
 {
@@ -50,7 +50,7 @@ pub(crate) fn algorithms_of(numbers: &[u16]) -> Option<FewAlgorithms>
     for i in 0..numbers.len() {
         all[i] = password_of(u32::from(numbers[i]))?;
     }
-    Some(FewAlgorithms {
+    Some(AlgorithmList {
         all,
         count: numbers.len(),
     })

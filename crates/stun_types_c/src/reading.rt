@@ -3,11 +3,11 @@
 ghost use Rattle.std.specs.Prelude.{◌≡◌, ◌%◌, ◌^◌, MatchOption};
 ghost use Rattle.stun_grammar.specs.Headers.{header_fault};
 ghost use Rattle.stun_grammar.specs.Parsing.{parse_fault};
-ghost use Rattle.stun_types_c.specs.CallResults.{fault_result};
+ghost use Rattle.stun_types_c.specs.CResults.{fault_result};
 ghost use Rattle.stun_base.specs.MessageTypes.{type_of};
 ghost use Rattle.stun_types_c.specs.Reading.{Frames, header_in_c, class_number, class_numbered};
 
-use crate::call_result::{CallResult, parse_result, plain};
+use crate::call_result::{CResult, parse_result, plain};
 use crate::codes;
 use stun_base::number_at;
 use stun_types::message::{
@@ -40,7 +40,7 @@ pub struct Header {
 
 /// How many bytes the message has that begins here; 0 if more bytes are needed.
 #[unsafe(no_mangle)]
-pub extern "C" fn stun_types_framed_length(bytes: &[u8], whole: &mut usize) -> CallResult
+pub extern "C" fn stun_types_framed_length(bytes: &[u8], whole: &mut usize) -> CResult
     ensures { Frames bytes.now result whole.old whole.new }
 {
     match message_length(bytes) {
@@ -58,7 +58,7 @@ pub extern "C" fn stun_types_framed_length(bytes: &[u8], whole: &mut usize) -> C
 
 /// Whether the bytes are a message.
 #[unsafe(no_mangle)]
-pub extern "C" fn stun_types_parse(bytes: &[u8]) -> CallResult
+pub extern "C" fn stun_types_parse(bytes: &[u8]) -> CResult
     ensures { result ≡ fault_result (parse_fault bytes.now) }
 {
     match Message::from_bytes(bytes) {
@@ -82,7 +82,7 @@ fn class_number(class: MessageClass) -> u16
 /// Reads the header, the first twenty bytes.
 #[tactic(auto, using(stun_grammar::proofs::HeadersLemmas::header_there))]
 #[unsafe(no_mangle)]
-pub extern "C" fn stun_types_read_header(bytes: &[u8], header: &mut Header) -> CallResult
+pub extern "C" fn stun_types_read_header(bytes: &[u8], header: &mut Header) -> CResult
     ensures answer { result ≡ fault_result (header_fault bytes.now) }
     ensures header { MatchOption (header_fault bytes.now) (header.new ≡ header_in_c bytes.now)
         (λ _. header.new ≡ header.old) }

@@ -9,13 +9,13 @@ ghost use Rattle.stun_types.specs.Message.{message_bytes};
 ghost use Rattle.stun_attributes.specs.Texts.{text_bytes};
 ghost use Rattle.stun_authentication.specs.Cookies.{security_features};
 ghost use Rattle.stun_authentication.specs.Refusing.{listed};
-ghost use Rattle.stun_types_c.specs.CallResults.{plain};
+ghost use Rattle.stun_types_c.specs.CResults.{plain};
 ghost use Rattle.stun_types_c.specs.Codes.{OUT_OF_MEMORY};
 ghost use Rattle.stun_types_c.specs.Refusals.{message_answer, short_term_refusal, long_term_refusal, text_answer, demand_answer, list_attributes, IsDemand, Delivers, WritesRefusal, RefusesShortTerm, RefusesDemanding, RefusesLongTerm, features_named, TellsCookie, TellsFeatures};
 
-use crate::call_result::{CallResult, counted, parse_result, plain, write_result};
+use crate::call_result::{CResult, counted, parse_result, plain, write_result};
 use crate::codes;
-use crate::password_algorithms::{FewAlgorithms, algorithms_of};
+use crate::password_algorithms::{AlgorithmList, algorithms_of};
 use crate::values::text_in;
 use std::alloc::Global;
 use stun_authentication::{
@@ -35,7 +35,7 @@ pub struct Cookie {
 }
 
 /// The request that C passes.
-fn request_in(bytes: &[u8]) -> Result<Message<'_>, CallResult>
+fn request_in(bytes: &[u8]) -> Result<Message<'_>, CResult>
     ensures { MatchResult result
         (λ message. (message_answer bytes.now ≡ None) × (message_bytes message ≡ bytes.now)
         × (class_of (type_field bytes.now) ≡ Request))
@@ -73,7 +73,7 @@ fn long_term_refusal(code: u32) -> Option<Refusal>
 }
 
 /// Writes a message at the start of a slice, if that has room for it.
-pub(crate) fn deliver(message: &[u8], room: &mut [u8], written: &mut usize) -> CallResult
+pub(crate) fn deliver(message: &[u8], room: &mut [u8], written: &mut usize) -> CResult
     ensures { Delivers message.now result
         (record { slice = room.old; count = written.old })
         (record { slice = room.new; count = written.new }) }
@@ -94,7 +94,7 @@ pub extern "C" fn stun_types_refuse_short_term(
     code: u32,
     room: &mut [u8],
     written: &mut usize,
-) -> CallResult
+) -> CResult
     ensures { RefusesShortTerm request.now code result
         (record { slice = room.old; count = written.old })
         (record { slice = room.new; count = written.new }) }
@@ -113,7 +113,7 @@ pub extern "C" fn stun_types_refuse_short_term(
 }
 
 /// The REALM of C's bytes.
-fn realm_of(alloc: Global, bytes: &[u8]) -> Result<Realm, CallResult>
+fn realm_of(alloc: Global, bytes: &[u8]) -> Result<Realm, CResult>
     ensures { MatchResult result
         (λ realm. (text_answer bytes.now ≡ None) × (text_bytes realm ≡ bytes.now))
         (λ answer. (text_answer bytes.now ≡ Some answer) ⊎ (answer ≡ plain OUT_OF_MEMORY)) }
@@ -128,7 +128,7 @@ fn realm_of(alloc: Global, bytes: &[u8]) -> Result<Realm, CallResult>
 }
 
 /// The NONCE of C's bytes.
-fn nonce_of(alloc: Global, bytes: &[u8]) -> Result<Nonce, CallResult>
+fn nonce_of(alloc: Global, bytes: &[u8]) -> Result<Nonce, CResult>
     ensures { MatchResult result
         (λ nonce. (text_answer bytes.now ≡ None) × (text_bytes nonce ≡ bytes.now))
         (λ answer. (text_answer bytes.now ≡ Some answer) ⊎ (answer ≡ plain OUT_OF_MEMORY)) }
@@ -143,10 +143,7 @@ fn nonce_of(alloc: Global, bytes: &[u8]) -> Result<Nonce, CallResult>
 }
 
 /// The PASSWORD-ALGORITHMS of algorithms, if there are any.
-fn list_of(
-    alloc: Global,
-    algorithms: &FewAlgorithms,
-) -> Result<Option<PasswordAlgorithms>, CallResult>
+fn list_of(alloc: Global, algorithms: &AlgorithmList) -> Result<Option<PasswordAlgorithms>, CResult>
     ensures { MatchResult result
         (λ list. listed list ≡ list_attributes (take algorithms.now.count algorithms.now.all))
         (λ answer. answer ≡ plain OUT_OF_MEMORY) }
@@ -165,8 +162,8 @@ fn demand_of(
     alloc: Global,
     realm: &[u8],
     nonce: &[u8],
-    algorithms: &FewAlgorithms,
-) -> Result<Demand, CallResult>
+    algorithms: &AlgorithmList,
+) -> Result<Demand, CResult>
     ensures { let sent = take algorithms.now.count algorithms.now.all in
         let refused = demand_answer realm.now nonce.now sent in
         MatchResult result
@@ -190,7 +187,7 @@ fn refuse_demanding(
     demand: &Demand,
     room: &mut [u8],
     written: &mut usize,
-) -> CallResult
+) -> CResult
     requires { class_of (type_field (message_bytes message.now)) ≡ Request }
     ensures { WritesRefusal (message_bytes message.now) refusal (Some demand.now) result
         (record { slice = room.old; count = written.old })
@@ -209,10 +206,10 @@ fn refuse_asking(
     refusal: Refusal,
     realm: &[u8],
     nonce: &[u8],
-    algorithms: &FewAlgorithms,
+    algorithms: &AlgorithmList,
     room: &mut [u8],
     written: &mut usize,
-) -> CallResult
+) -> CResult
     requires { class_of (type_field (message_bytes message.now)) ≡ Request }
     ensures { RefusesDemanding (message_bytes message.now) refusal realm.now nonce.now
         (take algorithms.now.count algorithms.now.all) result
@@ -236,7 +233,7 @@ pub extern "C" fn stun_types_refuse_long_term(
     algorithms: &[u16],
     room: &mut [u8],
     written: &mut usize,
-) -> CallResult
+) -> CResult
     ensures { RefusesLongTerm request.now code realm.now nonce.now algorithms.now result
         (record { slice = room.old; count = written.old })
         (record { slice = room.new; count = written.new }) }
@@ -292,7 +289,7 @@ pub(crate) fn features_of(number: u32) -> Option<SecurityFeatures>
 
 /// The beginning of the nonces of a server with these features.
 #[unsafe(no_mangle)]
-pub extern "C" fn stun_types_nonce_cookie(features: u32, cookie: &mut Cookie) -> CallResult
+pub extern "C" fn stun_types_nonce_cookie(features: u32, cookie: &mut Cookie) -> CResult
     ensures { TellsCookie features result cookie.old cookie.new }
 {
     let Some(features) = features_of(features) else {
@@ -310,9 +307,9 @@ pub extern "C" fn stun_types_security_features(nonce: &[u8], features: &mut u32)
     ensures { TellsFeatures (security_features nonce.now) result features.old features.new }
 {
     match security_features(nonce) {
-        Some(told) => {
-            *features = u32::from(told.password_algorithms)
-                + 2 * u32::from(told.username_anonymity);
+        Some(reported) => {
+            *features = u32::from(reported.password_algorithms)
+                + 2 * u32::from(reported.username_anonymity);
             true
         }
         None => false,

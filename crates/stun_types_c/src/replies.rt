@@ -4,11 +4,10 @@ ghost use Rattle.std.specs.Prelude.{◌≡◌, ◌≤◌, length, MatchResult};
 ghost use Rattle.stun_base.specs.declared.message_type.MessageClass.{MessageClass};
 ghost use Rattle.stun_types_c.specs.Replying.{reply_class, request_answer, BeginsReply};
 
-use crate::call_result::{CallResult, counted, parse_result, plain};
+use crate::call_result::{CResult, counted, parse_result, plain};
 use crate::codes;
-use stun_base::MessageHeader;
-use stun_types::message::{MessageClass, MessageType};
-use stun_write::write_message_header;
+use stun_types::message::write::write_message_header;
+use stun_types::message::{MessageClass, MessageHeader, MessageType};
 
 /// The class of a reply, by its number.
 fn reply_class(number: u32) -> Option<MessageClass>
@@ -29,7 +28,7 @@ pub extern "C" fn stun_types_begin_reply(
     request: &[u8],
     class: u32,
     written: &mut usize,
-) -> CallResult
+) -> CResult
     ensures { BeginsReply request.now class result
         (record { slice = room.old; count = written.old })
         (record { slice = room.new; count = written.new }) }

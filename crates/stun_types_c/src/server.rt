@@ -4,18 +4,13 @@ ghost use Rattle.std.specs.Prelude.{◌≡◌};
 ghost use Rattle.stun_types_c.specs.Server.{RepliesTo, RepliesAt};
 
 use crate::address::{Address, socket_of};
-use crate::call_result::{CallResult, plain, write_result};
+use crate::call_result::{CResult, plain, write_result};
 use crate::codes;
 use std::net::SocketAddr;
 use stun_server::reply_into;
 
 /// Writes the reply to a datagram that came from an address.
-fn reply_to(
-    bytes: &[u8],
-    source: SocketAddr,
-    room: &mut [u8],
-    reply_length: &mut usize,
-) -> CallResult
+fn reply_to(bytes: &[u8], source: SocketAddr, room: &mut [u8], reply_length: &mut usize) -> CResult
     ensures { RepliesTo source bytes.now result room.old room.new reply_length.old reply_length.new }
 {
     match reply_into(source, bytes, room) {
@@ -38,7 +33,7 @@ pub extern "C" fn stun_types_binding_reply(
     source: &Address,
     room: &mut [u8],
     reply_length: &mut usize,
-) -> CallResult
+) -> CResult
     ensures { RepliesAt source.now bytes.now result room.old room.new reply_length.old
         reply_length.new }
 {

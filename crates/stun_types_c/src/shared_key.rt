@@ -3,7 +3,7 @@ ghost use Rattle.std.specs.Prelude.{◌≡◌};
 ghost use Rattle.stun_types_c.specs.KeyMemory.{keys_in};
 
 use crate::shared_place::SharedPlace;
-use stun_types::message::keys::IntegrityKey;
+use stun_types::message::IntegrityKey;
 
 /// A key on the heap that several calls may read at once, or none: `const stun_types_key` of the
 /// header, and the same 16 bytes as a [`KeyHandle`](crate::KeyHandle).

@@ -3,7 +3,7 @@ ghost use Rattle.std.specs.Prelude.{◌≡◌, ◌≢◌, Option, Some, None};
 ghost use Rattle.stun_keys.specs.declared.keys.integrity_key.IntegrityKey.{IntegrityKey};
 
 use std::marker::{Model, Send, Sync};
-use stun_types::message::keys::IntegrityKey;
+use stun_types::message::IntegrityKey;
 
 /// The address of a key that others may read too, or no key. It doesn't own the key: `value` is
 /// `None`, or it is the key at `at`, which is shared as long as the place exists.

@@ -5,11 +5,11 @@ ghost use Rattle.stun_keys.specs.Keys.{key_bytes};
 ghost use Rattle.stun_authentication.specs.Nonces.{minting, minting_of};
 ghost use Rattle.stun_types_c.specs.KeyHandles.{shared_key};
 ghost use Rattle.stun_types_c.specs.StatelessNonces.{ByKey, ByMaker, Makes, Judges, secret_answer, state_number};
-ghost use Rattle.stun_types_c.specs.CallResults.{plain};
+ghost use Rattle.stun_types_c.specs.CResults.{plain};
 ghost use Rattle.stun_types_c.specs.Codes.{OUT_OF_MEMORY};
 
 use crate::address::{Address, socket_of};
-use crate::call_result::{CallResult, plain, write_result};
+use crate::call_result::{CResult, plain, write_result};
 use crate::codes;
 use crate::refusals::{deliver, features_of};
 use crate::shared_key::SharedKey;
@@ -17,7 +17,7 @@ use std::alloc::{AllocError, Global};
 use std::net::SocketAddr;
 use stun_authentication::{Freshness, NonceMaker, SECRET_MIN, SecurityFeatures};
 use stun_keys::keys::key_of_bytes;
-use stun_types::message::keys::IntegrityKey;
+use stun_types::message::IntegrityKey;
 
 /// A maker of nonces with a copy of a secret.
 fn maker_of(
@@ -25,7 +25,7 @@ fn maker_of(
     secret: &IntegrityKey,
     features: SecurityFeatures,
     window: u64,
-) -> Result<NonceMaker, CallResult>
+) -> Result<NonceMaker, CResult>
     ensures { MatchResult result
         (λ maker. (secret_answer (key_bytes secret.now) ≡ None)
         × (minting_of maker ≡ minting (key_bytes secret.now) features window))
@@ -55,7 +55,7 @@ fn make_by(
     client: SocketAddr,
     room: &mut [u8],
     written: &mut usize,
-) -> CallResult
+) -> CResult
     ensures { ByKey (Makes now) secret.now features window client result
         (record { slice = room.old; count = written.old })
         (record { slice = room.new; count = written.new }) }
@@ -81,7 +81,7 @@ pub extern "C" fn stun_types_make_nonce(
     client: &Address,
     room: &mut [u8],
     written: &mut usize,
-) -> CallResult
+) -> CResult
     ensures { ByMaker (Makes now) (shared_key secret.now) features window client.now result
         (record { slice = room.old; count = written.old })
         (record { slice = room.new; count = written.new }) }
@@ -119,7 +119,7 @@ fn judge_by(
     client: SocketAddr,
     nonce: &[u8],
     state: &mut u32,
-) -> CallResult
+) -> CResult
     ensures { ByKey (Judges now nonce.now) secret.now features window client result
         state.old state.new }
 {
@@ -142,7 +142,7 @@ pub extern "C" fn stun_types_judge_nonce(
     client: &Address,
     nonce: &[u8],
     state: &mut u32,
-) -> CallResult
+) -> CResult
     ensures { ByMaker (Judges now nonce.now) (shared_key secret.now) features window client.now result
         state.old state.new }
 {

@@ -5,15 +5,13 @@ ghost use Rattle.stun_grammar.specs.Attributes.{canonical};
 ghost use Rattle.stun_keys.specs.Keys.{key_bytes};
 ghost use Rattle.stun_types_c.specs.Steps.{AddsOne, SignsBy, Ends};
 
-use crate::call_result::{CallResult, plain, write_result};
+use crate::call_result::{CResult, plain, write_result};
 use crate::codes;
 use crate::writing::{add_short, store_length, stun_types_add_fingerprint};
-use stun_types::message::IntegrityAlgorithm;
-use stun_types::message::keys::IntegrityKey;
-use stun_write::ResumePoint;
+use stun_types::message::{IntegrityAlgorithm, IntegrityKey, ResumePoint};
 
 /// Adds an attribute with a value that isn't too long.
-pub(crate) fn add_one(room: &mut [u8], written: &mut usize, atype: u16, value: &[u8]) -> CallResult
+pub(crate) fn add_one(room: &mut [u8], written: &mut usize, atype: u16, value: &[u8]) -> CResult
     requires { length value.now ≤ 65535 }
     ensures { AddsOne (canonical atype value.now) result
         (record { slice = room.old; count = written.old })
@@ -28,7 +26,7 @@ fn sign(
     written: &mut usize,
     key: &IntegrityKey,
     algorithm: IntegrityAlgorithm,
-) -> CallResult
+) -> CResult
     ensures { SignsBy algorithm (key_bytes key.now) result
         (record { slice = room.old; count = written.old })
         (record { slice = room.new; count = written.new }) }
@@ -49,7 +47,7 @@ pub(crate) fn end(
     key: &IntegrityKey,
     algorithm: IntegrityAlgorithm,
     fingerprint: bool,
-) -> CallResult
+) -> CResult
     ensures { Ends fingerprint algorithm (key_bytes key.now) result
         (record { slice = room.old; count = written.old })
         (record { slice = room.new; count = written.new }) }

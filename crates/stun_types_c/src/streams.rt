@@ -3,14 +3,14 @@
 ghost use Rattle.std.specs.Prelude.{◌≡◌};
 ghost use Rattle.stun_types_c.specs.Streams.{fault_result, PushesPiece};
 
-use crate::call_result::{CallResult, counted, plain};
+use crate::call_result::{CResult, counted, plain};
 use crate::codes;
-use stun_framing::{Carries, StreamFault, push_stored};
+use stun_framing::{StreamFault, StreamKind, push_raw};
 
 /// A stream, as C keeps it.
 #[repr(C)]
 #[derive(Clone, Copy, Drop)]
-pub struct KeptStream {
+pub struct CStream {
     /// The offset in the stream of the bytes that are pending.
     pub offset: u64,
     /// How many bytes at the start of the buffer belong to a message that isn't whole.
@@ -22,7 +22,7 @@ pub struct KeptStream {
 }
 
 /// Why no message begins after the last one.
-fn fault_result(fault: StreamFault, size: usize) -> CallResult
+fn fault_result(fault: StreamFault, size: usize) -> CResult
     ensures { result ≡ fault_result size fault }
 {
     match fault {
@@ -35,11 +35,11 @@ fn fault_result(fault: StreamFault, size: usize) -> CallResult
 /// Takes the bytes at the start of a piece that belong to the message that is coming.
 #[unsafe(no_mangle)]
 pub extern "C" fn stun_types_stream_push(
-    kept: &mut KeptStream,
+    kept: &mut CStream,
     buffer: &mut [u8],
     piece: &[u8],
     taken: &mut usize,
-) -> CallResult
+) -> CResult
     ensures { PushesPiece piece.now buffer.old buffer.new result kept.old kept.new
         taken.old taken.new }
 {
@@ -47,14 +47,19 @@ pub extern "C" fn stun_types_stream_push(
         return plain(codes::BAD_ARGUMENT);
     }
     let size = buffer.len();
-    let Some(answer) = push_stored(Carries::Messages, buffer, kept.pending, kept.offset, piece)
-    else {
+    let Some(answer) = push_raw(
+        StreamKind::Messages,
+        buffer,
+        kept.pending,
+        kept.offset,
+        piece,
+    ) else {
         return plain(codes::BAD_ARGUMENT);
     };
     match answer {
         Ok(pushed) => {
             *taken = pushed.taken;
-            *kept = KeptStream {
+            *kept = CStream {
                 offset: pushed.offset,
                 pending: pushed.pending,
                 message: pushed.message.unwrap_or(0),

@@ -13,31 +13,32 @@ ghost use Rattle.stun_transactions.specs.Transactions.{Begins};
 ghost use Rattle.stun_types_c.specs.KeyHandles.{shared_key};
 ghost use Rattle.stun_types_c.specs.Transactions.{transport_numbered, mechanism_numbered, end_number, number_of_end, IsAt, millis_of, waits_fault, Schedules, usage_named, TellsParts, Keeps, KeepsNone, AreSame, with_state, Ends, StopsKept, PollsKept, request_answer, begun_in_c, BeginsKept, discard_kind, claim_number, proof_number, outcome_in_c, key_answer, Copies, IsOutcome, ReceivesKept};
 
-use crate::call_result::{CallResult, parse_result, plain};
+use crate::call_result::{CResult, parse_result, plain};
 use crate::codes;
 use crate::keys::number_of;
 use crate::reading::Id;
 use crate::shared_key::SharedKey;
 use crate::type_list::types_of;
-use crate::usages::shortest_of;
+use crate::usages::min_hmac_length_of;
 use std::alloc::{AllocError, Global};
 use std::time::Duration;
 use stun_keys::keys::key_of_bytes;
 use stun_transactions::{
-    Action, Claim, Discard, Failure, Mechanism, PartsError, Received, Schedule, Transaction,
-    TransactionEnd, TransactionParts, Usage,
+    Action, Claim, Discard, Failure, Mechanism, PartsError, Received, ResponsePolicy, Schedule,
+    Transaction, TransactionEnd, TransactionParts,
 };
 use stun_types::TransportType;
 use stun_types::attribute::{
     AttributeStaticType, AttributeType, MessageIntegrity, MessageIntegritySha256,
 };
-use stun_types::message::keys::IntegrityKey;
-use stun_types::message::{IntegrityAlgorithm, Message, MessageClass, Method, TransactionId};
+use stun_types::message::{
+    IntegrityAlgorithm, IntegrityKey, Message, MessageClass, Method, TransactionId,
+};
 
 /// When a request is sent again and given up, in milliseconds, and which responses the usage takes.
 #[repr(C)]
 #[derive(Clone, Copy, Drop)]
-pub struct Waits {
+pub struct CSchedule {
     /// The first interval.
     pub rto: u64,
     /// The timeout over a reliable transport (Ti of RFC 8489, section 6.2.2).
@@ -49,7 +50,7 @@ pub struct Waits {
     pub last_wait: u32,
     /// How many bytes a MESSAGE-INTEGRITY-SHA256 of a response has at least: 16, 20, 24, 28 or 32, and
     /// 0 for 32 (RFC 8489, section 14.6).
-    pub shortest: u32,
+    pub min_hmac_length: u32,
     /// Whether the usage sends FINGERPRINT (RFC 8489, section 7): 0 if it doesn't.
     pub fingerprint: u32,
     /// 0.
@@ -59,9 +60,9 @@ pub struct Waits {
 /// A transaction, as C keeps it.
 #[repr(C)]
 #[derive(Clone, Copy, Drop)]
-pub struct KeptTransaction {
+pub struct CTransaction {
     /// When the request is sent.
-    pub schedule: Waits,
+    pub schedule: CSchedule,
     /// When the request was last sent, and before that when the transaction began, in milliseconds.
     pub last: u64,
     /// The latest moment that a call was given, in milliseconds.
@@ -92,7 +93,7 @@ pub struct KeptTransaction {
 /// What a transaction wants done.
 #[repr(C)]
 #[derive(Clone, Copy, Drop)]
-pub struct Wanted {
+pub struct CAction {
     /// 0: nothing is decided; 1: send; 2: wait; 3: it has ended.
     pub kind: u32,
     /// How it ended.
@@ -104,7 +105,7 @@ pub struct Wanted {
 }
 
 /// What a call leaves that decides nothing.
-const NOTHING_WANTED: Wanted = Wanted {
+const NOTHING_WANTED: CAction = CAction {
     kind: 0,
     end: 0,
     until: 0,
@@ -114,7 +115,7 @@ const NOTHING_WANTED: Wanted = Wanted {
 /// What received bytes are for a transaction.
 #[repr(C)]
 #[derive(Clone, Copy, Drop)]
-pub struct ReceivedOutcome {
+pub struct CReceived {
     /// 0 to 10, as `c/stun_types.h` lists them.
     pub kind: u32,
     /// The type of an attribute, or the code of an error, or that which a response claims that is
@@ -127,7 +128,7 @@ pub struct ReceivedOutcome {
 }
 
 /// What a call leaves that decides nothing.
-const NOTHING_RECEIVED: ReceivedOutcome = ReceivedOutcome {
+const NOTHING_RECEIVED: CReceived = CReceived {
     kind: 0,
     number: 0,
     algorithm: 0,
@@ -197,7 +198,7 @@ fn end_number(end: TransactionEnd) -> u8
 }
 
 /// The schedule of C's numbers, if they are those of one.
-fn schedule_of(waits: &Waits) -> Option<Schedule>
+fn schedule_of(waits: &CSchedule) -> Option<Schedule>
     ensures { MatchOption result (is_some (waits_fault waits.now) ≡ true) (Schedules waits.now) }
 {
     let schedule = Schedule::new(waits.rto, waits.requests, waits.last_wait).ok()?;
@@ -205,15 +206,15 @@ fn schedule_of(waits: &Waits) -> Option<Schedule>
 }
 
 /// What C says of responses, if its numbers say something.
-fn usage_of(waits: &Waits) -> Option<Usage>
+fn usage_of(waits: &CSchedule) -> Option<ResponsePolicy>
     ensures { result ≡ usage_named waits.now }
 {
     if waits.reserved != 0 {
         return None;
     }
-    let shortest = shortest_of(waits.shortest)?;
-    Some(Usage {
-        shortest,
+    let min_hmac_length = min_hmac_length_of(waits.min_hmac_length)?;
+    Some(ResponsePolicy {
+        min_hmac_length,
         fingerprint: waits.fingerprint != 0,
     })
 }
@@ -233,7 +234,7 @@ pub(crate) fn millis(moment: Duration) -> u64
 }
 
 /// The parts that C's numbers mean; `None` if one of them means nothing.
-fn meant_parts(kept: &KeptTransaction) -> Option<TransactionParts>
+fn meant_parts(kept: &CTransaction) -> Option<TransactionParts>
     ensures { MatchOption result ((parts : TransactionParts) → ¬ TellsParts kept.now parts)
         (TellsParts kept.now) }
 {
@@ -266,7 +267,7 @@ fn meant_parts(kept: &KeptTransaction) -> Option<TransactionParts>
 
 /// The transaction that C keeps; `None` if its numbers are those of none.
 #[tactic(auto, using(crate::proofs::KeptLemmas::unsound))]
-pub(crate) fn parts_of(kept: &KeptTransaction) -> Option<TransactionParts>
+pub(crate) fn parts_of(kept: &CTransaction) -> Option<TransactionParts>
     ensures { MatchOption result (KeepsNone kept.now) (Keeps kept.now) }
 {
     let parts = meant_parts(kept)?;
@@ -275,7 +276,7 @@ pub(crate) fn parts_of(kept: &KeptTransaction) -> Option<TransactionParts>
 }
 
 /// Stores how far a transaction has come.
-fn store(kept: &mut KeptTransaction, parts: &TransactionParts)
+fn store(kept: &mut CTransaction, parts: &TransactionParts)
     ensures { kept.new ≡ with_state kept.old (state_in parts.now) }
 {
     kept.sent = parts.sent;
@@ -288,7 +289,7 @@ fn store(kept: &mut KeptTransaction, parts: &TransactionParts)
 
 /// Whether a request shows a MESSAGE-INTEGRITY, and a MESSAGE-INTEGRITY-SHA256; or why a message is
 /// no request, or is signed otherwise than it is to be protected.
-fn signed_request(message: &Message<'_>, protected: bool) -> Result<(bool, bool), CallResult>
+fn signed_request(message: &Message<'_>, protected: bool) -> Result<(bool, bool), CResult>
     ensures { let d = message_bytes message.now in MatchResult result
         (λ shown. (request_fault protected d ≡ None) × (shown.0 ≡ (signed_by d).sha1)
         × (shown.1 ≡ (signed_by d).sha256))
@@ -313,7 +314,7 @@ fn key_answer(
     sha1: bool,
     sha256: bool,
     key: &SharedKey,
-) -> Option<CallResult>
+) -> Option<CResult>
     ensures { result ≡ key_answer mechanism (record { sha1 = sha1; sha256 = sha256 })
         (shared_key key.now) }
 {
@@ -342,14 +343,14 @@ fn key_answer(
 #[tactic(auto, using(stun_grammar::proofs::HeadersLemmas::header_there, stun_grammar::proofs::ParsingLemmas::parsed_header))]
 #[unsafe(no_mangle)]
 pub extern "C" fn stun_types_transaction_begin(
-    kept: &mut KeptTransaction,
+    kept: &mut CTransaction,
     request: &[u8],
-    schedule: &Waits,
+    schedule: &CSchedule,
     transport: u32,
     protection: u32,
     key: &SharedKey,
     now: u64,
-) -> CallResult
+) -> CResult
     ensures { BeginsKept request.now schedule.now transport protection now
         (shared_key key.now) result kept.old kept.new }
 {
@@ -376,7 +377,7 @@ pub extern "C" fn stun_types_transaction_begin(
     }
     let mut id = [0; 12];
     id.copy_from_slice(&request[8..20]);
-    *kept = KeptTransaction {
+    *kept = CTransaction {
         schedule: *schedule,
         last: now,
         clock: now,
@@ -397,10 +398,10 @@ pub extern "C" fn stun_types_transaction_begin(
 /// What is to be done now.
 #[unsafe(no_mangle)]
 pub extern "C" fn stun_types_transaction_poll(
-    kept: &mut KeptTransaction,
+    kept: &mut CTransaction,
     now: u64,
-    wanted: &mut Wanted,
-) -> CallResult
+    wanted: &mut CAction,
+) -> CResult
     ensures { PollsKept now result
         (record { kept = kept.old; wanted = wanted.old })
         (record { kept = kept.new; wanted = wanted.new }) }
@@ -412,16 +413,16 @@ pub extern "C" fn stun_types_transaction_poll(
     let action = parts.poll(moment_of(now));
     store(kept, &parts);
     *wanted = match action {
-        Action::Send => Wanted {
+        Action::Send => CAction {
             kind: 1,
             ..NOTHING_WANTED
         },
-        Action::WaitUntil(until) => Wanted {
+        Action::WaitUntil(until) => CAction {
             kind: 2,
             until: millis(until),
             ..NOTHING_WANTED
         },
-        Action::Ended(end) => Wanted {
+        Action::Ended(end) => CAction {
             kind: 3,
             end: u32::from(end_number(end)),
             ..NOTHING_WANTED
@@ -464,7 +465,7 @@ fn proof_number(proof: Option<IntegrityAlgorithm>) -> u32
 }
 
 /// What received bytes are, as C's numbers.
-fn outcome_of(received: &Received<'_>) -> ReceivedOutcome
+fn outcome_of(received: &Received<'_>) -> CReceived
     ensures { result ≡ outcome_in_c (outcome_of received.now) }
 {
     let (kind, number, algorithm) = match received {
@@ -476,7 +477,7 @@ fn outcome_of(received: &Received<'_>) -> ReceivedOutcome
         Received::Success(_, proof) => (9, 0, proof_number(*proof)),
         Received::Error(_, code, proof) => (10, u32::from(*code), proof_number(*proof)),
     };
-    ReceivedOutcome {
+    CReceived {
         kind,
         number,
         algorithm,
@@ -489,7 +490,7 @@ fn key_for(
     alloc: Global,
     parts: &TransactionParts,
     key: &SharedKey,
-) -> Result<Option<IntegrityKey>, CallResult>
+) -> Result<Option<IntegrityKey>, CResult>
     ensures { Copies parts.now (shared_key key.now) result }
 {
     if let Some(answer) = key_answer(parts.mechanism, parts.sha1, parts.sha256, key) {
@@ -510,7 +511,7 @@ fn receive(
     key: Option<IntegrityKey>,
     bytes: &[u8],
     understood: &[AttributeType],
-) -> Result<(TransactionParts, ReceivedOutcome), PartsError>
+) -> Result<(TransactionParts, CReceived), PartsError>
     ensures { MatchResult result
         (λ reported. (outcome : Outcome) × IsOutcome parts key understood.now bytes.now outcome
         × (reported.0 ≡ at_state parts (after outcome (state_in parts)))
@@ -527,12 +528,12 @@ fn receive(
 #[unsafe(no_mangle)]
 pub extern "C" fn stun_types_transaction_receive(
     alloc: Global,
-    kept: &mut KeptTransaction,
+    kept: &mut CTransaction,
     key: &SharedKey,
     bytes: &[u8],
     understood: &[u16],
-    received: &mut ReceivedOutcome,
-) -> CallResult
+    received: &mut CReceived,
+) -> CResult
     ensures { ReceivesKept (shared_key key.now) understood.now bytes.now result
         (record { kept = kept.old; reported = received.old })
         (record { kept = kept.new; reported = received.new }) }
@@ -560,7 +561,7 @@ pub extern "C" fn stun_types_transaction_receive(
 
 /// Stops sending the request of a transaction, unless it has ended.
 #[unsafe(no_mangle)]
-pub extern "C" fn stun_types_transaction_stop_sending(kept: &mut KeptTransaction) -> CallResult
+pub extern "C" fn stun_types_transaction_stop_sending(kept: &mut CTransaction) -> CResult
     ensures { StopsKept result kept.old kept.new }
 {
     let Some(mut parts) = parts_of(kept) else {
@@ -573,7 +574,7 @@ pub extern "C" fn stun_types_transaction_stop_sending(kept: &mut KeptTransaction
 
 /// Ends a transaction, unless it has ended: the caller wants no response.
 #[unsafe(no_mangle)]
-pub extern "C" fn stun_types_transaction_cancel(kept: &mut KeptTransaction) -> CallResult
+pub extern "C" fn stun_types_transaction_cancel(kept: &mut CTransaction) -> CResult
     ensures { Ends TransactionEnd.Cancelled result kept.old kept.new }
 {
     let Some(mut parts) = parts_of(kept) else {
@@ -586,7 +587,7 @@ pub extern "C" fn stun_types_transaction_cancel(kept: &mut KeptTransaction) -> C
 
 /// Ends a transaction, unless it has ended: the transport failed.
 #[unsafe(no_mangle)]
-pub extern "C" fn stun_types_transaction_fail(kept: &mut KeptTransaction) -> CallResult
+pub extern "C" fn stun_types_transaction_fail(kept: &mut CTransaction) -> CResult
     ensures { Ends TransactionEnd.TransportFailed result kept.old kept.new }
 {
     let Some(mut parts) = parts_of(kept) else {
@@ -600,15 +601,15 @@ pub extern "C" fn stun_types_transaction_fail(kept: &mut KeptTransaction) -> Cal
 /// A law: numbers keep at most one transaction.
 #[tactic(auto, using(crate::proofs::KeptLemmas::same_parts))]
 pub fn numbers_keep_one_transaction()
-    ensures { (kept : KeptTransaction) (one other : TransactionParts)
+    ensures { (kept : CTransaction) (one other : TransactionParts)
         → Keeps kept one → Keeps kept other → AreSame one other }
 {}
 
 /// A law: the numbers of a transaction that begins keep just that transaction.
 #[tactic(auto, using(crate::proofs::KeptLemmas::begun_keeps))]
 pub fn what_begins_is_kept()
-    ensures { (d : List ℕ) (waits : Waits) (transport protection now : ℕ) (schedule : Schedule)
-        (usage : Usage) (over : TransportType) (by : Protection) (moment : Duration)
+    ensures { (d : List ℕ) (waits : CSchedule) (transport protection now : ℕ) (schedule : Schedule)
+        (usage : ResponsePolicy) (over : TransportType) (by : Protection) (moment : Duration)
         (transaction : Transaction)
         → Schedules waits schedule → usage_named waits ≡ Some usage
         → transport_numbered transport ≡ Some over

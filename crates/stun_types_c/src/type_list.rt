@@ -7,7 +7,7 @@ ghost use Rattle.stun_types.specs.Replies.{is_unknown};
 ghost use Rattle.stun_types_c.specs.TypeLists.{types_numbered, unknown_numbers, ReadsTypes};
 
 use crate::attribute::ShownAttribute;
-use crate::call_result::{CallResult, plain};
+use crate::call_result::{CResult, plain};
 use crate::codes;
 use crate::values::value_in;
 use stun_base::number_at;
@@ -19,13 +19,13 @@ const MOST: usize = 64;
 
 /// At most 64 types.
 #[derive(Clone, Copy, Drop)]
-pub(crate) struct FewTypes {
+pub(crate) struct TypeList {
     all: [AttributeType; 64],
     count: usize,
     ghost few: { count ≤ 64 },
 }
 
-impl FewTypes {
+impl TypeList {
     /// The types.
     pub(crate) fn as_slice(&self) -> &[AttributeType]
         ensures { result.now ≡ take self.now.count self.now.all }
@@ -35,7 +35,7 @@ impl FewTypes {
 }
 
 /// The types of C's numbers; `None` if there are more than 64.
-pub(crate) fn types_of(numbers: &[u16]) -> Option<FewTypes>
+pub(crate) fn types_of(numbers: &[u16]) -> Option<TypeList>
     ensures { MatchOption result (64 < length numbers.now)
         (λ few. (length numbers.now ≤ 64) × (take few.count few.all ≡ types_numbered numbers.now)) }
 {
@@ -46,7 +46,7 @@ pub(crate) fn types_of(numbers: &[u16]) -> Option<FewTypes>
     for i in 0..numbers.len() {
         all[i] = AttributeType(numbers[i]);
     }
-    Some(FewTypes {
+    Some(TypeList {
         all,
         count: numbers.len(),
     })
@@ -69,7 +69,7 @@ pub extern "C" fn stun_types_read_types(
     attribute: &ShownAttribute,
     types: &mut [u16],
     count: &mut usize,
-) -> CallResult
+) -> CResult
     ensures { ReadsTypes attribute.now bytes.now result types.old types.new count.old count.new }
 {
     let Some(value) = value_in(bytes, attribute) else {

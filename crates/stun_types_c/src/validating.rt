@@ -5,14 +5,14 @@ ghost use Rattle.stun_keys.specs.Keys.{key_algorithm};
 ghost use Rattle.stun_types.specs.Message.{message_bytes};
 ghost use Rattle.stun_authentication.specs.Policies.{common};
 ghost use Rattle.stun_types_c.specs.Codes.{BAD_ARGUMENT, OUT_OF_MEMORY};
-ghost use Rattle.stun_types_c.specs.CallResults.{plain};
+ghost use Rattle.stun_types_c.specs.CResults.{plain};
 ghost use Rattle.stun_types_c.specs.Credentials.{ValidatesShortTerm, ValidatesLongTerm};
 ghost use Rattle.stun_types_c.specs.KeyHandles.{shared_key};
-ghost use Rattle.stun_types_c.specs.Validating.{hmac_length, checked_in, verdict_of, policy_answer, policy_told, TellsVerdict, ValidatesWith, ValidatesKey, ValidatesBy};
+ghost use Rattle.stun_types_c.specs.Validating.{hmac_length, checked_in, verdict_of, policy_answer, policy_reported, TellsVerdict, ValidatesWith, ValidatesKey, ValidatesBy};
 
-use crate::authentication::{CountedIntegrity, policy_of};
+use crate::authentication::{CPolicy, policy_of};
 use crate::call_result::{
-    CallResult, about, counted, parse_result, plain, validate_result, write_result,
+    CResult, about, counted, parse_result, plain, validate_result, write_result,
 };
 use crate::codes;
 use crate::keys::{long_term_of, number_of};
@@ -24,8 +24,9 @@ use stun_keys::keys::key_of_bytes;
 use stun_types::attribute::{
     AttributeStaticType, Fingerprint, MessageIntegrity, MessageIntegritySha256,
 };
-use stun_types::message::keys::{IntegrityAlgorithm, IntegrityKey, MessageIntegrityCredentials};
-use stun_types::message::{Message, ValidateError};
+use stun_types::message::{
+    IntegrityAlgorithm, IntegrityKey, Message, MessageIntegrityCredentials, ValidateError,
+};
 
 /// What was checked of a message that is valid.
 #[repr(C)]
@@ -76,7 +77,7 @@ fn tell_verdict(
     message: &Message<'_>,
     verdict: Result<IntegrityAlgorithm, ValidateError>,
     validated: &mut Validated,
-) -> CallResult
+) -> CResult
     ensures { TellsVerdict (message_bytes message.now) verdict result validated.new }
 {
     match verdict {
@@ -97,7 +98,7 @@ pub extern "C" fn stun_types_validate(
     bytes: &[u8],
     key: &SharedKey,
     validated: &mut Validated,
-) -> CallResult
+) -> CResult
     ensures { ValidatesWith (shared_key key.now) bytes.now result validated.new }
 {
     *validated = NOT_VALIDATED;
@@ -136,7 +137,7 @@ fn verdict_by(
     message: &Message<'_>,
     counted: Option<IntegrityAlgorithm>,
     key: &IntegrityKey,
-) -> Result<Result<IntegrityAlgorithm, ValidateError>, CallResult>
+) -> Result<Result<IntegrityAlgorithm, ValidateError>, CResult>
     ensures { MatchOption (common counted (key_algorithm key.now))
         (result ≡ Err (plain BAD_ARGUMENT))
         (λ checked. (result ≡ Ok (verdict_of checked key.now (message_bytes message.now)))
@@ -159,23 +160,23 @@ fn verdict_by(
 /// Reports a verdict on a message to C, if its HMAC has at least so many bytes.
 fn tell_long_enough(
     message: &Message<'_>,
-    shortest: usize,
+    min_hmac_length: usize,
     verdict: Result<IntegrityAlgorithm, ValidateError>,
     validated: &mut Validated,
-) -> CallResult
+) -> CResult
     ensures { let d = message_bytes message.now in
-        (result ≡ policy_answer shortest d verdict)
-        × (validated.new ≡ policy_told shortest d verdict) }
+        (result ≡ policy_answer min_hmac_length d verdict)
+        × (validated.new ≡ policy_reported min_hmac_length d verdict) }
 {
     *validated = NOT_VALIDATED;
     match verdict {
         Ok(algorithm) => {
-            if has_least_length(shortest, algorithm, message) {
+            if has_least_length(min_hmac_length, algorithm, message) {
                 *validated = checked_in(message, algorithm);
                 plain(codes::OK)
             } else {
                 let length = hmac_length(message, algorithm);
-                counted(codes::HMAC_TOO_SHORT, shortest, length as usize)
+                counted(codes::HMAC_TOO_SHORT, min_hmac_length, length as usize)
             }
         }
         Err(error) => validate_result(error),
@@ -189,7 +190,7 @@ fn validate_key(
     policy: Policy,
     key: &IntegrityKey,
     validated: &mut Validated,
-) -> CallResult
+) -> CResult
     ensures { ValidatesKey policy key.now (message_bytes message.now) result validated.new }
 {
     *validated = NOT_VALIDATED;
@@ -197,7 +198,7 @@ fn validate_key(
         return about(codes::MISSING_ATTRIBUTE, FINGERPRINT);
     }
     match verdict_by(alloc, message, policy.algorithm, key) {
-        Ok(verdict) => tell_long_enough(message, policy.shortest, verdict, validated),
+        Ok(verdict) => tell_long_enough(message, policy.min_hmac_length, verdict, validated),
         Err(answer) => answer,
     }
 }
@@ -207,10 +208,10 @@ fn validate_key(
 pub extern "C" fn stun_types_validate_by_policy(
     alloc: Global,
     bytes: &[u8],
-    policy: &CountedIntegrity,
+    policy: &CPolicy,
     key: &SharedKey,
     validated: &mut Validated,
-) -> CallResult
+) -> CResult
     ensures { ValidatesBy policy.now (shared_key key.now) bytes.now result validated.new }
 {
     *validated = NOT_VALIDATED;
@@ -234,7 +235,7 @@ pub extern "C" fn stun_types_validate_short_term(
     bytes: &[u8],
     password: &[u8],
     validated: &mut Validated,
-) -> CallResult
+) -> CResult
     ensures { ValidatesShortTerm password.now bytes.now result validated.new }
 {
     *validated = NOT_VALIDATED;
@@ -261,7 +262,7 @@ pub extern "C" fn stun_types_validate_long_term(
     realm: &[u8],
     password: &[u8],
     validated: &mut Validated,
-) -> CallResult
+) -> CResult
     ensures { ValidatesLongTerm user.now realm.now password.now bytes.now result validated.new }
 {
     *validated = NOT_VALIDATED;

@@ -6,9 +6,9 @@ ghost use Rattle.std.specs.Option.{option_map};
 ghost use Rattle.stun_types_c.specs.Values.{value_of, ErrorOut, ReadsError};
 
 use crate::attribute::ShownAttribute;
-use crate::call_result::{CallResult, parse_result, plain};
+use crate::call_result::{CResult, parse_result, plain};
 use crate::codes;
-use stun_values::read_error;
+use stun_types::attribute::read_error;
 
 /// The value of an attribute; `None` if it isn't within the bytes.
 pub(crate) fn value_in<'a>(bytes: &'a [u8], attribute: &ShownAttribute) -> Option<&'a [u8]>
@@ -38,7 +38,7 @@ pub extern "C" fn stun_types_read_error(
     code: &mut u16,
     reason_at: &mut usize,
     reason_length: &mut usize,
-) -> CallResult
+) -> CResult
     ensures { ReadsError attribute.now bytes.now result
         (record { code = code.old; reason_at = reason_at.old; reason_length = reason_length.old })
         (record { code = code.new; reason_at = reason_at.new; reason_length = reason_length.new }) }
@@ -47,8 +47,8 @@ pub extern "C" fn stun_types_read_error(
         return plain(codes::BAD_ARGUMENT);
     };
     match read_error(value) {
-        Ok((told, reason)) => {
-            *code = told;
+        Ok((reported, reason)) => {
+            *code = reported;
             *reason_at = attribute.value_at + 4;
             *reason_length = reason.len();
             plain(codes::OK)

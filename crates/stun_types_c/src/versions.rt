@@ -5,7 +5,7 @@ ghost use Rattle.std.specs.Prelude.{◌≡◌};
 ghost use Rattle.stun_types_c.specs.Versions.{version, default_waits, no_key, first};
 
 use crate::attribute::Cursor;
-use crate::transactions::Waits;
+use crate::transactions::CSchedule;
 
 /// The number of the version: 1,000,000 for each of its first number, 1,000 for each of its second, and
 /// its third.
@@ -18,15 +18,15 @@ pub extern "C" fn stun_types_version() -> u32
 
 /// The schedule that RFC 8489 recommends.
 #[unsafe(no_mangle)]
-pub extern "C" fn stun_types_schedule_default() -> Waits
+pub extern "C" fn stun_types_schedule_default() -> CSchedule
     ensures { result ≡ default_waits }
 {
-    Waits {
+    CSchedule {
         rto: 500,
         reliable_wait: 39_500,
         requests: 7,
         last_wait: 16,
-        shortest: 0,
+        min_hmac_length: 0,
         fingerprint: 0,
         reserved: 0,
     }

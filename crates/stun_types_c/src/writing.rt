@@ -9,11 +9,11 @@ ghost use Rattle.stun_values.specs.ErrorValues.{making_fault};
 ghost use Rattle.stun_values.specs.TextValues.{text_max};
 ghost use Rattle.stun_types_c.specs.Codes.{OK};
 ghost use Rattle.stun_types_c.specs.KeyHandles.{shared_key};
-ghost use Rattle.stun_types_c.specs.CallResults.{plain};
+ghost use Rattle.stun_types_c.specs.CResults.{plain};
 ghost use Rattle.stun_types_c.specs.Writing.{Begins, AppendsTo, AddsValue, AddsAddress, AddsXorAddress, AddsError, AddsTypes, Signs, any_answer, step_answer};
 
 use crate::address::{Address, is_plain_type, is_xored_type, socket_of};
-use crate::call_result::{CallResult, add_result, counted, plain, write_result};
+use crate::call_result::{CResult, add_result, counted, plain, write_result};
 use crate::codes;
 use crate::keys::algorithm_of;
 use crate::new_values::{ErrorValue, TypeNumbers};
@@ -21,12 +21,11 @@ use crate::reading::Id;
 use crate::shared_key::SharedKey;
 use crate::values::text_in;
 use std::net::SocketAddr;
-use stun_base::MessageHeader;
 use stun_grammar::attribute_types::{ERROR_CODE, UNKNOWN_ATTRIBUTES};
 use stun_types::attribute::AttributeType;
-use stun_types::message::{MessageType, StunWriteError, TransactionId};
+use stun_types::message::write::write_message_header;
+use stun_types::message::{MessageHeader, MessageType, ResumePoint, StunWriteError, TransactionId};
 use stun_values::{address_length, check_error, check_type_count, write_address, xor_addr};
-use stun_write::{ResumePoint, write_message_header};
 
 /// Begins a message: writes its header, with the length 0, at the start of a slice.
 #[unsafe(no_mangle)]
@@ -35,7 +34,7 @@ pub extern "C" fn stun_types_begin(
     mtype: u16,
     id: &Id,
     written: &mut usize,
-) -> CallResult
+) -> CResult
     ensures { Begins mtype id.now result
         (record { slice = room.old; count = written.old })
         (record { slice = room.new; count = written.new }) }
@@ -52,7 +51,7 @@ pub extern "C" fn stun_types_begin(
 }
 
 /// Stores how long the message is after an add; what the call returns.
-pub(crate) fn store_length(added: Result<usize, CallResult>, written: &mut usize) -> CallResult
+pub(crate) fn store_length(added: Result<usize, CResult>, written: &mut usize) -> CResult
     ensures { MatchResult added
         (λ length. (result ≡ plain OK) × (written.new ≡ length))
         (λ answer. (result ≡ answer) × (written.new ≡ written.old)) }
@@ -68,12 +67,7 @@ pub(crate) fn store_length(added: Result<usize, CallResult>, written: &mut usize
 
 /// Adds an attribute with a value that isn't too long.
 #[inline(always)]
-pub(crate) fn add_short(
-    room: &mut [u8],
-    written: &mut usize,
-    atype: u16,
-    value: &[u8],
-) -> CallResult
+pub(crate) fn add_short(room: &mut [u8], written: &mut usize, atype: u16, value: &[u8]) -> CResult
     requires { length value.now ≤ 65535 }
     ensures { AppendsTo (any_answer (length room.old) atype value.now) atype (λ _. value.now) result
         (record { slice = room.old; count = written.old })
@@ -95,7 +89,7 @@ pub extern "C" fn stun_types_add(
     written: &mut usize,
     atype: u16,
     value: &[u8],
-) -> CallResult
+) -> CResult
     ensures { AddsValue atype value.now result
         (record { slice = room.old; count = written.old })
         (record { slice = room.new; count = written.new }) }
@@ -111,7 +105,7 @@ pub extern "C" fn stun_types_add(
 }
 
 /// Adds an attribute with this address for its value.
-fn add_socket(room: &mut [u8], written: &mut usize, atype: u16, addr: SocketAddr) -> CallResult
+fn add_socket(room: &mut [u8], written: &mut usize, atype: u16, addr: SocketAddr) -> CResult
     ensures { AppendsTo (any_answer (length room.old) atype (address_value addr)) atype
         (λ _. address_value addr) result
         (record { slice = room.old; count = written.old })
@@ -130,7 +124,7 @@ pub extern "C" fn stun_types_add_address(
     written: &mut usize,
     atype: u16,
     address: &Address,
-) -> CallResult
+) -> CResult
     ensures { AddsAddress address.now atype result
         (record { slice = room.old; count = written.old })
         (record { slice = room.new; count = written.new }) }
@@ -151,7 +145,7 @@ pub extern "C" fn stun_types_add_xor_address(
     written: &mut usize,
     atype: u16,
     address: &Address,
-) -> CallResult
+) -> CResult
     ensures { AddsXorAddress address.now atype result
         (record { slice = room.old; count = written.old })
         (record { slice = room.new; count = written.new }) }
@@ -191,7 +185,7 @@ pub extern "C" fn stun_types_add_error(
     written: &mut usize,
     code: u32,
     reason: &[u8],
-) -> CallResult
+) -> CResult
     ensures { AddsError code reason.now result
         (record { slice = room.old; count = written.old })
         (record { slice = room.new; count = written.new }) }
@@ -217,7 +211,7 @@ pub extern "C" fn stun_types_add_unknown_types(
     room: &mut [u8],
     written: &mut usize,
     types: &[u16],
-) -> CallResult
+) -> CResult
     ensures { AddsTypes types.now result
         (record { slice = room.old; count = written.old })
         (record { slice = room.new; count = written.new }) }
@@ -240,7 +234,7 @@ pub extern "C" fn stun_types_add_integrity(
     written: &mut usize,
     key: &SharedKey,
     algorithm: u32,
-) -> CallResult
+) -> CResult
     ensures { Signs (shared_key key.now) algorithm result
         (record { slice = room.old; count = written.old })
         (record { slice = room.new; count = written.new }) }
@@ -261,7 +255,7 @@ pub extern "C" fn stun_types_add_integrity(
 
 /// Ends the message with a FINGERPRINT.
 #[unsafe(no_mangle)]
-pub extern "C" fn stun_types_add_fingerprint(room: &mut [u8], written: &mut usize) -> CallResult
+pub extern "C" fn stun_types_add_fingerprint(room: &mut [u8], written: &mut usize) -> CResult
     ensures { AppendsTo (step_answer (length room.old) finger) FINGERPRINT
         (λ message. fingerprint_value message (length message)) result
         (record { slice = room.old; count = written.old })

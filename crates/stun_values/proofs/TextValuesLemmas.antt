@@ -9,7 +9,7 @@ use Rattle.stun_grammar.specs.Lengths.{range_fault}
 use Rattle.stun_values.specs.TextValues.{text_fault}
 
 pub refused : (most : ℕ) (value : List ℕ) (e : StunParseError) → range_fault 0 most (length value) ≡ Some e → text_fault most value ≡ Some e
-refused most value e told = rw told refl
+refused most value e reported = rw reported refl
 
 pub not_utf8 : (most : ℕ) (value : List ℕ) → range_fault 0 most (length value) ≡ None → (IsUtf8 value → ⊥) → text_fault most value ≡ Some InvalidAttributeData
 not_utf8 most value none not = elim (cases_Bool (is_utf8 value)) [

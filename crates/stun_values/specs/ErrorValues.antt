@@ -30,8 +30,8 @@ abbrev pub code_class : List ℕ → ℕ
 code_class value = slice_index value 2 % 8
 
 -- the code in a value
-abbrev pub told_code : List ℕ → ℕ
-told_code value = 100 * code_class value + slice_index value 3
+abbrev pub reported_code : List ℕ → ℕ
+reported_code value = 100 * code_class value + slice_index value 3
 
 -- the class and the number are those of a code
 abbrev pub tells_code : List ℕ → Bool

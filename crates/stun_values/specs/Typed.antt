@@ -14,7 +14,7 @@ use Rattle.stun_values.specs.declared.rule.Rule.TheVariants as Is
 use Rattle.stun_values.specs.Addresses.{address_fault, address_in, xored_text}
 use Rattle.stun_values.specs.Algorithms.{one_algorithm_fault, algorithms_fault, algorithm_at, algorithms_in, algorithm_text, algorithms_text}
 use Rattle.stun_values.specs.FingerprintValues.{masked_bytes}
-use Rattle.stun_values.specs.ErrorValues.{error_fault, told_code, error_text}
+use Rattle.stun_values.specs.ErrorValues.{error_fault, reported_code, error_text}
 use Rattle.stun_values.specs.TextValues.{username_max, text_max, text_fault}
 use Rattle.stun_values.specs.TypeLists.{types_fault, types_in, types_text}
 
@@ -59,7 +59,7 @@ rule_fault Is.XorAddress value = address_fault value
 abbrev pub rule_text : Rule → ℕ → List ℕ → List ℕ
 rule_text (Is.Plain most) type value = plain_text type value
 rule_text (Is.Quoted most) type value = quoted_text type value
-rule_text Is.ErrorCode type value = error_text (told_code value) (drop 4 value)
+rule_text Is.ErrorCode type value = error_text (reported_code value) (drop 4 value)
 rule_text (Is.Hmac algorithm) type value = hex_text type value
 rule_text Is.Hash type value = hex_text type value
 rule_text Is.Checksum type value = hex_text type (masked_bytes value)

@@ -2,7 +2,7 @@
 
 ghost use Rattle.std.specs.Prelude.{◌≡◌, ◌≤◌, ◌++◌, true, false, Some, None, MatchOption, MatchResult, OnOk, length, drop};
 ghost use Rattle.stun_values.specs.TextValues.{text_max};
-ghost use Rattle.stun_values.specs.ErrorValues.{error_value, making_fault, told_code, tells_code, error_fault, error_text};
+ghost use Rattle.stun_values.specs.ErrorValues.{error_value, making_fault, reported_code, tells_code, error_fault, error_text};
 
 use crate::printed::put_type;
 use crate::{TEXT_MAX, check_range};
@@ -63,7 +63,7 @@ fn read_code(value: &[u8]) -> Option<u16>
     requires { 4 ≤ length value.now }
     ensures { MatchOption result
         (tells_code value.now ≡ false)
-        (λ code. (tells_code value.now ≡ true) × (code ≡ told_code value.now) × (300 ≤ code)
+        (λ code. (tells_code value.now ≡ true) × (code ≡ reported_code value.now) × (300 ≤ code)
         × (code ≤ 699)) }
 {
     let code_class = value[2] % 8;
@@ -96,9 +96,9 @@ fn read_code(value: &[u8]) -> Option<u16>
 #[tactic(auto, using(crate::proofs::ErrorValuesLemmas::wrong_length, crate::proofs::ErrorValuesLemmas::no_code, crate::proofs::ErrorValuesLemmas::no_text, crate::proofs::ErrorValuesLemmas::is_error))]
 pub fn read_error(value: &[u8]) -> Result<(u16, &str), StunParseError>
     ensures { MatchResult result
-        (λ told. (error_fault value.now ≡ None) × (told.0 ≡ told_code value.now)
-        × (told.1.now ≡ drop 4 value.now) × (300 ≤ told.0) × (told.0 ≤ 699)
-        × (length told.1.now ≤ text_max))
+        (λ reported. (error_fault value.now ≡ None) × (reported.0 ≡ reported_code value.now)
+        × (reported.1.now ≡ drop 4 value.now) × (300 ≤ reported.0) × (reported.0 ≤ 699)
+        × (length reported.1.now ≤ text_max))
         (λ e. error_fault value.now ≡ Some e) }
 {
     check_range(value.len(), 4, 4 + TEXT_MAX as usize)?;

@@ -2,10 +2,7 @@
 #![tactic(auto)]
 
 use std::alloc::{AllocError, Global};
-use stun_types::message::MessageAttributesIter;
-use stun_types::message::keys::{
-    LongTermKeyCredentials, MessageIntegrityCredentials, ShortTermCredentials,
-};
+use stun_types::message::{LongTermKeyCredentials, MessageAttributesIter, MessageIntegrityCredentials, ShortTermCredentials};
 
 /// A SOFTWARE with an empty value.
 pub const SOFTWARE: [u8; 4] = [0x80, 0x22, 0x00, 0x00];

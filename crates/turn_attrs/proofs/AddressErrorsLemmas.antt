@@ -54,8 +54,8 @@ pub address_error_back : (attribute : AddressErrorCode) (result : Result Address
     (λ read. (failed_family read ≡ failed_family attribute)
     × IsError (error_code (failed_error attribute)) (error_reason (failed_error attribute)) (failed_error read))
     (λ e. e ≡ OutOfMemory)
-address_error_back attribute result told =
+address_error_back attribute result reported =
     let family = failed_family attribute in
     let error = failed_error attribute in
     read_of family error result
-    (subst (λ (o : Option StunParseError). MatchOption o (MatchResult result (IsAddressError (value_of family error)) (λ e. e ≡ OutOfMemory)) (λ e. result ≡ Err e)) (no_fault family error) told)
+    (subst (λ (o : Option StunParseError). MatchOption o (MatchResult result (IsAddressError (value_of family error)) (λ e. e ≡ OutOfMemory)) (λ e. result ≡ Err e)) (no_fault family error) reported)

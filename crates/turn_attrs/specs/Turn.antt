@@ -1,6 +1,5 @@
 -- Attributes of TURN (RFC 8656, section 18; RFC 6062, section 6.2; RFC 7635, section 6; RFC 8016,
--- section 3.3). LIFETIME, XOR-PEER-ADDRESS and DATA are defined in `turn_basics`, and channels in
--- `Channels`.
+-- section 3.3). Channels are defined in `Channels`.
 use Rattle.std.specs.Prelude.{◌≡◌, ℕ, ◌+◌, ◌*◌, ◌/◌, ◌%◌, ◌^◌, Bool, List, ◌∷◌, ◌++◌, codes, length, drop, slice_index, Option, Some, None, Result, nat_lt, nat_le, ◌==◌, if◌then◌else◌}
 use Rattle.std.specs.Fmt.{decimal}
 use Rattle.std.specs.Option.{option_or}
@@ -8,14 +7,14 @@ use Rattle.stun_grammar.specs.declared.error.StunParseError.{StunParseError}
 use Rattle.stun_grammar.specs.declared.error.StunParseError.TheVariants.{Truncated, InvalidAttributeData}
 use Rattle.stun_base.specs.declared.transport.AddressFamily.{AddressFamily}
 use Rattle.stun_base.specs.declared.transport.AddressFamily.TheVariants.{IPV4, IPV6}
-use Rattle.stun_attrs.specs.Reading.{ReadsInMemory}
-use Rattle.stun_values.specs.ErrorValues.{error_value, error_fault, told_code}
+use Rattle.stun_attributes.specs.Reading.{ReadsInMemory}
+use Rattle.stun_values.specs.ErrorValues.{error_value, error_fault, reported_code}
 use Rattle.stun_attributes.specs.declared.error_code.ErrorCode.{ErrorCode}
 use Rattle.stun_attributes.specs.ErrorCodes.{error_code, error_reason, IsError}
 use Rattle.stun_attributes.specs.Texts.{text_bytes}
 use Rattle.stun_values.specs.TextValues.{text_fault}
 use Rattle.turn_attrs.specs.declared.icmp.IcmpError.{IcmpError}
-use Rattle.turn_attrs.specs.declared.family.OnlyIpv6.{OnlyIpv6}
+use Rattle.turn_attrs.specs.declared.family.Ipv6AddressFamily.{Ipv6AddressFamily}
 use Rattle.turn_attrs.specs.declared.address_error_code.AddressErrorCode.{AddressErrorCode}
 use Rattle.turn_attrs.specs.declared.third_party.ThirdPartyAuthorization.{ThirdPartyAuthorization}
 
@@ -23,6 +22,15 @@ use Rattle.turn_attrs.specs.declared.third_party.ThirdPartyAuthorization.{ThirdP
 
 abbrev pub CHANNEL_NUMBER : ℕ
 CHANNEL_NUMBER = 0x000C
+
+abbrev pub LIFETIME : ℕ
+LIFETIME = 0x000D
+
+abbrev pub XOR_PEER_ADDRESS : ℕ
+XOR_PEER_ADDRESS = 0x0012
+
+abbrev pub DATA : ℕ
+DATA = 0x0013
 
 abbrev pub XOR_RELAYED_ADDRESS : ℕ
 XOR_RELAYED_ADDRESS = 0x0016
@@ -63,6 +71,18 @@ THIRD_PARTY_AUTHORIZATION = 0x802E
 abbrev pub MOBILITY_TICKET : ℕ
 MOBILITY_TICKET = 0x8030
 
+-- ---- LIFETIME (section 18.2): seconds, in four bytes
+
+abbrev pub seconds_of : Lifetime → ℕ
+seconds_of lifetime = lifetime.seconds
+
+-- what reading a value returns: the fault, and if there is none the attribute of the number that
+-- the four bytes are
+abbrev pub ReadsLifetime : List ℕ → Result Lifetime StunParseError → Type 0
+ReadsLifetime value result =
+    MatchOption (exact_fault 4 (length value))
+    (IsOkAnd result (λ read. seconds_of read ≡ number value)) (λ e. result ≡ Err e)
+
 -- ---- REQUESTED-ADDRESS-FAMILY (section 18.6) and ADDITIONAL-ADDRESS-FAMILY (section 18.11): the
 -- highest of four bytes
 
@@ -80,10 +100,10 @@ family_number family = 2 ^ 24 * family_byte family
 abbrev pub family_in : ℕ → Option AddressFamily
 family_in n = family_of_byte (n / 2 ^ 24)
 
-abbrev pub ipv6_number : OnlyIpv6 → ℕ
+abbrev pub ipv6_number : Ipv6AddressFamily → ℕ
 ipv6_number _ = 2 ^ 24 * 2
 
-abbrev pub ipv6_in : ℕ → Option OnlyIpv6
+abbrev pub ipv6_in : ℕ → Option Ipv6AddressFamily
 ipv6_in n = if n / 2 ^ 24 == 2 then Some (record {}) else None
 
 -- ---- EVEN-PORT (section 18.7): the highest bit of a byte
@@ -144,7 +164,7 @@ address_error_fault value =
 -- what was read of a value that has no fault
 pub record IsAddressError (value : List ℕ) (attribute : AddressErrorCode) : Type 0 where
   pub family_is : Some (failed_family attribute) ≡ family_of_byte (slice_index value 0)
-  pub error_is : IsError (told_code value) (drop 4 value) (failed_error attribute)
+  pub error_is : IsError (reported_code value) (drop 4 value) (failed_error attribute)
 
 abbrev pub ReadsAddressError : List ℕ → Result AddressErrorCode StunParseError → Type 0
 ReadsAddressError value = ReadsInMemory (address_error_fault value) (IsAddressError value)

@@ -1,6 +1,6 @@
 //! The attribute types of this crate: their numbers (RFC 8656, section 18; RFC 6062, section 6.2;
 //! RFC 7635, section 12; RFC 8016, section 4), what the RFCs say of each, a list of them, and their
-//! registration. Three of them come from `turn_basics`.
+//! registration.
 
 ghost use Rattle.std.specs.Prelude.{◌≡◌};
 ghost use Rattle.std.specs.Option.{option_map};
@@ -8,10 +8,18 @@ ghost use Rattle.stun_types.specs.KnownTypes.{facts};
 ghost use Rattle.turn_attrs.specs.TurnTypes.{known_type};
 
 use stun_types::attribute::{AttributeType, KnownType, ValueForm};
-pub use turn_basics::attribute_types::{DATA, LIFETIME, XOR_PEER_ADDRESS};
 
 /// The type of CHANNEL-NUMBER (RFC 8656, section 18.1).
 pub const CHANNEL_NUMBER: u16 = 0x000C;
+
+/// The type of LIFETIME (RFC 8656, section 18.2).
+pub const LIFETIME: u16 = 0x000D;
+
+/// The type of XOR-PEER-ADDRESS (RFC 8656, section 18.3).
+pub const XOR_PEER_ADDRESS: u16 = 0x0012;
+
+/// The type of DATA (RFC 8656, section 18.4).
+pub const DATA: u16 = 0x0013;
 
 /// The type of XOR-RELAYED-ADDRESS (RFC 8656, section 18.5).
 pub const XOR_RELAYED_ADDRESS: u16 = 0x0016;
@@ -59,6 +67,13 @@ const CHANNEL: ValueForm = ValueForm::PaddedNumber {
     greatest: 0x4FFF,
 };
 
+/// Seconds.
+const SECONDS: ValueForm = ValueForm::Number {
+    width: 4,
+    least: 0,
+    greatest: 0xFFFF_FFFF,
+};
+
 /// An address family: 1 for IPv4, 2 for IPv6.
 const FAMILY: ValueForm = ValueForm::PaddedNumber {
     width: 1,
@@ -98,6 +113,9 @@ pub fn known_type(atype: u16) -> Option<KnownType>
 {
     match atype {
         CHANNEL_NUMBER => Some(KnownType::new("CHANNEL-NUMBER", CHANNEL, 8656)),
+        LIFETIME => Some(KnownType::new("LIFETIME", SECONDS, 8656)),
+        XOR_PEER_ADDRESS => Some(KnownType::new("XOR-PEER-ADDRESS", ValueForm::XorAddress, 8656)),
+        DATA => Some(KnownType::new("DATA", ValueForm::Other, 8656)),
         XOR_RELAYED_ADDRESS => Some(KnownType::new(
             "XOR-RELAYED-ADDRESS",
             ValueForm::XorAddress,
@@ -131,7 +149,7 @@ pub fn known_type(atype: u16) -> Option<KnownType>
             7635,
         )),
         MOBILITY_TICKET => Some(KnownType::new("MOBILITY-TICKET", ValueForm::Other, 8016)),
-        _ => turn_basics::known_type(atype),
+        _ => None,
     }
 }
 

@@ -90,7 +90,7 @@ fn read_channel(bytes: &[u8]) -> Result<Channel, ChannelDataError>
 /// ```
 pub fn channel_data_length(prefix: &[u8]) -> Result<Option<usize>, ChannelDataError>
     ensures { MatchResult result
-        (λ told. MatchOption told
+        (λ reported. MatchOption reported
         ((begin_fault prefix.now ≡ Some (ChannelDataError.Truncated 4 (length prefix.now)))
         × (length prefix.now < 4))
         (λ framed. (begin_fault prefix.now ≡ None)

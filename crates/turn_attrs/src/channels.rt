@@ -3,7 +3,7 @@
 use crate::ChannelNumberKind;
 use std::fmt;
 use std::marker::Model;
-use stun_types::attribute::FieldsKind;
+use stun_types::attribute::PackedKind;
 use stun_types::{PrintText, TextSink, put_hex};
 
 /// The number of a channel: 0x4000 to 0x4FFF (RFC 8656, section 12).
@@ -89,7 +89,7 @@ impl fmt::Display for Channel {
     }
 }
 
-impl FieldsKind<Channel> for ChannelNumberKind {
+impl PackedKind<Channel> for ChannelNumberKind {
     ghost use Rattle.turn_attrs.specs.Channels.{channel_in, channel_number};
 
     type Number = u32;

@@ -5,14 +5,14 @@ use crate::{
     AdditionalAddressFamilyKind, EvenPortKind, RequestedAddressFamilyKind, RequestedTransportKind,
 };
 use std::fmt;
-use stun_types::attribute::FieldsKind;
+use stun_types::attribute::PackedKind;
 use stun_types::{AddressFamily, PrintText, TextSink};
 
 /// The family IPv6, the one that may be asked for beside IPv4.
 #[derive(Clone, Copy, Debug, PartialEq, Eq)]
-pub struct OnlyIpv6;
+pub struct Ipv6AddressFamily;
 
-impl PrintText for OnlyIpv6 {
+impl PrintText for Ipv6AddressFamily {
     ghost use Rattle.std.specs.Prelude.{codes};
 
     ghost text = { λ _. codes "IPV6" };
@@ -23,7 +23,7 @@ impl PrintText for OnlyIpv6 {
 }
 
 /// `IPV6`.
-impl fmt::Display for OnlyIpv6 {
+impl fmt::Display for Ipv6AddressFamily {
     ghost use Rattle.std.specs.Prelude.{Some, codes};
 
     ghost output = { λ _. Some (codes "IPV6") };
@@ -54,7 +54,7 @@ pub(crate) fn family_from_byte(byte: u8) -> Option<AddressFamily>
     }
 }
 
-impl FieldsKind<AddressFamily> for RequestedAddressFamilyKind {
+impl PackedKind<AddressFamily> for RequestedAddressFamilyKind {
     ghost use Rattle.turn_attrs.specs.Turn.{family_in, family_number};
 
     type Number = u32;
@@ -72,7 +72,7 @@ impl FieldsKind<AddressFamily> for RequestedAddressFamilyKind {
     }
 }
 
-impl FieldsKind<OnlyIpv6> for AdditionalAddressFamilyKind {
+impl PackedKind<Ipv6AddressFamily> for AdditionalAddressFamilyKind {
     ghost use Rattle.turn_attrs.specs.Turn.{ipv6_in, ipv6_number};
 
     type Number = u32;
@@ -81,20 +81,20 @@ impl FieldsKind<OnlyIpv6> for AdditionalAddressFamilyKind {
 
     ghost fields_of = { ipv6_in };
 
-    fn to_number(_family: &OnlyIpv6) -> u32 {
+    fn to_number(_family: &Ipv6AddressFamily) -> u32 {
         0x200_0000
     }
 
-    fn from_number(number: u32) -> Option<OnlyIpv6> {
+    fn from_number(number: u32) -> Option<Ipv6AddressFamily> {
         if number / 0x100_0000 == 2 {
-            Some(OnlyIpv6)
+            Some(Ipv6AddressFamily)
         } else {
             None
         }
     }
 }
 
-impl FieldsKind<bool> for EvenPortKind {
+impl PackedKind<bool> for EvenPortKind {
     ghost use Rattle.turn_attrs.specs.Turn.{reserve_in, reserve_number};
 
     type Number = u8;
@@ -112,7 +112,7 @@ impl FieldsKind<bool> for EvenPortKind {
     }
 }
 
-impl FieldsKind<u8> for RequestedTransportKind {
+impl PackedKind<u8> for RequestedTransportKind {
     ghost use Rattle.turn_attrs.specs.Turn.{protocol_in, protocol_number};
 
     type Number = u32;

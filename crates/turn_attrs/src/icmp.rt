@@ -1,6 +1,6 @@
 use crate::IcmpKind;
 use std::fmt;
-use stun_types::attribute::FieldsKind;
+use stun_types::attribute::PackedKind;
 use stun_types::{PrintText, TextSink};
 
 /// An ICMP message about a packet that a peer did not get: its type, its code and its data. What
@@ -43,7 +43,7 @@ impl fmt::Display for IcmpError {
     }
 }
 
-impl FieldsKind<IcmpError> for IcmpKind {
+impl PackedKind<IcmpError> for IcmpKind {
     ghost use Rattle.turn_attrs.specs.Turn.{icmp_in, icmp_number};
 
     type Number = u64;

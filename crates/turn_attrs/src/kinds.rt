@@ -1,9 +1,9 @@
 //! Attributes whose values have a form of the library, and their numbers and names.
 
-use crate::{Channel, IcmpError, OnlyIpv6, attribute_types};
+use crate::{Channel, IcmpError, Ipv6AddressFamily, attribute_types};
 use stun_types::AddressFamily;
 use stun_types::attribute::{
-    AttributeKind, BytesAttribute, EmptyAttribute, FieldsAttribute, NumberAttribute, ShortBytes,
+    AttributeKind, BytesAttribute, EmptyAttribute, NumberAttribute, PackedAttribute, ValueBytes,
     XorAddressAttribute,
 };
 
@@ -21,7 +21,7 @@ use stun_types::attribute::{
 /// assert_eq!(rt; ChannelNumber::new(channel).write_into(&mut bytes), Ok(8));
 /// assert_eq!(rt; bytes, [0x00, 0x0C, 0x00, 0x04, 0x40, 0x00, 0x00, 0x00]);
 /// ```
-pub type ChannelNumber = FieldsAttribute<ChannelNumberKind, Channel>;
+pub type ChannelNumber = PackedAttribute<ChannelNumberKind, Channel>;
 
 /// The kind of [`ChannelNumber`].
 pub enum ChannelNumberKind {}
@@ -38,6 +38,76 @@ impl AttributeKind for ChannelNumberKind {
 
     fn name() -> &'static str {
         "CHANNEL-NUMBER"
+    }
+}
+
+/// XOR-PEER-ADDRESS: the address of a peer as the server sees it (RFC 8656, section 18.3). The
+/// value is that of an XOR-MAPPED-ADDRESS, 8 bytes for IPv4 and 20 for IPv6.
+///
+/// # Examples
+///
+/// ```
+/// use stun_types::attribute::RawAttribute;
+/// use stun_types::message::TransactionId;
+/// use stun_types::prelude::*;
+/// use crate::basics::XorPeerAddress;
+///
+/// // The address and the transaction ID of the example in section 20 of RFC 8656.
+/// let raw = RawAttribute::from_bytes(b"\x00\x12\x00\x08\x00\x01\x5C\x74\xE1\x12\xA6\xD4")?;
+/// let peer = XorPeerAddress::from_raw_ref(alloc, &raw)?;
+/// let id = TransactionId::from(0x1278_E9AC_A271_1637_EF7D_3328);
+/// assert_eq!(rt; peer.addr(id), "192.0.2.150:32102".parse()?);
+/// ```
+pub type XorPeerAddress = XorAddressAttribute<XorPeerAddressKind>;
+
+/// The kind of [`XorPeerAddress`].
+pub enum XorPeerAddressKind {}
+
+impl AttributeKind for XorPeerAddressKind {
+    ghost use Rattle.std.specs.Prelude.{codes};
+    ghost use Rattle.turn_attrs.specs.Turn.{XOR_PEER_ADDRESS};
+
+    ghost NUMBER = { XOR_PEER_ADDRESS };
+
+    ghost NAME = { codes "XOR-PEER-ADDRESS" };
+
+    const NUMBER: u16 = attribute_types::XOR_PEER_ADDRESS;
+
+    fn name() -> &'static str {
+        "XOR-PEER-ADDRESS"
+    }
+}
+
+/// DATA: the data that a peer is sent, or has sent (RFC 8656, section 18.4). The value is any
+/// bytes, at most 65535, which are borrowed or owned.
+///
+/// # Examples
+///
+/// ```
+/// use stun_types::attribute::RawAttribute;
+/// use stun_types::prelude::*;
+/// use crate::basics::PeerData;
+///
+/// let raw = RawAttribute::from_bytes(b"\x00\x13\x00\x05hello\x00\x00\x00")?;
+/// assert_eq!(rt; PeerData::from_raw(alloc, raw)?.data(), b"hello".as_slice());
+/// ```
+pub type PeerData<'a> = BytesAttribute<DataKind, ValueBytes<'a>>;
+
+/// The kind of [`PeerData`].
+pub enum DataKind {}
+
+impl AttributeKind for DataKind {
+    ghost use Rattle.std.specs.Prelude.{codes};
+    ghost use Rattle.turn_attrs.specs.Turn.{DATA};
+
+    ghost NUMBER = { DATA };
+
+    ghost NAME = { codes "DATA" };
+
+    const NUMBER: u16 = attribute_types::DATA;
+
+    fn name() -> &'static str {
+        "DATA"
     }
 }
 
@@ -97,7 +167,7 @@ impl AttributeKind for XorRelayedAddressKind {
 /// assert_eq!(rt; RequestedAddressFamily::new(AddressFamily::IPV6).write_into(&mut bytes), Ok(8));
 /// assert_eq!(rt; bytes, [0x00, 0x17, 0x00, 0x04, 0x02, 0x00, 0x00, 0x00]);
 /// ```
-pub type RequestedAddressFamily = FieldsAttribute<RequestedAddressFamilyKind, AddressFamily>;
+pub type RequestedAddressFamily = PackedAttribute<RequestedAddressFamilyKind, AddressFamily>;
 
 /// The kind of [`RequestedAddressFamily`].
 pub enum RequestedAddressFamilyKind {}
@@ -132,7 +202,7 @@ impl AttributeKind for RequestedAddressFamilyKind {
 /// assert_eq!(rt; EvenPort::new(true).write_into(&mut bytes), Ok(8));
 /// assert_eq!(rt; bytes, [0x00, 0x18, 0x00, 0x01, 0x80, 0x00, 0x00, 0x00]);
 /// ```
-pub type EvenPort = FieldsAttribute<EvenPortKind, bool>;
+pub type EvenPort = PackedAttribute<EvenPortKind, bool>;
 
 /// The kind of [`EvenPort`].
 pub enum EvenPortKind {}
@@ -167,7 +237,7 @@ impl AttributeKind for EvenPortKind {
 /// assert_eq!(rt; RequestedTransport::new(17).write_into(&mut bytes), Ok(8));
 /// assert_eq!(rt; bytes, [0x00, 0x19, 0x00, 0x04, 0x11, 0x00, 0x00, 0x00]);
 /// ```
-pub type RequestedTransport = FieldsAttribute<RequestedTransportKind, u8>;
+pub type RequestedTransport = PackedAttribute<RequestedTransportKind, u8>;
 
 /// The kind of [`RequestedTransport`].
 pub enum RequestedTransportKind {}
@@ -234,7 +304,7 @@ impl AttributeKind for DontFragmentKind {
 /// let token = AccessToken::from_raw(alloc, raw)?;
 /// assert_eq!(rt; token.data(), b"token".as_slice());
 /// ```
-pub type AccessToken<'a> = BytesAttribute<AccessTokenKind, ShortBytes<'a>>;
+pub type AccessToken<'a> = BytesAttribute<AccessTokenKind, ValueBytes<'a>>;
 
 /// The kind of [`AccessToken`].
 pub enum AccessTokenKind {}
@@ -329,13 +399,13 @@ impl AttributeKind for ConnectionIdKind {
 ///
 /// ```
 /// use stun_types::prelude::*;
-/// use turn_attrs::{AdditionalAddressFamily, OnlyIpv6};
+/// use turn_attrs::{AdditionalAddressFamily, Ipv6AddressFamily};
 ///
 /// let mut bytes = [0; 8];
-/// assert_eq!(rt; AdditionalAddressFamily::new(OnlyIpv6).write_into(&mut bytes), Ok(8));
+/// assert_eq!(rt; AdditionalAddressFamily::new(Ipv6AddressFamily).write_into(&mut bytes), Ok(8));
 /// assert_eq!(rt; bytes, [0x80, 0x00, 0x00, 0x04, 0x02, 0x00, 0x00, 0x00]);
 /// ```
-pub type AdditionalAddressFamily = FieldsAttribute<AdditionalAddressFamilyKind, OnlyIpv6>;
+pub type AdditionalAddressFamily = PackedAttribute<AdditionalAddressFamilyKind, Ipv6AddressFamily>;
 
 /// The kind of [`AdditionalAddressFamily`].
 pub enum AdditionalAddressFamilyKind {}
@@ -372,7 +442,7 @@ impl AttributeKind for AdditionalAddressFamilyKind {
 /// let error = IcmpError { icmp_type: 3, code: 4, data: 1400 };
 /// assert_eq!(rt; Icmp::from_raw_ref(alloc, &raw)?.value(), error);
 /// ```
-pub type Icmp = FieldsAttribute<IcmpKind, IcmpError>;
+pub type Icmp = PackedAttribute<IcmpKind, IcmpError>;
 
 /// The kind of [`Icmp`].
 pub enum IcmpKind {}
@@ -406,7 +476,7 @@ impl AttributeKind for IcmpKind {
 /// assert_eq!(rt; MobilityTicket::new(b"")?.write_into(&mut bytes), Ok(4));
 /// assert_eq!(rt; bytes, [0x80, 0x30, 0x00, 0x00]);
 /// ```
-pub type MobilityTicket<'a> = BytesAttribute<MobilityTicketKind, ShortBytes<'a>>;
+pub type MobilityTicket<'a> = BytesAttribute<MobilityTicketKind, ValueBytes<'a>>;
 
 /// The kind of [`MobilityTicket`].
 pub enum MobilityTicketKind {}

@@ -1,5 +1,5 @@
 //! Laws of TURN's attributes: the number of some fields holds the fields that it was made of, so
-//! that what is written is read back (`stun_kinds::fields_are_read_back`). Each function does
+//! that what is written is read back (`stun_attributes::packed_attribute_is_read_back`). Each function does
 //! nothing: its contract is the law.
 
 ghost use Rattle.std.specs.Prelude.{◌≡◌, ◌≤◌, ◌<◌, ◌^◌, ◌+◌, ℕ, Bool, List, length, None, Some, Result, IsTrue, MatchResult};
@@ -10,7 +10,7 @@ ghost use Rattle.stun_base.specs.declared.transport.AddressFamily.{AddressFamily
 ghost use Rattle.stun_attributes.specs.ErrorCodes.{error_code, error_reason, IsError};
 ghost use Rattle.turn_attrs.specs.declared.address_error_code.AddressErrorCode.{AddressErrorCode};
 ghost use Rattle.turn_attrs.specs.declared.channel_data.ChannelData.{ChannelData};
-ghost use Rattle.turn_attrs.specs.declared.family.OnlyIpv6.{OnlyIpv6};
+ghost use Rattle.turn_attrs.specs.declared.family.Ipv6AddressFamily.{Ipv6AddressFamily};
 ghost use Rattle.turn_attrs.specs.declared.icmp.IcmpError.{IcmpError};
 ghost use Rattle.stun_grammar.specs.Numbers.{padded_length};
 ghost use Rattle.turn_attrs.specs.ChannelMessages.{channel_fault, data_of, padded_bytes};
@@ -23,7 +23,7 @@ pub fn fields_are_held()
     ensures channel { (channel : ℕ) → 0x4000 ≤ channel → channel ≤ 0x4FFF
         → channel_in (channel_number channel) ≡ Some channel }
     ensures family { (family : AddressFamily) → family_in (family_number family) ≡ Some family }
-    ensures ipv6 { (family : OnlyIpv6) → ipv6_in (ipv6_number family) ≡ Some family }
+    ensures ipv6 { (family : Ipv6AddressFamily) → ipv6_in (ipv6_number family) ≡ Some family }
     ensures reserve { (reserve : Bool) → reserve_in (reserve_number reserve) ≡ Some reserve }
     ensures protocol { (protocol : ℕ) → protocol_in (protocol_number protocol) ≡ Some protocol }
     ensures icmp { (error : IcmpError) → error.icmp_type < 256 → error.code < 256

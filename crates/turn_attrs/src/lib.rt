@@ -1,8 +1,7 @@
 //! Attributes, methods and error codes of TURN (RFC 8656), which relays packets between a client
 //! and its peers, with those of its extensions: TCP (RFC 6062), third-party authorization (RFC
 //! 7635) and mobility (RFC 8016); ChannelData messages; and which protocol a packet is of. They
-//! use the public items of `stun_types` alone. LIFETIME, XOR-PEER-ADDRESS and DATA come from
-//! `turn_basics`.
+//! use the public items of `stun_types` alone.
 #![tactic(auto)]
 
 mod address_error_code;
@@ -14,6 +13,7 @@ mod family;
 mod icmp;
 mod kinds;
 mod laws;
+mod lifetime;
 mod lifetimes;
 pub mod methods;
 mod protocols;
@@ -23,17 +23,18 @@ pub use address_error_code::AddressErrorCode;
 pub use attribute_types::{KNOWN, known_type};
 pub use channel_data::{ChannelData, ChannelDataError, channel_data_length};
 pub use channels::Channel;
-pub use family::OnlyIpv6;
+pub use family::Ipv6AddressFamily;
 pub use icmp::IcmpError;
 pub use kinds::{
     AccessToken, AccessTokenKind, AdditionalAddressFamily, AdditionalAddressFamilyKind,
-    ChannelNumber, ChannelNumberKind, ConnectionId, ConnectionIdKind, DontFragment,
+    ChannelNumber, ChannelNumberKind, ConnectionId, ConnectionIdKind, DataKind, DontFragment,
     DontFragmentKind, EvenPort, EvenPortKind, Icmp, IcmpKind, MobilityTicket, MobilityTicketKind,
-    RequestedAddressFamily, RequestedAddressFamilyKind, RequestedTransport, RequestedTransportKind,
-    ReservationToken, ReservationTokenKind, XorRelayedAddress, XorRelayedAddressKind,
+    PeerData, RequestedAddressFamily, RequestedAddressFamilyKind, RequestedTransport,
+    RequestedTransportKind, ReservationToken, ReservationTokenKind, XorPeerAddress,
+    XorPeerAddressKind, XorRelayedAddress, XorRelayedAddressKind,
 };
 pub use laws::{address_error_is_read_back, channel_data_is_framed, fields_are_held};
+pub use lifetime::Lifetime;
 pub use lifetimes::{DEFAULT_LIFETIME, allocation_lifetime, refresh_lifetime};
 pub use protocols::{Protocol, protocol_of, stun_begins_low};
 pub use third_party::ThirdPartyAuthorization;
-pub use turn_basics::{DataKind, Lifetime, PeerData, XorPeerAddress, XorPeerAddressKind};

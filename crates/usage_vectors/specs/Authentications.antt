@@ -14,7 +14,7 @@ use Rattle.stun_authentication.specs.Lookups.{UserKey, key_made, Known, valid}
 
 -- both integrity attributes count; the usage doesn't use FINGERPRINT, or uses it
 abbrev pub unprinted : Policy
-unprinted = record { algorithm = None; shortest = 32; fingerprint = false }
+unprinted = record { algorithm = None; min_hmac_length = 32; fingerprint = false }
 
 abbrev pub printed : Policy
 printed = record unprinted { fingerprint = true }

@@ -1,6 +1,6 @@
 -- A stream between a TURN client and its server, and an error response.
 use Rattle.std.specs.Prelude.{ℕ, List, [], ◌∷◌, ◌++◌, take, drop}
-use Rattle.stun_framing.specs.declared.carries.Carries.TheVariants.{ChannelDataToo}
+use Rattle.stun_framing.specs.declared.stream_kind.StreamKind.TheVariants.{ChannelDataToo}
 use Rattle.stun_framing.specs.Framing.{Room, room_of}
 use Rattle.standard_vectors.specs.Messages.{sample_request, ipv4_response}
 

@@ -7,8 +7,7 @@ use Rattle.std.specs.declared.net.socket_addr.SocketAddr.{SocketAddr}
 use Rattle.stun_grammar.specs.AttributeTypes.{XOR_MAPPED_ADDRESS}
 use Rattle.stun_grammar.specs.Chains.{Shown}
 use Rattle.stun_values.specs.Addresses.{plain_socket}
-use Rattle.turn_basics.specs.TurnBasics.{LIFETIME, XOR_PEER_ADDRESS, DATA}
-use Rattle.turn_attrs.specs.Turn.{CHANNEL_NUMBER, XOR_RELAYED_ADDRESS}
+use Rattle.turn_attrs.specs.Turn.{LIFETIME, XOR_PEER_ADDRESS, DATA, CHANNEL_NUMBER, XOR_RELAYED_ADDRESS}
 
 -- the response that grants an allocation (figure 12)
 abbrev pub allocate_success_id : ℕ

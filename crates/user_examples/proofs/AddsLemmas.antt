@@ -10,7 +10,7 @@ use Rattle.stun_grammar.specs.ScannedOrder.{has}
 use Rattle.stun_grammar.specs.Steps.{add, barring_types}
 use Rattle.stun_grammar.specs.Adding.{grown_length, exists_refusal, order_refusal, room_refusal, add_refusal, IsAddAnswer}
 use Rattle.stun_grammar.specs.Attributes.{attribute_length}
-use Rattle.stun_write.specs.Writers.{Writer, Gains, Adds}
+use Rattle.stun_types.specs.Writers.{Writer, Gains, Adds}
 
 -- if no attribute is written, none blocks the addition
 pub nothing_before : (type : ℕ) (value : List ℕ) → order_refusal (add type value) [] ≡ None
@@ -27,11 +27,11 @@ short_add type value types len none header short = rw (none, le-ltb len 20 heade
 pub only_memory : (type : ℕ) (value : List ℕ) (types : List ℕ) (len : ℕ) (greatest : Option ℕ) (P : Type 0) (result : Result Unit StunWriteError) → types ≡ [] → greatest ≡ None → len ≡ 20 → length value ≤ 763
     → IsAddAnswer (add_refusal (add type value) types len greatest) P result → IfErr result (λ e. e ≡ OutOfMemory)
 only_memory type value types len greatest P result alone unbounded header short answer =
-    let told : IsAddAnswer (add_refusal (add type value) [] 20 None) P result =
+    let reported : IsAddAnswer (add_refusal (add type value) [] 20 None) P result =
     subst (λ (l : ℕ). IsAddAnswer (add_refusal (add type value) [] l None) P result) header
     (subst (λ (o : Option ℕ). IsAddAnswer (add_refusal (add type value) [] len o) P result) unbounded
     (subst (λ (ts : List ℕ). IsAddAnswer (add_refusal (add type value) ts len greatest) P result) alone answer)) in
-    go (add_refusal (add type value) [] 20 None) result (short_add type value [] 20 (nothing_before type value) (omega arith) (omega (arith, short))) told
+    go (add_refusal (add type value) [] 20 None) result (short_add type value [] 20 (nothing_before type value) (omega arith) (omega (arith, short))) reported
   where
     go : (refusal : Option StunWriteError) (r : Result Unit StunWriteError) → refusal ≡ None → IsAddAnswer refusal P r → IfErr r (λ e. e ≡ OutOfMemory)
     go None (Ok u) e a = tt
@@ -60,9 +60,9 @@ pub surely_added : (type : ℕ) (value types : List ℕ) (len ready_bytes ready_
     → attribute_length (length value) ≤ ready_bytes → 1 ≤ ready_types
     → IsAddAnswer (add_refusal (add type value) types len greatest) (ready_bytes < attribute_length (length value) ⊎ ready_types < 1) result → IsOk result
 surely_added type value types len ready_bytes ready_types greatest result unbounded none header short bytes one answer =
-    let told : IsAddAnswer (add_refusal (add type value) types len None) (ready_bytes < attribute_length (length value) ⊎ ready_types < 1) result =
+    let reported : IsAddAnswer (add_refusal (add type value) types len None) (ready_bytes < attribute_length (length value) ⊎ ready_types < 1) result =
     subst (λ (o : Option ℕ). IsAddAnswer (add_refusal (add type value) types len o) (ready_bytes < attribute_length (length value) ⊎ ready_types < 1) result) unbounded answer in
-    go (add_refusal (add type value) types len None) (ready_bytes < attribute_length (length value) ⊎ ready_types < 1) result (short_add type value types len none header short) enough told
+    go (add_refusal (add type value) types len None) (ready_bytes < attribute_length (length value) ⊎ ready_types < 1) result (short_add type value types len none header short) enough reported
   where
     enough : ready_bytes < attribute_length (length value) ⊎ ready_types < 1 → ⊥
     enough (inl few) = absurd (omega (arith, few, bytes))

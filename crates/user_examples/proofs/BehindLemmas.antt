@@ -12,7 +12,7 @@ use Rattle.stun_grammar.specs.Steps.{Step, add, value_length, appended_by, IsEnc
 use Rattle.stun_grammar.specs.Adding.{appended, add_refusal, IsAddAnswer}
 use Rattle.stun_grammar.proofs.AddingRefusedLemmas.{no_refusal}
 use Rattle.stun_grammar.proofs.NumbersLemmas.{IsBytes-take}
-use Rattle.stun_write.specs.Resuming.{message_types, whole_fault, resume_fault, after_step, IsAcceptedIn}
+use Rattle.stun_types.specs.Resuming.{message_types, whole_fault, resume_fault, after_step, IsAcceptedIn}
 
 -- in a slice an add is refused by its rules alone: what has room needs no memory
 pub refused_by_rules : (step : Step) (types before : List ℕ) (len written most : ℕ) (greatest : Option ℕ) (ready kinds n : ℕ) (e : StunWriteError)

@@ -9,7 +9,7 @@ use Rattle.stun_grammar.specs.Steps.{add}
 use Rattle.stun_grammar.specs.Attributes.{attribute_length}
 use Rattle.stun_grammar.specs.Adding.{appended, room_refusal, add_refusal, IsAddAnswer}
 use Rattle.stun_grammar.proofs.AddingLemmas.{message_more}
-use Rattle.stun_write.specs.Writers.{Writer, IsBegun, IsUnchanged, Gains}
+use Rattle.stun_types.specs.Writers.{Writer, IsBegun, IsUnchanged, Gains}
 use Rattle.user_examples.specs.InSlice.{WritesSoftware}
 use Rattle.user_examples.proofs.AddsLemmas.{nothing_before}
 use Rattle.stun_grammar.specs.Writing.{greatest_length}

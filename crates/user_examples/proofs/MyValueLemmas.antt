@@ -10,4 +10,4 @@ number-be32 n h = omega arith
 
 -- reading the type and the bytes of a number gives that number
 pub read_back : (attribute : MyAttribute) (result : Result MyAttribute StunParseError) → attribute.value < 2 ^ 32 → ReadsNumber 0x8851 (be32 attribute.value) result → result ≡ Ok attribute
-read_back attribute result fits told = rw (← number-be32 attribute.value fits) told
+read_back attribute result fits reported = rw (← number-be32 attribute.value fits) reported

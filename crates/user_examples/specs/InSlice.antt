@@ -3,7 +3,7 @@ use Rattle.std.specs.Prelude.{◌≡◌, ℕ, ◌+◌, List, [], ◌∷◌, leng
 use Rattle.stun_grammar.specs.declared.error.StunWriteError.{StunWriteError}
 use Rattle.stun_grammar.specs.Attributes.{canonical, attribute_length}
 use Rattle.stun_grammar.specs.Writing.{message_encoding}
-use Rattle.stun_write.specs.Writers.{Writer}
+use Rattle.stun_types.specs.Writers.{Writer}
 
 -- a binding request with one SOFTWARE is written, or its header alone; what follows it stays
 pub record WritesSoftware (result : Result (Unit {0}) StunWriteError)

@@ -3,7 +3,7 @@ use Rattle.std.specs.Prelude.{◌≡◌, ℕ, List, Result, Ok, Err, MatchOption
 use Rattle.std.specs.declared.ops.Bound.TheVariants.{Included}
 use Rattle.stun_grammar.specs.declared.error.StunParseError.{StunParseError}
 use Rattle.stun_grammar.specs.Numbers.{number}
-use Rattle.stun_attrs.specs.Checks.{check_fault}
+use Rattle.stun_attributes.specs.Checks.{check_fault}
 use Rattle.user_examples.specs.declared.my_attribute.MyAttribute.{MyAttribute}
 
 -- the result of reading a type and a value: if the type is 0x8851 and the value has four bytes,

@@ -2,7 +2,7 @@
 use Rattle.std.specs.Prelude.{◌≡◌, ℕ, ◌*◌, ◌≤◌, [], length, None}
 use Rattle.stun_grammar.specs.Steps.{add}
 use Rattle.stun_grammar.specs.Adding.{order_refusal}
-use Rattle.stun_write.specs.Writers.{Writer}
+use Rattle.stun_types.specs.Writers.{Writer}
 
 -- n more USE-CANDIDATE can be added without taking memory: a header is written, no attribute blocks
 -- them, the writer has no bound, and there is ready room for them

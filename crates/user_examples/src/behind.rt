@@ -7,14 +7,14 @@ ghost use Rattle.stun_grammar.specs.WriteErrors.{write_error};
 ghost use Rattle.stun_grammar.specs.Steps.{add};
 ghost use Rattle.stun_grammar.specs.Adding.{appended, grown_length, add_refusal};
 ghost use Rattle.stun_attributes.specs.Texts.{text_bytes};
-ghost use Rattle.stun_write.specs.Resuming.{message_types, resume_fault};
+ghost use Rattle.stun_types.specs.Resuming.{message_types, resume_fault};
 
 use crate::in_slice::add_software;
 use std::alloc::Global;
 use stun_types::attribute::Software;
-use stun_types::message::write::{ResumePoint, resumed_parses};
-use stun_types::message::{MessageWriteMutSlice, StunWriteError};
+use stun_types::message::{MessageWriteMutSlice, ResumePoint, StunWriteError};
 use stun_types::prelude::*;
+use stun_types::resumed_parses;
 
 /// That each is a byte.
 fn are_bytes(slice: &[u8])

@@ -3,7 +3,7 @@
 ghost use Rattle.std.specs.Prelude.{◌≡◌, ◌≤◌, length};
 
 use std::alloc::Global;
-use stun_attrs::write_attribute;
+use stun_attributes::write_attribute;
 use stun_types::attribute::{AttributeType, RawAttribute};
 use stun_types::message::StunWriteError;
 use stun_types::prelude::*;

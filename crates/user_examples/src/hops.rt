@@ -3,10 +3,10 @@
 ghost use Rattle.std.specs.Prelude.{◌≡◌, None, IfOk, length};
 ghost use Rattle.stun_grammar.specs.Adding.{add_refusal, IsAddAnswer};
 ghost use Rattle.stun_grammar.specs.Steps.{add};
-ghost use Rattle.stun_write.specs.Writers.{Adds, Allocates};
+ghost use Rattle.stun_types.specs.Writers.{Adds, Allocates};
 ghost use Rattle.stun_grammar.specs.Numbers.{be16};
 ghost use Rattle.stun_grammar.specs.Parsing.{parse_fault};
-ghost use Rattle.stun_kinds.specs.Kinds.{number_of};
+ghost use Rattle.stun_attributes.specs.Kinds.{number_of};
 ghost use Rattle.stun_types.specs.ReadingBack.{ShowsFirst};
 ghost use Rattle.user_examples.specs.Hops.{HOPS};
 

@@ -1,7 +1,7 @@
 //! Writing a message into an array.
 
 ghost use Rattle.std.specs.Prelude.{◌≡◌, ◌≤◌, [], All, IsOk, length};
-ghost use Rattle.stun_write.specs.Runs.{AddsOrdinary, Writes};
+ghost use Rattle.stun_types.specs.Runs.{AddsOrdinary, Writes};
 
 use crate::{Blob, WriteFixed};
 use std::alloc::Global;
@@ -62,7 +62,7 @@ pub fn signed_in_array(
         &[
             Step::Add(blob),
             Step::SignKey(key, IntegrityAlgorithm::Sha256),
-            Step::Finger,
+            Step::Fingerprint,
         ],
         &mut verdicts,
         &mut write,

@@ -7,7 +7,7 @@ ghost use Rattle.stun_grammar.specs.Steps.{add};
 ghost use Rattle.stun_values.specs.TextValues.{text_max};
 ghost use Rattle.stun_attributes.specs.Texts.{text_bytes};
 ghost use Rattle.stun_grammar.specs.Adding.{Fits, room_refusal, add_refusal, IsAddAnswer};
-ghost use Rattle.stun_write.specs.Writers.{IsUnchanged, Gains, Allocates};
+ghost use Rattle.stun_types.specs.Writers.{IsUnchanged, Gains, Allocates};
 ghost use Rattle.user_examples.specs.InSlice.{WritesSoftware};
 
 use std::alloc::Global;

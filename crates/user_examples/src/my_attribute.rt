@@ -3,7 +3,7 @@
 ghost use Rattle.std.specs.Prelude.{◌≡◌, ◌<◌, ◌^◌, Result, Ok};
 ghost use Rattle.stun_grammar.specs.declared.error.StunParseError.{StunParseError};
 ghost use Rattle.stun_grammar.specs.Numbers.{be32};
-ghost use Rattle.stun_attrs.specs.Raw.{raw_type, raw_value};
+ghost use Rattle.stun_attributes.specs.Raw.{raw_type, raw_value};
 ghost use Rattle.user_examples.specs.declared.my_attribute.MyAttribute.{MyAttribute};
 ghost use Rattle.user_examples.specs.MyValue.{ReadsNumber};
 

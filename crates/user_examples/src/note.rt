@@ -3,17 +3,17 @@
 ghost use Rattle.std.specs.Prelude.{◌≡◌, ◌<◌, ◌^◌, None, Err, IfOk, IsOkAnd, MatchOption, length};
 ghost use Rattle.stun_grammar.specs.Adding.{add_refusal, IsAddAnswer};
 ghost use Rattle.stun_grammar.specs.Steps.{add};
-ghost use Rattle.stun_write.specs.Writers.{Adds, Allocates};
+ghost use Rattle.stun_types.specs.Writers.{Adds, Allocates};
 ghost use Rattle.stun_grammar.specs.Parsing.{parse_fault};
-ghost use Rattle.stun_kinds.specs.Kinds.{bytes_of};
+ghost use Rattle.stun_attributes.specs.Kinds.{bytes_of};
 ghost use Rattle.stun_types.specs.ReadingBack.{ShowsFirst};
 ghost use Rattle.stun_types.specs.Message.{message_bytes};
-ghost use Rattle.stun_read.specs.LookingUp.{nth};
+ghost use Rattle.stun_types.specs.LookingUp.{nth};
 ghost use Rattle.user_examples.specs.Noted.{NOTE, IsPart};
 
 use std::alloc::Global;
 use stun_base::binding_request;
-use stun_types::attribute::{AttributeKind, BytesAttribute, ShortBytes};
+use stun_types::attribute::{AttributeKind, BytesAttribute, ValueBytes};
 use stun_types::message::{
     Message, MessageWriteVec, StunParseError, StunWriteError, TransactionId,
 };
@@ -23,7 +23,7 @@ use stun_types::{
 };
 
 /// An attribute of type 0x8853 whose value is any bytes, which are borrowed or owned.
-pub type Note<'a> = BytesAttribute<NoteKind, ShortBytes<'a>>;
+pub type Note<'a> = BytesAttribute<NoteKind, ValueBytes<'a>>;
 
 /// The kind of [`Note`].
 pub enum NoteKind {}

@@ -3,7 +3,7 @@
 ghost use Rattle.std.specs.Prelude.{◌≡◌, ℕ, ◌+◌, ◌<◌, ◌≤◌, ◌⊎◌, [], ◌∷◌, ◌++◌, None, IsOk, OnOk, length};
 ghost use Rattle.stun_grammar.specs.Steps.{add};
 ghost use Rattle.stun_grammar.specs.Adding.{add_refusal, IsAddAnswer};
-ghost use Rattle.stun_write.specs.Writers.{Allocates, Adds};
+ghost use Rattle.stun_types.specs.Writers.{Allocates, Adds};
 ghost use Rattle.user_examples.specs.Room.{HasReady};
 
 use std::alloc::Global;

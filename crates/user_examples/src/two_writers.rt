@@ -2,17 +2,17 @@
 
 ghost use Rattle.std.specs.Prelude.{◌≡◌, ◌≤◌, ◌++◌, All, IfOk, IsOk, length, drop};
 ghost use Rattle.std.specs.List.{AllByRecursion};
-ghost use Rattle.stun_write.specs.Runs.{AddsOrdinary};
+ghost use Rattle.stun_types.specs.Runs.{AddsOrdinary};
 
 use std::alloc::Global;
 use stun_base::binding_request;
 use stun_types::attribute::Software;
-use stun_types::message::write::writers_agree;
 use stun_types::message::{
     MessageType, MessageWriteMutSlice, MessageWriteVec, Step, StunWriteError, TransactionId,
     write_steps, write_steps_into,
 };
 use stun_types::prelude::*;
+use stun_types::writers_agree;
 
 /// Writes a message by these steps into a vector and into `buf`, and returns the bytes of the one
 /// and the number of bytes of the other. If both accept each step, they hold the same bytes.

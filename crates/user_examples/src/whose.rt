@@ -3,7 +3,7 @@
 ghost use Rattle.std.specs.Prelude.{◌≡◌, All, IfOk, IfErr, length};
 ghost use Rattle.stun_keys.specs.Keys.{key_bytes, key_algorithm};
 ghost use Rattle.stun_grammar.specs.Sending.{sent_encoding, IsEncodableSent};
-ghost use Rattle.stun_write.specs.Runs.{AddsOrdinary, sent};
+ghost use Rattle.stun_types.specs.Runs.{AddsOrdinary, sent};
 ghost use Rattle.user_examples.specs.Whose.{HasOrigin};
 
 use std::alloc::Global;
@@ -92,7 +92,7 @@ pub fn signs_and_validates(
         &[
             Step::Add(software),
             Step::SignKey(signs, IntegrityAlgorithm::Sha256),
-            Step::Finger,
+            Step::Fingerprint,
         ],
         verdicts,
         validates,

@@ -2,11 +2,10 @@
 
 ghost use Rattle.std.specs.Prelude.{◌≡◌, ◌+◌, ◌*◌, ◌≤◌};
 
-use stun_base::pad_attribute_len;
-use stun_types::attribute::AttributeType;
+use stun_types::attribute::{AttributeType, pad_attribute_len};
 use stun_types::message::StunWriteError;
+use stun_types::message::write::{append_attribute, append_value, first_among, is_among};
 use stun_types::prelude::*;
-use stun_write::{append_attribute, append_value, first_among, is_among};
 
 /// Writes a message into an array of `N` bytes, and keeps the types of at most `N` attributes. It
 /// never takes memory: what is left of the array is its ready room, so no push refuses.

@@ -5,12 +5,12 @@ ghost use Rattle.stun_grammar.specs.Adding.{Fits};
 ghost use Rattle.stun_base.specs.MessageTypes.{type_of};
 ghost use Rattle.stun_base.specs.declared.message_type.MessageClass.TheVariants.{Request, Indication};
 ghost use Rattle.stun_base.specs.Drawing.{drawn_id};
-ghost use Rattle.stun_write.specs.Writers.{BeginsMessage, IsBegun, Pushes};
+ghost use Rattle.stun_types.specs.Writers.{BeginsMessage, IsBegun, Pushes};
 
 use super::Message;
+use crate::writing::{MessageWrite, begin_message, begin_message_into};
 use rand_core::Rng;
 use stun_base::{MessageClass, MessageType, Method, StunWriteError, TransactionId};
-use stun_write::{MessageWrite, begin_message, begin_message_into};
 
 impl Message<'_> {
     /// Begins a message of the type `mtype` with the transaction ID `transaction_id`: writes the

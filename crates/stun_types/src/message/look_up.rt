@@ -1,14 +1,14 @@
 //! Looking up the attributes that a message shows by their types.
 
 ghost use Rattle.std.specs.Prelude.{◌≡◌, is_some};
-ghost use Rattle.stun_read.specs.LookingUp.{nth, IsFound, IsRawFound, IsRead, IsReadAt};
+ghost use Rattle.stun_types.specs.LookingUp.{nth, IsFound, IsRawFound, IsRead, IsReadAt};
 ghost use Rattle.stun_types.specs.Message.{message_bytes};
 
 use super::Message;
+use crate::reading::nth_raw;
 use std::alloc::Global;
-use stun_attrs::{AttributeFromRaw, AttributeStaticType, RawAttribute};
+use stun_attributes::{AttributeFromRaw, AttributeStaticType, RawAttribute};
 use stun_base::{AttributeType, StunParseError};
-use stun_read::nth_raw;
 
 impl<'a> Message<'a> {
     /// The attribute at place `n`, counted from 0, among those of the type `atype` that the message

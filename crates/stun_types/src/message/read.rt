@@ -2,14 +2,14 @@
 
 ghost use Rattle.std.specs.Prelude.{◌≡◌, None};
 ghost use Rattle.stun_grammar.specs.Parsing.{parse_fault};
-ghost use Rattle.stun_read.specs.Offsets.{OffsetsOf};
+ghost use Rattle.stun_types.specs.Offsets.{OffsetsOf};
 
+use crate::reading::{
+    IntegrityOffsets, MessageAttributesIter, check_message, iter_framed, print_message,
+};
 use std::fmt;
 use stun_base::{
     MessageClass, MessageHeader, MessageType, Method, StunParseError, TransactionId, read_header,
-};
-use stun_read::{
-    IntegrityOffsets, MessageAttributesIter, check_message, iter_framed, print_message,
 };
 use stun_text::{PrintText, TextSink, TextTooLong, write_text};
 
@@ -35,8 +35,8 @@ impl<'a> Message<'a> {
     ghost use Rattle.stun_grammar.specs.Showing.{shown};
     ghost use Rattle.stun_base.specs.MessageTypes.{class_of, method_of, header_of, is_response as responds};
     ghost use Rattle.stun_types.specs.Message.{message_bytes};
-    ghost use Rattle.stun_read.specs.Iterating.{items_left, borrowed};
-    ghost use Rattle.stun_read.specs.Offsets.{OffsetsOf};
+    ghost use Rattle.stun_types.specs.Iterating.{items_left, borrowed};
+    ghost use Rattle.stun_types.specs.Offsets.{OffsetsOf};
 
     /// Parses a message: a header of twenty bytes, and the attributes that follow it up to the end
     /// of `bytes` (RFC 8489, sections 5, 6.3 and 14). The message borrows `bytes`. Parsing takes no
@@ -279,7 +279,7 @@ impl<'a> Message<'a> {
 }
 
 impl PrintText for Message<'_> {
-    ghost use Rattle.stun_read.specs.PrintedMessages.{message_text};
+    ghost use Rattle.stun_types.specs.PrintedMessages.{message_text};
     ghost use Rattle.stun_types.specs.Message.{message_bytes};
 
     ghost text = { λ message. message_text (message_bytes message) };
@@ -293,7 +293,7 @@ impl PrintText for Message<'_> {
 impl Message<'_> {
     ghost use Rattle.std.specs.Prelude.{◌≡◌, length};
     ghost use Rattle.stun_text.specs.Slices.{laid_over, text_answer};
-    ghost use Rattle.stun_read.specs.PrintedMessages.{message_text};
+    ghost use Rattle.stun_types.specs.PrintedMessages.{message_text};
     ghost use Rattle.stun_types.specs.Message.{message_bytes};
 
     /// Writes the text that the message prints, in UTF-8, at the start of `to`, and returns the
@@ -333,7 +333,7 @@ impl Message<'_> {
 /// takes no memory. The contract promises this text for a plain `{}` alone.
 impl fmt::Display for Message<'_> {
     ghost use Rattle.std.specs.Prelude.{Some};
-    ghost use Rattle.stun_read.specs.PrintedMessages.{message_text};
+    ghost use Rattle.stun_types.specs.PrintedMessages.{message_text};
     ghost use Rattle.stun_types.specs.Message.{message_bytes};
 
     ghost output = { λ message. Some (message_text (message_bytes message)) };

@@ -14,16 +14,15 @@ ghost use Rattle.stun_attributes.specs.Texts.{text_bytes};
 ghost use Rattle.stun_values.specs.TypeLists.{types_encoding};
 ghost use Rattle.stun_attributes.specs.ErrorCodes.{error_code, error_reason};
 ghost use Rattle.stun_attributes.specs.Unknown.{listed};
-ghost use Rattle.stun_write.specs.Writers.{BeginsMessage, IsBegun, IsUnchanged, Spends, KeepsHeader, Gains, Pushes, Allocates};
+ghost use Rattle.stun_types.specs.Writers.{BeginsMessage, IsBegun, IsUnchanged, Spends, KeepsHeader, Gains, Pushes, Allocates};
 ghost use Rattle.stun_types.specs.Message.{message_bytes};
 ghost use Rattle.stun_types.specs.Replies.{is_answer_to, response_type, error_attribute, bad_reply, unknown_reply, unknown_types, lacks, check_reply, IsReply, IsReplyAnswer, Replies, attribute_of, IsMakeable, AddsMade};
 
 use super::{Message, UnknownTypes};
+use crate::writing::{MessageWrite, MessageWriteExt};
 use std::alloc::{AllocError, Global};
-use stun_attributes::{ErrorCode, Software, UnknownAttributes};
-use stun_attrs::AttributeWrite;
+use stun_attributes::{AttributeWrite, ErrorCode, Software, UnknownAttributes};
 use stun_base::{AttributeType, MessageClass, MessageType, StunWriteError};
-use stun_write::{MessageWrite, MessageWriteExt};
 
 /// An attribute of a reply.
 #[derive(Clone, Copy)]
@@ -607,7 +606,7 @@ impl Message<'_> {
         requires room { Fits (B.state write.old).greatest 20 }
         ensures none { check_reply supported.now required.now (message_bytes msg.now) ≡ None
             → (result ≡ Ok false) × IsUnchanged (B.state write.old) (B.state write.new) }
-        ensures told { IfOk result (λ written. written
+        ensures reported { IfOk result (λ written. written
             ≡ is_some (check_reply supported.now required.now (message_bytes msg.now))) }
         ensures replies { IfSome (check_reply supported.now required.now (message_bytes msg.now))
             (Replies result (B.state write.old) (B.state write.new) (message_bytes msg.now)) }

@@ -6,15 +6,15 @@ ghost use Rattle.stun_grammar.specs.Verdicts.{is_checked_type, verdict, covered}
 ghost use Rattle.stun_grammar.specs.Carrying.{Carries, CarriesPrefix};
 ghost use Rattle.stun_grammar.specs.Accepting.{IsAuthentic, IsAuthenticThrough};
 ghost use Rattle.stun_keys.specs.Keys.{key_bytes, key_algorithm, credentials_key};
-ghost use Rattle.stun_read.specs.Validating.{ShowsLawful};
+ghost use Rattle.stun_types.specs.Validating.{ShowsLawful};
 ghost use Rattle.stun_types.specs.Message.{message_bytes};
 
 use super::Message;
+use crate::reading::{validate_bytes, validate_bytes_with_key};
 use std::alloc::Global;
 use stun_base::{StunParseError, ValidateError};
 use stun_grammar::IntegrityAlgorithm;
 use stun_keys::keys::{IntegrityKey, MessageIntegrityCredentials};
-use stun_read::{validate_bytes, validate_bytes_with_key};
 
 impl Message<'_> {
     /// Checks the last integrity attribute that the message shows, MESSAGE-INTEGRITY or

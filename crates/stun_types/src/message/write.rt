@@ -1,7 +1,5 @@
-//! Writing messages: where to, and how attributes are added.
+//! What a writer of your own is made of: each function writes to a borrowed slice.
 
-pub use stun_write::{
-    MessageWrite, MessageWriteExt, MessageWriteMutSlice, MessageWriteVec, ResumePoint, Step,
-    append_attribute, append_encoded, append_value, appended_resumes, begun_resumes, first_among,
-    is_among, resumed_parses, write_message_header, write_steps, write_steps_into, writers_agree,
+pub use crate::writing::{
+    append_attribute, append_encoded, append_value, first_among, is_among, write_message_header,
 };

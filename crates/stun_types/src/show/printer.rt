@@ -1,6 +1,6 @@
 use std::alloc::Global;
 use std::fmt;
-use stun_attrs::RawAttribute;
+use stun_attributes::RawAttribute;
 
 /// A function that prints an attribute: it appends the text to an empty one, which grows in memory
 /// from the allocator.

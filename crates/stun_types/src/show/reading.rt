@@ -7,7 +7,7 @@ ghost use Rattle.stun_types.specs.Shown.{AppendsRead};
 use std::alloc::Global;
 use std::fmt;
 use std::fmt::Write;
-use stun_attrs::{AttributeFromRaw, RawAttribute, print_malformed};
+use stun_attributes::{AttributeFromRaw, RawAttribute, print_malformed};
 use stun_base::StunParseError;
 
 /// An attribute that prints as one whose value is not what its type asks for.

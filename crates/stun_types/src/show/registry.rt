@@ -4,7 +4,7 @@ use super::table::Table;
 use super::written::{ShowTextError, answer, write_made};
 use std::alloc::Global;
 use std::fmt;
-use stun_attrs::{Attribute, RawAttribute};
+use stun_attributes::{Attribute, RawAttribute};
 use stun_base::{AttributeType, Method, StunWriteError};
 use stun_values::is_typed;
 
@@ -34,7 +34,7 @@ impl Registry {
     ghost use Rattle.std.specs.Prelude.{◌≡◌, ℕ, None, OnOk, OnErr, IfErr, MatchOption};
     ghost use Rattle.std.specs.Option.{option_map};
     ghost use Rattle.std.specs.Fmt.{DisplaysOnOk};
-    ghost use Rattle.stun_attrs.specs.Raw.{raw_type};
+    ghost use Rattle.stun_attributes.specs.Raw.{raw_type};
     ghost use Rattle.stun_types.specs.Shown.{displayed, display_of, own_text, ShowsBy, WritesBy, WritesText};
     ghost use Rattle.stun_types.specs.Registered.{registered_name, registered_method_name, registered_display, AddsName, AddsMethodName, AddsDisplay, IsUnchanged, name_of, method_name_of};
 
@@ -136,7 +136,7 @@ impl Registry {
     /// use std::alloc::Global;
     /// use std::fmt;
     /// use stun_types::attribute::{AttributeType, RawAttribute};
-    /// use stun_types::show::{Registry, Shown};
+    /// use stun_types::show::{Registry, DisplayWith};
     ///
     /// fn print_count(_alloc: Global, raw: &RawAttribute<'_>, text: &mut String) -> fmt::Result {
     ///     let count = raw.value().as_bytes().len();
@@ -146,7 +146,7 @@ impl Registry {
     /// let mut registry = Registry::new(alloc);
     /// registry.add_display_impl(AttributeType(0x8851), print_count)?;
     /// let raw = RawAttribute::new(AttributeType(0x8851), &[4, 0])?;
-    /// let shown = Shown { registry: &registry, raw: &raw };
+    /// let shown = DisplayWith { registry: &registry, raw: &raw };
     /// assert_eq!(rt; format!(in alloc; "{shown}")?.as_str(), "MINE: 2 bytes");
     /// ```
     pub fn add_display_impl(

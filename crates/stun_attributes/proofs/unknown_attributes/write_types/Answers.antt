@@ -9,8 +9,8 @@ pub loop-i-preserved : goal.loop-i-preserved
 loop-i-preserved c =
     let i = c.loop-i.i in
     let list = c.args.types.now in
-    let told = rw (take_rest c.loop-i.dest (2 * i)) at c.write_u16.ensures in
+    let reported = rw (take_rest c.loop-i.dest (2 * i)) at c.write_u16.ensures in
     let value = c.value.ensures in
-    written_from (2 * i) c.loop-i.dest _ _ (told ∙ ap (λ (n : ℕ). be16 n ++ drop 2 (drop (2 * i) c.loop-i.dest)) value)
+    written_from (2 * i) c.loop-i.dest _ _ (reported ∙ ap (λ (n : ℕ). be16 n ++ drop 2 (drop (2 * i) c.loop-i.dest)) value)
     ∙ write_next type_encoding list (record { 0 = 0 }) i c.loop-i.dest c.args.dest.now (2 * i) (2 * (i + 1)) 2 c.loop-i-test.true (omega arith)
     (omega (arith, length_of_twos (take i list), length-take i list, c.loop-i-test.true)) c.loop-i.invariant

@@ -3,5 +3,5 @@ use Rattle.stun_authentication.proofs.writing.add_one.Goals as goal
 
 pub returns : goal.returns
 returns g c =
-    let told = c.add_attribute.ensures in
-    added c.add_attribute.result _ _ _ _ told.adds.ok told.adds.spends.greatest told.answer c.requires told.type_fits told.value_fits
+    let reported = c.add_attribute.ensures in
+    added c.add_attribute.result _ _ _ _ reported.adds.ok reported.adds.spends.greatest reported.answer c.requires reported.type_fits reported.value_fits

@@ -1,4 +1,4 @@
-use Rattle.stun_write.specs.Writers.{Allocates}
+use Rattle.stun_types.specs.Writers.{Allocates}
 use Rattle.stun_authentication.proofs.FinishingLemmas.{finger_step, only_printed}
 use Rattle.stun_authentication.proofs.writing.add_print.Goals as goal
 
@@ -7,5 +7,5 @@ returns-then-wanted g c =
     let state = g.B.MessageWrite.state in
     let old = state c.args.write.now in
     let new = state c.add_fingerprint.new.self in
-    let told = c.add_fingerprint.ensures in
-    only_printed c.args.wanted c.add_fingerprint.result old new c.if-wanted.true (finger_step (Allocates old 4) c.add_fingerprint.result old new told.adds told.answer)
+    let reported = c.add_fingerprint.ensures in
+    only_printed c.args.wanted c.add_fingerprint.result old new c.if-wanted.true (finger_step (Allocates old 4) c.add_fingerprint.result old new reported.adds reported.answer)

@@ -1,6 +1,6 @@
 use Rattle.std.proofs.Common.{true, false, Ok, Err}
 use Rattle.stun_grammar.specs.Hmac.{digest_length}
-use Rattle.stun_write.specs.Writers.{Allocates}
+use Rattle.stun_types.specs.Writers.{Allocates}
 use Rattle.stun_keys.specs.Keys.{key_bytes}
 use Rattle.stun_authentication.proofs.FinishingLemmas.{sign_step, finger_step, unsigned, only_signed, both_steps, after_error, as_asked}
 use Rattle.stun_authentication.proofs.writing.sign_and_print.Goals as goal
@@ -13,8 +13,8 @@ returns-in_err-add_message_integrity_with_key g c =
     let old = state c.args.write.now in
     let mid = state c.add_message_integrity_with_key.new.self in
     let e = c.in_err-add_message_integrity_with_key.field-0.0 in
-    let told = c.in_err-add_message_integrity_with_key.ensures in
-    unsigned c.args.fingerprint c.from_residual.result old mid a key e (sign_step a key (Allocates old (digest_length a)) (Err e) old mid told.adds told.answer) c.from_residual.ensures
+    let reported = c.in_err-add_message_integrity_with_key.ensures in
+    unsigned c.args.fingerprint c.from_residual.result old mid a key e (sign_step a key (Allocates old (digest_length a)) (Err e) old mid reported.adds reported.answer) c.from_residual.ensures
 
 pub returns-in_err-add_fingerprint : goal.returns-in_err-add_fingerprint
 returns-in_err-add_fingerprint g c =

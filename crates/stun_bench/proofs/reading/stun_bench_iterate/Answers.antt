@@ -2,8 +2,8 @@ use Rattle.std.proofs.Common.{List, fold, ap, ◌∙◌}
 use Rattle.std.proofs.lemmas.Iterator.Consumers.{YieldsList-from_first, YieldsList-end}
 use Rattle.stun_grammar.specs.Chains.{Shown}
 use Rattle.stun_grammar.specs.Showing.{shown}
-use Rattle.stun_read.specs.Iterating.{items_left, item_view, borrowed}
-use Rattle.stun_read.proofs.ItemsLemmas.{shown_items}
+use Rattle.stun_types.specs.Iterating.{items_left, item_view, borrowed}
+use Rattle.stun_types.proofs.ItemsLemmas.{shown_items}
 use Rattle.stun_bench.specs.Answers.{mixed}
 use Rattle.stun_bench.proofs.reading.stun_bench_iterate.Goals as goal
 

@@ -1,5 +1,5 @@
 use Rattle.std.proofs.Common.{◌≡◌, map, fold}
-use Rattle.stun_read.specs.Iterating.{item_view}
+use Rattle.stun_types.specs.Iterating.{item_view}
 use Rattle.stun_bench.specs.Answers.{mixed}
 use Rattle.stun_bench.proofs.reading.stun_bench_iterate.Given as goal
 

@@ -10,15 +10,15 @@ loop-turn-preserved g c =
     let bytes = c.args.bytes.now in
     elim c.match-write.branch [
       | in-Ok w ↦
-          let told = w.in-Ok.ensures in
+          let reported = w.in-Ok.ensures in
           record {
-            written = rw w.written-is (Appends-more (contents c.args.writer.now) (contents c.loop-turn.writer) (contents c.write.new.self) bytes c.loop-turn.written w.in-Ok.count c.loop-turn.invariant.written told.bytes);
-            within = omega (arith, told.bound, length-drop c.loop-turn.written bytes, ap length (take_rest bytes c.loop-turn.written));
+            written = rw w.written-is (Appends-more (contents c.args.writer.now) (contents c.loop-turn.writer) (contents c.write.new.self) bytes c.loop-turn.written w.in-Ok.count c.loop-turn.invariant.written reported.bytes);
+            within = omega (arith, reported.bound, length-drop c.loop-turn.written bytes, ap length (take_rest bytes c.loop-turn.written));
           }
       | in-Err+else-ne w ↦
-          let told = w.in-Err.ensures in
+          let reported = w.in-Err.ensures in
           record {
-            written = rw w.written-is (Appends-keep (contents c.args.writer.now) (contents c.loop-turn.writer) (contents c.write.new.self) (take c.loop-turn.written bytes) c.loop-turn.invariant.written told.bytes);
+            written = rw w.written-is (Appends-keep (contents c.args.writer.now) (contents c.loop-turn.writer) (contents c.write.new.self) (take c.loop-turn.written bytes) c.loop-turn.invariant.written reported.bytes);
             within = omega arith;
           }
     ]

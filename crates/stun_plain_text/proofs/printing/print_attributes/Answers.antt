@@ -4,7 +4,7 @@ use Rattle.stun_text.proofs.Joining.{both, spelled_so}
 use Rattle.stun_text.proofs.ListsLemmas.{commas_more}
 use Rattle.stun_text.specs.Lists.{with_commas}
 use Rattle.stun_grammar.specs.Showing.{shown}
-use Rattle.stun_read.specs.Iterating.{items_left, item_view, borrowed}
+use Rattle.stun_types.specs.Iterating.{items_left, item_view, borrowed}
 use Rattle.stun_plain_text.proofs.ItemsLemmas.{item_text, comma_behind, items_text}
 use Rattle.stun_plain_text.proofs.printing.print_attributes.Goals as goal
 

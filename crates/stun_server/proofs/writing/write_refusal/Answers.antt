@@ -45,6 +45,6 @@ returns-clause-length c =
 pub returns-clause-slice : goal.returns-clause-slice
 returns-clause-slice c =
     let r = message_bytes c.args.request.now in
-    let told = ap (λ (d : List ℕ). let value = types_encoding (unknown_types comprehended d) in appended (take c.append-len-2.result c.append-len-2.new.slice) UNKNOWN_ATTRIBUTES value ++ drop (grown_length c.append-len-2.result (length value)) c.append-len-2.new.slice) c.requires.its in
+    let reported = ap (λ (d : List ℕ). let value = types_encoding (unknown_types comprehended d) in appended (take c.append-len-2.result c.append-len-2.new.slice) UNKNOWN_ATTRIBUTES value ++ drop (grown_length c.append-len-2.result (length value)) c.append-len-2.new.slice) c.requires.its in
     refusal_in r c.args.slice.now c.write_header-len.new.slice c.append-len.new.slice c.append-len-2.new.slice c.append.new.slice (unknown_types comprehended r) c.write_header-len.result c.append-len.result c.append-len-2.result c.requires.some c.requires.few
-    c.write_header-len.ensures.length c.append-len.ensures.length c.append-len-2.ensures.length c.write_header-len.ensures.slice c.append-len.ensures.slice c.append-len-2.ensures.slice (c.append.ensures.slice ∙ told)
+    c.write_header-len.ensures.length c.append-len.ensures.length c.append-len-2.ensures.length c.write_header-len.ensures.slice c.append-len.ensures.slice c.append-len-2.ensures.slice (c.append.ensures.slice ∙ reported)

@@ -16,7 +16,7 @@ returns-in_ok-end-in-Ok c =
 
 pub returns-in_ok-write_refusal-in-Err : goal.returns-in_ok-write_refusal-in-Err
 returns-in_ok-write_refusal-in-Err c =
-    let told = c.in-Err.ensures in
+    let reported = c.in-Err.ensures in
     let password = option_map (λ given. given.now) c.args.password in
     let all = c.in_ok-write_refusal-in-Err.ensures ∙ ap (λ (b : List ℕ). b ++ refusal_line c.in-Err.refusal) c.new-text.ensures.bytes in
-    (all ∙ sym (report-refusal c.args.bytes.now password c.in-Err.refusal told), sym (end_of-refusal c.args.bytes.now password c.in-Err.refusal told))
+    (all ∙ sym (report-refusal c.args.bytes.now password c.in-Err.refusal reported), sym (end_of-refusal c.args.bytes.now password c.in-Err.refusal reported))

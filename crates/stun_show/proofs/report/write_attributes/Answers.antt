@@ -4,8 +4,8 @@ use Rattle.std.proofs.lemmas.Iterator.Consumers.{YieldsList-from_first, YieldsLi
 use Rattle.stun_grammar.specs.Chains.{Shown}
 use Rattle.stun_grammar.specs.Showing.{shown}
 use Rattle.stun_types.specs.Message.{message_bytes}
-use Rattle.stun_read.specs.Iterating.{items_left, item_view, borrowed}
-use Rattle.stun_read.proofs.ItemsLemmas.{shown_items}
+use Rattle.stun_types.specs.Iterating.{items_left, item_view, borrowed}
+use Rattle.stun_types.proofs.ItemsLemmas.{shown_items}
 use Rattle.stun_show.specs.Report.{attribute_line}
 use Rattle.stun_show.proofs.report.write_attributes.Goals as goal
 

@@ -1,6 +1,6 @@
 use Rattle.std.proofs.Common.{◌≡◌, ◌++◌, map, string_bytes}
 use Rattle.std.specs.List.{flat_map}
-use Rattle.stun_read.specs.Iterating.{item_view}
+use Rattle.stun_types.specs.Iterating.{item_view}
 use Rattle.stun_show.specs.Report.{attribute_line}
 use Rattle.stun_show.proofs.report.write_attributes.Given as goal
 

@@ -3,8 +3,8 @@ use Rattle.std.specs.Prelude.{find}
 use Rattle.std.proofs.lemmas.Iterator.Consumers.{YieldsList-from_first, YieldsList-so_far, YieldsList-turn, YieldsList-end}
 use Rattle.stun_grammar.specs.Showing.{shown}
 use Rattle.stun_grammar.specs.declared.attribute_type.AttributeType.{AttributeType}
-use Rattle.stun_attrs.specs.declared.raw.RawAttribute.{RawAttribute}
-use Rattle.stun_read.specs.Iterating.{items_left, item_view, borrowed}
+use Rattle.stun_attributes.specs.declared.wire.raw.RawAttribute.{RawAttribute}
+use Rattle.stun_types.specs.Iterating.{items_left, item_view, borrowed}
 use Rattle.stun_types.specs.Message.{message_bytes}
 use Rattle.stun_types.proofs.ShownTypesLemmas.{item_type, so_far, all_types}
 use Rattle.stun_transactions.specs.Responses.{is_beyond}

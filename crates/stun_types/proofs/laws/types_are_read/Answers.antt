@@ -3,14 +3,14 @@ use Rattle.std.proofs.Common.{inl, inr}
 use Rattle.stun_grammar.specs.declared.error.StunParseError.{StunParseError}
 use Rattle.stun_grammar.specs.AttributeTypes.{ALTERNATE_DOMAIN, ALTERNATE_SERVER, ERROR_CODE, FINGERPRINT, MESSAGE_INTEGRITY, MESSAGE_INTEGRITY_SHA256, NONCE, PASSWORD_ALGORITHM, PASSWORD_ALGORITHMS, REALM, SOFTWARE, UNKNOWN_ATTRIBUTES, USERHASH, USERNAME, XOR_MAPPED_ADDRESS}
 use Rattle.stun_values.specs.TextValues.{text_max, username_max}
-use Rattle.stun_attrs.specs.Reading.{ReadsTyped}
+use Rattle.stun_attributes.specs.Reading.{ReadsTyped}
 use Rattle.stun_attributes.specs.AddressAttributes.{ReadsAddress, server_addr, written_mapped_addr}
 use Rattle.stun_attributes.specs.ErrorCodes.{ReadsError}
 use Rattle.stun_attributes.specs.PasswordAlgorithms.{ReadsAlgorithm, ReadsAlgorithms}
 use Rattle.stun_attributes.specs.Texts.{ReadsText}
 use Rattle.stun_attributes.specs.Unknown.{ReadsTypes}
-use Rattle.stun_integrity.specs.Integrity.{ReadsFingerprint, ReadsIntegrity, ReadsIntegritySha256}
-use Rattle.stun_integrity.specs.Userhash.{ReadsUserhash}
+use Rattle.stun_attributes.specs.Integrity.{ReadsFingerprint, ReadsIntegrity, ReadsIntegritySha256}
+use Rattle.stun_attributes.specs.Userhash.{ReadsUserhash}
 use Rattle.stun_types.proofs.laws.types_are_read.Goals as goal
 
 -- both readers follow one rule

@@ -1,6 +1,6 @@
 use Rattle.std.proofs.Common.{ℕ, ◌+◌, length, sym, subst}
 use Rattle.stun_grammar.specs.Attributes.{canonical, encodings}
-use Rattle.stun_read.specs.LookingUp.{nth}
+use Rattle.stun_types.specs.LookingUp.{nth}
 use Rattle.stun_types.proofs.ReadingBackLemmas.{found_read}
 use Rattle.stun_types.proofs.reading_back.shown_is_read_back.Goals as goal
 

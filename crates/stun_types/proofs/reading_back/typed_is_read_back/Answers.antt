@@ -1,7 +1,7 @@
 use Rattle.std.proofs.Common.{◌+◌, length, refl}
 use Rattle.stun_grammar.specs.Attributes.{canonical, encodings}
-use Rattle.stun_attrs.specs.Reading.{ReadsTyped}
-use Rattle.stun_read.specs.LookingUp.{nth}
+use Rattle.stun_attributes.specs.Reading.{ReadsTyped}
+use Rattle.stun_types.specs.LookingUp.{nth}
 use Rattle.stun_types.proofs.ReadingBackLemmas.{found_read, one_is}
 use Rattle.stun_types.proofs.reading_back.typed_is_read_back.Goals as goal
 

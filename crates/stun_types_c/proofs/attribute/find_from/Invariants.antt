@@ -1,5 +1,5 @@
 use Rattle.std.proofs.Common.{◌≡◌, ◌≤◌, ◌-◌, length}
-use Rattle.stun_read.specs.Iterating.{shown_behind}
+use Rattle.stun_types.specs.Iterating.{shown_behind}
 use Rattle.stun_types_c.specs.Attributes.{first_of_type}
 use Rattle.stun_types_c.proofs.attribute.find_from.Given as goal
 

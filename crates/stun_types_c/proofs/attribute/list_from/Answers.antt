@@ -1,5 +1,5 @@
 use Rattle.std.proofs.Common.{rules, ◌+◌, refl}
-use Rattle.stun_read.specs.Iterating.{shown_behind}
+use Rattle.stun_types.specs.Iterating.{shown_behind}
 use Rattle.stun_types_c.proofs.WalksLemmas.{one_listed}
 use Rattle.stun_types_c.proofs.attribute.list_from.Goals as goal
 

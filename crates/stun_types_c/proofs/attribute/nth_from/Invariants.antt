@@ -1,6 +1,6 @@
 use Rattle.std.proofs.Common.{◌≡◌, ◌≤◌, ◌+◌, ◌*◌, ◌-◌, length}
 use Rattle.std.specs.Prelude.{slice_get}
-use Rattle.stun_read.specs.Iterating.{shown_behind}
+use Rattle.stun_types.specs.Iterating.{shown_behind}
 use Rattle.stun_types_c.proofs.attribute.nth_from.Given as goal
 
 abbrev pub invariant-loop-found : goal.invariant-loop-found

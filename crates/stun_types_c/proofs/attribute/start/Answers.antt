@@ -1,5 +1,5 @@
 use Rattle.stun_grammar.proofs.HeadersLemmas.{frame_there, header_there}
-use Rattle.stun_read.proofs.IteratingLemmas.{from_start, unframed}
+use Rattle.stun_types.proofs.IteratingLemmas.{from_start, unframed}
 use Rattle.stun_types_c.proofs.attribute.start.Goals as goal
 
 pub returns-in-Ok : goal.returns-in-Ok

@@ -4,7 +4,7 @@ use Rattle.stun_types_c.proofs.many_transactions.soonest.Given as goal
 
 -- the soonest moment of the transactions from this place on
 abbrev pub invariant-walk : goal.invariant-walk
-invariant-walk l = (l.left ≤ length l.kept) × SoonestOf (drop l.left l.kept) l.told
+invariant-walk l = (l.left ≤ length l.kept) × SoonestOf (drop l.left l.kept) l.reported
 
 abbrev pub decreases-walk : goal.decreases-walk
 decreases-walk l = l.left

@@ -9,7 +9,7 @@ pub loop-i-preserved : goal.loop-i-preserved
 loop-i-preserved c =
     let i = c.loop-i.i in
     let list = c.args.numbers.now in
-    let told = rw (take_rest c.loop-i.dest (2 * i)) at c.write_u16.ensures in
-    written_from (2 * i) c.loop-i.dest _ _ told
+    let reported = rw (take_rest c.loop-i.dest (2 * i)) at c.write_u16.ensures in
+    written_from (2 * i) c.loop-i.dest _ _ reported
     ∙ write_next be16 list 0 i c.loop-i.dest c.args.dest.now (2 * i) (2 * (i + 1)) 2 c.loop-i-test.true (omega arith)
     (omega (arith, length_of_twos (take i list), length-take i list, c.loop-i-test.true)) c.loop-i.invariant

@@ -5,13 +5,13 @@ use Rattle.std.proofs.lemmas.List.{length-map}
 use Rattle.stun_grammar.specs.declared.attribute_type.AttributeType.{AttributeType}
 use Rattle.stun_grammar.specs.Adding.{numbers}
 use Rattle.stun_grammar.specs.Showing.{shown}
-use Rattle.stun_attrs.specs.declared.raw.RawAttribute.{RawAttribute}
-use Rattle.stun_read.specs.Iterating.{items_left, item_view, borrowed}
+use Rattle.stun_attributes.specs.declared.wire.raw.RawAttribute.{RawAttribute}
+use Rattle.stun_types.specs.Iterating.{items_left, item_view, borrowed}
 use Rattle.stun_text.specs.Slices.{laid_over}
 use Rattle.stun_types.specs.Replies.{is_unknown}
 use Rattle.stun_types.proofs.ShownTypesLemmas.{item_type, all_types}
 use Rattle.stun_types_c.specs.TypeLists.{types_numbered}
-use Rattle.stun_types_c.proofs.TypeListsLemmas.{told_passes, told_fails, few_pass}
+use Rattle.stun_types_c.proofs.TypeListsLemmas.{reported_passes, reported_fails, few_pass}
 use Rattle.stun_types_c.proofs.type_list.stun_types_unknown_types.Goals as goal
 use Rattle.stun_types_c.proofs.type_list.stun_types_unknown_types.Goals.{then-is_unknown, else-is_unknown}
 
@@ -31,8 +31,8 @@ loop-offset-preserved-after-is_unknown c =
     let item : ℕ × RawAttribute = (c.in-Some._offset, c.in-Some.attribute) in
     let test = is_unknown (types_numbered c.args.supported.now) in
     elim c.if-is_unknown.branch [
-      | then-is_unknown w ↦ told_passes test c.loop-offset.yielded item c.loop-offset.count c.if-is_unknown.count c.loop-offset.types c.if-is_unknown.types c.args.types.now (search rules) c.loop-offset.invariant w.count-is (search rules)
-      | else-is_unknown w ↦ told_fails test c.loop-offset.yielded item c.loop-offset.count c.if-is_unknown.count c.loop-offset.types c.if-is_unknown.types c.args.types.now (search rules) c.loop-offset.invariant w.count-is w.types-is
+      | then-is_unknown w ↦ reported_passes test c.loop-offset.yielded item c.loop-offset.count c.if-is_unknown.count c.loop-offset.types c.if-is_unknown.types c.args.types.now (search rules) c.loop-offset.invariant w.count-is (search rules)
+      | else-is_unknown w ↦ reported_fails test c.loop-offset.yielded item c.loop-offset.count c.if-is_unknown.count c.loop-offset.types c.if-is_unknown.types c.args.types.now (search rules) c.loop-offset.invariant w.count-is w.types-is
     ]
 
 pub loop-offset-preserved : goal.loop-offset-preserved
@@ -40,8 +40,8 @@ loop-offset-preserved c =
     let item : ℕ × RawAttribute = (c.in-Some._offset, c.in-Some.attribute) in
     let test = is_unknown (types_numbered c.args.supported.now) in
     elim c.if-is_unknown.branch [
-      | then-is_unknown w ↦ told_passes test c.loop-offset.yielded item c.loop-offset.count c.if-is_unknown.count c.loop-offset.types c.if-is_unknown.types c.args.types.now (search rules) c.loop-offset.invariant w.count-is (search rules)
-      | else-is_unknown w ↦ told_fails test c.loop-offset.yielded item c.loop-offset.count c.if-is_unknown.count c.loop-offset.types c.if-is_unknown.types c.args.types.now (search rules) c.loop-offset.invariant w.count-is w.types-is
+      | then-is_unknown w ↦ reported_passes test c.loop-offset.yielded item c.loop-offset.count c.if-is_unknown.count c.loop-offset.types c.if-is_unknown.types c.args.types.now (search rules) c.loop-offset.invariant w.count-is (search rules)
+      | else-is_unknown w ↦ reported_fails test c.loop-offset.yielded item c.loop-offset.count c.if-is_unknown.count c.loop-offset.types c.if-is_unknown.types c.args.types.now (search rules) c.loop-offset.invariant w.count-is w.types-is
     ]
 
 pub returns : goal.returns

@@ -23,8 +23,8 @@ loop-i-preserved g c = λ algorithms encoding.
     let i = c.loop-i.i in
     let value = c.args.value.now in
     let within : i < length algorithms = omega (arith, length_of_entries algorithms, ap length encoding, c.loop-i-test.true) in
-    let told = rw (take_rest value (4 * i)) at c.in-Ok.ensures.1 in
-    let same : get_or algorithms i MD5 ≡ c.in-Ok.algorithm = entry_is algorithms i c.in-Ok.algorithm within (rw encoding told) in
+    let reported = rw (take_rest value (4 * i)) at c.in-Ok.ensures.1 in
+    let same : get_or algorithms i MD5 ≡ c.in-Ok.algorithm = entry_is algorithms i c.in-Ok.algorithm within (rw encoding reported) in
     let before = c.loop-i.invariant algorithms encoding in
     let name = c.in_ok-put_name.ensures in
     spelled_so wrote joins

@@ -2,7 +2,7 @@ use Rattle.std.proofs.Common.{ℕ, ◌-◌, ap, ◌∙◌, length, take, lit<, a
 use Rattle.std.proofs.lemmas.Result.{err_from_is_err_and}
 use Rattle.stun_grammar.specs.Steps.{add}
 use Rattle.stun_attributes.specs.Texts.{text_bytes}
-use Rattle.stun_write.specs.Resuming.{message_types}
+use Rattle.stun_types.specs.Resuming.{message_types}
 use Rattle.user_examples.proofs.BehindLemmas.{refused_by_rules, not_refused, added_parses}
 use Rattle.user_examples.proofs.behind.software_behind.Goals as goal
 

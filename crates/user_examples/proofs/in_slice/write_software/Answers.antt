@@ -1,6 +1,6 @@
 use Rattle.std.proofs.Common.{ℕ, ◌≤◌, length, subst, arith, rules}
 use Rattle.stun_attributes.specs.Texts.{text_bytes}
-use Rattle.stun_write.specs.Writers.{IsBegun}
+use Rattle.stun_types.specs.Writers.{IsBegun}
 use Rattle.user_examples.proofs.InSlicesLemmas.{first_answer, writes_software}
 use Rattle.user_examples.proofs.in_slice.write_software.Goals as goal
 

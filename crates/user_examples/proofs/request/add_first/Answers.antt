@@ -1,6 +1,6 @@
 use Rattle.std.proofs.Common.{◌≤◌, length, rules}
 use Rattle.stun_attributes.specs.Texts.{text_bytes}
-use Rattle.stun_write.specs.Writers.{Allocates}
+use Rattle.stun_types.specs.Writers.{Allocates}
 use Rattle.user_examples.proofs.AddsLemmas.{only_memory}
 use Rattle.user_examples.proofs.request.add_first.Goals as goal
 

@@ -17,8 +17,8 @@ loop-i-preserved c =
     let i = c.loop-i.i in
     let value = c.args.value.now in
     let place : 4 * i + 4 ≡ 4 * (i + 1) = omega arith in
-    let told = rw (take_rest value (4 * i)) at c.in_ok-algorithm.ensures.1 in (
+    let reported = rw (take_rest value (4 * i)) at c.in_ok-algorithm.ensures.1 in (
       ap (flat_map algorithm_encoding) c.in-Ok.ensures.items
-          ∙ read_next algorithm_encoding c.loop-i.list.items c.in_ok-algorithm.algorithm value (4 * i) 4 c.loop-i.invariant.0 told ∙ ap (λ (k : ℕ). take k value) place,
+          ∙ read_next algorithm_encoding c.loop-i.list.items c.in_ok-algorithm.algorithm value (4 * i) 4 c.loop-i.invariant.0 reported ∙ ap (λ (k : ℕ). take k value) place,
       omega (arith, c.in-Ok.ensures.len, c.loop-i.invariant.1),
     )

@@ -9,8 +9,8 @@ loop-i-preserved c =
     let i = c.loop-i.i in
     let value = c.args.value.now in
     let place : 2 * i + 2 ≡ 2 * (i + 1) = omega arith in
-    let told = two_at value (2 * i) c.number_at.result (omega (arith, c.loop-i-test.true)) (λ k. omega (arith, c.type_inv.value k)) c.number_at.ensures in (
+    let reported = two_at value (2 * i) c.number_at.result (omega (arith, c.loop-i-test.true)) (λ k. omega (arith, c.type_inv.value k)) c.number_at.ensures in (
       ap (flat_map type_encoding) c.in-Ok.ensures.items
-          ∙ read_next type_encoding c.loop-i.list.items (record { 0 = c.number_at.result }) value (2 * i) 2 c.loop-i.invariant.0 told ∙ ap (λ (k : ℕ). take k value) place,
+          ∙ read_next type_encoding c.loop-i.list.items (record { 0 = c.number_at.result }) value (2 * i) 2 c.loop-i.invariant.0 reported ∙ ap (λ (k : ℕ). take k value) place,
       omega (arith, c.in-Ok.ensures.len, c.loop-i.invariant.1),
     )

@@ -3,7 +3,7 @@ use Rattle.std.specs.Prelude.{is_some, if◌then◌else◌}
 use Rattle.stun_grammar.specs.AttributeTypes.{FINGERPRINT}
 use Rattle.stun_grammar.specs.Adding.{appended}
 use Rattle.stun_grammar.specs.Fingerprints.{fingerprint_value}
-use Rattle.stun_read.specs.LookingUp.{nth}
+use Rattle.stun_types.specs.LookingUp.{nth}
 use Rattle.stun_types.specs.Message.{message_bytes}
 use Rattle.stun_types.specs.Replies.{unknown_types}
 use Rattle.stun_server.specs.Reply.{comprehended, unfinished_reply}

@@ -26,7 +26,6 @@ use Rattle.std.proofs.alloc.Global.TheLaws as heap
 use Rattle.std.proofs.raw_atomic.Walks.{proved_at, leaves}
 use Rattle.std.specs.contracts.alloc.Global.{the_row as Heap}
 use Rattle.std.specs.contracts.impls.GlobalAllocator.TheImpl.{ghosts}
-use Rattle.std.specs.contracts.impls.GlobalAllocator.TheImpl.{ghosts}
 use Rattle.stun_types_c.proofs.TwoWords.{at_one_word, two, two_typed, taken_apart, put_together}
 use Rattle.stun_keys.specs.contracts.keys.integrity_key.IntegrityKey.{the_row as Key}
 use Rattle.stun_types_c.specs.contracts.box_parts.BoxParts as parts

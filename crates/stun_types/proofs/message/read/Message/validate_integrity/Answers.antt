@@ -3,10 +3,9 @@ use Rattle.stun_grammar.specs.Accepting.{IsAuthentic}
 use Rattle.stun_grammar.proofs.ParsingLemmas.{parsed_frame}
 use Rattle.stun_grammar.proofs.CarryingLemmas.{carries}
 use Rattle.stun_grammar.proofs.CarryingExactLemmas.{carried}
-use Rattle.stun_grammar.proofs.AcceptingLemmas.{is_authentic}
+use Rattle.stun_grammar.proofs.AcceptingLemmas.{is_authentic, if_ok, accepts}
 use Rattle.stun_keys.specs.Keys.{credentials_key}
 use Rattle.stun_types.specs.Message.{message_bytes}
-use Rattle.stun_grammar.proofs.AcceptingLemmas.{if_ok, accepts}
 use Rattle.stun_types.proofs.message.read.Message.validate_integrity.Goals as goal
 
 pub returns-clause-accepted : goal.returns-clause-accepted

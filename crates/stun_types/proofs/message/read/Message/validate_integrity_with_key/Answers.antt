@@ -1,10 +1,9 @@
 use Rattle.std.proofs.Common.{ℕ, List, sym, ◌∙◌}
 use Rattle.stun_grammar.specs.declared.integrity_algorithm.IntegrityAlgorithm.{IntegrityAlgorithm}
 use Rattle.stun_grammar.specs.Accepting.{IsAuthenticThrough}
-use Rattle.stun_grammar.proofs.AcceptingLemmas.{is_authentic_through}
+use Rattle.stun_grammar.proofs.AcceptingLemmas.{is_authentic_through, if_ok, carried_whole, carried_prefix}
 use Rattle.stun_keys.specs.Keys.{key_bytes, key_algorithm}
 use Rattle.stun_types.specs.Message.{message_bytes}
-use Rattle.stun_grammar.proofs.AcceptingLemmas.{if_ok, carried_whole, carried_prefix}
 use Rattle.stun_types.proofs.message.read.Message.validate_integrity_with_key.Goals as goal
 
 pub returns-clause-accepted : goal.returns-clause-accepted

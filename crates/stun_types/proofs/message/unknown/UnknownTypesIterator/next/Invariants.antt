@@ -1,5 +1,5 @@
 use Rattle.std.proofs.Common.{◌≡◌, length}
-use Rattle.stun_read.specs.Iterating.{items_left}
+use Rattle.stun_types.specs.Iterating.{items_left}
 use Rattle.stun_types.specs.UnknownTypes.{types_left}
 use Rattle.stun_types.proofs.message.unknown.UnknownTypesIterator.next.Given as goal
 

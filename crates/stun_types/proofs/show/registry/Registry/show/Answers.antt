@@ -1,6 +1,6 @@
 use Rattle.std.proofs.Common.{rules, inl, inr, refl, sym, ◌∙◌, ap}
 use Rattle.std.specs.Option.{option_map}
-use Rattle.stun_attrs.specs.Raw.{raw_type}
+use Rattle.stun_attributes.specs.Raw.{raw_type}
 use Rattle.stun_types.specs.Shown.{display_of}
 use Rattle.stun_types.proofs.ShownLemmas.{at_some}
 use Rattle.stun_types.proofs.show.registry.Registry.show.Goals as goal

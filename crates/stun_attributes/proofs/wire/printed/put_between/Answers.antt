@@ -1,0 +1,13 @@
+use Rattle.std.proofs.Common.{rules, arith}
+use Rattle.std.proofs.lemmas.Grind.{common_steps}
+use Rattle.stun_text.proofs.Joining.{both, spelled_so}
+use Rattle.stun_attributes.proofs.wire.printed.put_between.Goals as goal
+
+pub returns : goal.returns
+returns g c =
+    let wrote = g.S.TextSink.wrote in
+    let joins = g.met.S.TextSink.joins in
+    let a = c.in_ok-put.ensures in
+    let b = c.in_ok-put_bytes.ensures in
+    let d = c.in_ok-put-2.ensures in
+    spelled_so wrote joins (first_of (search rules, grind (arith, common_steps))) (both wrote joins a (both wrote joins b d))

@@ -1,3 +1,0 @@
-mod RawLemmas
-mod EncodingLemmas
-pub mod ReadBackLemmas

@@ -1,6 +1,0 @@
-use Rattle.std.proofs.Common.{◌*◌}
-use Rattle.stun_integrity.proofs.CompareLemmas.{Compared}
-use Rattle.stun_integrity.proofs.compare.word_differences.Given as goal
-
-abbrev pub invariant-loop-word : goal.invariant-loop-word
-invariant-loop-word l = Compared (4 * l.word) l.difference l.left l.right

@@ -1,5 +1,0 @@
-use Rattle.stun_integrity.proofs.CoveredLemmas.{pieces_of}
-use Rattle.stun_integrity.proofs.covered.pieces_before.Goals as goal
-
-pub returns : goal.returns
-returns c = λ size e. pieces_of c.args.bytes.now c.args.beginning.now c.args.offset size e

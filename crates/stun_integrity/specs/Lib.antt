@@ -1,2 +1,0 @@
-pub mod Integrity
-pub mod Userhash

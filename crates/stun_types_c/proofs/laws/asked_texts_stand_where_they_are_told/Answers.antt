@@ -1,7 +1,0 @@
-use Rattle.stun_grammar.proofs.NumbersLemmas.{IsBytes-from}
-use Rattle.stun_types_c.proofs.AskedLemmas.{asked_there}
-use Rattle.stun_types_c.proofs.laws.asked_texts_stand_where_they_are_told.Goals as goal
-
-pub returns : goal.returns
-returns c = λ supported tried seen asked h.
-    asked_there supported tried seen c.args.response.now asked (IsBytes-from c.args.response.now (λ i. (c.type_inv.response i).fits)) h

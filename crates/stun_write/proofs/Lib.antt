@@ -1,9 +1,0 @@
-mod WrittenTypesLemmas
-mod KeptHeadersLemmas
-mod RunsLemmas
-mod RunsAgreeLemmas
-mod ListedLemmas
-mod ResumingLemmas
-mod ResumedLemmas
-mod ResumedAddsLemmas
-mod ResumedParsesLemmas

@@ -1,8 +1,0 @@
-use Rattle.stun_write.proofs.RunsAgreeLemmas.{agree, agree_all}
-use Rattle.stun_write.proofs.laws.writers_agree.Goals as goal
-
-pub returns-clause-same : goal.returns-clause-same
-returns-clause-same g c = agree
-
-pub returns-clause-all : goal.returns-clause-all
-returns-clause-all g c = agree_all

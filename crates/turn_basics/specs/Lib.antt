@@ -1,2 +1,0 @@
-pub mod TurnBasics
-pub mod BasicTypes
