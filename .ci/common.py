@@ -108,8 +108,8 @@ def script(name):
 
 def tested(crate):
     """Runs the tests of a crate, with no proof; all that was printed."""
-    told = ran("rt", "try", "--test", folder=crate)
-    return told.stdout + told.stderr
+    ended = ran("rt", "try", "--test", folder=crate)
+    return ended.stdout + ended.stderr
 
 
 def results_of(said):
@@ -124,8 +124,8 @@ def kit():
 
 def free():
     """Free memory in bytes, under the control group's limit too."""
-    told = pathlib.Path("/proc/meminfo").read_text()
-    found = [1024 * int(re.search(r"MemAvailable:\s+(\d+)", told)[1])]
+    stated = pathlib.Path("/proc/meminfo").read_text()
+    found = [1024 * int(re.search(r"MemAvailable:\s+(\d+)", stated)[1])]
     group = pathlib.Path("/sys/fs/cgroup")
     try:
         limit = (group / "memory.max").read_text().strip()

@@ -16,7 +16,6 @@ PUBLIC = {
     "stun_authentication": "credentials, at a server and at a client",
     "stun_server": "a server that replies with the client's address",
     "ice_attrs": "the attributes of ICE, and what an agent computes",
-    "turn_basics": "LIFETIME, XOR-PEER-ADDRESS and DATA of TURN",
     "turn_attrs": "the attributes of TURN, ChannelData, protocols by their first byte",
     "discovery_attrs": "the attributes of NAT discovery",
     "stun_plain_text": "a message as one line of printable ASCII",

@@ -131,12 +131,12 @@ static void sign(text *message, stun_types_integrity algorithm) {
 }
 
 static void finger(text *message) {
-    uint32_t told = model_fingerprint(message->bytes, message->length);
+    uint32_t checksum = model_fingerprint(message->bytes, message->length);
     uint8_t value[4];
-    value[0] = (uint8_t)(told >> 24);
-    value[1] = (uint8_t)(told >> 16);
-    value[2] = (uint8_t)(told >> 8);
-    value[3] = (uint8_t)told;
+    value[0] = (uint8_t)(checksum >> 24);
+    value[1] = (uint8_t)(checksum >> 16);
+    value[2] = (uint8_t)(checksum >> 8);
+    value[3] = (uint8_t)checksum;
     append(message, 0x8028, value, 4);
 }
 
@@ -145,25 +145,25 @@ static void finger(text *message) {
 static void check_values(const uint8_t *bytes, size_t length, const stun_types_attribute *shown) {
     const uint8_t *value = bytes + shown->value_at;
     const stun_types_answer bad_argument = model_answer(STUN_TYPES_BAD_ARGUMENT, 0, 0, 0);
-    stun_types_address told, expected;
+    stun_types_address reported, expected;
     uint16_t code = 0, expected_code = 0, types[4];
     size_t at = 0, reason = 0, count = 0, i;
     stun_types_answer answer = model_address(value, shown->length, &expected);
-    memset(&told, 0, sizeof told);
-    HOLDS(is_same(stun_types_read_address(bytes, length, shown, &told),
+    memset(&reported, 0, sizeof reported);
+    HOLDS(is_same(stun_types_read_address(bytes, length, shown, &reported),
                   model_is_xored(shown->type) ? bad_argument : answer));
     if (answer.code == STUN_TYPES_OK && !model_is_xored(shown->type)) {
         size_t octets = expected.family == 4 ? 4 : 16;
-        HOLDS(told.family == expected.family && told.port == expected.port);
-        HOLDS(memcmp(told.octets, expected.octets, octets) == 0);
+        HOLDS(reported.family == expected.family && reported.port == expected.port);
+        HOLDS(memcmp(reported.octets, expected.octets, octets) == 0);
     }
     if (answer.code == STUN_TYPES_OK) model_xor(bytes, &expected);
-    HOLDS(is_same(stun_types_read_xor_address(bytes, length, shown, &told),
+    HOLDS(is_same(stun_types_read_xor_address(bytes, length, shown, &reported),
                   model_is_plain(shown->type) ? bad_argument : answer));
     if (answer.code == STUN_TYPES_OK && !model_is_plain(shown->type)) {
         size_t octets = expected.family == 4 ? 4 : 16;
-        HOLDS(told.family == expected.family && told.port == expected.port);
-        HOLDS(memcmp(told.octets, expected.octets, octets) == 0);
+        HOLDS(reported.family == expected.family && reported.port == expected.port);
+        HOLDS(memcmp(reported.octets, expected.octets, octets) == 0);
     }
     answer = model_error(value, shown->length, &expected_code);
     HOLDS(is_same(stun_types_read_error(bytes, length, shown, &code, &at, &reason), answer));
@@ -206,25 +206,25 @@ static void check_walk(const uint8_t *bytes, size_t length, const model_list *sh
     static const uint16_t supported[] = {0x0006, 0x0008, 0x001C, 0x0020};
     static stun_types_attribute listed[MODEL_ATTRIBUTES];
     stun_types_cursor cursor = STUN_TYPES_CURSOR;
-    stun_types_attribute told;
+    stun_types_attribute reported;
     size_t i, j, unknown = 0;
     HOLDS(stun_types_attributes(bytes, length, listed, MODEL_ATTRIBUTES) == shown->count);
     for (i = 0; i < shown->count; i++) {
-        HOLDS(stun_types_next(bytes, length, &cursor, &told));
-        HOLDS(told.value_at == shown->all[i].value_at && told.type == shown->all[i].type
-              && told.length == shown->all[i].length);
-        HOLDS(listed[i].value_at == told.value_at && listed[i].type == told.type
-              && listed[i].length == told.length);
+        HOLDS(stun_types_next(bytes, length, &cursor, &reported));
+        HOLDS(reported.value_at == shown->all[i].value_at && reported.type == shown->all[i].type
+              && reported.length == shown->all[i].length);
+        HOLDS(listed[i].value_at == reported.value_at && listed[i].type == reported.type
+              && listed[i].length == reported.length);
     }
-    HOLDS(!stun_types_next(bytes, length, &cursor, &told));
-    HOLDS(!stun_types_next(bytes, length, &cursor, &told));
+    HOLDS(!stun_types_next(bytes, length, &cursor, &reported));
+    HOLDS(!stun_types_next(bytes, length, &cursor, &reported));
     for (i = 0; i < shown->count && i < 40; i++) {
         for (j = 0; shown->all[j].type != shown->all[i].type;) j++;
-        HOLDS(stun_types_find(bytes, length, shown->all[i].type, &told));
-        HOLDS(told.value_at == shown->all[j].value_at && told.length == shown->all[j].length);
+        HOLDS(stun_types_find(bytes, length, shown->all[i].type, &reported));
+        HOLDS(reported.value_at == shown->all[j].value_at && reported.length == shown->all[j].length);
         check_values(bytes, length, &shown->all[i]);
     }
-    HOLDS(!stun_types_find(bytes, length, 0x7ABC, &told) || shown->count > 0);
+    HOLDS(!stun_types_find(bytes, length, 0x7ABC, &reported) || shown->count > 0);
     j = stun_types_unknown_types(bytes, length, supported, COUNT(supported), types, COUNT(types));
     for (i = 0; i < shown->count; i++) {
         uint16_t type = shown->all[i].type;
@@ -259,53 +259,53 @@ static void check_text(const uint8_t *bytes, size_t length, stun_types_answer pa
 static void check_validation(const uint8_t *bytes, size_t length) {
     static const stun_types_policy lax = {STUN_TYPES_INTEGRITY_ANY, 16, 0, 0};
     static const stun_types_policy strict = {STUN_TYPES_INTEGRITY_ANY, 0, 0, 0};
-    stun_types_validated told, other;
+    stun_types_validated reported, other;
     uint32_t expected = 0;
     stun_types_answer answer = model_validate(bytes, length, PASSWORD, &expected);
-    HOLDS(is_same(stun_types_validate(bytes, length, &key, &told), answer));
-    HOLDS(told.algorithm == (answer.code == STUN_TYPES_OK ? expected : 0) && told.reserved == 0);
-    HOLDS((told.hmac_length == 0) == (answer.code != STUN_TYPES_OK));
+    HOLDS(is_same(stun_types_validate(bytes, length, &key, &reported), answer));
+    HOLDS(reported.algorithm == (answer.code == STUN_TYPES_OK ? expected : 0) && reported.reserved == 0);
+    HOLDS((reported.hmac_length == 0) == (answer.code != STUN_TYPES_OK));
     HOLDS(is_same(stun_types_validate_by_policy(bytes, length, &lax, &key, &other), answer));
-    HOLDS(memcmp(&told, &other, sizeof told) == 0);
-    if (told.algorithm == STUN_TYPES_INTEGRITY_SHA256 && told.hmac_length < 32)
-        answer = model_answer(STUN_TYPES_HMAC_TOO_SHORT, 0, 32, told.hmac_length);
+    HOLDS(memcmp(&reported, &other, sizeof reported) == 0);
+    if (reported.algorithm == STUN_TYPES_INTEGRITY_SHA256 && reported.hmac_length < 32)
+        answer = model_answer(STUN_TYPES_HMAC_TOO_SHORT, 0, 32, reported.hmac_length);
     HOLDS(is_same(stun_types_validate_by_policy(bytes, length, &strict, &key, &other), answer));
     HOLDS((other.algorithm == 0) == (answer.code != STUN_TYPES_OK));
     if (length % 8 == 0) {
         answer = model_validate(bytes, length, PASSWORD, &expected);
         HOLDS(is_same(stun_types_validate_short_term(bytes, length, PASSWORD,
                                                      PASSWORD_LENGTH, &other), answer));
-        HOLDS(memcmp(&told, &other, sizeof told) == 0);
+        HOLDS(memcmp(&reported, &other, sizeof reported) == 0);
     }
 }
 
 static void check_login(const uint8_t *bytes, size_t length, const model_list *shown,
                         stun_types_answer parsed) {
     static const stun_types_policy policy = {STUN_TYPES_INTEGRITY_ANY, 16, 0, 0};
-    stun_types_authentication told;
+    stun_types_authentication reported;
     uint32_t algorithm = 0;
     size_t i;
     bool is_named = false, is_authentic, is_response;
     stun_types_answer answer
-        = stun_types_authenticate_short_term(bytes, length, &policy, &key, &told);
+        = stun_types_authenticate_short_term(bytes, length, &policy, &key, &reported);
     HOLDS(is_same(answer, parsed));
     if (answer.code != STUN_TYPES_OK) return;
     for (i = 0; i < shown->count; i++) is_named = is_named || shown->all[i].type == 0x0006;
     is_authentic = model_validate(bytes, length, PASSWORD, &algorithm).code == STUN_TYPES_OK;
     is_response = (bytes[0] & 1) != 0;
-    HOLDS((told.kind == STUN_TYPES_ACCEPTED) == (is_named && is_authentic && !is_response));
-    if (told.kind == STUN_TYPES_ACCEPTED)
-        HOLDS(told.algorithm == algorithm && told.reply_algorithm == algorithm);
-    else if (is_response) HOLDS(told.kind == STUN_TYPES_NOT_CHECKED);
-    else if ((bytes[1] & 0x10) != 0) HOLDS(told.kind == STUN_TYPES_DISCARDED);
+    HOLDS((reported.kind == STUN_TYPES_ACCEPTED) == (is_named && is_authentic && !is_response));
+    if (reported.kind == STUN_TYPES_ACCEPTED)
+        HOLDS(reported.algorithm == algorithm && reported.reply_algorithm == algorithm);
+    else if (is_response) HOLDS(reported.kind == STUN_TYPES_NOT_CHECKED);
+    else if ((bytes[1] & 0x10) != 0) HOLDS(reported.kind == STUN_TYPES_DISCARDED);
     else
-        HOLDS(told.kind == STUN_TYPES_REFUSED
-              && (told.error_code == 400 || told.error_code == 401));
+        HOLDS(reported.kind == STUN_TYPES_REFUSED
+              && (reported.error_code == 400 || reported.error_code == 401));
 }
 
 static void check_reply(const uint8_t *bytes, size_t length, const model_list *shown,
                         source *from) {
-    stun_types_address source_address, told;
+    stun_types_address source_address, reported;
     stun_types_attribute found;
     uint8_t *room = guarded_place(room_region, side, ROOM);
     size_t reply = 99, i, unknown = 0;
@@ -335,9 +335,9 @@ static void check_reply(const uint8_t *bytes, size_t length, const model_list *s
         HOLDS(stun_types_find(room, reply, 0x000A, &found) && found.length == 2 * unknown);
     } else {
         HOLDS(stun_types_find(room, reply, 0x0020, &found));
-        HOLDS(stun_types_read_xor_address(room, reply, &found, &told).code == STUN_TYPES_OK);
-        HOLDS(told.family == source_address.family && told.port == source_address.port);
-        HOLDS(memcmp(told.octets, source_address.octets, told.family == 4 ? 4 : 16) == 0);
+        HOLDS(stun_types_read_xor_address(room, reply, &found, &reported).code == STUN_TYPES_OK);
+        HOLDS(reported.family == source_address.family && reported.port == source_address.port);
+        HOLDS(memcmp(reported.octets, source_address.octets, reported.family == 4 ? 4 : 16) == 0);
     }
 }
 
@@ -348,7 +348,7 @@ static void check_response(const uint8_t *bytes, size_t length, const model_list
     static text request;
     stun_types_transaction transaction;
     stun_types_action action;
-    stun_types_received told, again;
+    stun_types_received reported, again;
     uint16_t none = 0;
     size_t i;
     unsigned type;
@@ -358,7 +358,7 @@ static void check_response(const uint8_t *bytes, size_t length, const model_list
                                        STUN_TYPES_UNPROTECTED, &key, 7).code == STUN_TYPES_OK);
     HOLDS(stun_types_transaction_poll(&transaction, 7, &action).code == STUN_TYPES_OK);
     HOLDS(action.kind == STUN_TYPES_SEND_NOW);
-    HOLDS(stun_types_transaction_receive(&transaction, &key, bytes, length, &none, 0, &told).code
+    HOLDS(stun_types_transaction_receive(&transaction, &key, bytes, length, &none, 0, &reported).code
           == STUN_TYPES_OK);
     HOLDS(stun_types_transaction_receive(&transaction, &key, bytes, length, &none, 0, &again).code
           == STUN_TYPES_OK);
@@ -366,7 +366,7 @@ static void check_response(const uint8_t *bytes, size_t length, const model_list
     type = length >= 2 ? model_number(bytes) : 0;
     is_response =
         model_parse(bytes, length).code == STUN_TYPES_OK && (type == 0x0101 || type == 0x0111);
-    HOLDS((told.kind == STUN_TYPES_NOT_FOR_THIS) == !is_response);
+    HOLDS((reported.kind == STUN_TYPES_NOT_FOR_THIS) == !is_response);
     HOLDS(stun_types_transaction_poll(&transaction, 8, &action).code == STUN_TYPES_OK);
     HOLDS((action.kind == STUN_TYPES_ENDED) == is_response);
     if (!is_response) return;
@@ -377,17 +377,17 @@ static void check_response(const uint8_t *bytes, size_t length, const model_list
                          && one != 0x0009 && one != 0x000A && one != 0x0014 && one != 0x0015
                          && one != 0x001C && one != 0x001D && one != 0x001E && one != 0x0020);
     }
-    HOLDS((told.kind == STUN_TYPES_FAILED_UNKNOWN_ATTRIBUTE) == is_unknown);
-    if (!is_unknown && type == 0x0101) HOLDS(told.kind == STUN_TYPES_TAKEN_SUCCESS);
+    HOLDS((reported.kind == STUN_TYPES_FAILED_UNKNOWN_ATTRIBUTE) == is_unknown);
+    if (!is_unknown && type == 0x0101) HOLDS(reported.kind == STUN_TYPES_TAKEN_SUCCESS);
     if (!is_unknown && type == 0x0111)
-        HOLDS(told.kind == STUN_TYPES_TAKEN_ERROR || told.kind == STUN_TYPES_FAILED_NO_ERROR_CODE);
+        HOLDS(reported.kind == STUN_TYPES_TAKEN_ERROR || reported.kind == STUN_TYPES_FAILED_NO_ERROR_CODE);
     HOLDS(action.end
-          == (told.kind >= STUN_TYPES_TAKEN_SUCCESS ? (uint32_t)STUN_TYPES_ANSWERED
+          == (reported.kind >= STUN_TYPES_TAKEN_SUCCESS ? (uint32_t)STUN_TYPES_ANSWERED
                                                     : (uint32_t)STUN_TYPES_RESPONSE_REFUSED));
 }
 
 /* An answer to a challenge is a request that is signed, and reads as the challenge asks. */
-static void check_answer(const uint8_t *bytes, size_t length, const stun_types_challenge *told,
+static void check_answer(const uint8_t *bytes, size_t length, const stun_types_challenge *reported,
                          const uint16_t *supported, size_t size) {
     uint8_t *room = guarded_place(room_region, side, size);
     static const stun_types_id id = {{1, 2, 3, 4, 5, 6, 7, 8, 9, 10, 11, 12}};
@@ -402,34 +402,34 @@ static void check_answer(const uint8_t *bytes, size_t length, const stun_types_c
     HOLDS(answer.code == STUN_TYPES_OK || answer.code == STUN_TYPES_TOO_SMALL);
     if (answer.code != STUN_TYPES_OK) return;
     HOLDS(stun_types_validate(room, written, &key, &validated).code == STUN_TYPES_OK);
-    HOLDS(validated.algorithm == told->integrity_algorithm);
-    HOLDS(stun_types_find(room, written, told->anonymous ? 0x001E : 0x0006, &found));
-    HOLDS(stun_types_find(room, written, 0x0014, &found) && found.length == told->realm_length);
-    HOLDS(memcmp(room + found.value_at, bytes + told->realm_at, found.length) == 0);
-    HOLDS(stun_types_find(room, written, 0x0015, &found) && found.length == told->nonce_length);
-    HOLDS(memcmp(room + found.value_at, bytes + told->nonce_at, found.length) == 0);
-    HOLDS(stun_types_find(room, written, 0x8002, &found) == (told->algorithms_at != 0));
+    HOLDS(validated.algorithm == reported->integrity_algorithm);
+    HOLDS(stun_types_find(room, written, reported->anonymous ? 0x001E : 0x0006, &found));
+    HOLDS(stun_types_find(room, written, 0x0014, &found) && found.length == reported->realm_length);
+    HOLDS(memcmp(room + found.value_at, bytes + reported->realm_at, found.length) == 0);
+    HOLDS(stun_types_find(room, written, 0x0015, &found) && found.length == reported->nonce_length);
+    HOLDS(memcmp(room + found.value_at, bytes + reported->nonce_at, found.length) == 0);
+    HOLDS(stun_types_find(room, written, 0x8002, &found) == (reported->algorithms_at != 0));
     HOLDS(stun_types_find(room, written, 0x8028, &found));
 }
 
 static void check_challenge(const uint8_t *bytes, size_t length, stun_types_answer parsed,
                             size_t size) {
     static const uint16_t both[] = {STUN_TYPES_PASSWORD_MD5, STUN_TYPES_PASSWORD_SHA256};
-    stun_types_challenge told;
+    stun_types_challenge reported;
     stun_types_attribute found;
     stun_types_answer answer =
-        stun_types_challenge_of(bytes, length, both, 2, false, NULL, 0, false, &told);
+        stun_types_challenge_of(bytes, length, both, 2, false, NULL, 0, false, &reported);
     if (parsed.code != STUN_TYPES_OK) {
         HOLDS(is_same(answer, parsed));
     } else if (answer.code == STUN_TYPES_OK) {
         HOLDS(stun_types_find(bytes, length, 0x0014, &found));
-        HOLDS(told.realm_at == found.value_at && told.realm_length == found.length);
-        HOLDS(model_is_utf8(bytes + told.realm_at, told.realm_length));
+        HOLDS(reported.realm_at == found.value_at && reported.realm_length == found.length);
+        HOLDS(model_is_utf8(bytes + reported.realm_at, reported.realm_length));
         HOLDS(stun_types_find(bytes, length, 0x0015, &found));
-        HOLDS(told.nonce_at == found.value_at && told.nonce_length == found.length);
-        HOLDS(model_is_utf8(bytes + told.nonce_at, told.nonce_length));
-        HOLDS(stun_types_find(bytes, length, 0x8002, &found) == (told.algorithms_at != 0));
-        check_answer(bytes, length, &told, both, size);
+        HOLDS(reported.nonce_at == found.value_at && reported.nonce_length == found.length);
+        HOLDS(model_is_utf8(bytes + reported.nonce_at, reported.nonce_length));
+        HOLDS(stun_types_find(bytes, length, 0x8002, &found) == (reported.algorithms_at != 0));
+        check_answer(bytes, length, &reported, both, size);
     } else {
         HOLDS(answer.code == STUN_TYPES_NOT_A_CHALLENGE || answer.code == STUN_TYPES_BID_DOWN
               || answer.code == STUN_TYPES_INCOMPLETE || answer.code == STUN_TYPES_NO_ALGORITHM);
@@ -486,14 +486,14 @@ static void check_number(const uint8_t *bytes, size_t length, const stun_types_a
 static void check_read(const uint8_t *original, size_t length, source *from) {
     static model_list shown;
     const uint8_t *bytes = give(original, length);
-    size_t told = 99, expected = 99, i;
+    size_t framed = 99, expected = 99, i;
     stun_types_header header;
     stun_types_answer parsed = model_parse(bytes, length), answer;
     model_shown(bytes, length, &shown);
     HOLDS(is_same(stun_types_parse(bytes, length), parsed));
     answer = model_framed(bytes, length, &expected);
-    HOLDS(is_same(stun_types_framed_length(bytes, length, &told), answer));
-    HOLDS(told == expected);
+    HOLDS(is_same(stun_types_framed_length(bytes, length, &framed), answer));
+    HOLDS(framed == expected);
     answer = model_header(bytes, length);
     HOLDS(is_same(stun_types_read_header(bytes, length, &header), answer));
     if (answer.code == STUN_TYPES_OK) {
@@ -783,38 +783,38 @@ static void add_integrity(writing *one, stun_types_integrity algorithm) {
 
 static void add_fingerprint(writing *one) {
     stun_types_answer answer = stun_types_add_fingerprint(one->room, one->size, &one->written);
-    uint32_t told = answer.code == STUN_TYPES_OK
+    uint32_t checksum = answer.code == STUN_TYPES_OK
         ? model_fingerprint(one->wanted.bytes, one->wanted.length) : 0;
     uint8_t value[4];
-    value[0] = (uint8_t)(told >> 24);
-    value[1] = (uint8_t)(told >> 16);
-    value[2] = (uint8_t)(told >> 8);
-    value[3] = (uint8_t)told;
+    value[0] = (uint8_t)(checksum >> 24);
+    value[1] = (uint8_t)(checksum >> 16);
+    value[2] = (uint8_t)(checksum >> 8);
+    value[3] = (uint8_t)checksum;
     check_added(one, answer, 0x8028, value, 4, FINE);
 }
 
 /* What was written is read: each attribute, in order, where it was added. */
 static void check_written(const writing *one, source *from) {
     stun_types_cursor cursor = STUN_TYPES_CURSOR;
-    stun_types_attribute told;
+    stun_types_attribute reported;
     size_t i;
-    stun_types_validated told_of;
+    stun_types_validated validated;
     stun_types_answer answer;
     for (i = 0; i < one->count; i++) {
-        HOLDS(stun_types_next(one->room, one->written, &cursor, &told));
-        HOLDS(told.value_at == one->added[i].value_at && told.type == one->added[i].type
-              && told.length == one->added[i].length);
+        HOLDS(stun_types_next(one->room, one->written, &cursor, &reported));
+        HOLDS(reported.value_at == one->added[i].value_at && reported.type == one->added[i].type
+              && reported.length == one->added[i].length);
     }
-    HOLDS(!stun_types_next(one->room, one->written, &cursor, &told));
+    HOLDS(!stun_types_next(one->room, one->written, &cursor, &reported));
     HOLDS(stun_types_parse(one->room, one->written).code == STUN_TYPES_OK);
-    answer = stun_types_validate(one->room, one->written, &key, &told_of);
+    answer = stun_types_validate(one->room, one->written, &key, &validated);
     if (has(one, 0x001C))
-        HOLDS(answer.code == STUN_TYPES_OK && told_of.algorithm == STUN_TYPES_INTEGRITY_SHA256
-              && told_of.hmac_length == 32);
+        HOLDS(answer.code == STUN_TYPES_OK && validated.algorithm == STUN_TYPES_INTEGRITY_SHA256
+              && validated.hmac_length == 32);
     else if (has(one, 0x0008))
-        HOLDS(answer.code == STUN_TYPES_OK && told_of.algorithm == STUN_TYPES_INTEGRITY_SHA1
-              && told_of.hmac_length == 20);
-    else HOLDS(answer.code == STUN_TYPES_MISSING_ATTRIBUTE && told_of.algorithm == 0);
+        HOLDS(answer.code == STUN_TYPES_OK && validated.algorithm == STUN_TYPES_INTEGRITY_SHA1
+              && validated.hmac_length == 20);
+    else HOLDS(answer.code == STUN_TYPES_MISSING_ATTRIBUTE && validated.algorithm == 0);
     if (one->written < 2000) check_read(one->wanted.bytes, one->written, from);
 }
 
@@ -925,7 +925,7 @@ static void check_channel_data(source *from) {
     size_t needed = is_padded ? model_padded(4 + length) : 4 + length, size = needed, written = 99;
     uint8_t *room;
     size_t i, framed = 99;
-    stun_types_channel_data told;
+    stun_types_channel_data reported;
     stun_types_answer answer;
     if (take(from) % 4 == 0) size = size * take(from) / 128;
     if (size > ROOM) size = ROOM;
@@ -946,13 +946,13 @@ static void check_channel_data(source *from) {
     HOLDS(model_number(room) == channel && model_number(room + 2) == length);
     HOLDS(memcmp(room + 4, data, length) == 0);
     for (i = 4 + length; i < written; i++) HOLDS(room[i] == 0);
-    HOLDS(stun_types_read_channel_data(room, written, &told).code == STUN_TYPES_OK);
-    HOLDS(told.channel == channel && told.length == length && told.data_at == 4);
+    HOLDS(stun_types_read_channel_data(room, written, &reported).code == STUN_TYPES_OK);
+    HOLDS(reported.channel == channel && reported.length == length && reported.data_at == 4);
     HOLDS(stun_types_channel_data_length(room, written, &framed).code == STUN_TYPES_OK);
     HOLDS(framed == model_padded(4 + length));
     if (written > 4) {
         size_t cut = take_two(from) % (4 + length);
-        answer = stun_types_read_channel_data(room, cut, &told);
+        answer = stun_types_read_channel_data(room, cut, &reported);
         HOLDS(
             is_same(answer, model_answer(STUN_TYPES_TRUNCATED, 0, cut < 4 ? 4 : 4 + length, cut)));
     }

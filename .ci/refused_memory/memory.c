@@ -27,7 +27,7 @@ static struct {
 } secrets[SECRETS];
 
 static int count;
-static long taken, unused, told;
+static long taken, unused, revealed;
 static size_t asked, refused, is_refused_on;
 
 /* From now on the request with this number is refused, 1 the next and 0 none, and if `on` isn't 0, every
@@ -107,16 +107,16 @@ void __sanitizer_free_hook(const volatile void *block) {
     }
     for (int i = 0; i < count; i++)
         if (memmem(bytes, size, secrets[i].bytes, secrets[i].length)) {
-            told++;
+            revealed++;
             dprintf(2, "a block of %zu bytes with %s\n", size, secrets[i].name);
         }
 }
 
-static void tell(const char *name, int right) { dprintf(1, "(%s): %s\n", name, right ? "right" : "wrong"); }
+static void report(const char *name, int right) { dprintf(1, "(%s): %s\n", name, right ? "right" : "wrong"); }
 
 __attribute__((destructor)) static void end(void) {
     if (taken) dprintf(2, "blocks that were not given back: %ld\n", taken);
-    tell("every block is given back", taken == 0);
-    tell("at least half of each block is used", unused == 0);
-    tell("no secret is given back", told == 0);
+    report("every block is given back", taken == 0);
+    report("at least half of each block is used", unused == 0);
+    report("no secret is given back", revealed == 0);
 }

@@ -45,9 +45,9 @@ def skip(name, why):
     print(f"{name}: skipped, {why}", flush=True)
 
 
-def check(holds, told):
+def check(holds, why):
     if not holds:
-        raise Wrong(told)
+        raise Wrong(why)
 
 
 @contextlib.contextmanager
@@ -89,8 +89,8 @@ def wait_until(holds, what):
 def build(compiler, *words):
     """Compiles sources, if the compiler has no complaint."""
     command = [compiler, *STRICT, "-I", HERE.parent, *words]
-    status, out, told = run(list(map(str, command)), 60)
-    check(status == 0, (out + told)[:2000])
+    status, out, reported = run(list(map(str, command)), 60)
+    check(status == 0, (out + reported)[:2000])
 
 
 def has_sanitizers(compiler, folder):
@@ -223,23 +223,23 @@ class Server:
 
 def expect(counted, **wanted):
     """Checks counts; those that aren't named have to be 0."""
-    told = {name: number for name, number in counted.items() if name != "uptime"}
-    rest = {name: wanted.get(name, 0) for name in told}
-    check(told == rest and told.keys() >= wanted.keys(), f"the server counted {told}, not {rest}")
+    reported = {name: number for name, number in counted.items() if name != "uptime"}
+    rest = {name: wanted.get(name, 0) for name in reported}
+    check(reported == rest and reported.keys() >= wanted.keys(), f"the server counted {reported}, not {rest}")
 
 
 def ask(program, address, port, *options):
     """Lets the client ask; its address has to be in what it prints."""
-    status, out, told = run([program, *options, address, port], 3 * PATIENCE)
+    status, out, reported = run([program, *options, address, port], 3 * PATIENCE)
     shown = re.escape(f"[{address}]" if ":" in address else address)
-    check(status == 0 and re.fullmatch(rf"{shown}:\d+\n", out), f"status {status}: {out}{told}")
+    check(status == 0 and re.fullmatch(rf"{shown}:\d+\n", out), f"status {status}: {out}{reported}")
 
 
 def put_load(program, address, port, window=4):
     """Lets the load run; nothing may be lost, wrong or repeated."""
     numbers = ["-c", str(LOAD["clients"]), "-m", str(LOAD["requests"]), "-w", str(window)]
-    status, out, told = run([program, *numbers, "-t", "10", address, port], 15)
-    check(status == 0, f"status {status}: {out}{told}")
+    status, out, reported = run([program, *numbers, "-t", "10", address, port], 15)
+    check(status == 0, f"status {status}: {out}{reported}")
 
 
 def after(statements):
@@ -289,9 +289,9 @@ def wrong_arguments(programs):
              ["-o", "max-connections=0", "::1", "1"], ["-U", "", "::1", "1"], ["example.org", "1"],
              ["010.0.0.1", "1"]]
     for command in commands + [[programs["server"], *options] for options in words]:
-        status, out, told = run(command)
-        right = status == 2 and out == "" and told.startswith("usage: ")
-        check(right, f"{command}: status {status}: {out}{told}")
+        status, out, reported = run(command)
+        right = status == 2 and out == "" and reported.startswith("usage: ")
+        check(right, f"{command}: status {status}: {out}{reported}")
     status, out, _ = run([programs["server"], "-h"])
     check(status == 0 and out.startswith("usage: ") and "max-age" in out, f"-h prints {out}")
     status, out, _ = run([programs["server"], "-V"])
@@ -302,8 +302,8 @@ def taken_address(programs):
     """A port that is another server's, and an address that isn't this machine's."""
     with Server(programs["server"], "-t") as server:
         for words in [["127.0.0.1", server.port], ["192.0.2.1", server.port]]:
-            status, out, told = run([programs["server"], *words])
-            check(status == 1 and out == "" and words[0] in told, f"status {status}: {out}{told}")
+            status, out, reported = run([programs["server"], *words])
+            check(status == 1 and out == "" and words[0] in reported, f"status {status}: {out}{reported}")
 
 
 # ---- UDP
@@ -320,9 +320,9 @@ def over_udp(programs, bound, asked, *options):
         # (the client asks again if it isn't answered in half a second)
         check(counted["udp_received"] >= total, str(counted))
         expect(counted, udp_received=counted["udp_received"], udp_sent=counted["udp_received"])
-        told = server.ran.stdout.read().splitlines()
+        reported = server.ran.stdout.read().splitlines()
     shown = [f"[{address}]" if ":" in address else address for address in bound]
-    check(told == [f"listening on {address}:{server.port} over UDP" for address in shown], str(told))
+    check(reported == [f"listening on {address}:{server.port} over UDP" for address in shown], str(reported))
 
 
 def asking_socket(server, source="127.0.0.1", address="127.0.0.1"):
@@ -680,8 +680,8 @@ def not_started(programs):
         server.counts()
         check(not server.others, f"it says more: {server.others}")
         lift += f"resource.prlimit({server.ran.pid}, resource.RLIMIT_NPROC, {limit})"
-        status, _, told = run([*after(lift), "/bin/true"])
-        check(status == 0, told)
+        status, _, reported = run([*after(lift), "/bin/true"])
+        check(status == 0, reported)
         ask(programs["client"], "127.0.0.1", server.port)
         counted = server.end()
         check(counted["workers_died"] == 0 and counted["udp_sent"] > 0, str(counted))
@@ -729,8 +729,8 @@ def rights(programs):
     with Server(programs["server"], "-t", "-U", user.pw_name) as server:
         has_rights(programs, server, user, {user.pw_gid} if as_root else {*os.getgroups()})
     for name in ("root", "no-such-user"):
-        status, _, told = run([programs["server"], "-U", name, "127.0.0.1", free_port(["127.0.0.1"])])
-        check(status == 1 and name in told, f"status {status}: {told}")
+        status, _, reported = run([programs["server"], "-U", name, "127.0.0.1", free_port(["127.0.0.1"])])
+        check(status == 1 and name in reported, f"status {status}: {reported}")
 
 
 def granted_rights(programs):
@@ -752,8 +752,8 @@ def granted_rights(programs):
 
 def sandbox(programs):
     """Workers are confined as far as the system can do so, and the server says how far."""
-    status, out, told = run([programs["sandbox_trial"]], PATIENCE)
-    check(status == 0, f"status {status}: {told}")
+    status, out, reported = run([programs["sandbox_trial"]], PATIENCE)
+    check(status == 0, f"status {status}: {reported}")
     lines = [line.split() for line in out.splitlines()]
     version, can_filter = int(lines[0][1]), lines[0][3] == "1"
     met = {(kind, name): int(error) for kind, name, error in lines[1:]}
@@ -819,20 +819,20 @@ def passed_on(programs):
             expect(server.end(), udp_received=1, udp_sent=1, tcp_accepted=1, tcp_received=1, tcp_sent=1)
         words = ["127.0.0.1", free_port(["127.0.0.1"])]
         opened = [int(number) for number in numbers]
-        status, _, told = run([*command, programs["server"], *words], pass_fds=opened)
-        check(status == 2, f"addresses beside sockets: status {status}: {told}")
+        status, _, reported = run([*command, programs["server"], *words], pass_fds=opened)
+        check(status == 2, f"addresses beside sockets: status {status}: {reported}")
         others = {**os.environ, "LISTEN_FDS": "1", "LISTEN_PID": "1"}
-        status, _, told = run([programs["server"]], env=others)
-        check(status == 2, f"another process' sockets: status {status}: {told}")
+        status, _, reported = run([programs["server"]], env=others)
+        check(status == 2, f"another process' sockets: status {status}: {reported}")
         for number in ["33", "0", "x", "", "-1"]:
             news = f"os.environ.update(LISTEN_FDS='{number}', LISTEN_PID=str(os.getpid()))"
-            status, _, told = run([*after(news), programs["server"], "-j", "2"])
-            right = status == 1 and told.startswith(f"server: LISTEN_FDS={number}: ") and "32" in told
-            check(right, f"LISTEN_FDS={number}: status {status}: {told}")
+            status, _, reported = run([*after(news), programs["server"], "-j", "2"])
+            right = status == 1 and reported.startswith(f"server: LISTEN_FDS={number}: ") and "32" in reported
+            check(right, f"LISTEN_FDS={number}: status {status}: {reported}")
         with socket.socket() as deaf:
             command = [sys.executable, "-c", PASS_ON, "1", str(deaf.fileno())]
-            status, _, told = run([*command, programs["server"]], pass_fds=[deaf.fileno()])
-            check(status == 1 and "3" in told, f"a socket that isn't bound: {status}: {told}")
+            status, _, reported = run([*command, programs["server"]], pass_fds=[deaf.fileno()])
+            check(status == 1 and "3" in reported, f"a socket that isn't bound: {status}: {reported}")
 
 
 def notified(programs, name):
@@ -847,10 +847,10 @@ def notified(programs, name):
             wait_until(lambda: server.sockets() == [1], "a worker has the manager's socket")
             ask(programs["client"], "127.0.0.1", server.port)
             server.end()
-            told = manager.recv(200)
-            while told == b"WATCHDOG=1":
-                told = manager.recv(200)
-            check(told == b"STOPPING=1", f"it says {told}")
+            reported = manager.recv(200)
+            while reported == b"WATCHDOG=1":
+                reported = manager.recv(200)
+            check(reported == b"STOPPING=1", f"it says {reported}")
 
 
 UNIT = (HERE / "stun-server.service").read_text()
@@ -859,9 +859,9 @@ UNIT_COMMAND = re.search(r"^ExecStart=(.*)$", UNIT, re.M)[1].split()
 
 def unit_command(programs):
     """The command of the unit runs."""
-    status, _, told = run([programs["server"], *UNIT_COMMAND[1:-2], "-V"])
+    status, _, reported = run([programs["server"], *UNIT_COMMAND[1:-2], "-V"])
     right = UNIT_COMMAND[0] == "/usr/local/bin/stun-server" and status == 0
-    check(right, f"status {status}: {told}")
+    check(right, f"status {status}: {reported}")
 
 
 def unit_file(programs, folder):
@@ -870,8 +870,8 @@ def unit_file(programs, folder):
         raise Skipped("systemd-analyze isn't on this machine")
     tried = folder / "stun-server.service"
     tried.write_text(UNIT.replace(UNIT_COMMAND[0], programs["server"]))
-    status, out, told = run(["systemd-analyze", "verify", "--man=no", str(tried)], 60)
-    check(status == 0 and out + told == "", f"status {status}: {out}{told}")
+    status, out, reported = run(["systemd-analyze", "verify", "--man=no", str(tried)], 60)
+    check(status == 0 and out + reported == "", f"status {status}: {out}{reported}")
 
 
 # ---- All

@@ -58,11 +58,11 @@ static void end_row(void) {
 /* Prints the row in which a page that may not be touched was touched. */
 static void touched(int number) {
     static const char text[] = ": a page that may not be touched was touched, or a slice written\n";
-    ssize_t told = write(2, row_group, strlen(row_group));
-    told += write(2, ", ", 2);
-    told += write(2, row_name, strlen(row_name));
-    told += write(2, text, sizeof text - 1);
-    _exit(told > 0 ? 128 + number : 1);
+    ssize_t written = write(2, row_group, strlen(row_group));
+    written += write(2, ", ", 2);
+    written += write(2, row_name, strlen(row_name));
+    written += write(2, text, sizeof text - 1);
+    _exit(written > 0 ? 128 + number : 1);
 }
 
 void check_begin(guarded_side new_side) {

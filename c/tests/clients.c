@@ -364,17 +364,17 @@ static void test_challenges(void) {
     size_t i;
     for (i = 0; i < COUNT(challenges); i++) {
         slice bytes, tried, supported;
-        stun_types_challenge *told;
+        stun_types_challenge *challenge;
         row("stun_types_challenge_of", challenges[i].name);
         bytes = hex(CHALLENGE);
         tried = hex(challenges[i].tried);
         supported = given(challenges[i].supported, 2 * challenges[i].supported_count);
-        told = NEW(stun_types_challenge);
+        challenge = NEW(stun_types_challenge);
         ANSWERS(stun_types_challenge_of(bytes.bytes, bytes.length, (const void *)supported.bytes,
                                         challenges[i].supported_count, challenges[i].was_tried,
-                                        tried.bytes, tried.length, i % 2 == 0, told),
+                                        tried.bytes, tried.length, i % 2 == 0, challenge),
                 PLAIN(challenges[i].code));
-        if (challenges[i].code != STUN_TYPES_OK) CHECK(is_untouched(told, sizeof *told));
+        if (challenges[i].code != STUN_TYPES_OK) CHECK(is_untouched(challenge, sizeof *challenge));
     }
 }
 

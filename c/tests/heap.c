@@ -62,9 +62,9 @@ void heap_add_secret(const void *bytes, size_t length) {
 void heap_forget_secrets(void) { secret_count = 0; }
 
 long heap_faults(void) {
-    long told = faults;
+    long found = faults;
     faults = 0;
-    return told;
+    return found;
 }
 
 static bool holds(const uint8_t *bytes, size_t length, const uint8_t *secret,

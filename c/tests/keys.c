@@ -435,7 +435,7 @@ static const struct {
     stun_types_integrity algorithm;
     size_t size;
     uint32_t code;
-} told[] = {
+} exported[] = {
     {"of both algorithms", KEY_MD5, STUN_TYPES_INTEGRITY_ANY, 16, STUN_TYPES_OK},
     {"of SHA-1, in more room", KEY_MD5, STUN_TYPES_INTEGRITY_SHA1, 20, STUN_TYPES_OK},
     {"of SHA-256", KEY_SHA256, STUN_TYPES_INTEGRITY_SHA256, 32, STUN_TYPES_OK},
@@ -443,29 +443,29 @@ static const struct {
     {"in less room", KEY_SHA256, STUN_TYPES_INTEGRITY_SHA256, 31, STUN_TYPES_TOO_SMALL},
 };
 
-static void test_told(void) {
+static void test_key_bytes(void) {
     size_t i;
-    for (i = 0; i < COUNT(told); i++) {
+    for (i = 0; i < COUNT(exported); i++) {
         slice bytes;
         stun_types_key *key;
         uint8_t *place;
         size_t *written;
         stun_types_integrity *algorithm;
-        row("stun_types_key_bytes", told[i].name);
-        bytes = hex(told[i].bytes);
-        key = bytes_key(bytes, told[i].algorithm);
-        place = room(told[i].size);
+        row("stun_types_key_bytes", exported[i].name);
+        bytes = hex(exported[i].bytes);
+        key = bytes_key(bytes, exported[i].algorithm);
+        place = room(exported[i].size);
         written = NEW(size_t);
         algorithm = NEW(stun_types_integrity);
-        if (told[i].code == STUN_TYPES_OK) {
-            ANSWERS(stun_types_key_bytes(key, place, told[i].size, written, algorithm), OK_ANSWER);
-            CHECK(*written == bytes.length && *algorithm == told[i].algorithm);
+        if (exported[i].code == STUN_TYPES_OK) {
+            ANSWERS(stun_types_key_bytes(key, place, exported[i].size, written, algorithm), OK_ANSWER);
+            CHECK(*written == bytes.length && *algorithm == exported[i].algorithm);
             CHECK_BYTES(place, bytes.length, bytes);
-            CHECK(is_untouched(place + bytes.length, told[i].size - bytes.length));
+            CHECK(is_untouched(place + bytes.length, exported[i].size - bytes.length));
         } else {
-            ANSWERS(stun_types_key_bytes(key, place, told[i].size, written, algorithm),
-                    LENGTHS(STUN_TYPES_TOO_SMALL, bytes.length, told[i].size));
-            CHECK(is_untouched(place, told[i].size) && is_untouched(written, sizeof *written));
+            ANSWERS(stun_types_key_bytes(key, place, exported[i].size, written, algorithm),
+                    LENGTHS(STUN_TYPES_TOO_SMALL, bytes.length, exported[i].size));
+            CHECK(is_untouched(place, exported[i].size) && is_untouched(written, sizeof *written));
             CHECK(is_untouched(algorithm, sizeof *algorithm));
         }
         stun_types_key_free(key);
@@ -585,7 +585,7 @@ static void test_policies(void) {
 
 void test_keys(void) {
     test_no_key();
-    test_told();
+    test_key_bytes();
     test_policies();
     test_changes();
     test_logins();

@@ -84,11 +84,11 @@ uint32_t model_fingerprint(const uint8_t *bytes, size_t at) {
 
 static stun_types_answer fingerprint_fault(const uint8_t *bytes, size_t at) {
     size_t length = model_number(bytes + at + 2);
-    uint32_t told;
+    uint32_t received;
     if (length < 4) return model_answer(TRUNCATED, 0, 4, length);
     if (length > 4) return model_answer(STUN_TYPES_TOO_LARGE, 0, 4, length);
-    told = (uint32_t)model_number(bytes + at + 4) << 16 | model_number(bytes + at + 6);
-    return model_answer(told == model_fingerprint(bytes, at)
+    received = (uint32_t)model_number(bytes + at + 4) << 16 | model_number(bytes + at + 6);
+    return model_answer(received == model_fingerprint(bytes, at)
                             ? (uint32_t)OK
                             : (uint32_t)STUN_TYPES_FINGERPRINT_MISMATCH,
                         0, 0, 0);

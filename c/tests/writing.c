@@ -412,7 +412,7 @@ static void test_many(void) {
     uint8_t *bytes;
     size_t *written;
     stun_types_cursor cursor = STUN_TYPES_CURSOR;
-    stun_types_attribute told;
+    stun_types_attribute shown;
     slice value;
     row("adds", "hundreds of attributes");
     written = NEW(size_t);
@@ -425,7 +425,7 @@ static void test_many(void) {
     ANSWERS(take_step(&empty, bytes, size, written), OF_TYPE(STUN_TYPES_EXISTS, 0x0008));
     CHECK(*written == size);
     ANSWERS(stun_types_parse(bytes, size), OK_ANSWER);
-    while (stun_types_next(bytes, size, &cursor, &told)) count++;
+    while (stun_types_next(bytes, size, &cursor, &shown)) count++;
     CHECK(count == MANY + 2);
 }
 

@@ -1,5 +1,5 @@
 //! The functions of `bench/stun_bench.h`, which the driver of `bench/` measures. They use the
-//! public items of `stun_types`, the CRC-32 of `stun_keys`, and the HMAC of `stun_integrity`.
+//! public items of `stun_types`, the CRC-32 of `stun_keys`, and the HMAC of `stun_attributes`.
 #![tactic(auto)]
 
 mod keys;
