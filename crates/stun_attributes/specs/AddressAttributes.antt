@@ -6,8 +6,6 @@ use Rattle.stun_attributes.specs.Reading.{Reads}
 use Rattle.stun_values.specs.Addresses.{address_fault, Spells}
 use Rattle.stun_attributes.specs.declared.mapped.MappedSocketAddr.{MappedSocketAddr}
 use Rattle.stun_attributes.specs.declared.xored.XorSocketAddr.{XorSocketAddr}
-use Rattle.stun_attributes.specs.declared.alternate_server.AlternateServer.{AlternateServer}
-use Rattle.stun_attributes.specs.declared.xor_mapped_address.XorMappedAddress.{XorMappedAddress}
 
 abbrev pub mapped_addr : MappedSocketAddr → SocketAddr
 mapped_addr mapped = mapped.addr
@@ -15,13 +13,6 @@ mapped_addr mapped = mapped.addr
 -- the address as it is written, after the XOR
 abbrev pub written_addr : XorSocketAddr → SocketAddr
 written_addr xored = mapped_addr xored.addr
-
-abbrev pub server_addr : AlternateServer → SocketAddr
-server_addr server = mapped_addr server.addr
-
--- the address as it is written, after the XOR
-abbrev pub written_mapped_addr : XorMappedAddress → SocketAddr
-written_mapped_addr mapped = written_addr mapped.addr
 
 -- ---- What reading answers
 

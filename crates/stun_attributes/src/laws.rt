@@ -8,19 +8,21 @@ ghost use Rattle.stun_grammar.specs.AttributeTypes.{USERNAME, REALM, NONCE, SOFT
 ghost use Rattle.stun_grammar.specs.declared.error.StunParseError.{StunParseError};
 ghost use Rattle.stun_grammar.specs.declared.error.StunParseError.TheVariants.{OutOfMemory};
 ghost use Rattle.stun_attributes.specs.ReadBack.{HasOneReadingInMemory, IsReadBack, IsReadBackInMemory};
-ghost use Rattle.stun_values.specs.Addresses.{address_value, IsInRange, IsPlain, IsXored};
+ghost use Rattle.stun_values.specs.Addresses.{IsInRange, IsPlain, IsXored};
 ghost use Rattle.stun_values.specs.Algorithms.{algorithm_encoding, algorithms_encoding};
 ghost use Rattle.stun_values.specs.ErrorValues.{error_value};
 ghost use Rattle.stun_values.specs.TextValues.{text_max, username_max};
 ghost use Rattle.stun_values.specs.TypeLists.{types_encoding, AreTypes};
-ghost use Rattle.stun_attributes.specs.declared.alternate_server.AlternateServer.{AlternateServer};
+ghost use Rattle.stun_attributes.specs.declared.alternate_server.AlternateServerKind.{AlternateServerKind};
 ghost use Rattle.stun_attributes.specs.declared.error_code.ErrorCode.{ErrorCode};
 ghost use Rattle.stun_attributes.specs.declared.password_algorithm.PasswordAlgorithm.{PasswordAlgorithm};
 ghost use Rattle.stun_attributes.specs.declared.password_algorithms.PasswordAlgorithms.{PasswordAlgorithms};
 ghost use Rattle.stun_attributes.specs.declared.text.TextAttribute.{TextAttribute};
 ghost use Rattle.stun_attributes.specs.declared.unknown_attributes.UnknownAttributes.{UnknownAttributes};
-ghost use Rattle.stun_attributes.specs.declared.xor_mapped_address.XorMappedAddress.{XorMappedAddress};
-ghost use Rattle.stun_attributes.specs.AddressAttributes.{ReadsAddress, server_addr, written_mapped_addr};
+ghost use Rattle.stun_attributes.specs.declared.xor_mapped_address.XorMappedAddressKind.{XorMappedAddressKind};
+ghost use Rattle.stun_attributes.specs.declared.kinds.address.AddressAttribute.{AddressAttribute};
+ghost use Rattle.stun_attributes.specs.declared.kinds.xored.XorAddressAttribute.{XorAddressAttribute};
+ghost use Rattle.stun_attributes.specs.Kinds.{addr_of, xored_of};
 ghost use Rattle.stun_attributes.specs.ErrorCodes.{error_code, error_reason, IsError, ReadsError};
 ghost use Rattle.stun_attributes.specs.PasswordAlgorithms.{ReadsAlgorithm, ReadsAlgorithms, held_algorithm, held_algorithms};
 ghost use Rattle.stun_attributes.specs.Texts.{text_bytes};
@@ -46,27 +48,6 @@ pub fn text_is_read_back<const TYPE: u16, const MAX: u16>()
 pub fn xor_twice()
     ensures { (id : ℕ) (addr x y : SocketAddr) → IsPlain addr → IsInRange addr
         → IsXored id addr x → IsXored id x y → y ≡ addr }
-{}
-
-/// An ALTERNATE-SERVER without flow info and scope ID is read back.
-#[tactic(auto, using(crate::proofs::AddressesLemmas::address_back))]
-pub fn address_is_read_back()
-    ensures { (attribute : AlternateServer) (result : Result AlternateServer StunParseError)
-        → IsPlain (server_addr attribute) → IsInRange (server_addr attribute)
-        → ReadsAddress server_addr (address_value (server_addr attribute)) result
-        → IsOkAnd result
-        (λ read. IsInRange (server_addr read) → server_addr read ≡ server_addr attribute) }
-{}
-
-/// An XOR-MAPPED-ADDRESS is read back.
-#[tactic(auto, using(crate::proofs::AddressesLemmas::address_back))]
-pub fn xored_address_is_read_back()
-    ensures { (attribute : XorMappedAddress) (result : Result XorMappedAddress StunParseError)
-        → IsInRange (written_mapped_addr attribute)
-        → ReadsAddress written_mapped_addr (address_value (written_mapped_addr attribute)) result
-        → IsOkAnd result
-        (λ read. IsInRange (written_mapped_addr read)
-        → written_mapped_addr read ≡ written_mapped_addr attribute) }
 {}
 
 /// An ERROR-CODE is read back, unless out of memory.
@@ -138,19 +119,20 @@ pub fn attribute_types_are_read_back<'a>()
         ⟦<AlternateDomain as AttributeFromRaw<'a>>⟧.reads attribute
         (λ read. text_bytes read ≡ text_bytes attribute) }
     // an address without flow info and scope ID
-    ensures alternate_server { (attribute : AlternateServer) → IsPlain (server_addr attribute)
-        → IsInRange (server_addr attribute) → IsReadBack
+    ensures alternate_server { (attribute : AddressAttribute AlternateServerKind)
+        → IsPlain (addr_of attribute)
+        → IsInRange (addr_of attribute) → IsReadBack
         ⟦<AlternateServer as Attribute>⟧.atype ⟦<AlternateServer as Attribute>⟧.value
         ⟦<AlternateServer as AttributeFromRaw<'a>>⟧.reads_ref
         ⟦<AlternateServer as AttributeFromRaw<'a>>⟧.reads attribute
-        (λ read. IsInRange (server_addr read) → server_addr read ≡ server_addr attribute) }
-    ensures xor_mapped_address { (attribute : XorMappedAddress) →
-        IsInRange (written_mapped_addr attribute) → IsReadBack
+        (λ read. IsInRange (addr_of read) → addr_of read ≡ addr_of attribute) }
+    ensures xor_mapped_address { (attribute : XorAddressAttribute XorMappedAddressKind) →
+        IsInRange (xored_of attribute) → IsReadBack
         ⟦<XorMappedAddress as Attribute>⟧.atype ⟦<XorMappedAddress as Attribute>⟧.value
         ⟦<XorMappedAddress as AttributeFromRaw<'a>>⟧.reads_ref
         ⟦<XorMappedAddress as AttributeFromRaw<'a>>⟧.reads attribute
-        (λ read. IsInRange (written_mapped_addr read)
-        → written_mapped_addr read ≡ written_mapped_addr attribute) }
+        (λ read. IsInRange (xored_of read)
+        → xored_of read ≡ xored_of attribute) }
     ensures error_code { (attribute : ErrorCode) → IsReadBackInMemory
         ⟦<ErrorCode as Attribute>⟧.atype ⟦<ErrorCode as Attribute>⟧.value
         ⟦<ErrorCode as AttributeFromRaw<'a>>⟧.reads_ref

@@ -1,7 +1,8 @@
-//! The attributes of RFC 8489. At the root are those whose value is a text, an address, an error
-//! code, a list of attribute types, or one or more password algorithms. Below: `wire`, the traits of
-//! attributes, the raw attribute and how attributes are encoded, checked and walked; `kinds`, the
-//! forms that several attributes share; `integrity`, the attributes that protect a message.
+//! The attributes of RFC 8489, and what an attribute is. Private modules hold the traits of attributes,
+//! the raw attribute, and how attributes are encoded, checked and walked (`wire`); the forms that
+//! several attributes share (`kinds`); and the attributes that protect a message, with USERHASH
+//! (`integrity`). Beside them are the attributes whose value is a text, an address, an error code, a
+//! list of attribute types, or one or more password algorithms. Every public name is at the root.
 #![tactic(auto)]
 
 mod alternate_domain;
@@ -24,7 +25,7 @@ mod xor_mapped_address;
 mod xored;
 
 pub use alternate_domain::AlternateDomain;
-pub use alternate_server::AlternateServer;
+pub use alternate_server::{AlternateServer, AlternateServerKind};
 pub use error_code::{ErrorCode, ErrorCodeBuilder};
 pub use integrity::{
     Fingerprint, MessageIntegrity, MessageIntegritySha256, Userhash, fingerprint_at,
@@ -39,9 +40,8 @@ pub use kinds::{
     packed_attribute_is_read_back,
 };
 pub use laws::{
-    address_is_read_back, algorithm_is_read_back, algorithms_are_read_back,
-    attribute_types_are_read_back, error_is_read_back, text_is_read_back, types_are_read_back,
-    xor_twice, xored_address_is_read_back,
+    algorithm_is_read_back, algorithms_are_read_back, attribute_types_are_read_back,
+    error_is_read_back, text_is_read_back, types_are_read_back, xor_twice,
 };
 pub use mapped::MappedSocketAddr;
 pub use nonce::Nonce;
@@ -57,5 +57,5 @@ pub use wire::{
     RawAttribute, ReadValue, TypedAttribute, attribute_at, borrowed_attribute, check_type,
     copy_to_start, owned_attribute, print_malformed, to_owned_raw, write_attribute, write_encoded,
 };
-pub use xor_mapped_address::XorMappedAddress;
+pub use xor_mapped_address::{XorMappedAddress, XorMappedAddressKind};
 pub use xored::XorSocketAddr;

@@ -29,8 +29,8 @@ use Rattle.stun_attributes.specs.ErrorCodes.{error_code, error_reason, IsError, 
 use Rattle.stun_values.specs.TypeLists.{type_encoding, types_encoding}
 use Rattle.stun_types.specs.Writers.{Writer, IsBegun, IsUnchanged, Spends, Gains, Adds}
 use Rattle.stun_types.specs.Replies.{is_answer_to, response_type, own_software, error_attribute, unknown_reply, making_refusal, refusal, first_refusal, accepted, IsReply, IsPartOfReply, Replies, attribute_of, AddsMade}
-use Rattle.stun_types.specs.declared.message.reply.ReplyPart.{ReplyPart}
-use Rattle.stun_types.specs.declared.message.reply.ReplyPart.TheVariants.{Software, Error, Types}
+use Rattle.stun_types.specs.declared.message.reply.parts.ReplyPart.{ReplyPart}
+use Rattle.stun_types.specs.declared.message.reply.parts.ReplyPart.TheVariants.{Software, Error, Types}
 
 -- ---- A reply and its header
 

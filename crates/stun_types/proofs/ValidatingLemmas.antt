@@ -1,5 +1,5 @@
 -- Lemmas on validating a message.
-use Rattle.std.proofs.Common.{◌≡◌, ℕ, suc, ◌%◌, ◌<◌, ◌≤◌, Bool, true, false, cond, eqb, ltb, List, [], ◌∷◌, length, get_or, take, Option, Some, None, Ok, Err, refl, sym, ap, ◌∙◌, arith, ◌⊎◌, inl, inr}
+use Rattle.std.proofs.Common.{◌≡◌, ℕ, ◌%◌, ◌≤◌, Bool, true, false, cond, eqb, ltb, List, length, take, Option, Some, None, Ok, Err, refl, sym, ap, ◌∙◌, arith, ◌⊎◌, inl, inr}
 use Rattle.std.specs.Prelude.{nat_eq}
 use Rattle.std.specs.Option.{option_or}
 use Rattle.std.specs.Cmp.Lexicographic.{pointwise}
@@ -22,17 +22,12 @@ use Rattle.stun_types.specs.Validating.{IsChecked}
 
 -- ---- The attribute that is checked
 
--- each number in a slice is a byte
-pub all_bytes : (d : List ℕ) → ((i : ℕ) → get_or d i 0 < 256) → IsBytes d
-all_bytes [] each = tt
-all_bytes (x ∷ d) each = (each 0, all_bytes d (λ i. each (suc i)))
-
 -- the attribute's header is after the message's header, and within the message
-pub past_header : (m : Option IntegrityAlgorithm) (d : List ℕ) (x : Shown) → ((i : ℕ) → get_or d i 0 < 256) → IsChecked m d x → 20 ≤ x.offset
-past_header m d x each checked = (stands (is_checked_type m) d x (all_bytes d each) checked.last_is).header
+pub past_header : (m : Option IntegrityAlgorithm) (d : List ℕ) (x : Shown) → IsBytes d → IsChecked m d x → 20 ≤ x.offset
+past_header m d x bytes checked = (stands (is_checked_type m) d x bytes checked.last_is).header
 
-pub before_end : (m : Option IntegrityAlgorithm) (d : List ℕ) (x : Shown) → ((i : ℕ) → get_or d i 0 < 256) → IsChecked m d x → x.offset ≤ length d
-before_end m d x each checked = omega (arith, (stands (is_checked_type m) d x (all_bytes d each) checked.last_is).within)
+pub before_end : (m : Option IntegrityAlgorithm) (d : List ℕ) (x : Shown) → IsBytes d → IsChecked m d x → x.offset ≤ length d
+before_end m d x bytes checked = omega (arith, (stands (is_checked_type m) d x bytes checked.last_is).within)
 
 -- the type of an algorithm's attribute determines that algorithm
 pub own_algorithm : (algorithm : IntegrityAlgorithm) → algorithm ≡ algorithm_of (type_of_algorithm algorithm)

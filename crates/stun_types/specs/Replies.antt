@@ -21,8 +21,8 @@ use Rattle.stun_base.specs.declared.message_type.MessageClass.TheVariants.{Error
 use Rattle.stun_base.specs.MessageTypes.{type_of, class_of, method_of, is_response}
 use Rattle.stun_values.specs.ErrorValues.{error_value, making_fault}
 use Rattle.stun_values.specs.TypeLists.{types_encoding}
-use Rattle.stun_types.specs.declared.message.reply.ReplyPart.{ReplyPart}
-use Rattle.stun_types.specs.declared.message.reply.ReplyPart.TheVariants.{Software, Error, Types}
+use Rattle.stun_types.specs.declared.message.reply.parts.ReplyPart.{ReplyPart}
+use Rattle.stun_types.specs.declared.message.reply.parts.ReplyPart.TheVariants.{Software, Error, Types}
 use Rattle.stun_types.specs.Writers.{Writer, IsUnchanged, Spends, Adds}
 
 -- ---- Which response answers a request

@@ -2,7 +2,8 @@
 
 ghost use Rattle.stun_grammar.specs.AttributeTypes.{ALTERNATE_DOMAIN, ALTERNATE_SERVER, ERROR_CODE, FINGERPRINT, MESSAGE_INTEGRITY, MESSAGE_INTEGRITY_SHA256, NONCE, PASSWORD_ALGORITHM, PASSWORD_ALGORITHMS, REALM, SOFTWARE, UNKNOWN_ATTRIBUTES, USERHASH, USERNAME, XOR_MAPPED_ADDRESS};
 ghost use Rattle.stun_values.specs.TextValues.{text_max, username_max};
-ghost use Rattle.stun_attributes.specs.AddressAttributes.{ReadsAddress, server_addr, written_mapped_addr};
+ghost use Rattle.stun_attributes.specs.AddressAttributes.{ReadsAddress};
+ghost use Rattle.stun_attributes.specs.Kinds.{addr_of, xored_of};
 ghost use Rattle.stun_attributes.specs.ErrorCodes.{ReadsError};
 ghost use Rattle.stun_attributes.specs.PasswordAlgorithms.{ReadsAlgorithm, ReadsAlgorithms};
 ghost use Rattle.stun_attributes.specs.Texts.{ReadsText};
@@ -36,11 +37,11 @@ pub fn types_are_read<'a>()
     ensures alternate_domain { IsReadBy ALTERNATE_DOMAIN (ReadsText 65535)
         ⟦<AlternateDomain as AttributeFromRaw<'a>>⟧.reads_ref
         ⟦<AlternateDomain as AttributeFromRaw<'a>>⟧.reads }
-    ensures alternate_server { IsReadBy ALTERNATE_SERVER (ReadsAddress server_addr)
+    ensures alternate_server { IsReadBy ALTERNATE_SERVER (ReadsAddress addr_of)
         ⟦<AlternateServer as AttributeFromRaw<'a>>⟧.reads_ref
         ⟦<AlternateServer as AttributeFromRaw<'a>>⟧.reads }
     // the address as it is written, which is XORed
-    ensures xor_mapped_address { IsReadBy XOR_MAPPED_ADDRESS (ReadsAddress written_mapped_addr)
+    ensures xor_mapped_address { IsReadBy XOR_MAPPED_ADDRESS (ReadsAddress xored_of)
         ⟦<XorMappedAddress as AttributeFromRaw<'a>>⟧.reads_ref
         ⟦<XorMappedAddress as AttributeFromRaw<'a>>⟧.reads }
     ensures error_code { IsReadBy ERROR_CODE ReadsError

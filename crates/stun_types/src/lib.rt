@@ -6,8 +6,12 @@
 //! once; for a FINGERPRINT the bytes before it are read again. A message keeps the offsets of its
 //! integrity attributes: [`message::Message::validate_integrity`] reads the one that it checks
 //! at its offset, and then the bytes that the HMAC covers.
-//! [`message::Message::builder`] begins a message, and
-//! [`message::write::MessageWriteExt::add_attribute`] adds to it.
+//! [`message::Message::builder`] begins a message, and [`message::MessageWriteExt::add_attribute`]
+//! adds to it; [`message::write_steps`] writes a whole one by a list of steps. [`mod@attribute`] has
+//! the attributes and the traits for your own, [`show`] prints messages with them, [`data`] has bytes
+//! that are borrowed or owned, and [`prelude`] the traits. Two private modules do the work on bytes:
+//! `reading`, on which `Message` is built, and `writing`.
+//!
 //! Values, attributes and messages print by `Display`, whose contract promises the text for a plain
 //! `{}` alone (no width, no precision, no `{:#}`), and [`write_text`] writes the same text to a
 //! slice, which succeeds exactly if the slice has room.

@@ -1,10 +1,10 @@
 //! Writing messages (RFC 8489, sections 5 and 14): where to ([`MessageWrite`], with a vector and a
-//! borrowed slice), how a message is begun ([`begin_message`]), how attributes are added to it
-//! ([`MessageWriteExt`]), and how a list of steps writes a whole message ([`write_steps`]).
+//! borrowed slice), how attributes are added ([`MessageWriteExt`]), and how a list of steps writes a
+//! whole message ([`write_steps`]). `Message::builder` begins one.
 mod adds;
 mod among;
 mod append;
-mod begin;
+mod header;
 mod laws;
 mod listed;
 mod protect;
@@ -21,7 +21,8 @@ mod writer;
 pub use adds::MessageWriteExt;
 pub use among::{first_among, is_among};
 pub use append::{append_attribute, append_encoded, append_value};
-pub use begin::{begin_message, begin_message_into, write_message_header};
+pub(crate) use header::header_bytes;
+pub use header::write_message_header;
 pub use laws::{appended_resumes, begun_resumes, resumed_parses, writers_agree};
 pub use resume_point::ResumePoint;
 pub use slice::MessageWriteMutSlice;

@@ -50,7 +50,7 @@ impl AttributeKind for ChannelNumberKind {
 /// use stun_types::attribute::RawAttribute;
 /// use stun_types::message::TransactionId;
 /// use stun_types::prelude::*;
-/// use crate::basics::XorPeerAddress;
+/// use turn_attrs::XorPeerAddress;
 ///
 /// // The address and the transaction ID of the example in section 20 of RFC 8656.
 /// let raw = RawAttribute::from_bytes(b"\x00\x12\x00\x08\x00\x01\x5C\x74\xE1\x12\xA6\xD4")?;
@@ -86,7 +86,7 @@ impl AttributeKind for XorPeerAddressKind {
 /// ```
 /// use stun_types::attribute::RawAttribute;
 /// use stun_types::prelude::*;
-/// use crate::basics::PeerData;
+/// use turn_attrs::PeerData;
 ///
 /// let raw = RawAttribute::from_bytes(b"\x00\x13\x00\x05hello\x00\x00\x00")?;
 /// assert_eq!(rt; PeerData::from_raw(alloc, raw)?.data(), b"hello".as_slice());

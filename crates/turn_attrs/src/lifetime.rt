@@ -23,7 +23,7 @@ impl Lifetime {
     ///
     /// ```
     /// use stun_types::prelude::*;
-    /// use crate::Lifetime;
+    /// use turn_attrs::Lifetime;
     ///
     /// // The hour that the client of section 20 of RFC 8656 asks for.
     /// let mut bytes = [0; 8];

@@ -84,7 +84,7 @@ pub fn bytes_are_read_back<'a, K: AttributeKind>()
         → IsOkAnd result (λ read. bytes_of read ≡ bytes_of attribute) }
 {}
 
-/// An address without flow info and scope ID has one reading, and so has one as it is after the XOR.
+/// An address without flow info and scope ID has one reading, and so has an address that is XORed.
 pub fn address_attribute_is_read_back<K: AttributeKind>()
     ensures plain { (attribute : AddressAttribute K)
         → IsPlain (addr_of attribute) → IsInRange (addr_of attribute)
@@ -92,7 +92,7 @@ pub fn address_attribute_is_read_back<K: AttributeKind>()
         ⟦<AddressAttribute<K> as ReadValue>⟧.reads_value attribute
         (λ read. IsInRange (addr_of read) → addr_of read ≡ addr_of attribute) }
     ensures xored { (attribute : XorAddressAttribute K)
-        → IsPlain (xored_of attribute) → IsInRange (xored_of attribute)
+        → IsInRange (xored_of attribute)
         → HasOneReading ⟦<XorAddressAttribute<K> as EncodeValue>⟧.bytes
         ⟦<XorAddressAttribute<K> as ReadValue>⟧.reads_value attribute
         (λ read. IsInRange (xored_of read) → xored_of read ≡ xored_of attribute) }

@@ -1,8 +1,10 @@
-use crate::XorSocketAddr;
+ghost use Rattle.stun_values.specs.Addresses.{IsPlain};
+
 use crate::kinds::AttributeKind;
 use crate::kinds::printed::put_named;
 use crate::wire::{EncodeValue, ReadValue, TypedAttribute};
-use std::alloc::Global;
+use crate::{MappedSocketAddr, XorSocketAddr};
+use std::alloc::{AllocError, Global};
 use std::fmt;
 use std::marker::PhantomData;
 use std::net::SocketAddr;
@@ -27,11 +29,12 @@ use stun_text::{PrintText, TextSink};
 /// assert_eq!(rt; peer.addr(TransactionId::from(1000)), addr);
 /// ```
 #[derive(Drop)]
-#[derive_where(Clone, Debug, PartialEq, Eq)]
+#[derive_where(Debug, PartialEq, Eq)]
 pub struct XorAddressAttribute<K> {
     addr: XorSocketAddr,
     #[derive_where(skip)]
     kind: PhantomData<K>,
+    ghost plain: { IsPlain addr.addr.addr },
 }
 
 impl<K> XorAddressAttribute<K> {
@@ -54,6 +57,24 @@ impl<K> XorAddressAttribute<K> {
         ensures { IsXored transaction (xored_of self.now) result }
     {
         self.addr.addr(transaction)
+    }
+}
+
+/// The same address. No memory is allocated.
+impl<K> Clone for XorAddressAttribute<K> {
+    ghost use Rattle.std.specs.Prelude.{◌≡◌, ⊤};
+    ghost use Rattle.stun_attributes.specs.Kinds.{xored_of};
+
+    ghost is_clone = { λ attribute copy. xored_of copy ≡ xored_of attribute };
+
+    ghost is_infallible = { λ _. ⊤ };
+
+    fn clone(&self) -> Result<Self, AllocError> {
+        let addr = MappedSocketAddr::new(self.addr.addr.addr());
+        Ok(XorAddressAttribute {
+            addr: XorSocketAddr { addr },
+            kind: PhantomData,
+        })
     }
 }
 

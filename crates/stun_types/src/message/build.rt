@@ -8,7 +8,7 @@ ghost use Rattle.stun_base.specs.Drawing.{drawn_id};
 ghost use Rattle.stun_types.specs.Writers.{BeginsMessage, IsBegun, Pushes};
 
 use super::Message;
-use crate::writing::{MessageWrite, begin_message, begin_message_into};
+use crate::writing::{MessageWrite, header_bytes};
 use rand_core::Rng;
 use stun_base::{MessageClass, MessageType, Method, StunWriteError, TransactionId};
 
@@ -48,13 +48,14 @@ impl Message<'_> {
     pub fn builder<B: MessageWrite + Drop>(
         mtype: MessageType,
         transaction_id: TransactionId,
-        write: B,
+        mut write: B,
     ) -> Result<B, StunWriteError>
         requires empty { (B.state write).bytes ≡ [] }
         requires room { Fits (B.state write).greatest 20 }
         ensures { BeginsMessage (λ w. B.state w) result (B.state write) mtype transaction_id }
     {
-        begin_message(mtype, transaction_id, write)
+        Self::builder_into(mtype, transaction_id, &mut write)?;
+        Ok(write)
     }
 
     /// Begins a message in a borrowed writer, as [`Message::builder`] does.
@@ -83,6 +84,7 @@ impl Message<'_> {
     /// write.add_fingerprint()?;
     /// assert_eq!(rt; write.finish(), 28);
     /// ```
+    #[tactic(auto, using(stun_grammar::proofs::AddingLemmas::encoding_begins, crate::proofs::KeptHeadersLemmas::encoding_type, crate::proofs::KeptHeadersLemmas::encoding_id))]
     #[inline(always)]
     pub fn builder_into<B: MessageWrite>(
         mtype: MessageType,
@@ -94,7 +96,9 @@ impl Message<'_> {
         ensures { Pushes result (B.state write.old) (B.state write.new) 20 0
             (IsBegun (B.state write.old) (B.state write.new) mtype transaction_id) }
     {
-        begin_message_into(mtype, transaction_id, write)
+        // by the contract of `data`, a writer without bytes has no attributes
+        let _no_types = write.data();
+        write.push_data(&header_bytes(mtype, transaction_id))
     }
 
     /// Begins a request with the method `method` and a transaction ID that

@@ -5,10 +5,12 @@ ghost use Rattle.stun_types.specs.LookingUp.{nth, IsFound, IsRawFound, IsRead, I
 ghost use Rattle.stun_types.specs.Message.{message_bytes};
 
 use super::Message;
-use crate::reading::nth_raw;
+use crate::reading::{integrity_raw, type_number};
 use std::alloc::Global;
 use stun_attributes::{AttributeFromRaw, AttributeStaticType, RawAttribute};
 use stun_base::{AttributeType, StunParseError};
+use stun_grammar::IntegrityAlgorithm;
+use stun_grammar::attribute_types::{MESSAGE_INTEGRITY, MESSAGE_INTEGRITY_SHA256};
 
 impl<'a> Message<'a> {
     /// The attribute at place `n`, counted from 0, among those of the type `atype` that the message
@@ -35,7 +37,6 @@ impl<'a> Message<'a> {
     /// assert_eq!(rt; offset, 28);
     /// assert_eq!(rt; second.value().as_bytes(), b"b".as_slice());
     /// ```
-    #[tactic(auto, using(stun_grammar::proofs::ParsingLemmas::parsed_frame))]
     pub fn nth_raw_attribute_and_offset(
         &self,
         atype: AttributeType,
@@ -43,7 +44,16 @@ impl<'a> Message<'a> {
     ) -> Option<(usize, RawAttribute<'a>)>
         ensures { IsFound (nth (message_bytes self.now) atype.0 n) result }
     {
-        nth_raw(self.as_bytes(), self.integrity_offsets(), atype, n)
+        let wanted = atype.value();
+        if n == 0 && wanted == MESSAGE_INTEGRITY {
+            return integrity_raw(self.bytes, self.offsets, IntegrityAlgorithm::Sha1);
+        }
+        if n == 0 && wanted == MESSAGE_INTEGRITY_SHA256 {
+            return integrity_raw(self.bytes, self.offsets, IntegrityAlgorithm::Sha256);
+        }
+        self.iter_attributes()
+            .filter(|(_offset, attribute)| type_number(attribute) == wanted)
+            .nth(n)
     }
 
     /// The attribute at place `n`, counted from 0, among those of the type `atype` that the message

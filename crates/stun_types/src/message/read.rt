@@ -21,9 +21,9 @@ use stun_text::{PrintText, TextSink, TextTooLong, write_text};
 #[derive(Clone, Copy)]
 #[derive_where(Debug)]
 pub struct Message<'a> {
-    bytes: &'a [u8],
+    pub(super) bytes: &'a [u8],
     #[derive_where(skip)]
-    offsets: IntegrityOffsets,
+    pub(super) offsets: IntegrityOffsets,
     ghost parsed: { parse_fault bytes.now ≡ None },
     ghost keeps: { OffsetsOf offsets bytes.now },
 }
@@ -36,7 +36,6 @@ impl<'a> Message<'a> {
     ghost use Rattle.stun_base.specs.MessageTypes.{class_of, method_of, header_of, is_response as responds};
     ghost use Rattle.stun_types.specs.Message.{message_bytes};
     ghost use Rattle.stun_types.specs.Iterating.{items_left, borrowed};
-    ghost use Rattle.stun_types.specs.Offsets.{OffsetsOf};
 
     /// Parses a message: a header of twenty bytes, and the attributes that follow it up to the end
     /// of `bytes` (RFC 8489, sections 5, 6.3 and 14). The message borrows `bytes`. Parsing takes no
@@ -106,13 +105,6 @@ impl<'a> Message<'a> {
         ensures accepted { parse_fault (message_bytes self.now) ≡ None }
     {
         self.bytes
-    }
-
-    /// The offsets of the integrity attributes that it shows.
-    pub(super) fn integrity_offsets(&self) -> IntegrityOffsets
-        ensures { OffsetsOf result (message_bytes self.now) }
-    {
-        self.offsets
     }
 
     /// The header of the message: type, length field and transaction ID, which the methods below

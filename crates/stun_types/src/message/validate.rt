@@ -1,6 +1,6 @@
 //! Checking the HMAC of a message (RFC 8489, sections 9.1.3, 9.2.4, 14.5 and 14.6).
 
-ghost use Rattle.std.specs.Prelude.{◌≡◌, ◌≢◌, ◌↔◌, ℕ, List, None, Some, Ok, Err, IfOk};
+ghost use Rattle.std.specs.Prelude.{◌≡◌, ◌≢◌, ◌↔◌, ℕ, List, None, Some, Ok, Err, IfOk, IfErr};
 ghost use Rattle.stun_grammar.specs.declared.integrity_algorithm.IntegrityAlgorithm.{IntegrityAlgorithm};
 ghost use Rattle.stun_grammar.specs.Verdicts.{is_checked_type, verdict, covered};
 ghost use Rattle.stun_grammar.specs.Carrying.{Carries, CarriesPrefix};
@@ -9,12 +9,29 @@ ghost use Rattle.stun_keys.specs.Keys.{key_bytes, key_algorithm, credentials_key
 ghost use Rattle.stun_types.specs.Validating.{ShowsLawful};
 ghost use Rattle.stun_types.specs.Message.{message_bytes};
 
+mod compare;
+mod find;
+
 use super::Message;
-use crate::reading::{validate_bytes, validate_bytes_with_key};
+use compare::compare_hmac;
+use find::find_checked;
 use std::alloc::Global;
 use stun_base::{StunParseError, ValidateError};
 use stun_grammar::IntegrityAlgorithm;
-use stun_keys::keys::{IntegrityKey, MessageIntegrityCredentials};
+use stun_keys::keys::{IntegrityKey, MessageIntegrityCredentials, key_of_credentials};
+
+/// Makes the key that the credentials give for an algorithm; the error says that an allocation
+/// failed.
+fn key_for(
+    alloc: Global,
+    credentials: &MessageIntegrityCredentials,
+    algorithm: IntegrityAlgorithm,
+) -> Result<IntegrityKey, ValidateError>
+    ensures ok { IfOk result (λ key. key_bytes key ≡ credentials_key credentials.now algorithm) }
+    ensures err { IfErr result (λ e. e ≡ ValidateError.Parse StunParseError.OutOfMemory) }
+{
+    Ok(key_of_credentials(alloc, credentials, algorithm)?)
+}
 
 impl Message<'_> {
     /// Checks the last integrity attribute that the message shows, MESSAGE-INTEGRITY or
@@ -88,12 +105,9 @@ impl Message<'_> {
             → ((result ≡ Ok a) × (covered (is_checked_type None) (message_bytes self.now) ≡ Some c))
             ↔ Carries (message_bytes self.now) c (credentials_key credentials.now a) a }
     {
-        validate_bytes(
-            self.as_bytes(),
-            self.integrity_offsets(),
-            alloc,
-            credentials,
-        )
+        let found = find_checked(self.bytes, self.offsets, None)?;
+        let key = key_for(alloc, credentials, found.algorithm)?;
+        compare_hmac(self.bytes, found, &key)
     }
 
     /// Checks an integrity attribute with a key, as [`Message::validate_integrity`] does with
@@ -156,6 +170,7 @@ impl Message<'_> {
             × (covered (is_checked_type (Some a)) (message_bytes self.now) ≡ Some c))
             ↔ CarriesPrefix (message_bytes self.now) c (key_bytes key.now) a }
     {
-        validate_bytes_with_key(self.as_bytes(), self.integrity_offsets(), key)
+        let found = find_checked(self.bytes, self.offsets, key.algorithm())?;
+        compare_hmac(self.bytes, found, key)
     }
 }

@@ -49,7 +49,7 @@ pub fn check_frame(bytes: &[u8]) -> Result<(), StunParseError>
 /// # Examples
 ///
 /// ```
-/// use crate::message::message_length;
+/// use stun_types::message::message_length;
 ///
 /// // a request without attributes, and the first two bytes of another message
 /// let bytes = b"\x00\x01\x00\x00\x21\x12\xA4\x42abcdefghijkl\x00\x01";

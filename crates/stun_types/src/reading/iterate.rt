@@ -35,7 +35,7 @@ impl<'a> MessageAttributesIter<'a> {
     /// # Examples
     ///
     /// ```
-    /// use crate::message::MessageAttributesIter;
+    /// use stun_types::message::MessageAttributesIter;
     ///
     /// let bytes = b"\x00\x01\x00\x08\x21\x12\xA4\x42abcdefghijkl\x80\x22\x00\x04STUN";
     /// assert_eq!(rt; MessageAttributesIter::new(bytes).count(), 1);

@@ -49,7 +49,7 @@ fn check_endings(bytes: &[u8], start: usize) -> Result<IntegrityOffsets, StunPar
 ///
 /// # Errors
 ///
-/// The first violation, as `Message::from_bytes` of `stun_types` lists them.
+/// The first violation, as [`Message::from_bytes`](crate::message::Message::from_bytes) lists them.
 #[inline(always)]
 pub fn check_message(bytes: &[u8]) -> Result<IntegrityOffsets, StunParseError>
     ensures fault { MatchResult result

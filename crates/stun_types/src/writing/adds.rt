@@ -1,6 +1,6 @@
 //! Adding attributes to a message that is being written, and reading its header.
 
-ghost use Rattle.std.specs.Prelude.{◌≡◌, OnOk, ◌↔◌, true, IsTrue, None, ◌+◌, ◌^◌, ◌<◌, ◌≤◌, length};
+ghost use Rattle.std.specs.Prelude.{◌≡◌, OnOk, ◌↔◌, true, IsTrue, None, ◌^◌, ◌<◌, ◌≤◌, length};
 ghost use Rattle.stun_grammar.specs.Headers.{is_header, type_field, id_field};
 ghost use Rattle.stun_grammar.specs.AttributeTypes.{FINGERPRINT, IsOrdinary};
 ghost use Rattle.stun_grammar.specs.Hmac.{digest_length};
@@ -12,19 +12,16 @@ ghost use Rattle.stun_keys.specs.Keys.{key_bytes, credentials_key};
 ghost use Rattle.stun_base.specs.MessageTypes.{class_of, method_of, is_response as responds};
 ghost use Rattle.stun_types.specs.Writers.{Allocates, Adds};
 
+mod every_writer;
+
 use crate::writing::MessageWrite;
-use crate::writing::protect::{push_fingerprint, push_integrity};
-use crate::writing::readers::written_header;
-use crate::writing::refusals::{Addition, check_add};
 use std::alloc::Global;
 use stun_attributes::AttributeWrite;
 use stun_base::{
     AddError, AttributeType, MessageClass, MessageType, Method, StunWriteError, TransactionId,
-    pad_attribute_len,
 };
 use stun_grammar::IntegrityAlgorithm;
 use stun_keys::keys::{IntegrityKey, MessageIntegrityCredentials};
-use stun_values::hmac_length;
 
 /// Adds attributes to a message that is being written, and reads its header (RFC 8489, sections 5
 /// and 14). Every [`MessageWrite`] has these methods.
@@ -36,12 +33,12 @@ use stun_values::hmac_length;
 /// # Examples
 ///
 /// ```
-/// use crate::attribute::Software;
-/// use crate::message::{
+/// use stun_types::attribute::Software;
+/// use stun_types::message::{
 ///     BINDING, IntegrityAlgorithm, IntegrityKey, Message, MessageClass, MessageType,
 ///     MessageWriteVec, TransactionId,
 /// };
-/// use crate::prelude::*;
+/// use stun_types::prelude::*;
 ///
 /// let key = IntegrityKey::new(alloc, b"secret", None)?;
 /// let mtype = MessageType::from_class_method(MessageClass::Request, BINDING);
@@ -62,13 +59,16 @@ pub trait MessageWriteExt: MessageWrite {
     /// # Examples
     ///
     /// ```
-    /// use crate::message::{BINDING, Message, MessageClass, MessageType, MessageWriteVec};
-    /// use crate::prelude::*;
+    /// use stun_types::message::{BINDING, Message, MessageClass, MessageType, MessageWriteVec};
+    /// use stun_types::prelude::*;
     ///
     /// let request = Message::from_bytes(b"\x00\x01\x00\x00\x21\x12\xA4\x42abcdefghijkl")?;
     /// let response = Message::builder_success(&request, MessageWriteVec::new(alloc))?;
     /// let mtype = MessageType::from_class_method(MessageClass::Success, BINDING);
     /// assert_eq!(rt; response.get_type(), mtype);
+    /// assert!(rt; response.has_class(response.class()) && response.is_response());
+    /// assert!(rt; response.has_method(response.method()));
+    /// assert_eq!(rt; response.transaction_id(), request.transaction_id());
     /// ```
     fn get_type(&self) -> MessageType
         requires { is_header (Self.state self.now).bytes ≡ true }
@@ -78,18 +78,7 @@ pub trait MessageWriteExt: MessageWrite {
     ///
     /// # Requires
     ///
-    /// The bytes written begin with a header: `MessageHeader::from_bytes(message.data())` is `Ok`.
-    ///
-    /// # Examples
-    ///
-    /// ```
-    /// use crate::message::{Message, MessageClass, MessageWriteVec};
-    /// use crate::prelude::*;
-    ///
-    /// let request = Message::from_bytes(b"\x00\x01\x00\x00\x21\x12\xA4\x42abcdefghijkl")?;
-    /// let response = Message::builder_success(&request, MessageWriteVec::new(alloc))?;
-    /// assert_eq!(rt; response.class(), MessageClass::Success);
-    /// ```
+    /// As for [`MessageWriteExt::get_type`].
     fn class(&self) -> MessageClass
         requires { is_header (Self.state self.now).bytes ≡ true }
         ensures { result ≡ class_of (type_field (Self.state self.now).bytes) };
@@ -98,18 +87,7 @@ pub trait MessageWriteExt: MessageWrite {
     ///
     /// # Requires
     ///
-    /// The bytes written begin with a header: `MessageHeader::from_bytes(message.data())` is `Ok`.
-    ///
-    /// # Examples
-    ///
-    /// ```
-    /// use crate::message::{Message, MessageClass, MessageWriteVec};
-    /// use crate::prelude::*;
-    ///
-    /// let request = Message::from_bytes(b"\x00\x01\x00\x00\x21\x12\xA4\x42abcdefghijkl")?;
-    /// let response = Message::builder_error(&request, MessageWriteVec::new(alloc))?;
-    /// assert!(rt; response.has_class(MessageClass::Error));
-    /// ```
+    /// As for [`MessageWriteExt::get_type`].
     fn has_class(&self, cls: MessageClass) -> bool
         requires { is_header (Self.state self.now).bytes ≡ true }
         ensures { IsTrue result ↔ (class_of (type_field (Self.state self.now).bytes) ≡ cls) };
@@ -118,18 +96,7 @@ pub trait MessageWriteExt: MessageWrite {
     ///
     /// # Requires
     ///
-    /// The bytes written begin with a header: `MessageHeader::from_bytes(message.data())` is `Ok`.
-    ///
-    /// # Examples
-    ///
-    /// ```
-    /// use crate::message::{Message, MessageWriteVec};
-    /// use crate::prelude::*;
-    ///
-    /// let request = Message::from_bytes(b"\x00\x01\x00\x00\x21\x12\xA4\x42abcdefghijkl")?;
-    /// let response = Message::builder_success(&request, MessageWriteVec::new(alloc))?;
-    /// assert!(rt; response.is_response());
-    /// ```
+    /// As for [`MessageWriteExt::get_type`].
     fn is_response(&self) -> bool
         requires { is_header (Self.state self.now).bytes ≡ true }
         ensures { result ≡ responds (class_of (type_field (Self.state self.now).bytes)) };
@@ -138,18 +105,7 @@ pub trait MessageWriteExt: MessageWrite {
     ///
     /// # Requires
     ///
-    /// The bytes written begin with a header: `MessageHeader::from_bytes(message.data())` is `Ok`.
-    ///
-    /// # Examples
-    ///
-    /// ```
-    /// use crate::message::{BINDING, Message, MessageWriteVec};
-    /// use crate::prelude::*;
-    ///
-    /// let request = Message::from_bytes(b"\x00\x01\x00\x00\x21\x12\xA4\x42abcdefghijkl")?;
-    /// let response = Message::builder_success(&request, MessageWriteVec::new(alloc))?;
-    /// assert_eq!(rt; response.method(), BINDING);
-    /// ```
+    /// As for [`MessageWriteExt::get_type`].
     fn method(&self) -> Method
         requires { is_header (Self.state self.now).bytes ≡ true }
         ensures { result ≡ method_of (type_field (Self.state self.now).bytes) };
@@ -158,19 +114,7 @@ pub trait MessageWriteExt: MessageWrite {
     ///
     /// # Requires
     ///
-    /// The bytes written begin with a header: `MessageHeader::from_bytes(message.data())` is `Ok`.
-    ///
-    /// # Examples
-    ///
-    /// ```
-    /// use crate::message::{Message, MessageWriteVec, Method};
-    /// use crate::prelude::*;
-    ///
-    /// // the response to an Allocate request of TURN
-    /// let request = Message::from_bytes(b"\x00\x03\x00\x00\x21\x12\xA4\x42abcdefghijkl")?;
-    /// let response = Message::builder_success(&request, MessageWriteVec::new(alloc))?;
-    /// assert!(rt; response.has_method(Method::new(0x003)));
-    /// ```
+    /// As for [`MessageWriteExt::get_type`].
     fn has_method(&self, method: Method) -> bool
         requires { is_header (Self.state self.now).bytes ≡ true }
         ensures { IsTrue result ↔ (method_of (type_field (Self.state self.now).bytes) ≡ method) };
@@ -179,18 +123,7 @@ pub trait MessageWriteExt: MessageWrite {
     ///
     /// # Requires
     ///
-    /// The bytes written begin with a header: `MessageHeader::from_bytes(message.data())` is `Ok`.
-    ///
-    /// # Examples
-    ///
-    /// ```
-    /// use crate::message::{Message, MessageWriteVec};
-    /// use crate::prelude::*;
-    ///
-    /// let request = Message::from_bytes(b"\x00\x01\x00\x00\x21\x12\xA4\x42abcdefghijkl")?;
-    /// let response = Message::builder_success(&request, MessageWriteVec::new(alloc))?;
-    /// assert_eq!(rt; response.transaction_id().to_bytes(), *b"abcdefghijkl");
-    /// ```
+    /// As for [`MessageWriteExt::get_type`].
     fn transaction_id(&self) -> TransactionId
         requires { is_header (Self.state self.now).bytes ≡ true }
         ensures { result ≡ id_field (Self.state self.now).bytes };
@@ -227,12 +160,12 @@ pub trait MessageWriteExt: MessageWrite {
     /// # Examples
     ///
     /// ```
-    /// use crate::attribute::{Software, Username};
-    /// use crate::message::{
+    /// use stun_types::attribute::{Software, Username};
+    /// use stun_types::message::{
     ///     BINDING, Message, MessageClass, MessageType, MessageWriteVec, StunWriteError,
     ///     TransactionId,
     /// };
-    /// use crate::prelude::*;
+    /// use stun_types::prelude::*;
     ///
     /// let mtype = MessageType::from_class_method(MessageClass::Request, BINDING);
     /// let write = MessageWriteVec::new(alloc);
@@ -262,8 +195,8 @@ pub trait MessageWriteExt: MessageWrite {
     /// # Examples
     ///
     /// ```
-    /// use crate::message::{Message, MessageWriteVec};
-    /// use crate::prelude::*;
+    /// use stun_types::message::{Message, MessageWriteVec};
+    /// use stun_types::prelude::*;
     ///
     /// let bytes = b"\x00\x01\x00\x08\x21\x12\xA4\x42abcdefghijkl\x80\x22\x00\x04STUN";
     /// let received = Message::from_bytes(bytes)?;
@@ -297,11 +230,11 @@ pub trait MessageWriteExt: MessageWrite {
     /// # Examples
     ///
     /// ```
-    /// use crate::attribute::AttributeType;
-    /// use crate::message::{
+    /// use stun_types::attribute::AttributeType;
+    /// use stun_types::message::{
     ///     BINDING, Message, MessageClass, MessageType, MessageWriteVec, TransactionId,
     /// };
-    /// use crate::prelude::*;
+    /// use stun_types::prelude::*;
     ///
     /// let mtype = MessageType::from_class_method(MessageClass::Request, BINDING);
     /// let write = MessageWriteVec::new(alloc);
@@ -335,22 +268,6 @@ pub trait MessageWriteExt: MessageWrite {
     /// # Errors
     ///
     /// As for [`MessageWriteExt::add_attribute`].
-    ///
-    /// # Examples
-    ///
-    /// ```
-    /// use crate::attribute::Software;
-    /// use crate::message::{
-    ///     BINDING, Message, MessageClass, MessageType, MessageWriteVec, TransactionId,
-    /// };
-    /// use crate::prelude::*;
-    ///
-    /// let mtype = MessageType::from_class_method(MessageClass::Request, BINDING);
-    /// let write = MessageWriteVec::new(alloc);
-    /// let mut message = Message::builder(mtype, TransactionId::from(1000), write)?;
-    /// message.add_ordinary_value(Software::TYPE, b"STUN")?;
-    /// assert_eq!(rt; &message.data()[20..], b"\x80\x22\x00\x04STUN".as_slice());
-    /// ```
     fn add_ordinary_value(
         &mut self,
         atype: AttributeType,
@@ -385,11 +302,11 @@ pub trait MessageWriteExt: MessageWrite {
     /// # Examples
     ///
     /// ```
-    /// use crate::message::{
+    /// use stun_types::message::{
     ///     BINDING, IntegrityAlgorithm, Message, MessageClass, MessageIntegrityCredentials,
     ///     MessageType, MessageWriteVec, ShortTermCredentials, TransactionId,
     /// };
-    /// use crate::prelude::*;
+    /// use stun_types::prelude::*;
     ///
     /// let password = ShortTermCredentials::new(String::from_str(alloc, "secret")?);
     /// let credentials = MessageIntegrityCredentials::from(password);
@@ -422,25 +339,6 @@ pub trait MessageWriteExt: MessageWrite {
     ///
     /// As for [`MessageWriteExt::add_message_integrity`], but `OutOfMemory` only if the
     /// attribute needs more than the ready room.
-    ///
-    /// # Examples
-    ///
-    /// ```
-    /// use crate::message::{
-    ///     BINDING, IntegrityAlgorithm, IntegrityKey, Message, MessageClass, MessageType,
-    ///     MessageWriteVec, TransactionId,
-    /// };
-    /// use crate::prelude::*;
-    ///
-    /// let key = IntegrityKey::new(alloc, b"secret", None)?;
-    /// let mtype = MessageType::from_class_method(MessageClass::Request, BINDING);
-    /// let write = MessageWriteVec::new(alloc);
-    /// let mut message = Message::builder(mtype, TransactionId::from(1000), write)?;
-    /// message.add_message_integrity_with_key(&key, IntegrityAlgorithm::Sha256)?;
-    /// assert_eq!(rt; &message.data()[20..24], [0, 0x1C, 0, 32].as_slice());
-    /// let again = message.add_message_integrity_with_key(&key, IntegrityAlgorithm::Sha256);
-    /// assert!(rt; again.is_err());
-    /// ```
     fn add_message_integrity_with_key(
         &mut self,
         key: &IntegrityKey,
@@ -503,10 +401,10 @@ pub trait MessageWriteExt: MessageWrite {
     /// # Examples
     ///
     /// ```
-    /// use crate::message::{
+    /// use stun_types::message::{
     ///     BINDING, Message, MessageClass, MessageType, MessageWriteVec, TransactionId,
     /// };
-    /// use crate::prelude::*;
+    /// use stun_types::prelude::*;
     ///
     /// let mtype = MessageType::from_class_method(MessageClass::Request, BINDING);
     /// let write = MessageWriteVec::new(alloc);
@@ -546,116 +444,4 @@ pub trait MessageWriteExt: MessageWrite {
         ensures adds { Adds result (Self.state self.old) (Self.state self.new) FINGERPRINT
             (fingerprint_value (Self.state self.old).bytes
             (length (Self.state self.old).bytes)) };
-}
-
-impl<W: MessageWrite> MessageWriteExt for W {
-    fn get_type(&self) -> MessageType {
-        written_header(self).get_type()
-    }
-
-    fn class(&self) -> MessageClass {
-        self.get_type().class()
-    }
-
-    fn has_class(&self, cls: MessageClass) -> bool {
-        self.class() == cls
-    }
-
-    fn is_response(&self) -> bool {
-        self.class().is_response()
-    }
-
-    fn method(&self) -> Method {
-        self.get_type().method()
-    }
-
-    fn has_method(&self, method: Method) -> bool {
-        self.method() == method
-    }
-
-    fn transaction_id(&self) -> TransactionId {
-        written_header(self).transaction_id()
-    }
-
-    #[tactic(auto, using(stun_grammar::proofs::AddingLemmas::appended_length, crate::proofs::KeptHeadersLemmas::pushed, stun_grammar::proofs::AddingRefusedLemmas::ordinary_barred))]
-    #[inline(always)]
-    fn add_attribute(&mut self, attribute: &dyn AttributeWrite) -> Result<(), StunWriteError> {
-        // `get_type` returns the type as a `u16`: so it fits in two bytes
-        let _type_fits = attribute.get_type();
-        // and so does the length of the value
-        let added = 4 + pad_attribute_len(attribute.length() as usize);
-        check_add(self, Addition::Ordinary, added)?;
-        self.push_attribute_unchecked(attribute)
-    }
-
-    fn add_any_attribute(&mut self, attribute: &dyn AttributeWrite) -> Result<(), AddError> {
-        let atype = attribute.get_type();
-        if atype.is_ending() {
-            return Err(AddError::EndingType(atype));
-        }
-        self.add_attribute(attribute)?;
-        Ok(())
-    }
-
-    fn add_value(&mut self, atype: AttributeType, value: &[u8]) -> Result<(), AddError> {
-        if atype.is_ending() {
-            return Err(AddError::EndingType(atype));
-        }
-        self.add_ordinary_value(atype, value)?;
-        Ok(())
-    }
-
-    #[tactic(auto, using(stun_grammar::proofs::AddingLemmas::appended_length, crate::proofs::KeptHeadersLemmas::pushed, stun_grammar::proofs::AddingRefusedLemmas::ordinary_barred))]
-    fn add_ordinary_value(
-        &mut self,
-        atype: AttributeType,
-        value: &[u8],
-    ) -> Result<(), StunWriteError> {
-        let added = 4 + pad_attribute_len(value.len());
-        check_add(self, Addition::Ordinary, added)?;
-        self.push_value_unchecked(atype, value)
-    }
-
-    #[tactic(auto, using(stun_grammar::proofs::AddingRefusedLemmas::signing_barred, stun_grammar::proofs::AddingLemmas::hmac_padded))]
-    fn add_message_integrity(
-        &mut self,
-        alloc: Global,
-        credentials: &MessageIntegrityCredentials,
-        algorithm: IntegrityAlgorithm,
-    ) -> Result<(), StunWriteError> {
-        let size = 4 + hmac_length(algorithm);
-        check_add(self, Addition::Integrity(algorithm), size)?;
-        let key = credentials.make_key(alloc, algorithm)?;
-        self.add_message_integrity_with_key_unchecked(&key, algorithm)
-    }
-
-    #[tactic(auto, using(stun_grammar::proofs::AddingRefusedLemmas::signing_barred, stun_grammar::proofs::AddingLemmas::hmac_padded))]
-    fn add_message_integrity_with_key(
-        &mut self,
-        key: &IntegrityKey,
-        algorithm: IntegrityAlgorithm,
-    ) -> Result<(), StunWriteError> {
-        let added = 4 + hmac_length(algorithm);
-        check_add(self, Addition::Integrity(algorithm), added)?;
-        self.add_message_integrity_with_key_unchecked(key, algorithm)
-    }
-
-    #[tactic(auto, using(stun_grammar::proofs::AddingRefusedLemmas::no_refusal, crate::proofs::KeptHeadersLemmas::pushed))]
-    fn add_message_integrity_with_key_unchecked(
-        &mut self,
-        key: &IntegrityKey,
-        algorithm: IntegrityAlgorithm,
-    ) -> Result<(), StunWriteError> {
-        push_integrity(self, key, algorithm)
-    }
-
-    fn add_fingerprint(&mut self) -> Result<(), StunWriteError> {
-        check_add(self, Addition::Fingerprint, 8)?;
-        self.add_fingerprint_unchecked()
-    }
-
-    #[tactic(auto, using(stun_grammar::proofs::AddingRefusedLemmas::no_refusal, crate::proofs::KeptHeadersLemmas::pushed))]
-    fn add_fingerprint_unchecked(&mut self) -> Result<(), StunWriteError> {
-        push_fingerprint(self)
-    }
 }

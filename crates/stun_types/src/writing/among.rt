@@ -27,8 +27,8 @@ fn find_any(written: &[AttributeType], asked: &[AttributeType]) -> Option<Attrib
 /// # Examples
 ///
 /// ```
-/// use crate::attribute::AttributeType;
-/// use crate::message::write::is_among;
+/// use stun_types::attribute::AttributeType;
+/// use stun_types::message::write::is_among;
 ///
 /// let written = [AttributeType(0x8022), AttributeType(0x0006)];
 /// assert!(rt; is_among(&written, AttributeType(0x0006)));
@@ -44,8 +44,8 @@ pub fn is_among(written: &[AttributeType], atype: AttributeType) -> bool
 /// # Examples
 ///
 /// ```
-/// use crate::attribute::AttributeType;
-/// use crate::message::write::first_among;
+/// use stun_types::attribute::AttributeType;
+/// use stun_types::message::write::first_among;
 ///
 /// let written = [AttributeType(0x8022), AttributeType(0x0006)];
 /// let asked = [AttributeType(0x0006), AttributeType(0x8022)];

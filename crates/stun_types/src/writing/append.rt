@@ -50,8 +50,8 @@ pub(crate) fn append_sized(
 /// # Examples
 ///
 /// ```
-/// use crate::attribute::Software;
-/// use crate::message::write::append_attribute;
+/// use stun_types::attribute::Software;
+/// use stun_types::message::write::append_attribute;
 ///
 /// let mut message = *b"\x00\x01\x00\x00\x21\x12\xA4\x42abcdefghijkl--------";
 /// append_attribute(&Software::new(alloc, "STUN")?, 20, &mut message);
@@ -79,8 +79,8 @@ pub fn append_attribute(attribute: &dyn AttributeWrite, len: usize, message: &mu
 /// # Examples
 ///
 /// ```
-/// use crate::attribute::AttributeType;
-/// use crate::message::write::append_value;
+/// use stun_types::attribute::AttributeType;
+/// use stun_types::message::write::append_value;
 ///
 /// let mut message = *b"\x00\x01\x00\x00\x21\x12\xA4\x42abcdefghijkl--------";
 /// append_value(AttributeType(0x8022), b"STUN", 20, &mut message);

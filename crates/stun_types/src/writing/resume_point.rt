@@ -31,7 +31,7 @@ impl ResumePoint {
     /// # Examples
     ///
     /// ```
-    /// use crate::message::{ResumePoint, StunParseError};
+    /// use stun_types::message::{ResumePoint, StunParseError};
     ///
     /// let slice = b"\x00\x01\x00\x00\x21\x12\xA4\x42abcdefghijkl--------";
     /// assert!(rt; ResumePoint::check(slice, 20).is_ok());
@@ -75,7 +75,7 @@ impl ResumePoint {
     /// # Examples
     ///
     /// ```
-    /// use crate::message::{ResumePoint, StunParseError};
+    /// use stun_types::message::{ResumePoint, StunParseError};
     ///
     /// // A message whose FINGERPRINT is wrong can be resumed, and doesn't parse.
     /// let slice = b"\x00\x01\x00\x08\x21\x12\xA4\x42abcdefghijkl\x80\x28\x00\x04\0\0\0\0";

@@ -68,8 +68,8 @@ impl ResumePoint {
     /// # Examples
     ///
     /// ```
-    /// use crate::attribute::{AttributeType, Software};
-    /// use crate::message::{Message, ResumePoint};
+    /// use stun_types::attribute::{AttributeType, Software};
+    /// use stun_types::message::{Message, ResumePoint};
     ///
     /// let mut slice = [0; 64];
     /// slice[..20].copy_from_slice(b"\x00\x01\x00\x00\x21\x12\xA4\x42abcdefghijkl");
@@ -117,8 +117,8 @@ impl ResumePoint {
     ///
     /// ```
     /// use std::net::{IpAddr, Ipv4Addr, SocketAddr};
-    /// use crate::attribute::{AttributeType, MappedSocketAddr};
-    /// use crate::message::ResumePoint;
+    /// use stun_types::attribute::{AttributeType, MappedSocketAddr};
+    /// use stun_types::message::ResumePoint;
     ///
     /// let mut slice = [0; 64];
     /// slice[..20].copy_from_slice(b"\x00\x01\x00\x00\x21\x12\xA4\x42abcdefghijkl");
@@ -166,7 +166,7 @@ impl ResumePoint {
     /// # Examples
     ///
     /// ```
-    /// use crate::message::{IntegrityAlgorithm, IntegrityKey, Message, ResumePoint};
+    /// use stun_types::message::{IntegrityAlgorithm, IntegrityKey, Message, ResumePoint};
     ///
     /// let key = IntegrityKey::new(alloc, b"secret", None)?;
     /// let mut slice = [0; 64];
@@ -226,7 +226,7 @@ impl ResumePoint {
     /// # Examples
     ///
     /// ```
-    /// use crate::message::{Message, ResumePoint};
+    /// use stun_types::message::{Message, ResumePoint};
     ///
     /// let mut slice = [0; 40];
     /// slice[..20].copy_from_slice(b"\x00\x01\x00\x00\x21\x12\xA4\x42abcdefghijkl");

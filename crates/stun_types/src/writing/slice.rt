@@ -22,10 +22,10 @@ use stun_base::{AttributeType, StunParseError, StunWriteError, pad_attribute_len
 /// # Examples
 ///
 /// ```
-/// use crate::message::{
+/// use stun_types::message::{
 ///     BINDING, Message, MessageClass, MessageType, MessageWriteMutSlice, TransactionId,
 /// };
-/// use crate::prelude::*;
+/// use stun_types::prelude::*;
 ///
 /// let mut slice = [0; 64];
 /// let mtype = MessageType::from_class_method(MessageClass::Request, BINDING);
@@ -103,9 +103,9 @@ impl<'a> MessageWriteMutSlice<'a> {
     /// # Examples
     ///
     /// ```
-    /// use crate::attribute::Software;
-    /// use crate::message::MessageWriteMutSlice;
-    /// use crate::prelude::*;
+    /// use stun_types::attribute::Software;
+    /// use stun_types::message::MessageWriteMutSlice;
+    /// use stun_types::prelude::*;
     ///
     /// let mut slice = [0; 64];
     /// slice[..20].copy_from_slice(b"\x00\x01\x00\x00\x21\x12\xA4\x42abcdefghijkl");
@@ -139,8 +139,8 @@ impl<'a> MessageWriteMutSlice<'a> {
     /// # Examples
     ///
     /// ```
-    /// use crate::message::{MessageWriteMutSlice, ResumePoint};
-    /// use crate::prelude::*;
+    /// use stun_types::message::{MessageWriteMutSlice, ResumePoint};
+    /// use stun_types::prelude::*;
     ///
     /// let mut slice = [0; 64];
     /// slice[..20].copy_from_slice(b"\x00\x01\x00\x00\x21\x12\xA4\x42abcdefghijkl");
@@ -167,8 +167,8 @@ impl<'a> MessageWriteMutSlice<'a> {
     /// # Examples
     ///
     /// ```
-    /// use crate::message::MessageWriteMutSlice;
-    /// use crate::prelude::*;
+    /// use stun_types::message::MessageWriteMutSlice;
+    /// use stun_types::prelude::*;
     ///
     /// let mut slice = [0xFF; 4];
     /// let mut write = MessageWriteMutSlice::new(alloc, &mut slice);

@@ -6,7 +6,8 @@ ghost use Rattle.stun_grammar.specs.Adding.{Fits, add_refusal, IsAddAnswer};
 ghost use Rattle.stun_types.specs.Writers.{Allocates, Adds, IsUnchanged};
 ghost use Rattle.stun_types.specs.Runs.{plain, AddsOrdinary, MakesKey, Runs};
 
-use crate::writing::{MessageWrite, MessageWriteExt, begin_message_into};
+use crate::message::Message;
+use crate::writing::{MessageWrite, MessageWriteExt};
 use std::alloc::Global;
 use stun_attributes::AttributeWrite;
 use stun_base::{MessageType, StunWriteError, TransactionId};
@@ -71,11 +72,11 @@ fn take_step<B: MessageWrite>(
 /// # Examples
 ///
 /// ```
-/// use crate::message::{
+/// use stun_types::message::{
 ///     BINDING, MessageClass, MessageType, MessageWriteMutSlice, Step, TransactionId,
 ///     write_steps_into,
 /// };
-/// use crate::prelude::*;
+/// use stun_types::prelude::*;
 ///
 /// let mut slice = [0; 64];
 /// let mut write = MessageWriteMutSlice::new(alloc, &mut slice);
@@ -102,7 +103,7 @@ pub fn write_steps_into<B: MessageWrite>(
         (B.state write.old) mtype id steps.now verdicts.old verdicts.new }
     ensures same { OnErr result (IsUnchanged (B.state write.old) (B.state write.new)) }
 {
-    begin_message_into(mtype, id, write)?;
+    Message::builder_into(mtype, id, write)?;
     for i in 0..steps.len() {
         verdicts[i] = take_step(alloc, write, &steps[i]);
     }
@@ -142,12 +143,12 @@ pub fn write_steps_into<B: MessageWrite>(
 /// # Examples
 ///
 /// ```
-/// use crate::attribute::Software;
-/// use crate::message::{
+/// use stun_types::attribute::Software;
+/// use stun_types::message::{
 ///     BINDING, IntegrityAlgorithm, IntegrityKey, MessageClass, MessageType, MessageWriteVec, Step,
 ///     StunWriteError, TransactionId, write_steps,
 /// };
-/// use crate::prelude::*;
+/// use stun_types::prelude::*;
 ///
 /// let key = IntegrityKey::new(alloc, b"secret", None)?;
 /// let software = Software::new(alloc, "my client")?;

@@ -15,10 +15,10 @@ use stun_base::{AttributeType, StunWriteError, pad_attribute_len};
 /// # Examples
 ///
 /// ```
-/// use crate::message::{
+/// use stun_types::message::{
 ///     BINDING, Message, MessageClass, MessageType, MessageWriteVec, TransactionId,
 /// };
-/// use crate::prelude::*;
+/// use stun_types::prelude::*;
 ///
 /// let mtype = MessageType::from_class_method(MessageClass::Indication, BINDING);
 /// let write = MessageWriteVec::with_capacity(alloc, 20)?;
@@ -81,8 +81,8 @@ impl MessageWriteVec {
     /// # Examples
     ///
     /// ```
-    /// use crate::message::MessageWriteVec;
-    /// use crate::prelude::*;
+    /// use stun_types::message::MessageWriteVec;
+    /// use stun_types::prelude::*;
     ///
     /// let write = MessageWriteVec::with_capacity(alloc, 1500)?;
     /// assert_eq!(rt; (write.len(), write.max_size()), (0, None));

@@ -31,8 +31,8 @@ use stun_base::{AttributeType, StunWriteError};
 /// # Examples
 ///
 /// ```
-/// use crate::message::MessageWriteMutSlice;
-/// use crate::prelude::*;
+/// use stun_types::message::MessageWriteMutSlice;
+/// use stun_types::prelude::*;
 ///
 /// let mut slice = [0; 64];
 /// let mut write = MessageWriteMutSlice::new(alloc, &mut slice);
@@ -77,11 +77,11 @@ pub trait MessageWrite {
     /// # Examples
     ///
     /// ```
-    /// use crate::attribute::{Software, Username};
-    /// use crate::message::{
+    /// use stun_types::attribute::{Software, Username};
+    /// use stun_types::message::{
     ///     BINDING, Message, MessageClass, MessageType, MessageWriteVec, TransactionId,
     /// };
-    /// use crate::prelude::*;
+    /// use stun_types::prelude::*;
     ///
     /// let mtype = MessageType::from_class_method(MessageClass::Request, BINDING);
     /// let write = MessageWriteVec::new(alloc);

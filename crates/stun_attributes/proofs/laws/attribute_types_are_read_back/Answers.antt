@@ -5,7 +5,8 @@ use Rattle.stun_values.specs.ErrorValues.{error_value}
 use Rattle.stun_values.specs.TextValues.{text_max, username_max}
 use Rattle.stun_values.specs.TypeLists.{types_encoding}
 use Rattle.stun_attributes.proofs.WireReadBackLemmas.{own_value}
-use Rattle.stun_attributes.specs.AddressAttributes.{ReadsAddress, server_addr, written_mapped_addr}
+use Rattle.stun_attributes.specs.AddressAttributes.{ReadsAddress}
+use Rattle.stun_attributes.specs.Kinds.{addr_of, xored_of}
 use Rattle.stun_attributes.specs.ErrorCodes.{error_code, error_reason, ReadsError}
 use Rattle.stun_attributes.specs.PasswordAlgorithms.{ReadsAlgorithm, ReadsAlgorithms, held_algorithm, held_algorithms}
 use Rattle.stun_attributes.specs.Texts.{text_bytes, ReadsText}
@@ -32,12 +33,12 @@ returns-clause-alternate_domain c = λ attribute result reported. read_back attr
 
 pub returns-clause-alternate_server : goal.returns-clause-alternate_server
 returns-clause-alternate_server c = λ attribute plain range result reported.
-    address_back server_addr (server_addr attribute) result plain range (own_value ALTERNATE_SERVER (ReadsAddress server_addr) (address_value (server_addr attribute)) result reported)
+    address_back addr_of (addr_of attribute) result plain range (own_value ALTERNATE_SERVER (ReadsAddress addr_of) (address_value (addr_of attribute)) result reported)
 
 pub returns-clause-xor_mapped_address : goal.returns-clause-xor_mapped_address
 returns-clause-xor_mapped_address c = λ attribute range result reported.
-    address_back written_mapped_addr (written_mapped_addr attribute) result attribute.plain range
-    (own_value XOR_MAPPED_ADDRESS (ReadsAddress written_mapped_addr) (address_value (written_mapped_addr attribute)) result reported)
+    address_back xored_of (xored_of attribute) result attribute.plain range
+    (own_value XOR_MAPPED_ADDRESS (ReadsAddress xored_of) (address_value (xored_of attribute)) result reported)
 
 pub returns-clause-error_code : goal.returns-clause-error_code
 returns-clause-error_code c = λ attribute result reported.

@@ -4,7 +4,8 @@ use Rattle.stun_grammar.specs.declared.error.StunParseError.{StunParseError}
 use Rattle.stun_grammar.specs.AttributeTypes.{ALTERNATE_DOMAIN, ALTERNATE_SERVER, ERROR_CODE, FINGERPRINT, MESSAGE_INTEGRITY, MESSAGE_INTEGRITY_SHA256, NONCE, PASSWORD_ALGORITHM, PASSWORD_ALGORITHMS, REALM, SOFTWARE, UNKNOWN_ATTRIBUTES, USERHASH, USERNAME, XOR_MAPPED_ADDRESS}
 use Rattle.stun_values.specs.TextValues.{text_max, username_max}
 use Rattle.stun_attributes.specs.Reading.{ReadsTyped}
-use Rattle.stun_attributes.specs.AddressAttributes.{ReadsAddress, server_addr, written_mapped_addr}
+use Rattle.stun_attributes.specs.AddressAttributes.{ReadsAddress}
+use Rattle.stun_attributes.specs.Kinds.{addr_of, xored_of}
 use Rattle.stun_attributes.specs.ErrorCodes.{ReadsError}
 use Rattle.stun_attributes.specs.PasswordAlgorithms.{ReadsAlgorithm, ReadsAlgorithms}
 use Rattle.stun_attributes.specs.Texts.{ReadsText}
@@ -35,10 +36,10 @@ pub returns-clause-alternate_domain : goal.returns-clause-alternate_domain
 returns-clause-alternate_domain c = either ALTERNATE_DOMAIN (ReadsText 65535)
 
 pub returns-clause-alternate_server : goal.returns-clause-alternate_server
-returns-clause-alternate_server c = either ALTERNATE_SERVER (ReadsAddress server_addr)
+returns-clause-alternate_server c = either ALTERNATE_SERVER (ReadsAddress addr_of)
 
 pub returns-clause-xor_mapped_address : goal.returns-clause-xor_mapped_address
-returns-clause-xor_mapped_address c = either XOR_MAPPED_ADDRESS (ReadsAddress written_mapped_addr)
+returns-clause-xor_mapped_address c = either XOR_MAPPED_ADDRESS (ReadsAddress xored_of)
 
 pub returns-clause-error_code : goal.returns-clause-error_code
 returns-clause-error_code c = either ERROR_CODE ReadsError

@@ -8,7 +8,7 @@ use Rattle.stun_types.proofs.writing.steps.write_steps_into.Goals as goal
 
 pub loop-i-init : goal.loop-i-init
 loop-i-init g c =
-    let begun = c.in_ok-begin_message_into.ensures.ok in
+    let begun = c.in_ok-builder_into.ensures.ok in
     let none = sym (body_none c.args.mtype c.args.id []) in
     record {
       so_far = record {

@@ -1,0 +1,7 @@
+use Rattle.std.proofs.Common.{refl}
+use Rattle.std.specs.Fmt.{digits}
+use Rattle.stun_attributes.proofs.alternate_server.AlternateServerKindAttributeKind.name.Goals as goal
+
+pub returns : goal.returns
+unfolding digits
+returns c = refl
