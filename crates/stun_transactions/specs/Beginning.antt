@@ -1,5 +1,5 @@
 -- How a transaction begins.
-use Rattle.std.specs.Prelude.{◌≡◌, ℕ, Bool, true, false, List, Option, None, Some, option_map, if◌then◌else◌}
+use Rattle.std.specs.Prelude.{ℕ, Bool, true, false, List, Option, None, Some, option_map, if◌then◌else◌}
 use Rattle.std.specs.Option.{option_or}
 use Rattle.stun_grammar.specs.Headers.{type_field, id_field}
 use Rattle.stun_base.specs.MessageTypes.{class_of, method_of}

@@ -14,6 +14,11 @@ use Rattle.stun_transactions.specs.declared.retransmission.RetransmissionState.{
 use Rattle.stun_transactions.specs.Guards.{is_signed, is_signed_for, signs}
 use Rattle.stun_transactions.specs.Schedules.{requests_in}
 
+-- the parts of a transaction, and its key
+pub record PartsAndKey : Type 0 where
+  pub parts : TransactionParts
+  pub key : Option IntegrityKey
+
 -- the same parts, but that it has come so far
 abbrev pub at_state : TransactionParts → RetransmissionState → TransactionParts
 at_state parts state = record parts { state = state }

@@ -10,6 +10,7 @@ use crate::plan::Plan;
 use crate::response_policy::ResponsePolicy;
 use crate::schedule::Schedule;
 use std::alloc::Global;
+use std::marker::Model;
 use std::time::Duration;
 use stun_types::TransportType;
 use stun_types::message::{IntegrityKey, Message, StunWriteError, TransactionId};
@@ -56,6 +57,17 @@ use stun_types::message::{IntegrityKey, Message, StunWriteError, TransactionId};
 pub struct Transaction {
     parts: TransactionParts,
     key: Option<IntegrityKey>,
+}
+
+impl Model for Transaction {
+    ghost use Rattle.std.specs.Prelude.{◌≡◌, None};
+    ghost use Rattle.stun_transactions.specs.Parts.{PartsAndKey, whole_fault};
+
+    ghost Value = { PartsAndKey };
+
+    ghost view = { λ t. record { parts = t.parts; key = t.key } };
+
+    ghost invariant = { λ t. whole_fault t.parts t.key ≡ None };
 }
 
 impl Transaction {
@@ -121,9 +133,9 @@ impl Transaction {
         }
     }
 
-    /// Takes a transaction apart: into its parts, and the key with which its request is
-    /// protected, if it is. The key of a long-term credential is the one that works with both
-    /// algorithms.
+    /// Takes a transaction apart: into its parts, and the key with which its request is protected, if
+    /// it is. [`Transaction::from_parts`] takes both. The key of a long-term credential is the one
+    /// that works with both algorithms.
     ///
     /// # Examples
     ///
@@ -150,6 +162,7 @@ impl Transaction {
     pub fn into_parts(self) -> (TransactionParts, Option<IntegrityKey>)
         ensures parts { result.0 ≡ self.parts }
         ensures key { result.1 ≡ self.key }
+        ensures whole { whole_fault self.parts self.key ≡ None }
     {
         (self.parts, self.key)
     }
