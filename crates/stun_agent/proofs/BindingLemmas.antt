@@ -7,20 +7,19 @@ use Rattle.stun_grammar.specs.Parsing.{parse_fault}
 use Rattle.stun_base.specs.declared.transport.TransportType.{TransportType}
 use Rattle.stun_base.specs.declared.transport.TransportType.TheVariants.{Udp}
 use Rattle.stun_base.specs.MessageTypes.{method_of}
-use Rattle.stun_transactions.specs.declared.retransmission.RetransmissionState.{RetransmissionState}
-use Rattle.stun_transactions.specs.declared.guard.Protection.{Protection}
+use Rattle.stun_keys.specs.declared.keys.integrity_key.IntegrityKey.{IntegrityKey}
+use Rattle.stun_transactions.specs.declared.parts.Mechanism.{Mechanism}
+use Rattle.stun_transactions.specs.declared.parts.TransactionParts.{TransactionParts}
 use Rattle.stun_transactions.specs.declared.guard.Signed.{Signed}
 use Rattle.stun_transactions.specs.declared.received.Outcome.{Outcome}
 use Rattle.stun_transactions.specs.declared.received.Outcome.TheVariants.{NotForThis}
-use Rattle.stun_transactions.specs.declared.terms.Terms.{Terms}
 use Rattle.stun_transactions.specs.declared.response_policy.ResponsePolicy.{ResponsePolicy}
 use Rattle.stun_transactions.specs.Guards.{proof_of, guard_fault, signed_by}
 use Rattle.stun_transactions.specs.Outcomes.{is_open}
-use Rattle.stun_transactions.specs.Receiving.{received_outcome, content, claim_of, discarded}
+use Rattle.stun_transactions.specs.Receiving.{is_answer, received_outcome, content, claim_of, discarded}
 use Rattle.stun_types.specs.Replies.{responds_to, is_answer_to}
-use Rattle.stun_transactions.specs.Terms.{is_answer}
 use Rattle.stun_agent.specs.declared.query.Login.{Login}
-use Rattle.stun_agent.specs.Binding.{reported, protection_of, usage}
+use Rattle.stun_agent.specs.Binding.{reported, mechanism_by, key_by, usage}
 
 -- of a transaction in progress
 in_progress : (ongoing parses answers : Bool) (taken : Outcome) → ongoing ≡ true
@@ -30,27 +29,28 @@ in_progress true false answers taken o = refl
 in_progress false parses answers taken o = absurd cc
 
 -- it answers by the same method and transaction ID
-same_answer : (terms : Terms) (r d : List ℕ) → terms.method ≡ method_of (type_field r) → terms.id ≡ id_field r → is_answer terms d ≡ is_answer_to r d
-same_answer terms r d method id =
-    ap (λ (m : ℕ). responds_to m terms.id d) method ∙ ap (λ (i : ℕ). responds_to (method_of (type_field r)) i d) id
+same_answer : (parts : TransactionParts) (r d : List ℕ) → parts.method ≡ method_of (type_field r) → parts.id ≡ id_field r → is_answer parts d ≡ is_answer_to r d
+same_answer parts r d method id =
+    ap (λ (m : ℕ). responds_to m parts.id d) method ∙ ap (λ (i : ℕ). responds_to (method_of (type_field r)) i d) id
 
 -- what is reported of one that answers
-abbrev answered : TransportType → Protection → ResponsePolicy → Signed → List ℕ → Outcome
-answered transport by usage signed d =
-    option_map_or (discarded transport (claim_of d)) (guard_fault by usage signed d) (content (proof_of by usage signed d) [] d)
+abbrev answered : TransportType → Option Mechanism → Option IntegrityKey → ResponsePolicy → Signed → List ℕ → Outcome
+answered transport by key usage signed d =
+    option_map_or (discarded transport (claim_of d)) (guard_fault by key usage signed d) (content (proof_of by key usage signed d) [] d)
 
 -- the same, by the terms of the request
-same_guard : (terms : Terms) (login : Option Login) (r d : List ℕ) → terms.plan.transport ≡ Udp → terms.signed ≡ signed_by r → terms.protection ≡ protection_of login → terms.usage ≡ usage
-    → answered terms.plan.transport terms.protection terms.usage terms.signed d ≡ answered Udp (protection_of login) usage (signed_by r) d
-same_guard terms login r d transport signed protection used =
-    ap (λ (t : TransportType). answered t terms.protection terms.usage terms.signed d) transport
-    ∙ ap (λ (s : Signed). answered Udp terms.protection terms.usage s d) signed
-    ∙ ap (λ (p : Protection). answered Udp p terms.usage (signed_by r) d) protection
-    ∙ ap (λ (u : ResponsePolicy). answered Udp (protection_of login) u (signed_by r) d) used
+same_guard : (parts : TransactionParts) (key : Option IntegrityKey) (login : Option Login) (r d : List ℕ) → parts.plan.transport ≡ Udp → parts.signed ≡ signed_by r → parts.mechanism ≡ mechanism_by login → key ≡ key_by login → parts.usage ≡ usage
+    → answered parts.plan.transport parts.mechanism key parts.usage parts.signed d ≡ answered Udp (mechanism_by login) (key_by login) usage (signed_by r) d
+same_guard parts key login r d transport signed mechanism held used =
+    ap (λ (t : TransportType). answered t parts.mechanism key parts.usage parts.signed d) transport
+    ∙ ap (λ (s : Signed). answered Udp parts.mechanism key parts.usage s d) signed
+    ∙ ap (λ (m : Option Mechanism). answered Udp m key parts.usage (signed_by r) d) mechanism
+    ∙ ap (λ (k : Option IntegrityKey). answered Udp (mechanism_by login) k parts.usage (signed_by r) d) held
+    ∙ ap (λ (u : ResponsePolicy). answered Udp (mechanism_by login) (key_by login) u (signed_by r) d) used
 
-pub received_reported : (terms : Terms) (course : RetransmissionState) (login : Option Login) (r d : List ℕ) → is_open course ≡ true → terms.plan.transport ≡ Udp → terms.method ≡ method_of (type_field r) → terms.id ≡ id_field r
-    → terms.signed ≡ signed_by r → terms.protection ≡ protection_of login → terms.usage ≡ usage → received_outcome terms course [] d ≡ reported login r d
-received_reported terms course login r d ongoing transport method id signed protection used =
-    in_progress (is_open course) (not (is_some (parse_fault d))) (is_answer terms d) (answered terms.plan.transport terms.protection terms.usage terms.signed d) ongoing
-    ∙ ap (λ (b : Bool). if not (is_some (parse_fault d)) && b then answered terms.plan.transport terms.protection terms.usage terms.signed d else NotForThis) (same_answer terms r d method id)
-    ∙ ap (λ (o : Outcome). if not (is_some (parse_fault d)) && is_answer_to r d then o else NotForThis) (same_guard terms login r d transport signed protection used)
+pub received_reported : (parts : TransactionParts) (key : Option IntegrityKey) (login : Option Login) (r d : List ℕ) → is_open parts.state ≡ true → parts.plan.transport ≡ Udp → parts.method ≡ method_of (type_field r) → parts.id ≡ id_field r
+    → parts.signed ≡ signed_by r → parts.mechanism ≡ mechanism_by login → key ≡ key_by login → parts.usage ≡ usage → received_outcome parts key [] d ≡ reported login r d
+received_reported parts key login r d ongoing transport method id signed mechanism held used =
+    in_progress (is_open parts.state) (not (is_some (parse_fault d))) (is_answer parts d) (answered parts.plan.transport parts.mechanism key parts.usage parts.signed d) ongoing
+    ∙ ap (λ (b : Bool). if not (is_some (parse_fault d)) && b then answered parts.plan.transport parts.mechanism key parts.usage parts.signed d else NotForThis) (same_answer parts r d method id)
+    ∙ ap (λ (o : Outcome). if not (is_some (parse_fault d)) && is_answer_to r d then o else NotForThis) (same_guard parts key login r d transport signed mechanism held used)

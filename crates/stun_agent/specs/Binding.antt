@@ -15,6 +15,7 @@ use Rattle.stun_grammar.specs.Sending.{sent_encoding}
 use Rattle.stun_base.specs.declared.message_type.MessageClass.TheVariants.{Request}
 use Rattle.stun_base.specs.declared.transport.TransportType.TheVariants.{Udp}
 use Rattle.stun_base.specs.MessageTypes.{type_of, method_of}
+use Rattle.stun_keys.specs.declared.keys.integrity_key.IntegrityKey.{IntegrityKey}
 use Rattle.stun_keys.specs.Keys.{key_bytes}
 use Rattle.stun_attributes.specs.Texts.{text_bytes}
 use Rattle.stun_types.specs.Replies.{is_answer_to}
@@ -26,11 +27,12 @@ use Rattle.stun_transactions.specs.declared.received.Discard.{Discard}
 use Rattle.stun_transactions.specs.declared.received.Failure.{Failure}
 use Rattle.stun_transactions.specs.declared.received.Outcome.{Outcome}
 use Rattle.stun_transactions.specs.declared.transaction.Transaction.{Transaction}
-use Rattle.stun_transactions.specs.Guards.{signed_by, proof_of, guard_fault}
+use Rattle.stun_transactions.specs.declared.parts.Mechanism.{Mechanism}
+use Rattle.stun_transactions.specs.Guards.{signed_by, mechanism_of, key_of, proof_of, guard_fault}
 use Rattle.stun_transactions.specs.Mapped.{ReadsMapped}
 use Rattle.stun_transactions.specs.Outcomes.{is_open}
 use Rattle.stun_transactions.specs.Receiving.{content, claim_of, discarded}
-use Rattle.stun_transactions.specs.Transactions.{terms_of, state_of}
+use Rattle.stun_transactions.specs.Transactions.{going_on}
 use Rattle.stun_agent.specs.declared.binding.BindingResult.{BindingResult}
 use Rattle.stun_agent.specs.declared.binding.BindingResult.TheVariants.{Mapped, Unmapped, Refused, Failed, NotAuthentic, NotAnswered}
 use Rattle.stun_agent.specs.declared.query.Login.{Login}
@@ -59,6 +61,12 @@ abbrev pub protection_of : Option Login → Protection
 protection_of None = Unprotected
 protection_of (Some login) = ShortTerm login.key
 
+abbrev pub mechanism_by : Option Login → Option Mechanism
+mechanism_by login = mechanism_of (protection_of login)
+
+abbrev pub key_by : Option Login → Option IntegrityKey
+key_by login = key_of (protection_of login)
+
 -- what the usage specifies of the response: a MESSAGE-INTEGRITY-SHA256 has 32 bytes (RFC 8489,
 -- section 14.6), and a FINGERPRINT need not be there
 abbrev pub usage : ResponsePolicy
@@ -71,26 +79,27 @@ abbrev pub reported : Option Login → List ℕ → List ℕ → Outcome
 reported login r d =
     if not (is_some (parse_fault d)) && is_answer_to r d then
     option_map_or (discarded Udp (claim_of d))
-    (guard_fault (protection_of login) usage (signed_by r) d)
-    (content (proof_of (protection_of login) usage (signed_by r) d) [] d)
+    (guard_fault (mechanism_by login) (key_by login) usage (signed_by r) d)
+    (content (proof_of (mechanism_by login) (key_by login) usage (signed_by r) d) [] d)
     else Outcome.NotForThis
 
 -- ---- The transaction
 
--- a transaction is in progress, on the terms with which it began
+-- a transaction that goes on is in progress
 pub record IsPolled (old new : Transaction) : Type 0 where
-  pub terms : terms_of new ≡ terms_of old
-  pub ongoing : is_open (state_of new) ≡ true
+  pub same : new ≡ going_on old new.parts.state
+  pub ongoing : is_open new.parts.state ≡ true
 
 -- the request r was sent over UDP, and the transaction is in progress
 pub record IsSent (r : List ℕ) (login : Option Login) (transaction : Transaction) : Type 0 where
-  pub transport_is : (terms_of transaction).plan.transport ≡ Udp
-  pub method_is : (terms_of transaction).method ≡ method_of (type_field r)
-  pub id_is : (terms_of transaction).id ≡ id_field r
-  pub signed_is : (terms_of transaction).signed ≡ signed_by r
-  pub protection_is : (terms_of transaction).protection ≡ protection_of login
-  pub usage_is : (terms_of transaction).usage ≡ usage
-  pub ongoing : is_open (state_of transaction) ≡ true
+  pub transport_is : transaction.parts.plan.transport ≡ Udp
+  pub method_is : transaction.parts.method ≡ method_of (type_field r)
+  pub id_is : transaction.parts.id ≡ id_field r
+  pub signed_is : transaction.parts.signed ≡ signed_by r
+  pub mechanism_is : transaction.parts.mechanism ≡ mechanism_by login
+  pub usage_is : transaction.parts.usage ≡ usage
+  pub key_is : transaction.key ≡ key_by login
+  pub ongoing : is_open transaction.parts.state ≡ true
 
 -- ---- The answer
 

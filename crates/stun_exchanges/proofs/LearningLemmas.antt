@@ -1,6 +1,7 @@
 -- What a client learns of the reply to its request.
 use Rattle.std.proofs.Common.{◌≡◌, ℕ, zero, suc, ltb, ltb-true, ◌^◌, ◌<◌, ◌≤◌, Bool, true, false, List, [], ◌∷◌, ◌++◌, length, map, Option, None, Some, inl, inr, refl, sym, ap, subst, ◌∙◌, arith}
-use Rattle.std.specs.Prelude.{◌⊎◌, ◌==◌, ◌&&◌, codes, option_and_then, find, is_some, IsSomeAnd, if◌then◌else◌}
+use Rattle.std.specs.List.{filter}
+use Rattle.std.specs.Prelude.{not, ◌⊎◌, ◌==◌, ◌&&◌, codes, option_and_then, find, is_some, IsSomeAnd, if◌then◌else◌}
 use Rattle.std.specs.Option.{option_map_or, option_or}
 use Rattle.std.specs.Str.{IsAscii}
 use Rattle.std.proofs.lemmas.Str.{IsUtf8-from_ascii, is_utf8-from_IsUtf8}
@@ -27,12 +28,12 @@ use Rattle.stun_types.specs.LookingUp.{nth}
 use Rattle.stun_values.specs.Addresses.{IsInRange, xored_value}
 use Rattle.stun_values.specs.ErrorValues.{error_value}
 use Rattle.stun_values.specs.TypeLists.{types_encoding}
-use Rattle.stun_types.specs.Replies.{is_answer_to, response_type, own_software, error_attribute, unknown_reply, bad_reply, lacks, unknown_types}
+use Rattle.stun_types.specs.Replies.{is_answer_to, response_type, own_software, error_attribute, unknown_reply, bad_reply, lacks, is_unknown, unknown_types}
 use Rattle.stun_transactions.specs.declared.received.Failure.TheVariants as Failure
 use Rattle.stun_transactions.specs.declared.received.Outcome.{Outcome}
 use Rattle.stun_transactions.specs.Receiving.{content, content_by_class}
 use Rattle.stun_authentication.specs.Codes.{shown_code, value_code}
-use Rattle.stun_transactions.specs.Responses.{is_beyond, first_beyond}
+use Rattle.stun_transactions.specs.Responses.{own_types, first_unknown}
 use Rattle.stun_server.specs.Reply.{success_reply, response, finished, unfinished_reply, binding_reply, reply_by_type, reply}
 use Rattle.stun_server.proofs.SizesLemmas.{reply_for, request_is}
 use Rattle.stun_exchanges.specs.Learning.{IsBindingRequest, Learns, LearnsError}
@@ -78,23 +79,27 @@ class_there class r attributes classes so = ap class_of (type-message (response_
 abbrev type_of_shown : Shown → AttributeType
 type_of_shown a = record { 0 = a.type }
 
+-- the first type that isn't one of RFC 8489
+abbrev first_other : List AttributeType → Option AttributeType
+first_other types = find (λ type. not (has type.0 own_types)) (filter (is_unknown []) types)
+
 -- the content of a response that shows no type beyond those of RFC 8489
-content_of : (class : MessageClass) (d : List ℕ) (reported : Outcome) → first_beyond [] d ≡ None → class_of (type_field d) ≡ class → content_by_class None class d ≡ reported → content None [] d ≡ reported
+content_of : (class : MessageClass) (d : List ℕ) (reported : Outcome) → first_unknown [] d ≡ None → class_of (type_field d) ≡ class → content_by_class None class d ≡ reported → content None [] d ≡ reported
 content_of class d reported none is has =
     ap (λ (o : Option AttributeType). option_map_or (λ (type : AttributeType). Outcome.Failed (Failure.UnknownAttribute type)) o (content_by_class None (class_of (type_field d)) d)) none
     ∙ ap (λ (c : MessageClass). content_by_class None c d) is ∙ has
 
-within : (d : List ℕ) (attributes : List Attribute) → shown d ≡ placed 20 attributes → find (is_beyond []) (map type_of_shown (placed 20 attributes)) ≡ None → first_beyond [] d ≡ None
-within d attributes shows none = ap (λ (xs : List Shown). find (is_beyond []) (map type_of_shown xs)) shows ∙ none
+within : (d : List ℕ) (attributes : List Attribute) → shown d ≡ placed 20 attributes → first_other (map type_of_shown (placed 20 attributes)) ≡ None → first_unknown [] d ≡ None
+within d attributes shows none = ap (λ (xs : List Shown). first_other (map type_of_shown xs)) shows ∙ none
 
 success_within : (source : SocketAddr) (r : List ℕ) (more : List Attribute) → (more ≡ []) ⊎ ((value : List ℕ) × (more ≡ canonical FINGERPRINT value ∷ []))
-    → find (is_beyond []) (map type_of_shown (placed 20 (success_reply source r ++ more))) ≡ None
+    → first_other (map type_of_shown (placed 20 (success_reply source r ++ more))) ≡ None
 unfolding placed
 success_within source r more (inl e) = rw e refl
 success_within source r more (inr e) = rw e.1 refl
 
 error_within : (types : List AttributeType) (more : List Attribute) → (more ≡ []) ⊎ ((value : List ℕ) × (more ≡ canonical FINGERPRINT value ∷ []))
-    → find (is_beyond []) (map type_of_shown (placed 20 ((own_software ∷ error_attribute 420 (codes "Unknown Attributes") ∷ canonical UNKNOWN_ATTRIBUTES (types_encoding types) ∷ []) ++ more))) ≡ None
+    → first_other (map type_of_shown (placed 20 ((own_software ∷ error_attribute 420 (codes "Unknown Attributes") ∷ canonical UNKNOWN_ATTRIBUTES (types_encoding types) ∷ []) ++ more))) ≡ None
 unfolding placed
 error_within types more (inl e) = rw e refl
 error_within types more (inr e) = rw e.1 refl

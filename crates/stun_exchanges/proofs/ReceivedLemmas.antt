@@ -8,15 +8,14 @@ use Rattle.stun_grammar.specs.AttributeTypes.{FINGERPRINT}
 use Rattle.stun_types.specs.LookingUp.{nth}
 use Rattle.stun_base.specs.MessageTypes.{method_of}
 use Rattle.stun_types.specs.Replies.{responds_to, is_answer_to}
-use Rattle.stun_transactions.specs.declared.guard.Protection.{Protection}
+use Rattle.stun_transactions.specs.declared.parts.Mechanism.{Mechanism}
 use Rattle.stun_transactions.specs.declared.received.Discard.{Discard}
 use Rattle.stun_transactions.specs.declared.received.Discard.TheVariants.{NoFingerprint}
 use Rattle.stun_transactions.specs.declared.received.Outcome.{Outcome}
 use Rattle.stun_transactions.specs.declared.received.Outcome.TheVariants.{NotForThis}
 use Rattle.stun_transactions.specs.Guards.{proof_of, guard_fault}
 use Rattle.stun_transactions.specs.Outcomes.{is_open}
-use Rattle.stun_transactions.specs.Receiving.{content, claim_of, discarded}
-use Rattle.stun_transactions.specs.Terms.{is_answer}
+use Rattle.stun_transactions.specs.Receiving.{is_answer, content, claim_of, discarded}
 use Rattle.stun_transactions.specs.Usages.{lacks_fingerprint}
 use Rattle.stun_exchanges.specs.Learning.{IsReceivedAs}
 
@@ -44,12 +43,12 @@ pub received_as : (reported : Outcome) (r d : List ℕ) → parse_fault d ≡ No
 received_as reported r d parses answers printed has = record {
   parses = parses;
   answers = answers;
-  received_is = λ terms state awaits.
-      reported_of (is_open state) (not (is_some (parse_fault d))) (is_answer terms d) (guard_fault terms.protection terms.usage terms.signed d) (discarded terms.plan.transport (claim_of d)) (content (proof_of terms.protection terms.usage terms.signed d) [] d) reported
+  received_is = λ parts awaits.
+      reported_of (is_open parts.state) (not (is_some (parse_fault d))) (is_answer parts d) (guard_fault parts.mechanism None parts.usage parts.signed d) (discarded parts.plan.transport (claim_of d)) (content (proof_of parts.mechanism None parts.usage parts.signed d) [] d) reported
       awaits.ongoing
       (ap (λ (o : Option _). not (is_some o)) parses)
-      (ap (λ (m : ℕ). responds_to m terms.id d) awaits.method_is ∙ ap (λ (i : ℕ). responds_to (method_of (type_field r)) i d) awaits.id_is ∙ answers)
-      (ap (λ (p : Protection). guard_fault p terms.usage terms.signed d) awaits.unprotected
-      ∙ unguarded (lacks_fingerprint terms.usage d) (not_lacking terms.usage.fingerprint (is_some (nth r FINGERPRINT 0)) (is_some (nth d FINGERPRINT 0)) awaits.fingerprint printed))
-      (ap (λ (p : Protection). content (proof_of p terms.usage terms.signed d) [] d) awaits.unprotected ∙ has);
+      (ap (λ (m : ℕ). responds_to m parts.id d) awaits.method_is ∙ ap (λ (i : ℕ). responds_to (method_of (type_field r)) i d) awaits.id_is ∙ answers)
+      (ap (λ (m : Option Mechanism). guard_fault m None parts.usage parts.signed d) awaits.unprotected
+      ∙ unguarded (lacks_fingerprint parts.usage d) (not_lacking parts.usage.fingerprint (is_some (nth r FINGERPRINT 0)) (is_some (nth d FINGERPRINT 0)) awaits.fingerprint printed))
+      (ap (λ (m : Option Mechanism). content (proof_of m None parts.usage parts.signed d) [] d) awaits.unprotected ∙ has);
 }

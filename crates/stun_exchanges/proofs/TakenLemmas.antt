@@ -24,23 +24,22 @@ use Rattle.stun_authentication.specs.Challenges.{list_of, is_bid_down}
 use Rattle.stun_authentication.specs.Codes.{is_challenge, is_code, response_code}
 use Rattle.stun_authentication.specs.Cookies.{promises_algorithms}
 use Rattle.stun_authentication.specs.Identities.{value_of}
-use Rattle.stun_transactions.specs.declared.guard.Protection.{Protection}
-use Rattle.stun_transactions.specs.declared.guard.Protection.TheVariants as P
 use Rattle.stun_transactions.specs.declared.guard.Signed.{Signed}
+use Rattle.stun_transactions.specs.declared.parts.Mechanism.{Mechanism}
+use Rattle.stun_transactions.specs.declared.parts.Mechanism.TheVariants as M
 use Rattle.stun_transactions.specs.declared.plan.Plan.{Plan}
 use Rattle.stun_transactions.specs.declared.received.Discard.{Discard}
 use Rattle.stun_transactions.specs.declared.received.Discard.TheVariants.{BidDown, UnsignedBadRequest, NoFingerprint}
 use Rattle.stun_transactions.specs.declared.received.Outcome.{Outcome}
 use Rattle.stun_transactions.specs.declared.received.Outcome.TheVariants.{NotForThis}
 use Rattle.stun_transactions.specs.declared.retransmission.RetransmissionState.{RetransmissionState}
-use Rattle.stun_transactions.specs.declared.terms.Terms.{Terms}
 use Rattle.stun_transactions.specs.declared.response_policy.ResponsePolicy.{ResponsePolicy}
 use Rattle.stun_transactions.specs.Usages.{lacks_fingerprint}
 use Rattle.stun_authentication.specs.Policies.{proved_at}
 use Rattle.stun_transactions.specs.Guards.{guard_fault, signed_by, is_signed, signs_by, is_unsigned_bad_request, validated, matched_by, proof_of, short_term_fault, long_term_fault, mechanism_fault}
 use Rattle.stun_transactions.specs.Outcomes.{is_open}
 use Rattle.stun_transactions.specs.Receiving.{content, claim_of, discarded, received_outcome}
-use Rattle.stun_transactions.specs.Terms.{AreTerms, is_answer}
+use Rattle.stun_transactions.specs.Beginning.{request_parts}
 use Rattle.stun_exchanges.specs.Premises.{IsOwn, IsOpen, IsNamed, HasRoom, Suits, WorksAs, checked}
 use Rattle.stun_authentication.specs.Requests.{short_term_attributes, short_term_request}
 use Rattle.stun_authentication.specs.Writing.{signed, finished, signed_reply}
@@ -80,9 +79,9 @@ and_not x false e = absurd cc
 -- ---- What a client takes
 
 -- a response is kept, and authenticated by an algorithm
-pub record IsTaken (protection : Protection) (usage : ResponsePolicy) (by : Signed) (d : List ℕ) (a : IntegrityAlgorithm) : Type 0 where
-  pub kept : guard_fault protection usage by d ≡ None
-  pub proof : proof_of protection usage by d ≡ Some a
+pub record IsTaken (mechanism : Mechanism) (key : IntegrityKey) (usage : ResponsePolicy) (by : Signed) (d : List ℕ) (a : IntegrityAlgorithm) : Type 0 where
+  pub kept : guard_fault (Some mechanism) (Some key) usage by d ≡ None
+  pub proof : proof_of (Some mechanism) (Some key) usage by d ≡ Some a
 
 taken_of : (asks bid bad : Bool) → bid ≡ false → bad ≡ false → (if asks then None else (if bid then Some BidDown else (if bad then Some UnsignedBadRequest else None))) ≡ None
 taken_of true bid bad x y = refl
@@ -108,12 +107,12 @@ proves first print kind id xs a key kept usage works plain room suits =
     ∙ ap (λ (b : Bool). if b then Some a else None) (long_enough usage.min_hmac_length a d (reply_found first print kind id xs a key plain room) suits.min_hmac_length)
 
 pub long_taken : IsFirst → IsMissing → (a : IntegrityAlgorithm) (print : Bool) (kind id : ℕ) (xs : List Attribute) (key : List ℕ) (kept : IntegrityKey) (usage : ResponsePolicy) (by : Signed) → WorksAs key a kept → IsOpen kind id xs → has NONCE (types xs) ≡ false
-    → HasRoom kind id (finished print kind id (signed kind id xs a key)) → Suits usage print → IsTaken (P.LongTerm kept) usage by (signed_reply print kind id xs a key) a
+    → HasRoom kind id (finished print kind id (signed kind id xs a key)) → Suits usage print → IsTaken M.LongTerm kept usage by (signed_reply print kind id xs a key) a
 long_taken first missing a print kind id xs key kept usage by works plain none room suits =
     let d = signed_reply print kind id xs a key in
     let right = proves first print kind id xs a key kept usage works plain room suits in
     record {
-      kept = ap (λ (b : Bool). if b then Some NoFingerprint else mechanism_fault (P.LongTerm kept) (is_some (proof_of (P.LongTerm kept) usage by d)) by d) (none_lacks first print kind id xs a key usage plain room suits)
+      kept = ap (λ (b : Bool). if b then Some NoFingerprint else mechanism_fault (Some M.LongTerm) (is_some (proof_of (Some M.LongTerm) (Some kept) usage by d)) by d) (none_lacks first print kind id xs a key usage plain room suits)
           ∙ ap (λ (o : Option IntegrityAlgorithm). long_term_fault (is_some o) d) right
           ∙ taken_of (is_challenge d) (is_bid_down d) (is_unsigned_bad_request d)
           (ap (λ (o : Option (List ℕ)). option_map_or (λ (n : List ℕ). promises_algorithms n) o false && not (is_some (list_of d))) (no_nonce missing print kind id xs a key plain room none))
@@ -123,13 +122,13 @@ long_taken first missing a print kind id xs key kept usage by works plain none r
 
 -- by a short-term credential, of a request that has the integrity attribute of the algorithm
 pub short_taken : IsFirst → (a : IntegrityAlgorithm) (print : Bool) (kind id : ℕ) (xs : List Attribute) (key : List ℕ) (kept : IntegrityKey) (usage : ResponsePolicy) (by : Signed) → signs_by by a ≡ true → WorksAs key a kept → IsOpen kind id xs
-    → HasRoom kind id (finished print kind id (signed kind id xs a key)) → Suits usage print → IsTaken (P.ShortTerm kept) usage by (signed_reply print kind id xs a key) a
+    → HasRoom kind id (finished print kind id (signed kind id xs a key)) → Suits usage print → IsTaken M.ShortTerm kept usage by (signed_reply print kind id xs a key) a
 short_taken first a print kind id xs key kept usage by asked works plain room suits =
     let d = signed_reply print kind id xs a key in
-    let right : proof_of (P.ShortTerm kept) usage by d ≡ Some a =
+    let right : proof_of (Some M.ShortTerm) (Some kept) usage by d ≡ Some a =
     ap (matched_by by) (proves first print kind id xs a key kept usage works plain room suits) ∙ ap (λ (b : Bool). if b then Some a else None) asked in
     record {
-      kept = ap (λ (b : Bool). if b then Some NoFingerprint else mechanism_fault (P.ShortTerm kept) (is_some (proof_of (P.ShortTerm kept) usage by d)) by d) (none_lacks first print kind id xs a key usage plain room suits)
+      kept = ap (λ (b : Bool). if b then Some NoFingerprint else mechanism_fault (Some M.ShortTerm) (is_some (proof_of (Some M.ShortTerm) (Some kept) usage by d)) by d) (none_lacks first print kind id xs a key usage plain room suits)
           ∙ ap (λ (o : Option IntegrityAlgorithm). short_term_fault (is_some o) by d) right;
       proof = right;
     }
@@ -138,7 +137,7 @@ short_taken first a print kind id xs key kept usage by asked works plain room su
 pub taken : IsFirst → (sent counts : Option IntegrityAlgorithm) (a : IntegrityAlgorithm) (fingerprint print : Bool) (kind id other : ℕ) (before answer : List Attribute) (name key : List ℕ) (kept : IntegrityKey) (usage : ResponsePolicy)
     → IsOwn kind id before → IsNamed name → HasRoom kind id (short_term_attributes fingerprint sent kind id before name key) → checked counts sent ≡ Some a → WorksAs key a kept
     → IsOpen other id answer → HasRoom other id (finished print other id (signed other id answer a key)) → Suits usage print
-    → IsTaken (P.ShortTerm kept) usage (signed_by (short_term_request fingerprint sent kind id before name key)) (signed_reply print other id answer a key) a
+    → IsTaken M.ShortTerm kept usage (signed_by (short_term_request fingerprint sent kind id before name key)) (signed_reply print other id answer a key) a
 taken first sent counts a fingerprint print kind id other before answer name key kept usage own named room which works plain fits suits =
     let all = short_term_attributes fingerprint sent kind id before name key in
     let d = message_encoding kind id all in
@@ -155,32 +154,28 @@ reported_of true true false kept out taken o p a k = absurd cc
 reported_of true false answers kept out taken o p a k = absurd cc
 reported_of false parses answers kept out taken o p a k = absurd cc
 
-heard_as : (terms : Terms) (state : RetransmissionState) (understood : List AttributeType) (r d : List ℕ) (plan : Plan) (protection : Protection) (usage : ResponsePolicy) (a : IntegrityAlgorithm) → AreTerms r plan protection usage terms → is_open state ≡ true → parse_fault d ≡ None → is_answer_to r d ≡ true
-    → IsTaken terms.protection terms.usage terms.signed d a → received_outcome terms state understood d ≡ content (Some a) understood d
-heard_as terms state understood r d plan protection usage a are ongoing parses answers it =
-    reported_of (is_open state) (not (is_some (parse_fault d))) (is_answer terms d) (guard_fault terms.protection terms.usage terms.signed d) (discarded terms.plan.transport (claim_of d)) (content (proof_of terms.protection terms.usage terms.signed d) understood d) ongoing
+heard_as : (r d : List ℕ) (plan : Plan) (mechanism : Mechanism) (key : IntegrityKey) (usage : ResponsePolicy) (state : RetransmissionState) (understood : List AttributeType) (a : IntegrityAlgorithm) → is_open state ≡ true → parse_fault d ≡ None → is_answer_to r d ≡ true
+    → IsTaken mechanism key usage (signed_by r) d a → received_outcome (request_parts r plan (Some mechanism) usage state) (Some key) understood d ≡ content (Some a) understood d
+heard_as r d plan mechanism key usage state understood a ongoing parses answers it =
+    reported_of (is_open state) (not (is_some (parse_fault d))) (is_answer_to r d) (guard_fault (Some mechanism) (Some key) usage (signed_by r) d) (discarded plan.transport (claim_of d)) (content (proof_of (Some mechanism) (Some key) usage (signed_by r) d) understood d) ongoing
     (ap (λ (o : Option StunParseError). not (is_some o)) parses)
-    (ap (λ (m : ℕ). responds_to m terms.id d) are.method_is ∙ ap (λ (i : ℕ). responds_to (method_of (type_field r)) i d) are.id_is ∙ answers)
+    answers
     it.kept
     ∙ ap (λ (o : Option IntegrityAlgorithm). content o understood d) it.proof
 
-pub long_heard : IsFirst → IsMissing → (a : IntegrityAlgorithm) (print : Bool) (kind id : ℕ) (xs : List Attribute) (r key : List ℕ) (k : IntegrityKey) (plan : Plan) (usage : ResponsePolicy) (terms : Terms) (state : RetransmissionState) (understood : List AttributeType)
-    → WorksAs key a k → AreTerms r plan (P.LongTerm k) usage terms → is_open state ≡ true → IsOpen kind id xs → has NONCE (types xs) ≡ false → HasRoom kind id (finished print kind id (signed kind id xs a key)) → Suits usage print
-    → is_answer_to r (signed_reply print kind id xs a key) ≡ true → received_outcome terms state understood (signed_reply print kind id xs a key) ≡ content (Some a) understood (signed_reply print kind id xs a key)
-long_heard first missing a print kind id xs r key k plan usage terms state understood works are ongoing plain none room suits answers =
+pub long_heard : IsFirst → IsMissing → (a : IntegrityAlgorithm) (print : Bool) (kind id : ℕ) (xs : List Attribute) (r key : List ℕ) (k : IntegrityKey) (plan : Plan) (usage : ResponsePolicy) (state : RetransmissionState) (understood : List AttributeType)
+    → WorksAs key a k → is_open state ≡ true → IsOpen kind id xs → has NONCE (types xs) ≡ false → HasRoom kind id (finished print kind id (signed kind id xs a key)) → Suits usage print
+    → is_answer_to r (signed_reply print kind id xs a key) ≡ true
+    → received_outcome (request_parts r plan (Some M.LongTerm) usage state) (Some k) understood (signed_reply print kind id xs a key) ≡ content (Some a) understood (signed_reply print kind id xs a key)
+long_heard first missing a print kind id xs r key k plan usage state understood works ongoing plain none room suits answers =
     let d = signed_reply print kind id xs a key in
-    heard_as terms state understood r d plan (P.LongTerm k) usage a are ongoing (parse-message kind id (finished print kind id (signed kind id xs a key)) (once_writable print kind id xs a key plain.writable plain.ordinary room)) answers
-    (subst (λ (u : ResponsePolicy). IsTaken terms.protection u terms.signed d a) (sym are.usage_is)
-    (subst (λ (p : Protection). IsTaken p usage terms.signed d a) (sym are.protection_is)
-    (long_taken first missing a print kind id xs key k usage terms.signed works plain none room suits)))
+    heard_as r d plan M.LongTerm k usage state understood a ongoing (parse-message kind id (finished print kind id (signed kind id xs a key)) (once_writable print kind id xs a key plain.writable plain.ordinary room)) answers
+    (long_taken first missing a print kind id xs key k usage (signed_by r) works plain none room suits)
 
 -- the same of a short-term key, which is kept as it is
-pub short_heard : (a : IntegrityAlgorithm) (print : Bool) (kind id : ℕ) (xs : List Attribute) (r key : List ℕ) (k : IntegrityKey) (plan : Plan) (usage : ResponsePolicy) (terms : Terms) (state : RetransmissionState) (understood : List AttributeType)
-    → AreTerms r plan (P.ShortTerm k) usage terms → is_open state ≡ true → IsOpen kind id xs → HasRoom kind id (finished print kind id (signed kind id xs a key)) → is_answer_to r (signed_reply print kind id xs a key) ≡ true
-    → IsTaken (P.ShortTerm k) usage (signed_by r) (signed_reply print kind id xs a key) a → received_outcome terms state understood (signed_reply print kind id xs a key) ≡ content (Some a) understood (signed_reply print kind id xs a key)
-short_heard a print kind id xs r key k plan usage terms state understood are ongoing plain room answers it =
-    let d = signed_reply print kind id xs a key in
-    heard_as terms state understood r d plan (P.ShortTerm k) usage a are ongoing (parse-message kind id (finished print kind id (signed kind id xs a key)) (once_writable print kind id xs a key plain.writable plain.ordinary room)) answers
-    (subst (λ (p : Protection). IsTaken p terms.usage terms.signed d a) (sym are.protection_is)
-    (subst (λ (u : ResponsePolicy). IsTaken (P.ShortTerm k) u terms.signed d a) (sym are.usage_is)
-    (subst (λ (s : Signed). IsTaken (P.ShortTerm k) usage s d a) (sym are.signed_is) it)))
+pub short_heard : (a : IntegrityAlgorithm) (print : Bool) (kind id : ℕ) (xs : List Attribute) (r key : List ℕ) (k : IntegrityKey) (plan : Plan) (usage : ResponsePolicy) (state : RetransmissionState) (understood : List AttributeType)
+    → is_open state ≡ true → IsOpen kind id xs → HasRoom kind id (finished print kind id (signed kind id xs a key)) → is_answer_to r (signed_reply print kind id xs a key) ≡ true
+    → IsTaken M.ShortTerm k usage (signed_by r) (signed_reply print kind id xs a key) a
+    → received_outcome (request_parts r plan (Some M.ShortTerm) usage state) (Some k) understood (signed_reply print kind id xs a key) ≡ content (Some a) understood (signed_reply print kind id xs a key)
+short_heard a print kind id xs r key k plan usage state understood ongoing plain room answers it =
+    heard_as r (signed_reply print kind id xs a key) plan M.ShortTerm k usage state understood a ongoing (parse-message kind id (finished print kind id (signed kind id xs a key)) (once_writable print kind id xs a key plain.writable plain.ordinary room)) answers it

@@ -13,11 +13,9 @@ use Rattle.stun_types.specs.LookingUp.{nth}
 use Rattle.stun_types.specs.Replies.{is_answer_to, unknown_types}
 use Rattle.stun_values.specs.Addresses.{IsInRange, plain_socket}
 use Rattle.stun_values.specs.TypeLists.{types_encoding}
-use Rattle.stun_transactions.specs.declared.retransmission.RetransmissionState.{RetransmissionState}
-use Rattle.stun_transactions.specs.declared.guard.Protection.TheVariants.{Unprotected}
+use Rattle.stun_transactions.specs.declared.parts.TransactionParts.{TransactionParts}
 use Rattle.stun_transactions.specs.declared.received.Outcome.{Outcome}
 use Rattle.stun_transactions.specs.declared.received.Outcome.TheVariants.{Success, Error}
-use Rattle.stun_transactions.specs.declared.terms.Terms.{Terms}
 use Rattle.stun_transactions.specs.Mapped.{ReadsAnswer}
 use Rattle.stun_transactions.specs.Outcomes.{is_open}
 use Rattle.stun_transactions.specs.Receiving.{received_outcome}
@@ -36,20 +34,20 @@ without_flow a = plain_socket (socket_ip a) (socket_port a)
 
 -- a transaction of the unsigned request r waits for its response: if the usage sends FINGERPRINT, r
 -- shows one
-pub record Awaits (r : List ℕ) (terms : Terms) (state : RetransmissionState) : Type 0 where
-  pub method_is : terms.method ≡ method_of (type_field r)
-  pub id_is : terms.id ≡ id_field r
-  pub unprotected : terms.protection ≡ Unprotected
-  pub fingerprint : lacks_fingerprint terms.usage r ≡ false
-  pub ongoing : is_open state ≡ true
+pub record Awaits (r : List ℕ) (parts : TransactionParts) : Type 0 where
+  pub method_is : parts.method ≡ method_of (type_field r)
+  pub id_is : parts.id ≡ id_field r
+  pub unprotected : parts.mechanism ≡ None
+  pub fingerprint : lacks_fingerprint parts.usage r ≡ false
+  pub ongoing : is_open parts.state ≡ true
 
 -- d is a message, a response to the request r, and is this for each transaction that waits for one;
 -- nothing authenticates it
 pub record IsReceivedAs (reported : Outcome) (r d : List ℕ) : Type 0 where
   pub parses : parse_fault d ≡ None
   pub answers : is_answer_to r d ≡ true
-  pub received_is : (terms : Terms) (state : RetransmissionState) → Awaits r terms state
-      → received_outcome terms state [] d ≡ reported
+  pub received_is : (parts : TransactionParts) → Awaits r parts
+      → received_outcome parts None [] d ≡ reported
 
 -- whatever is read of d, as an answer to r, is this address
 abbrev pub TellsOnly : SocketAddr → (r d : List ℕ) → Type 0

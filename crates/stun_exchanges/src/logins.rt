@@ -11,7 +11,7 @@ ghost use Rattle.stun_keys.specs.declared.keys.integrity_key.IntegrityKey.{Integ
 ghost use Rattle.stun_authentication.specs.declared.policy.Policy.{Policy};
 ghost use Rattle.stun_authentication.specs.Answers.{accept};
 ghost use Rattle.stun_authentication.specs.ShortTerm.{short_term};
-ghost use Rattle.stun_transactions.specs.declared.guard.Protection.TheVariants as Protection;
+ghost use Rattle.stun_transactions.specs.declared.parts.Mechanism.TheVariants as Mechanism;
 ghost use Rattle.stun_grammar.specs.AttributeTypes.{NONCE};
 ghost use Rattle.stun_grammar.specs.ScannedOrder.{has};
 ghost use Rattle.stun_base.specs.declared.message_type.MessageClass.TheVariants.{Request, Error as ErrorClass};
@@ -32,11 +32,10 @@ ghost use Rattle.stun_grammar.specs.declared.attribute_type.AttributeType.{Attri
 ghost use Rattle.stun_types.specs.Replies.{is_answer_to};
 ghost use Rattle.stun_transactions.specs.declared.retransmission.RetransmissionState.{RetransmissionState};
 ghost use Rattle.stun_transactions.specs.declared.plan.Plan.{Plan};
-ghost use Rattle.stun_transactions.specs.declared.terms.Terms.{Terms};
 ghost use Rattle.stun_transactions.specs.declared.response_policy.ResponsePolicy.{ResponsePolicy};
 ghost use Rattle.stun_transactions.specs.Outcomes.{is_open};
 ghost use Rattle.stun_transactions.specs.Receiving.{content, received_outcome};
-ghost use Rattle.stun_transactions.specs.Terms.{AreTerms};
+ghost use Rattle.stun_transactions.specs.Beginning.{request_parts};
 ghost use Rattle.stun_exchanges.specs.Example.{IsMet};
 ghost use Rattle.stun_exchanges.specs.Offers.{Offer, IsOffered, sent_with, IsLawful, Takes, IsShort, Retries, asked_of, asks, offer_of, refused, refused_attributes};
 ghost use Rattle.stun_authentication.specs.Requests.{User, user_of, identity, user_key, retried_attributes, retried_request, short_term_attributes, short_term_request};
@@ -114,13 +113,14 @@ pub fn login_is_accepted()
     // with a transaction of a request r that was begun with the key, and waits for a response to it
     ensures heard { (a : IntegrityAlgorithm) (fingerprint : Bool) (kind id : ℕ)
         (answer : List Attribute) (r key : List ℕ) (k : IntegrityKey) (plan : Plan) (usage : ResponsePolicy)
-        (terms : Terms) (state : RetransmissionState) (understood : List AttributeType)
+        (state : RetransmissionState) (understood : List AttributeType)
         → let reply = signed_reply fingerprint kind id answer a key in
-        WorksAs key a k → AreTerms r plan (Protection.LongTerm k) usage terms
+        let parts = request_parts r plan (Some Mechanism.LongTerm) usage state in
+        WorksAs key a k
         → is_open state ≡ true → IsOpen kind id answer → has NONCE (types answer) ≡ false
         → HasRoom kind id (finished fingerprint kind id (signed kind id answer a key))
         → Suits usage fingerprint → is_answer_to r reply ≡ true
-        → received_outcome terms state understood reply ≡ content (Some a) understood reply }
+        → received_outcome parts (Some k) understood reply ≡ content (Some a) understood reply }
 {
     shown_is_found();
 }
@@ -165,18 +165,18 @@ pub fn short_term_login_is_accepted()
     // with a transaction of that request that was begun with the key, and waits for a response to it
     ensures heard { (sent counts : Option IntegrityAlgorithm) (a : IntegrityAlgorithm)
         (fingerprint finger : Bool) (kind id other : ℕ) (before answer : List Attribute)
-        (name key : List ℕ) (stored : IntegrityKey) (plan : Plan) (usage : ResponsePolicy) (terms : Terms)
+        (name key : List ℕ) (stored : IntegrityKey) (plan : Plan) (usage : ResponsePolicy)
         (state : RetransmissionState) (understood : List AttributeType)
         → let r = short_term_request fingerprint sent kind id before name key in
         let reply = signed_reply finger other id answer a key in
+        let parts = request_parts r plan (Some Mechanism.ShortTerm) usage state in
         IsOwn kind id before → IsNamed name
         → HasRoom kind id (short_term_attributes fingerprint sent kind id before name key)
         → checked counts sent ≡ Some a → WorksAs key a stored
         → IsOpen other id answer
         → HasRoom other id (finished finger other id (signed other id answer a key))
-        → Suits usage finger → AreTerms r plan (Protection.ShortTerm stored) usage terms
-        → is_open state ≡ true → is_answer_to r reply ≡ true
-        → received_outcome terms state understood reply ≡ content (Some a) understood reply }
+        → Suits usage finger → is_open state ≡ true → is_answer_to r reply ≡ true
+        → received_outcome parts (Some stored) understood reply ≡ content (Some a) understood reply }
 {
     shown_is_found();
 }

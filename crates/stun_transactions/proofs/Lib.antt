@@ -1,4 +1,3 @@
-mod BeyondLemmas
 mod FirstPollLemmas
 mod PartsLemmas
 mod PreparingLemmas

@@ -5,7 +5,9 @@ use Rattle.stun_grammar.specs.declared.attribute_type.AttributeType.{AttributeTy
 use Rattle.stun_transactions.specs.declared.received.Discard.TheVariants.{NotAuthentic, OtherAlgorithm, BidDown, UnsignedBadRequest, NoFingerprint}
 use Rattle.stun_transactions.specs.declared.received.Outcome.{Outcome}
 use Rattle.stun_transactions.specs.declared.received.Outcome.TheVariants.{NotForThis, Discarded, Failed, Success, Error}
-use Rattle.stun_transactions.specs.declared.terms.Terms.{Terms}
+use Rattle.stun_keys.specs.declared.keys.integrity_key.IntegrityKey.{IntegrityKey}
+use Rattle.stun_transactions.specs.declared.parts.TransactionParts.{TransactionParts}
+use Rattle.stun_transactions.specs.Parts.{at_state}
 use Rattle.stun_grammar.specs.Parsing.{parse_fault}
 use Rattle.std.proofs.lemmas.Bool.{ltb-true}
 use Rattle.stun_transactions.specs.Outcomes.{after, is_open}
@@ -126,9 +128,9 @@ open_after false state = refl
 still_open : (state : RetransmissionState) → is_open (stopped_by state) ≡ is_open state
 still_open state = open_after (is_some state.end) state
 
-pub receives_on : (terms : Terms) (state : RetransmissionState) (understood : List AttributeType) (d : List ℕ) → received_outcome terms (stopped_by state) understood d ≡ received_outcome terms state understood d
-receives_on terms state understood d =
-    ap (λ (b : Bool). if b && not (is_some (parse_fault d)) then outcome terms understood d else NotForThis) (still_open state)
+pub receives_on : (parts : TransactionParts) (key : Option IntegrityKey) (understood : List AttributeType) (d : List ℕ) → received_outcome (at_state parts (stopped_by parts.state)) key understood d ≡ received_outcome parts key understood d
+receives_on parts key understood d =
+    ap (λ (b : Bool). if b && not (is_some (parse_fault d)) then outcome parts key understood d else NotForThis) (still_open parts.state)
 
 -- ---- Calls that are no polls
 
@@ -173,15 +175,15 @@ shut false true parses o e = refl
 shut some false parses o e = absurd cc
 
 -- after an end nothing is received
-nothing_received : (terms : Terms) (state : RetransmissionState) (understood : List AttributeType) (d : List ℕ) → is_some state.end ≡ true → received_outcome terms state understood d ≡ NotForThis
-nothing_received terms state understood d e = shut (nat_lt 0 state.sent) (is_some state.end) (not (is_some (parse_fault d))) (outcome terms understood d) e
+nothing_received : (parts : TransactionParts) (key : Option IntegrityKey) (understood : List AttributeType) (d : List ℕ) → is_some parts.state.end ≡ true → received_outcome parts key understood d ≡ NotForThis
+nothing_received parts key understood d e = shut (nat_lt 0 parts.state.sent) (is_some parts.state.end) (not (is_some (parse_fault d))) (outcome parts key understood d) e
 
-pub receiving_stays : (terms : Terms) (state : RetransmissionState) (understood : List AttributeType) (d : List ℕ) → Stays state (after (received_outcome terms state understood d) state)
-receiving_stays terms state understood d =
-    let o = received_outcome terms state understood d in
+pub receiving_stays : (parts : TransactionParts) (key : Option IntegrityKey) (understood : List AttributeType) (d : List ℕ) → Stays parts.state (after (received_outcome parts key understood d) parts.state)
+receiving_stays parts key understood d =
+    let o = received_outcome parts key understood d in
     record {
-      sent = same_sent o state;
-      last = same_last o state;
-      stopped = λ e. same_stopped o state ∙ e;
-      ended = λ e. ap (λ (reported : Outcome). after reported state) (nothing_received terms state understood d e);
+      sent = same_sent o parts.state;
+      last = same_last o parts.state;
+      stopped = λ e. same_stopped o parts.state ∙ e;
+      ended = λ e. ap (λ (reported : Outcome). after reported parts.state) (nothing_received parts key understood d e);
     }

@@ -11,16 +11,15 @@ use Rattle.stun_transactions.specs.declared.slots.TransactionsAction.TheVariants
 use Rattle.stun_transactions.specs.declared.transaction.Transaction.{Transaction}
 use Rattle.stun_transactions.specs.Slots.{id_of, has_id, has_turn, is_free, in_slot, place_of, HasDistinctIds, changed, IsWait, PollsSlot, PollsSlots, room_fault, add_fault, IsAdded, Adds, addressee}
 use Rattle.std.specs.Option.{option_map_or}
-use Rattle.stun_base.specs.declared.transport.TransportType.{TransportType}
 use Rattle.stun_grammar.specs.declared.error.StunParseError.{StunParseError}
 use Rattle.stun_grammar.specs.Headers.{id_field}
 use Rattle.stun_grammar.specs.Parsing.{parse_fault}
 use Rattle.stun_transactions.specs.declared.guard.Protection.{Protection}
 use Rattle.stun_transactions.specs.declared.response_policy.ResponsePolicy.{ResponsePolicy}
-use Rattle.stun_transactions.specs.declared.schedule.Schedule.{Schedule}
-use Rattle.stun_transactions.specs.declared.terms.BeginError.{BeginError}
-use Rattle.stun_transactions.specs.Terms.{begin_fault}
-use Rattle.stun_transactions.specs.Transactions.{Begins}
+use Rattle.stun_transactions.specs.declared.beginning.BeginError.{BeginError}
+use Rattle.stun_transactions.specs.declared.plan.Plan.{Plan}
+use Rattle.stun_transactions.specs.Beginning.{begin_fault}
+use Rattle.stun_transactions.specs.Transactions.{begun_with}
 use Rattle.stun_transactions.specs.declared.slots.AddError.{AddError}
 use Rattle.stun_transactions.specs.declared.slots.AddError.TheVariants.{Begin, InUse, Full}
 
@@ -77,7 +76,7 @@ polled_was : (a : Option Transaction) (now : Duration) (task : TransactionsActio
 polled_was None now task b polls u e = absurd polls
 polled_was (Some t) now (Send id) None polls u e = absurd polls
 polled_was (Some t) now (Send id) (Some v) polls u e =
-    let is : v ≡ u = cc in record { transaction = t; is = refl; same = sym (ap id_of is) ∙ ap (λ terms. terms.id) polls.1 }
+    let is : v ≡ u = cc in record { transaction = t; is = refl; same = sym (ap id_of is) ∙ ap id_of polls.1 }
 polled_was (Some t) now (Ended id end) None polls u e = absurd cc
 polled_was (Some t) now (Ended id end) (Some v) polls u e = absurd polls
 polled_was (Some t) now (WaitUntil until) b polls u e = absurd polls
@@ -202,14 +201,14 @@ by_begin (Some reason) x e = absurd cc
 fault_is : (protection : Protection) (r : List ℕ) (id : ℕ) (slots : List (Option Transaction)) → begin_fault protection r ≡ None → id ≡ id_field r → add_fault protection r slots ≡ room_fault id slots
 fault_is protection r id slots none e = by_begin (begin_fault protection r) (room_fault (id_field r) slots) none ∙ ap (λ n. room_fault n slots) (sym e)
 
-pub begun : (r : List ℕ) (schedule : Schedule) (transport : TransportType) (protection : Protection) (usage : ResponsePolicy) (now : Duration) (t : Transaction) (old new : List (Option Transaction)) (x : Result Unit AddError)
-    → begin_fault protection r ≡ None → Begins r schedule transport protection usage now t
+pub begun : (r : List ℕ) (plan : Plan) (protection : Protection) (usage : ResponsePolicy) (now : Duration) (t : Transaction) (old new : List (Option Transaction)) (x : Result Unit AddError)
+    → begin_fault protection r ≡ None → t ≡ begun_with r plan protection usage now
     → MatchResult x (λ _. (room_fault (id_of t) old ≡ None) × IsAdded t old new) (λ e. (room_fault (id_of t) old ≡ Some e) × (new ≡ old))
-    → MatchResult x (λ _. (add_fault protection r old ≡ None) × Adds r schedule transport protection usage now old new) (λ e. (add_fault protection r old ≡ Some e) × (new ≡ old))
-begun r schedule transport protection usage now t old new (Ok x) none begins added =
-    (fault_is protection r (id_of t) old none begins.terms.id_is ∙ added.0, record { transaction = t; begins = begins; added = added.1 })
-begun r schedule transport protection usage now t old new (Err e) none begins same =
-    (fault_is protection r (id_of t) old none begins.terms.id_is ∙ same.0, same.1)
+    → MatchResult x (λ _. (add_fault protection r old ≡ None) × Adds r plan protection usage now old new) (λ e. (add_fault protection r old ≡ Some e) × (new ≡ old))
+begun r plan protection usage now t old new (Ok x) none begins added =
+    (fault_is protection r (id_of t) old none (ap id_of begins) ∙ added.0, subst (λ (u : Transaction). IsAdded u old new) begins added.1)
+begun r plan protection usage now t old new (Err e) none begins same =
+    (fault_is protection r (id_of t) old none (ap id_of begins) ∙ same.0, same.1)
 
 -- the place of the transaction that a message is for
 by_parse : (o : Option StunParseError) (x : Option ℕ) → o ≡ None → (if is_some o then None else x) ≡ x

@@ -20,9 +20,9 @@ use Rattle.stun_keys.specs.Keys.{key_bytes, key_algorithm}
 use Rattle.stun_authentication.specs.Challenges.{is_bid_down}
 use Rattle.stun_authentication.specs.Codes.{is_challenge, shown_code}
 use Rattle.stun_authentication.specs.Policies.{has_least_length, proved_at}
-use Rattle.stun_transactions.specs.declared.retransmission.RetransmissionState.{RetransmissionState}
-use Rattle.stun_transactions.specs.declared.guard.Protection.{Protection}
-use Rattle.stun_transactions.specs.declared.guard.Protection.TheVariants.{Unprotected, FirstLongTerm, ShortTerm, LongTerm}
+use Rattle.stun_transactions.specs.declared.parts.Mechanism.{Mechanism}
+use Rattle.stun_transactions.specs.declared.parts.Mechanism.TheVariants.{ShortTerm, FirstLongTerm, LongTerm}
+use Rattle.stun_transactions.specs.declared.parts.TransactionParts.{TransactionParts}
 use Rattle.stun_transactions.specs.declared.guard.Signed.{Signed}
 use Rattle.stun_transactions.specs.declared.received.Claim.{Claim}
 use Rattle.stun_transactions.specs.declared.received.Discard.{Discard}
@@ -30,14 +30,12 @@ use Rattle.stun_transactions.specs.declared.received.Discard.TheVariants.{NotAut
 use Rattle.stun_transactions.specs.declared.received.Failure.TheVariants.{UnknownAttribute, NoErrorCode}
 use Rattle.stun_transactions.specs.declared.received.Outcome.{Outcome}
 use Rattle.stun_transactions.specs.declared.received.Outcome.TheVariants.{NotForThis, Failed, Error}
-use Rattle.stun_transactions.specs.declared.terms.Terms.{Terms}
 use Rattle.stun_transactions.specs.declared.response_policy.ResponsePolicy.{ResponsePolicy}
 use Rattle.stun_transactions.specs.Guards.{guard_fault, mechanism_fault, proof_of, matched_by, signed_by, is_signed, have_common, signs_by, validated, is_unsigned_bad_request}
 use Rattle.stun_transactions.specs.Outcomes.{is_open}
-use Rattle.stun_transactions.specs.Receiving.{received_outcome, claim_of, discarded, content, content_by_class}
-use Rattle.stun_transactions.specs.Responses.{first_beyond}
+use Rattle.stun_transactions.specs.Receiving.{is_answer, received_outcome, claim_of, discarded, content, content_by_class}
+use Rattle.stun_transactions.specs.Responses.{first_unknown}
 use Rattle.stun_transactions.specs.Taking.{is_taken, proof_in, IsAuthenticBy, IsProved, IsFit, IsFitBy, IsRightResponse}
-use Rattle.stun_transactions.specs.Terms.{is_answer}
 use Rattle.stun_transactions.specs.Usages.{lacks_fingerprint}
 
 -- ---- What is authentic
@@ -76,17 +74,17 @@ either_is_some false x y e = absurd cc
 -- by a short-term credential it is authentic
 short : (min_hmac_length : ℕ) (key : IntegrityKey) (signed : Signed) (d : List ℕ) (other : Bool) (found proof : Option IntegrityAlgorithm) → IsBytes d → parse_fault d ≡ None
     → proved_at min_hmac_length d (validated key d) ≡ found → matched_by signed found ≡ proof
-    → (if is_some proof then None else (if other then Some OtherAlgorithm else Some NotAuthentic)) ≡ None → IsProved (ShortTerm key) min_hmac_length signed d proof
+    → (if is_some proof then None else (if other then Some OtherAlgorithm else Some NotAuthentic)) ≡ None → IsProved (Some ShortTerm) (Some key) min_hmac_length signed d proof
 short min_hmac_length key signed d other found None bytes parses is matches passes = absurd (either_is_some other OtherAlgorithm NotAuthentic passes)
 short min_hmac_length key signed d other found (Some a) bytes parses is matches passes =
     let both = matched signed found a matches in
-    (proved min_hmac_length key d (validated key d) a bytes parses refl (is ∙ both.0), both.1)
+    (both.1, proved min_hmac_length key d (validated key d) a bytes parses refl (is ∙ both.0))
 
 -- by a long-term one it is, or it is a challenge
 long : (min_hmac_length : ℕ) (key : IntegrityKey) (signed : Signed) (d : List ℕ) (asks bid bad : Bool) (proof : Option IntegrityAlgorithm) → IsBytes d → parse_fault d ≡ None
     → is_challenge d ≡ asks → proved_at min_hmac_length d (validated key d) ≡ proof
     → (if asks then None else (if bid then Some BidDown else (if bad then Some UnsignedBadRequest else (if is_some proof then None else Some NotAuthentic)))) ≡ None
-    → IsProved (LongTerm key) min_hmac_length signed d proof
+    → IsProved (Some LongTerm) (Some key) min_hmac_length signed d proof
 long min_hmac_length key signed d asks bid bad (Some a) bytes parses asked is passes = proved min_hmac_length key d (validated key d) a bytes parses refl is
 long min_hmac_length key signed d true bid bad None bytes parses asked is passes = asked
 long min_hmac_length key signed d false true bad None bytes parses asked is passes = absurd cc
@@ -102,20 +100,29 @@ fit d authentic false true bad asked p q passes = absurd cc
 fit d authentic false false true asked p q passes = absurd cc
 fit d authentic false false false asked p q passes = inr (record { promised = p; not_bad = q })
 
-fit_by : (p : Protection) (authentic : Bool) (signed : Signed) (d : List ℕ) → mechanism_fault p authentic signed d ≡ None → IsFitBy p d
-fit_by Unprotected authentic signed d passes = tt
-fit_by FirstLongTerm authentic signed d passes = fit d true (is_challenge d) (is_bid_down d) (is_unsigned_bad_request d) refl refl refl passes
-fit_by (ShortTerm key) authentic signed d passes = tt
-fit_by (LongTerm key) authentic signed d passes = fit d authentic (is_challenge d) (is_bid_down d) (is_unsigned_bad_request d) refl refl refl passes
+fit_by : (mechanism : Option Mechanism) (authentic : Bool) (signed : Signed) (d : List ℕ) → mechanism_fault mechanism authentic signed d ≡ None → IsFitBy mechanism d
+fit_by None authentic signed d passes = tt
+fit_by (Some FirstLongTerm) authentic signed d passes = fit d true (is_challenge d) (is_bid_down d) (is_unsigned_bad_request d) refl refl refl passes
+fit_by (Some ShortTerm) authentic signed d passes = tt
+fit_by (Some LongTerm) authentic signed d passes = fit d authentic (is_challenge d) (is_bid_down d) (is_unsigned_bad_request d) refl refl refl passes
 
-proved_as : (p : Protection) (usage : ResponsePolicy) (signed : Signed) (d : List ℕ) → IsBytes d → parse_fault d ≡ None → mechanism_fault p (is_some (proof_of p usage signed d)) signed d ≡ None
-    → IsProved p usage.min_hmac_length signed d (proof_of p usage signed d)
-proved_as Unprotected usage signed d bytes parses passes = refl
-proved_as FirstLongTerm usage signed d bytes parses passes = refl
-proved_as (ShortTerm key) usage signed d bytes parses passes =
-    short usage.min_hmac_length key signed d (is_signed (signed_by d) && not (have_common signed (signed_by d))) (proved_at usage.min_hmac_length d (validated key d)) (proof_of (ShortTerm key) usage signed d) bytes parses refl refl passes
-proved_as (LongTerm key) usage signed d bytes parses passes =
-    long usage.min_hmac_length key signed d (is_challenge d) (is_bid_down d) (is_unsigned_bad_request d) (proof_of (LongTerm key) usage signed d) bytes parses refl refl passes
+-- without a key a long-term response is a challenge
+unkeyed : (asks bid bad : Bool) → (if asks then None else (if bid then Some BidDown else (if bad then Some UnsignedBadRequest else Some NotAuthentic))) ≡ None → asks ≡ true
+unkeyed true bid bad passes = refl
+unkeyed false true bad passes = absurd cc
+unkeyed false false true passes = absurd cc
+unkeyed false false false passes = absurd cc
+
+proved_as : (mechanism : Option Mechanism) (key : Option IntegrityKey) (usage : ResponsePolicy) (signed : Signed) (d : List ℕ) → IsBytes d → parse_fault d ≡ None → mechanism_fault mechanism (is_some (proof_of mechanism key usage signed d)) signed d ≡ None
+    → IsProved mechanism key usage.min_hmac_length signed d (proof_of mechanism key usage signed d)
+proved_as None key usage signed d bytes parses passes = refl
+proved_as (Some FirstLongTerm) key usage signed d bytes parses passes = refl
+proved_as (Some ShortTerm) None usage signed d bytes parses passes = absurd (either_is_some (is_signed (signed_by d) && not (have_common signed (signed_by d))) OtherAlgorithm NotAuthentic passes)
+proved_as (Some LongTerm) None usage signed d bytes parses passes = unkeyed (is_challenge d) (is_bid_down d) (is_unsigned_bad_request d) passes
+proved_as (Some ShortTerm) (Some key) usage signed d bytes parses passes =
+    short usage.min_hmac_length key signed d (is_signed (signed_by d) && not (have_common signed (signed_by d))) (proved_at usage.min_hmac_length d (validated key d)) (proof_of (Some ShortTerm) (Some key) usage signed d) bytes parses refl refl passes
+proved_as (Some LongTerm) (Some key) usage signed d bytes parses passes =
+    long usage.min_hmac_length key signed d (is_challenge d) (is_bid_down d) (is_unsigned_bad_request d) (proof_of (Some LongTerm) (Some key) usage signed d) bytes parses refl refl passes
 
 -- it shows a FINGERPRINT if one must be there
 shown : (lacks : Bool) (fault : Option Discard) → (if lacks then Some NoFingerprint else fault) ≡ None → (lacks ≡ false) × (fault ≡ None)
@@ -165,18 +172,18 @@ passed true None false kept transport claim reported taken = absurd cc
 passed true (Some e) answers kept transport claim reported taken = absurd cc
 passed false fault answers kept transport claim reported taken = absurd cc
 
-pub right : (terms : Terms) (state : RetransmissionState) (understood : List AttributeType) (d : List ℕ) → IsBytes d → is_taken (received_outcome terms state understood d) ≡ true
-    → IsRightResponse terms d (proof_in (received_outcome terms state understood d))
-right terms state understood d bytes taken =
-    let proof = proof_of terms.protection terms.usage terms.signed d in
-    let p = passed (is_open state) (parse_fault d) (is_answer terms d) (guard_fault terms.protection terms.usage terms.signed d) terms.plan.transport (claim_of d) (content proof understood d) taken in
-    let kept = shown (lacks_fingerprint terms.usage d) (mechanism_fault terms.protection (is_some proof) terms.signed d) p.kept_in in
+pub right : (parts : TransactionParts) (key : Option IntegrityKey) (understood : List AttributeType) (d : List ℕ) → IsBytes d → is_taken (received_outcome parts key understood d) ≡ true
+    → IsRightResponse parts key d (proof_in (received_outcome parts key understood d))
+right parts key understood d bytes taken =
+    let proof = proof_of parts.mechanism key parts.usage parts.signed d in
+    let p = passed (is_open parts.state) (parse_fault d) (is_answer parts d) (guard_fault parts.mechanism key parts.usage parts.signed d) parts.plan.transport (claim_of d) (content proof understood d) taken in
+    let kept = shown (lacks_fingerprint parts.usage d) (mechanism_fault parts.mechanism (is_some proof) parts.signed d) p.kept_in in
     let there : is_taken (content proof understood d) ≡ true = sym (ap is_taken p.is_reported) ∙ taken in
-    let same : proof_in (received_outcome terms state understood d) ≡ proof = ap proof_in p.is_reported ∙ by_types proof (first_beyond understood d) (class_of (type_field d)) d there in
+    let same : proof_in (received_outcome parts key understood d) ≡ proof = ap proof_in p.is_reported ∙ by_types proof (first_unknown understood d) (class_of (type_field d)) d there in
     record {
       parses = p.parses;
       answers = p.right;
       fingerprint = kept.0;
-      fit = fit_by terms.protection (is_some proof) terms.signed d kept.1;
-      proved = subst (IsProved terms.protection terms.usage.min_hmac_length terms.signed d) (sym same) (proved_as terms.protection terms.usage terms.signed d bytes p.parses kept.1);
+      fit = fit_by parts.mechanism (is_some proof) parts.signed d kept.1;
+      proved = subst (IsProved parts.mechanism key parts.usage.min_hmac_length parts.signed d) (sym same) (proved_as parts.mechanism key parts.usage parts.signed d bytes p.parses kept.1);
     }

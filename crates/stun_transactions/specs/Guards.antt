@@ -11,8 +11,10 @@ use Rattle.stun_authentication.specs.Challenges.{is_bid_down}
 use Rattle.stun_authentication.specs.Codes.{response_code, is_code, is_challenge}
 use Rattle.stun_authentication.specs.Policies.{shows_integrity, proved_at}
 use Rattle.stun_transactions.specs.declared.guard.Protection.{Protection}
-use Rattle.stun_transactions.specs.declared.guard.Protection.TheVariants.{Unprotected, FirstLongTerm, ShortTerm, LongTerm}
+use Rattle.stun_transactions.specs.declared.guard.Protection.TheVariants.{Unprotected, FirstLongTerm as ByNone, ShortTerm as ByShortTerm, LongTerm as ByLongTerm}
 use Rattle.stun_transactions.specs.declared.guard.Signed.{Signed}
+use Rattle.stun_transactions.specs.declared.parts.Mechanism.{Mechanism}
+use Rattle.stun_transactions.specs.declared.parts.Mechanism.TheVariants.{ShortTerm, FirstLongTerm, LongTerm}
 use Rattle.stun_transactions.specs.declared.received.Discard.{Discard}
 use Rattle.stun_transactions.specs.declared.received.Discard.TheVariants.{NotAuthentic, OtherAlgorithm, BidDown, UnsignedBadRequest, NoFingerprint}
 use Rattle.stun_transactions.specs.declared.response_policy.ResponsePolicy.{ResponsePolicy}
@@ -41,35 +43,42 @@ signs_by signed Sha256 = signed.sha256
 abbrev pub have_common : Signed → Signed → Bool
 have_common one other = (one.sha1 && other.sha1) || (one.sha256 && other.sha256)
 
+-- by which mechanism a request is protected, and with which key
+abbrev pub mechanism_of : Protection → Option Mechanism
+mechanism_of Unprotected = None
+mechanism_of ByNone = Some FirstLongTerm
+mechanism_of (ByShortTerm key) = Some ShortTerm
+mechanism_of (ByLongTerm key) = Some LongTerm
+
+abbrev pub key_of : Protection → Option IntegrityKey
+key_of Unprotected = None
+key_of ByNone = None
+key_of (ByShortTerm key) = Some key
+key_of (ByLongTerm key) = Some key
+
 -- whether a credential protects the request: the first one by the long-term mechanism has none
 -- (section 9.2.3.1)
-abbrev pub protects : Protection → Bool
-protects Unprotected = false
-protects FirstLongTerm = false
-protects (ShortTerm key) = true
-protects (LongTerm key) = true
+abbrev pub signs : Option Mechanism → Bool
+signs None = false
+signs (Some FirstLongTerm) = false
+signs (Some ShortTerm) = true
+signs (Some LongTerm) = true
 
 -- whether there is one that a key made for an algorithm, or for both, works with
 abbrev pub is_signed_for : Option IntegrityAlgorithm → Signed → Bool
 is_signed_for algorithm signed =
     (signed.sha1 && serves algorithm Sha1) || (signed.sha256 && serves algorithm Sha256)
 
--- the same protection: by the same mechanism, with a key of the same bytes that was made for the
--- same algorithm
-abbrev pub HasSameKey : Protection → Protection → Type 0
-HasSameKey Unprotected other = other ≡ Unprotected
-HasSameKey FirstLongTerm other = other ≡ FirstLongTerm
-HasSameKey (ShortTerm key) (ShortTerm other) = IsKey (key_algorithm key) (key_bytes key) other
-HasSameKey (ShortTerm key) _ = ⊥
-HasSameKey (LongTerm key) (LongTerm other) = IsKey (key_algorithm key) (key_bytes key) other
-HasSameKey (LongTerm key) _ = ⊥
+-- the same key, if there is one: of the same bytes, made for the same algorithm
+abbrev pub HasSameKey : Option IntegrityKey → Option IntegrityKey → Type 0
+HasSameKey None other = other ≡ None
+HasSameKey (Some key) None = ⊥
+HasSameKey (Some key) (Some other) = IsKey (key_algorithm key) (key_bytes key) other
 
 -- whether the key, if there is one, keeps what its HMACs begin with
-abbrev pub has_prepared_key : Protection → Bool
-has_prepared_key Unprotected = true
-has_prepared_key FirstLongTerm = true
-has_prepared_key (ShortTerm key) = is_prepared key
-has_prepared_key (LongTerm key) = is_prepared key
+abbrev pub has_prepared_key : Option IntegrityKey → Bool
+has_prepared_key None = true
+has_prepared_key (Some key) = is_prepared key
 
 -- ---- Which attribute authenticates a response
 
@@ -82,14 +91,15 @@ abbrev pub matched_by : Signed → Option IntegrityAlgorithm → Option Integrit
 matched_by signed None = None
 matched_by signed (Some algorithm) = if signs_by signed algorithm then Some algorithm else None
 
--- the algorithm of the attribute that authenticates d, as a response to a request that was protected
--- so, if one does
-abbrev pub proof_of : Protection → ResponsePolicy → Signed → List ℕ → Option IntegrityAlgorithm
-proof_of Unprotected usage signed d = None
-proof_of FirstLongTerm usage signed d = None
-proof_of (ShortTerm key) usage signed d =
+-- the algorithm of the attribute that authenticates d, as a response to a request that a mechanism
+-- protects with a key, if one does
+abbrev pub proof_of : Option Mechanism → Option IntegrityKey → ResponsePolicy → Signed → List ℕ
+    → Option IntegrityAlgorithm
+proof_of (Some ShortTerm) (Some key) usage signed d =
     matched_by signed (proved_at usage.min_hmac_length d (validated key d))
-proof_of (LongTerm key) usage signed d = proved_at usage.min_hmac_length d (validated key d)
+proof_of (Some LongTerm) (Some key) usage signed d =
+    proved_at usage.min_hmac_length d (validated key d)
+proof_of _ _ usage signed d = None
 
 -- ---- Which responses are discarded
 
@@ -116,15 +126,22 @@ long_term_fault authentic d =
     else (if authentic then None else Some NotAuthentic)))
 
 -- by the mechanism in use: if the first request has no key, nothing is to be authenticated
-abbrev pub mechanism_fault : Protection → (authentic : Bool) → Signed → List ℕ → Option Discard
-mechanism_fault Unprotected authentic signed d = None
-mechanism_fault FirstLongTerm authentic signed d = long_term_fault true d
-mechanism_fault (ShortTerm key) authentic signed d = short_term_fault authentic signed d
-mechanism_fault (LongTerm key) authentic signed d = long_term_fault authentic d
+abbrev pub mechanism_fault : Option Mechanism → (authentic : Bool) → Signed → List ℕ → Option Discard
+mechanism_fault None authentic signed d = None
+mechanism_fault (Some FirstLongTerm) authentic signed d = long_term_fault true d
+mechanism_fault (Some ShortTerm) authentic signed d = short_term_fault authentic signed d
+mechanism_fault (Some LongTerm) authentic signed d = long_term_fault authentic d
 
--- why d is discarded as a response to a request that was protected so: a FINGERPRINT is missing
+-- why d is discarded as a response to a request that a mechanism protects: a FINGERPRINT is missing
 -- if the usage sends them (section 6.3), or the mechanism keeps it out
-abbrev pub guard_fault : Protection → ResponsePolicy → Signed → List ℕ → Option Discard
-guard_fault protection usage signed d =
+abbrev pub response_fault : Option Mechanism → (authentic : Bool) → ResponsePolicy → Signed → List ℕ
+    → Option Discard
+response_fault mechanism authentic usage signed d =
     if lacks_fingerprint usage d then Some NoFingerprint
-    else mechanism_fault protection (is_some (proof_of protection usage signed d)) signed d
+    else mechanism_fault mechanism authentic signed d
+
+-- the same, where it is authentic if an attribute authenticates it with the key
+abbrev pub guard_fault : Option Mechanism → Option IntegrityKey → ResponsePolicy → Signed → List ℕ
+    → Option Discard
+guard_fault mechanism key usage signed d =
+    response_fault mechanism (is_some (proof_of mechanism key usage signed d)) usage signed d

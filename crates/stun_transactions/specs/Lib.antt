@@ -4,12 +4,12 @@ pub mod Retransmissions
 pub mod Responses
 pub mod Usages
 pub mod Guards
+pub mod Parts
+pub mod Beginning
 pub mod Mapped
 pub mod Outcomes
-pub mod Terms
 pub mod Receiving
 pub mod Transactions
 pub mod Slots
 pub mod Runs
 pub mod Taking
-pub mod Parts

@@ -1,6 +1,6 @@
 -- What a received message is for a transaction (RFC 8489, sections 6.3, 6.3.3, 6.3.4, 9.1.4 and
 -- 9.2.5).
-use Rattle.std.specs.Prelude.{ℕ, List, Option, not, ◌&&◌, is_some, if◌then◌else◌}
+use Rattle.std.specs.Prelude.{ℕ, Bool, List, Option, not, ◌&&◌, is_some, if◌then◌else◌}
 use Rattle.std.specs.Option.{option_map_or}
 use Rattle.stun_grammar.specs.declared.attribute_type.AttributeType.{AttributeType}
 use Rattle.stun_grammar.specs.declared.integrity_algorithm.IntegrityAlgorithm.{IntegrityAlgorithm}
@@ -18,11 +18,11 @@ use Rattle.stun_transactions.specs.declared.received.Discard.TheVariants.{NotAut
 use Rattle.stun_transactions.specs.declared.received.Failure.TheVariants.{IntegrityViolated, UnknownAttribute, NoErrorCode}
 use Rattle.stun_transactions.specs.declared.received.Outcome.{Outcome}
 use Rattle.stun_transactions.specs.declared.received.Outcome.TheVariants.{NotForThis, Discarded, Failed, Success, Error}
-use Rattle.stun_transactions.specs.declared.retransmission.RetransmissionState.{RetransmissionState}
-use Rattle.stun_transactions.specs.declared.terms.Terms.{Terms}
-use Rattle.stun_transactions.specs.Responses.{first_beyond}
+use Rattle.stun_types.specs.Replies.{responds_to}
+use Rattle.stun_keys.specs.declared.keys.integrity_key.IntegrityKey.{IntegrityKey}
+use Rattle.stun_transactions.specs.declared.parts.TransactionParts.{TransactionParts}
+use Rattle.stun_transactions.specs.Responses.{first_unknown}
 use Rattle.stun_transactions.specs.Guards.{proof_of, guard_fault}
-use Rattle.stun_transactions.specs.Terms.{is_answer}
 use Rattle.stun_transactions.specs.Outcomes.{is_open}
 
 -- what a response that isn't taken claims: its code, if it is an error response
@@ -49,21 +49,26 @@ content_by_class proof _ d = Success proof
 -- what a response that isn't discarded reports, with the algorithm that authenticates it
 abbrev pub content : Option IntegrityAlgorithm → List AttributeType → List ℕ → Outcome
 content proof understood d =
-    option_map_or (λ type. Failed (UnknownAttribute type)) (first_beyond understood d)
+    option_map_or (λ type. Failed (UnknownAttribute type)) (first_unknown understood d)
     (content_by_class proof (class_of (type_field d)) d)
 
+-- whether d is a response to the request: it has the request's method and transaction ID
+abbrev pub is_answer : TransactionParts → List ℕ → Bool
+is_answer parts d = responds_to parts.method parts.id d
+
 -- what a message is for a transaction in progress
-abbrev pub outcome : Terms → List AttributeType → List ℕ → Outcome
-outcome terms understood d =
-    if is_answer terms d then
-    option_map_or (discarded terms.plan.transport (claim_of d))
-    (guard_fault terms.protection terms.usage terms.signed d)
-    (content (proof_of terms.protection terms.usage terms.signed d) understood d)
+abbrev pub outcome : TransactionParts → Option IntegrityKey → List AttributeType → List ℕ → Outcome
+outcome parts key understood d =
+    if is_answer parts d then
+    option_map_or (discarded parts.plan.transport (claim_of d))
+    (guard_fault parts.mechanism key parts.usage parts.signed d)
+    (content (proof_of parts.mechanism key parts.usage parts.signed d) understood d)
     else NotForThis
 
 -- what received bytes are for a transaction: nothing if it isn't in progress, or they are no
 -- message; what has a wrong FINGERPRINT is none
-abbrev pub received_outcome : Terms → RetransmissionState → List AttributeType → List ℕ → Outcome
-received_outcome terms state understood d =
-    if is_open state && not (is_some (parse_fault d)) then outcome terms understood d
+abbrev pub received_outcome : TransactionParts → Option IntegrityKey → List AttributeType → List ℕ
+    → Outcome
+received_outcome parts key understood d =
+    if is_open parts.state && not (is_some (parse_fault d)) then outcome parts key understood d
     else NotForThis

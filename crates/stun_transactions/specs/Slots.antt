@@ -7,28 +7,26 @@ use Rattle.std.specs.declared.time.Duration.{Duration}
 use Rattle.stun_grammar.specs.declared.attribute_type.AttributeType.{AttributeType}
 use Rattle.stun_grammar.specs.Headers.{id_field}
 use Rattle.stun_grammar.specs.Parsing.{parse_fault}
-use Rattle.stun_base.specs.declared.transport.TransportType.{TransportType}
+use Rattle.stun_transactions.specs.declared.plan.Plan.{Plan}
 use Rattle.stun_transactions.specs.declared.retransmission.Action.{Action}
 use Rattle.stun_transactions.specs.declared.retransmission.RetransmissionState.{RetransmissionState}
-use Rattle.stun_transactions.specs.declared.retransmission.TransactionEnd.{TransactionEnd}
 use Rattle.stun_transactions.specs.declared.guard.Protection.{Protection}
 use Rattle.stun_transactions.specs.declared.response_policy.ResponsePolicy.{ResponsePolicy}
 use Rattle.stun_transactions.specs.declared.received.Received.{Received}
-use Rattle.stun_transactions.specs.declared.schedule.Schedule.{Schedule}
 use Rattle.stun_transactions.specs.declared.slots.TransactionsAction.{TransactionsAction}
 use Rattle.stun_transactions.specs.declared.slots.TransactionsAction.TheVariants.{Send, Ended, WaitUntil, Idle}
 use Rattle.stun_transactions.specs.declared.slots.AddError.{AddError}
 use Rattle.stun_transactions.specs.declared.slots.AddError.TheVariants.{Begin, InUse, Full}
 use Rattle.stun_transactions.specs.declared.transaction.Transaction.{Transaction}
-use Rattle.stun_transactions.specs.Retransmissions.{Polls, is_ready, due, ended_by, stopped_by}
-use Rattle.stun_transactions.specs.Outcomes.{outcome_of, Holds, after}
+use Rattle.stun_transactions.specs.Retransmissions.{Polls, is_ready, due}
+use Rattle.stun_transactions.specs.Outcomes.{outcome_of, Holds}
 use Rattle.stun_transactions.specs.Receiving.{received_outcome}
-use Rattle.stun_transactions.specs.Terms.{begin_fault}
-use Rattle.stun_transactions.specs.Transactions.{terms_of, state_of, Begins}
+use Rattle.stun_transactions.specs.Beginning.{begin_fault}
+use Rattle.stun_transactions.specs.Transactions.{begun_with, going_on}
 
 -- the transaction ID of a transaction
 abbrev pub id_of : Transaction → ℕ
-id_of transaction = (terms_of transaction).id
+id_of transaction = transaction.parts.id
 
 -- whether a slot holds the transaction with this ID
 abbrev pub has_id : ℕ → Option Transaction → Bool
@@ -82,24 +80,21 @@ IsAdded transaction old new =
     MatchOption (position is_free old) ⊥ (λ place. new ≡ slice_set old place (Some transaction))
 
 -- a transaction of the request r begins in the first free slot
-pub record Adds (r : List ℕ) (schedule : Schedule) (transport : TransportType)
-    (protection : Protection) (usage : ResponsePolicy) (now : Duration)
-    (old new : List (Option Transaction)) : Type 0 where
-  pub transaction : Transaction
-  pub begins : Begins r schedule transport protection usage now transaction
-  pub added : IsAdded transaction old new
+abbrev pub Adds : List ℕ → Plan → Protection → ResponsePolicy → Duration
+    → (old new : List (Option Transaction)) → Type 0
+Adds r plan protection usage now old new =
+    IsAdded (begun_with r plan protection usage now) old new
 
 -- whether a poll of the transaction in a slot sends its request, or reports an end
 abbrev pub has_turn : Duration → Option Transaction → Bool
 has_turn now None = false
-has_turn now (Some t) = is_ready (terms_of t).plan (state_of t) now
+has_turn now (Some t) = is_ready t.parts.plan t.parts.state now
 
 -- when the transaction in a slot is to be polled next: at once if an end is yet to be reported
 abbrev pub wake : Option Transaction → Option ℕ
 wake None = None
 wake (Some t) =
-    Some (if is_some (state_of t).end then 0
-    else min (due (terms_of t).plan (state_of t)) max_nanos)
+    Some (if is_some t.parts.state.end then 0 else min (due t.parts.plan t.parts.state) max_nanos)
 
 -- the sooner of two moments
 abbrev pub sooner : Option ℕ → Option ℕ → Option ℕ
@@ -122,12 +117,11 @@ IsWait slots task = ⊥
 -- was reported
 abbrev pub PollsSlot : Option Transaction → Duration → TransactionsAction → Option Transaction → Type 0
 PollsSlot (Some t) now (Send id) (Some u) =
-    (id ≡ id_of t) × (terms_of u ≡ terms_of t)
-    × Polls (terms_of t).plan (state_of t) now Action.Send (state_of u)
+    (id ≡ id_of t) × (u ≡ going_on t u.parts.state)
+    × Polls t.parts.plan t.parts.state now Action.Send u.parts.state
 PollsSlot (Some t) now (Ended id end) None =
     (id ≡ id_of t)
-    × ((last : RetransmissionState) × Polls (terms_of t).plan (state_of t) now
-    (Action.Ended end) last)
+    × ((last : RetransmissionState) × Polls t.parts.plan t.parts.state now (Action.Ended end) last)
 PollsSlot _ now task _ = ⊥
 
 -- what a poll of all of them reports and leaves: the first that has something to do is polled, and
@@ -139,27 +133,11 @@ PollsSlots old now task new =
     (λ place. PollsSlot (in_slot old place) now task (in_slot new place)
     × (new ≡ slice_set old place (in_slot new place)))
 
--- a transaction after the message d
-abbrev pub after_receiving : List AttributeType → List ℕ → Transaction → Transaction
-after_receiving understood d t =
-    record t {
-      state = after (received_outcome (terms_of t) (state_of t) understood d)
-          (state_of t);
-    }
-
--- a transaction that is ended so, unless it has ended
-abbrev pub ending : TransactionEnd → Transaction → Transaction
-ending end t = record t { state = ended_by end (state_of t) }
-
--- a transaction that sends nothing more, unless it has ended
-abbrev pub stopping : Transaction → Transaction
-stopping t = record t { state = stopped_by (state_of t) }
-
 -- what is reported of d for a transaction: its ID, and what d is for it alone
 pub record IsFor (t : Transaction) (understood : List AttributeType) (d : List ℕ)
     (reported : ℕ × Received) : Type 0 where
   pub id : reported.0 ≡ id_of t
-  pub outcome : outcome_of reported.1 ≡ received_outcome (terms_of t) (state_of t) understood d
+  pub outcome : outcome_of reported.1 ≡ received_outcome t.parts t.key understood d
   pub message : Holds reported.1 d
 
 -- the same, if there is a transaction, otherwise nothing

@@ -6,10 +6,8 @@ ghost use Rattle.stun_authentication.specs.Policies.{proved_at};
 ghost use Rattle.stun_keys.specs.Keys.{key_algorithm};
 ghost use Rattle.stun_transactions.specs.Guards.{signed_by, is_signed, is_signed_for, signs_by, have_common, validated, matched_by, short_term_fault, long_term_fault};
 
-use crate::parting::check_key;
-use crate::parts::{Mechanism, PartsError};
+use crate::parts::{Mechanism, TransactionParts};
 use crate::received::Discard;
-use crate::response_policy::ResponsePolicy;
 use std::alloc::Global;
 use stun_authentication::{has_least_length, is_bid_down, is_challenge, response_code};
 use stun_types::attribute::{
@@ -40,10 +38,10 @@ pub enum Protection {
 /// The integrity attributes that a request shows.
 #[derive(Clone, Copy, Debug, PartialEq, Eq)]
 pub struct Signed {
-    /// A MESSAGE-INTEGRITY.
-    pub(crate) sha1: bool,
-    /// A MESSAGE-INTEGRITY-SHA256.
-    pub(crate) sha256: bool,
+    /// Whether the request shows a MESSAGE-INTEGRITY.
+    pub sha1: bool,
+    /// Whether the request shows a MESSAGE-INTEGRITY-SHA256.
+    pub sha256: bool,
 }
 
 impl Signed {
@@ -151,41 +149,19 @@ fn long_term_fault(authentic: bool, message: &Message<'_>) -> Option<Discard>
 }
 
 impl Protection {
-    ghost use Rattle.std.specs.Prelude.{◌≡◌, true, None, Some, IfErr, OnOk, MatchResult};
-    ghost use Rattle.stun_types.specs.Message.{message_bytes};
-    ghost use Rattle.stun_transactions.specs.Guards.{proof_of, mechanism_fault, guard_fault, protects, HasSameKey, has_prepared_key};
-    ghost use Rattle.stun_transactions.specs.Parts.{mechanism_of, key_in, key_fault};
+    ghost use Rattle.std.specs.Prelude.{◌≡◌, true, IfErr, OnOk};
+    ghost use Rattle.stun_transactions.specs.Guards.{mechanism_of, key_of, HasSameKey, has_prepared_key};
 
     /// By which mechanism the request is protected, if by one, and with which key.
     pub(crate) fn into_parts(self) -> (Option<Mechanism>, Option<IntegrityKey>)
         ensures mechanism { result.0 ≡ mechanism_of self }
-        ensures key { result.1 ≡ key_in self }
+        ensures key { result.1 ≡ key_of self }
     {
         match self {
             Protection::Unprotected => (None, None),
             Protection::FirstLongTerm => (Some(Mechanism::FirstLongTerm), None),
             Protection::ShortTerm(key) => (Some(Mechanism::ShortTerm), Some(key)),
             Protection::LongTerm(key) => (Some(Mechanism::LongTerm), Some(key)),
-        }
-    }
-
-    /// The protection of a request by a mechanism, or by none, with a key.
-    pub(crate) fn from_parts(
-        mechanism: Option<Mechanism>,
-        signed: Signed,
-        key: Option<IntegrityKey>,
-    ) -> Result<Protection, PartsError>
-        ensures { MatchResult result
-            (λ protection. (key_fault mechanism signed key ≡ None)
-            × (mechanism_of protection ≡ mechanism) × (key_in protection ≡ key))
-            (λ e. key_fault mechanism signed key ≡ Some e) }
-    {
-        check_key(mechanism, signed, &key)?;
-        match (mechanism, key) {
-            (Some(Mechanism::FirstLongTerm), None) => Ok(Protection::FirstLongTerm),
-            (Some(Mechanism::ShortTerm), Some(key)) => Ok(Protection::ShortTerm(key)),
-            (Some(Mechanism::LongTerm), Some(key)) => Ok(Protection::LongTerm(key)),
-            _ => Ok(Protection::Unprotected),
         }
     }
 
@@ -208,8 +184,9 @@ impl Protection {
     /// assert_eq!(rt; protection.prepare(alloc), Ok(()));
     /// ```
     pub fn prepare(&mut self, alloc: Global) -> Result<(), StunWriteError>
-        ensures same { HasSameKey self.old self.new }
-        ensures prepared { OnOk result (has_prepared_key self.new ≡ true) }
+        ensures mechanism { mechanism_of self.new ≡ mechanism_of self.old }
+        ensures key { HasSameKey (key_of self.old) (key_of self.new) }
+        ensures prepared { OnOk result (has_prepared_key (key_of self.new) ≡ true) }
         ensures err { IfErr result (λ e. e ≡ StunWriteError.OutOfMemory) }
     {
         match self {
@@ -218,66 +195,55 @@ impl Protection {
             Protection::LongTerm(key) => key.prepare(alloc),
         }
     }
+}
 
-    /// Whether a credential protects the request.
-    pub(crate) fn protects(&self) -> bool
-        ensures { result ≡ protects self.now }
-    {
-        match self {
-            Protection::Unprotected | Protection::FirstLongTerm => false,
-            Protection::ShortTerm(_) | Protection::LongTerm(_) => true,
-        }
-    }
+impl TransactionParts {
+    ghost use Rattle.std.specs.Prelude.{◌≡◌};
+    ghost use Rattle.stun_types.specs.Message.{message_bytes};
+    ghost use Rattle.stun_transactions.specs.Guards.{proof_of, mechanism_fault, response_fault};
 
     /// The algorithm of the attribute that authenticates a response, if one does.
     pub(crate) fn proof_of(
         &self,
-        usage: ResponsePolicy,
-        signed: Signed,
+        key: &Option<IntegrityKey>,
         message: &Message<'_>,
     ) -> Option<IntegrityAlgorithm>
-        ensures { result ≡ proof_of self.now usage signed (message_bytes message.now) }
+        ensures { result ≡ proof_of self.now.mechanism key.now self.now.usage self.now.signed
+            (message_bytes message.now) }
     {
-        match self {
-            Protection::Unprotected | Protection::FirstLongTerm => None,
-            Protection::ShortTerm(key) => {
-                signed.matched_by(proved_by(key, usage.min_hmac_length, message))
+        match (self.mechanism, key) {
+            (Some(Mechanism::ShortTerm), Some(key)) => {
+                let proof = proved_by(key, self.usage.min_hmac_length, message);
+                self.signed.matched_by(proof)
             }
-            Protection::LongTerm(key) => proved_by(key, usage.min_hmac_length, message),
+            (Some(Mechanism::LongTerm), Some(key)) => {
+                proved_by(key, self.usage.min_hmac_length, message)
+            }
+            _ => None,
         }
     }
 
     /// Why a response is discarded, that is authentic or not.
-    fn mechanism_fault(
-        &self,
-        authentic: bool,
-        signed: Signed,
-        message: &Message<'_>,
-    ) -> Option<Discard>
-        ensures { result ≡ mechanism_fault self.now authentic signed (message_bytes message.now) }
+    fn mechanism_fault(&self, authentic: bool, message: &Message<'_>) -> Option<Discard>
+        ensures { result ≡ mechanism_fault self.now.mechanism authentic self.now.signed
+            (message_bytes message.now) }
     {
-        match self {
-            Protection::Unprotected => None,
-            Protection::FirstLongTerm => long_term_fault(true, message),
-            Protection::ShortTerm(_) => short_term_fault(authentic, signed, message),
-            Protection::LongTerm(_) => long_term_fault(authentic, message),
+        match self.mechanism {
+            None => None,
+            Some(Mechanism::FirstLongTerm) => long_term_fault(true, message),
+            Some(Mechanism::ShortTerm) => short_term_fault(authentic, self.signed, message),
+            Some(Mechanism::LongTerm) => long_term_fault(authentic, message),
         }
     }
 
-    /// Why a response is discarded, with the proof that it has.
-    pub(crate) fn fault(
-        &self,
-        usage: ResponsePolicy,
-        signed: Signed,
-        proof: Option<IntegrityAlgorithm>,
-        message: &Message<'_>,
-    ) -> Option<Discard>
-        requires { proof ≡ proof_of self.now usage signed (message_bytes message.now) }
-        ensures { result ≡ guard_fault self.now usage signed (message_bytes message.now) }
+    /// Why a response is discarded, that is authentic or not: by the usage, or by the mechanism.
+    pub(crate) fn response_fault(&self, authentic: bool, message: &Message<'_>) -> Option<Discard>
+        ensures { result ≡ response_fault self.now.mechanism authentic self.now.usage self.now.signed
+            (message_bytes message.now) }
     {
-        if usage.lacks_fingerprint(message) {
+        if self.usage.lacks_fingerprint(message) {
             return Some(Discard::NoFingerprint);
         }
-        self.mechanism_fault(proof.is_some(), signed, message)
+        self.mechanism_fault(authentic, message)
     }
 }

@@ -5,16 +5,17 @@ ghost use Rattle.stun_base.specs.MessageTypes.{class_of};
 ghost use Rattle.stun_grammar.specs.Headers.{type_field};
 ghost use Rattle.stun_grammar.specs.ScannedOrder.{has};
 ghost use Rattle.stun_types.specs.Message.{message_bytes};
-ghost use Rattle.stun_transactions.specs.Responses.{own_types, is_beyond, first_beyond};
+ghost use Rattle.stun_transactions.specs.Responses.{own_types, first_unknown};
 ghost use Rattle.stun_transactions.specs.Receiving.{outcome, content, content_by_class, claim_of, discarded};
 
+use crate::parts::TransactionParts;
 use crate::received::{Claim, Discard, Failure, Outcome};
-use crate::terms::Terms;
 use stun_authentication::{response_code, shown_code};
 use stun_types::TransportType;
 use stun_types::attribute::{AttributeType, KNOWN};
 use stun_types::message::write::is_among;
-use stun_types::message::{IntegrityAlgorithm, Message, MessageClass};
+use stun_types::message::{IntegrityAlgorithm, IntegrityKey, Message, MessageClass, UnknownTypes};
+use stun_types::prelude::*;
 
 /// Whether RFC 8489 defines this type, and it must be understood (section 18.3).
 fn is_own(atype: AttributeType) -> bool
@@ -23,20 +24,13 @@ fn is_own(atype: AttributeType) -> bool
     is_among(&KNOWN, atype)
 }
 
-/// Whether an attribute of this type must be understood, and isn't.
-fn is_beyond(understood: &[AttributeType], atype: AttributeType) -> bool
-    ensures { result ≡ is_beyond understood.now atype }
-{
-    atype.comprehension_required() && !is_among(understood, atype) && !is_own(atype)
-}
-
 /// The first type that a message shows, must be understood and isn't.
-fn first_beyond(message: &Message<'_>, understood: &[AttributeType]) -> Option<AttributeType>
-    ensures { result ≡ first_beyond understood.now (message_bytes message.now) }
+fn first_unknown(message: &Message<'_>, understood: &[AttributeType]) -> Option<AttributeType>
+    ensures { result ≡ first_unknown understood.now (message_bytes message.now) }
 {
-    for (_offset, attribute) in message.iter_attributes() {
-        let atype = attribute.header().get_type();
-        if is_beyond(understood, atype) {
+    let mut unknown = UnknownTypes::new(message.as_bytes(), understood);
+    'walk: while let Some(atype) = unknown.next() {
+        if !is_own(atype) {
             return Some(atype);
         }
     }
@@ -51,7 +45,7 @@ fn content(
 ) -> Outcome
     ensures { result ≡ content proof understood.now (message_bytes message.now) }
 {
-    if let Some(atype) = first_beyond(message, understood) {
+    if let Some(atype) = first_unknown(message, understood) {
         return Outcome::Failed(Failure::UnknownAttribute(atype));
     }
     match message.class() {
@@ -85,16 +79,20 @@ fn discarded(transport: TransportType, claim: Claim, reason: Discard) -> Outcome
 }
 
 /// What a message is for a transaction in progress.
-pub(crate) fn outcome(terms: &Terms, understood: &[AttributeType], message: &Message<'_>) -> Outcome
-    ensures { result ≡ outcome terms.now understood.now (message_bytes message.now) }
+pub(crate) fn outcome(
+    parts: &TransactionParts,
+    key: &Option<IntegrityKey>,
+    understood: &[AttributeType],
+    message: &Message<'_>,
+) -> Outcome
+    ensures { result ≡ outcome parts.now key.now understood.now (message_bytes message.now) }
 {
-    if !terms.is_answer(message) {
+    if !parts.is_answer(message) {
         return Outcome::NotForThis;
     }
-    let (usage, signed) = (terms.usage, terms.signed);
-    let proof = terms.protection.proof_of(usage, signed, message);
-    match terms.protection.fault(usage, signed, proof, message) {
-        Some(reason) => discarded(terms.plan.transport, claim_of(message), reason),
+    let proof = parts.proof_of(key, message);
+    match parts.response_fault(proof.is_some(), message) {
+        Some(reason) => discarded(parts.plan.transport, claim_of(message), reason),
         None => content(proof, understood, message),
     }
 }

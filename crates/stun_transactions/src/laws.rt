@@ -1,12 +1,11 @@
 //! Laws of sequences of calls. Each function does nothing: its contract is the law.
 
-ghost use Rattle.std.specs.Prelude.{◌≡◌, ℕ, ◌+◌, ◌-◌, ◌<◌, List, [], None, Some, true};
+ghost use Rattle.std.specs.Prelude.{◌≡◌, ℕ, ◌+◌, ◌-◌, ◌<◌, List, [], Option, None, Some, true};
 ghost use Rattle.std.specs.Duration.{as_nanos};
 ghost use Rattle.stun_grammar.specs.declared.attribute_type.AttributeType.{AttributeType};
 ghost use Rattle.stun_transactions.specs.declared.plan.Plan.{Plan};
 ghost use Rattle.stun_transactions.specs.declared.retransmission.RetransmissionState.{RetransmissionState};
 ghost use Rattle.stun_transactions.specs.declared.retransmission.TransactionEnd.{TransactionEnd};
-ghost use Rattle.stun_transactions.specs.declared.terms.Terms.{Terms};
 ghost use Rattle.stun_transactions.specs.declared.received.Outcome.{Outcome};
 ghost use Rattle.stun_transactions.specs.Rows.{moment, row_end, row_wait, row_rest};
 ghost use Rattle.stun_transactions.specs.Retransmissions.{begun, ended_by, stopped_by, Polls};
@@ -16,15 +15,15 @@ ghost use Rattle.stun_transactions.specs.Outcomes.{after};
 ghost use Rattle.stun_transactions.specs.Receiving.{received_outcome};
 ghost use Rattle.stun_grammar.specs.Numbers.{IsBytes};
 ghost use Rattle.stun_transactions.specs.Taking.{is_taken, proof_in, IsRightResponse};
-ghost use Rattle.stun_base.specs.declared.transport.TransportType.{TransportType};
-ghost use Rattle.stun_transactions.specs.declared.schedule.Schedule.{Schedule};
 ghost use Rattle.stun_transactions.specs.declared.guard.Protection.{Protection};
 ghost use Rattle.stun_transactions.specs.declared.response_policy.ResponsePolicy.{ResponsePolicy};
 ghost use Rattle.stun_transactions.specs.declared.parts.TransactionParts.{TransactionParts};
 ghost use Rattle.stun_transactions.specs.declared.transaction.Transaction.{Transaction};
-ghost use Rattle.stun_transactions.specs.Terms.{begin_fault, AreSameTerms};
-ghost use Rattle.stun_transactions.specs.Transactions.{terms_of, state_of, Begins};
-ghost use Rattle.stun_transactions.specs.Parts.{plan_in, state_in, at_state, parts_of, key_of, parts_fault, whole_fault};
+ghost use Rattle.stun_keys.specs.declared.keys.integrity_key.IntegrityKey.{IntegrityKey};
+ghost use Rattle.stun_transactions.specs.Beginning.{begin_fault};
+ghost use Rattle.stun_transactions.specs.Guards.{HasSameKey};
+ghost use Rattle.stun_transactions.specs.Parts.{at_state, parts_fault, whole_fault};
+ghost use Rattle.stun_transactions.specs.Transactions.{begun_with};
 ghost use Rattle.stun_transactions.specs.Runs.{Call, IsRun, Stays, sends, IsSpaced, left_by};
 
 /// The moments of the requests are those of the schedule if every poll is in time: request number
@@ -48,9 +47,9 @@ pub fn first_poll_sends()
 
 /// A prepared key changes nothing about what a received message is for a transaction.
 pub fn preparing_changes_nothing()
-    ensures { (terms other : Terms) (state : RetransmissionState) (understood : List AttributeType)
-        (d : List ℕ) → AreSameTerms terms other
-        → received_outcome other state understood d ≡ received_outcome terms state understood d }
+    ensures { (parts : TransactionParts) (key prepared : Option IntegrityKey)
+        (understood : List AttributeType) (d : List ℕ) → HasSameKey key prepared
+        → received_outcome parts prepared understood d ≡ received_outcome parts key understood d }
 {}
 
 /// No poll answers `Send` before the interval after the last such poll has passed, nor more often
@@ -72,10 +71,10 @@ pub fn ends_are_final()
     ensures sends { (plan : Plan) (state : RetransmissionState) (calls : List Call)
         (end : TransactionEnd)
         → state.end ≡ Some end → IsRun plan state calls → sends calls ≡ [] }
-    ensures messages { (terms : Terms) (state : RetransmissionState)
-        (understood : List AttributeType)
-        (d : List ℕ) (end : TransactionEnd)
-        → state.end ≡ Some end → received_outcome terms state understood d ≡ Outcome.NotForThis }
+    ensures messages { (parts : TransactionParts) (key : Option IntegrityKey)
+        (understood : List AttributeType) (d : List ℕ) (end : TransactionEnd)
+        → parts.state.end ≡ Some end
+        → received_outcome parts key understood d ≡ Outcome.NotForThis }
 {}
 
 /// After `stop_sending` no poll answers `Send`. A response is taken as before, until the moment at
@@ -84,10 +83,10 @@ pub fn ends_are_final()
 pub fn stopping_sends_nothing()
     ensures sends { (plan : Plan) (state : RetransmissionState) (calls : List Call)
         → state.stopped ≡ true → IsRun plan state calls → sends calls ≡ [] }
-    ensures received { (terms : Terms) (state : RetransmissionState)
+    ensures received { (parts : TransactionParts) (key : Option IntegrityKey)
         (understood : List AttributeType) (d : List ℕ)
-        → received_outcome terms (stopped_by state) understood d
-        ≡ received_outcome terms state understood d }
+        → received_outcome (at_state parts (stopped_by parts.state)) key understood d
+        ≡ received_outcome parts key understood d }
     ensures end { (rto requests last_wait_factor k : ℕ) → k < requests
         → moment rto k + row_rest rto requests last_wait_factor (k + 1)
         ≡ row_end rto requests last_wait_factor }
@@ -96,9 +95,9 @@ pub fn stopping_sends_nothing()
 /// A received message, a cancel, a fail or a stop sends no request and doesn't move the next one.
 #[tactic(auto, using(crate::proofs::RunsLemmas::receiving_stays))]
 pub fn other_calls_stay()
-    ensures receiving { (terms : Terms) (state : RetransmissionState)
-        (understood : List AttributeType)
-        (d : List ℕ) → Stays state (after (received_outcome terms state understood d) state) }
+    ensures receiving { (parts : TransactionParts) (key : Option IntegrityKey)
+        (understood : List AttributeType) (d : List ℕ)
+        → Stays parts.state (after (received_outcome parts key understood d) parts.state) }
     ensures ending { (end : TransactionEnd) (state : RetransmissionState) → Stays state
         (ended_by end state) }
     ensures stopping { (state : RetransmissionState) → Stays state (stopped_by state) }
@@ -111,35 +110,32 @@ pub fn other_calls_stay()
 /// authentic.
 #[tactic(auto, using(crate::proofs::TakingLemmas::right))]
 pub fn accepted_is_authentic()
-    ensures { (terms : Terms) (state : RetransmissionState) (understood : List AttributeType)
-        (d : List ℕ)
-        → IsBytes d → is_taken (received_outcome terms state understood d) ≡ true
-        → IsRightResponse terms d (proof_in (received_outcome terms state understood d)) }
+    ensures { (parts : TransactionParts) (key : Option IntegrityKey)
+        (understood : List AttributeType) (d : List ℕ)
+        → IsBytes d → is_taken (received_outcome parts key understood d) ≡ true
+        → IsRightResponse parts key d (proof_in (received_outcome parts key understood d)) }
 {}
 
-/// A transaction is determined by its parts and its key: one that is taken apart and put together
-/// again has the terms and the state that it had.
+/// A transaction is determined by its parts and its key.
 #[tactic(auto, using(crate::proofs::PartsLemmas::all_of_it))]
 pub fn parts_are_the_whole()
-    ensures { (one other : Transaction) → parts_of one ≡ parts_of other → key_of one ≡ key_of other
-        → (terms_of one ≡ terms_of other) × (state_of one ≡ state_of other) }
+    ensures { (one other : Transaction) → one.parts ≡ other.parts → one.key ≡ other.key
+        → one ≡ other }
 {}
 
 /// No parts of a transaction are refused, neither when it begins nor after any call.
 pub fn no_parts_are_refused()
-    ensures begins { (r : List ℕ) (schedule : Schedule) (transport : TransportType)
-        (protection : Protection) (usage : ResponsePolicy) (now : Duration) (transaction : Transaction)
-        → begin_fault protection r ≡ None
-        → Begins r schedule transport protection usage now transaction
-        → whole_fault (parts_of transaction) (key_of transaction) ≡ None }
+    ensures begins { (r : List ℕ) (plan : Plan) (protection : Protection) (usage : ResponsePolicy)
+        (now : Duration) → let begun = begun_with r plan protection usage now in
+        begin_fault protection r ≡ None → whole_fault begun.parts begun.key ≡ None }
     ensures polls { (parts : TransactionParts) (now : Duration) (action : Action)
         (state : RetransmissionState)
-        → parts_fault parts ≡ None → Polls (plan_in parts) (state_in parts) now action state
+        → parts_fault parts ≡ None → Polls parts.plan parts.state now action state
         → parts_fault (at_state parts state) ≡ None }
     ensures receives { (parts : TransactionParts) (outcome : Outcome) → parts_fault parts ≡ None
-        → parts_fault (at_state parts (after outcome (state_in parts))) ≡ None }
+        → parts_fault (at_state parts (after outcome parts.state)) ≡ None }
     ensures ends { (parts : TransactionParts) (end : TransactionEnd) → parts_fault parts ≡ None
-        → parts_fault (at_state parts (ended_by end (state_in parts))) ≡ None }
+        → parts_fault (at_state parts (ended_by end parts.state)) ≡ None }
     ensures stops { (parts : TransactionParts) → parts_fault parts ≡ None
-        → parts_fault (at_state parts (stopped_by (state_in parts))) ≡ None }
+        → parts_fault (at_state parts (stopped_by parts.state)) ≡ None }
 {}

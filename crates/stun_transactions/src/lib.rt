@@ -7,6 +7,7 @@
 //! [`Protection::prepare`] allocate.
 #![tactic(auto)]
 
+mod beginning;
 mod guard;
 mod judge;
 mod laws;
@@ -20,23 +21,23 @@ mod retransmission;
 mod retries;
 mod schedule;
 mod slots;
-mod terms;
 mod transaction;
 mod transactions;
 
-pub use guard::Protection;
+pub use beginning::BeginError;
+pub use guard::{Protection, Signed};
 pub use laws::{
     accepted_is_authentic, ends_are_final, first_poll_sends, intervals_sum, no_parts_are_refused,
     other_calls_stay, parts_are_the_whole, requests_are_spaced, stopping_sends_nothing,
 };
 pub use mapped::{mapped_address, response_address};
 pub use parts::{Mechanism, PartsError, TransactionParts};
+pub use plan::Plan;
 pub use received::{Claim, Discard, Failure, Received};
 pub use response_policy::ResponsePolicy;
-pub use retransmission::{Action, TransactionEnd};
+pub use retransmission::{Action, RetransmissionState, TransactionEnd};
 pub use retries::Retries;
 pub use schedule::{Schedule, ScheduleError};
 pub use slots::{AddError, TransactionsAction};
-pub use terms::BeginError;
 pub use transaction::Transaction;
 pub use transactions::Transactions;

@@ -1,80 +1,23 @@
 //! What can be done with the parts of a transaction, and whether they are those of one.
 
-ghost use Rattle.std.specs.Prelude.{◌≡◌, None, Some, MatchResult};
-ghost use Rattle.stun_transactions.specs.Parts.{key_fault};
-
-use crate::guard::Signed;
 use crate::parts::{Mechanism, PartsError, TransactionParts};
-use crate::plan::Plan;
-use crate::retransmission::{Action, RetransmissionState, TransactionEnd};
+use crate::retransmission::{Action, TransactionEnd};
 use std::time::Duration;
-use stun_types::message::IntegrityKey;
+use stun_types::message::{IntegrityKey, Message};
 
 impl TransactionParts {
-    ghost use Rattle.std.specs.Prelude.{◌≡◌, None, Some, MatchResult, MatchOption, true, is_some, min};
-    ghost use Rattle.std.specs.Duration.{as_nanos, max_nanos};
-    ghost use Rattle.stun_transactions.specs.Retransmissions.{due, ended_by, stopped_by, Polls, TellsTime};
-    ghost use Rattle.stun_transactions.specs.Parts.{plan_in, state_in, signed_in, at_state, is_signed_otherwise, parts_fault};
-
-    /// How long the transaction waits.
-    pub(crate) fn plan(&self) -> Plan
-        ensures { result ≡ plan_in self.now }
-    {
-        Plan {
-            schedule: self.schedule,
-            transport: self.transport,
-        }
-    }
-
-    /// How far it has come.
-    pub(crate) fn state(&self) -> RetransmissionState
-        ensures { result ≡ state_in self.now }
-    {
-        RetransmissionState {
-            sent: self.sent,
-            last: self.last,
-            clock: self.clock,
-            violated: self.violated,
-            stopped: self.stopped,
-            end: self.end,
-        }
-    }
-
-    /// The integrity attributes that the request shows.
-    pub(crate) fn signed(&self) -> Signed
-        ensures { result ≡ signed_in self.now }
-    {
-        Signed {
-            sha1: self.sha1,
-            sha256: self.sha256,
-        }
-    }
-
-    /// Continues to the state that it has reached.
-    fn go_on(&mut self, state: RetransmissionState)
-        ensures { self.new ≡ at_state self.old state }
-    {
-        let RetransmissionState {
-            sent,
-            last,
-            clock,
-            violated,
-            stopped,
-            end,
-        } = state;
-        self.sent = sent;
-        self.last = last;
-        self.clock = clock;
-        self.violated = violated;
-        self.stopped = stopped;
-        self.end = end;
-    }
+    ghost use Rattle.std.specs.Prelude.{◌≡◌, None, Some, MatchResult, option_copied};
+    ghost use Rattle.stun_types.specs.Message.{message_bytes};
+    ghost use Rattle.stun_transactions.specs.Parts.{at_state, is_signed_otherwise, parts_fault, key_fault};
+    ghost use Rattle.stun_transactions.specs.Receiving.{is_answer};
+    ghost use Rattle.stun_transactions.specs.Retransmissions.{is_ready, ended_by, stopped_by, Polls, TellsTime};
+    ghost use Rattle.stun_transactions.specs.Transactions.{Wakes};
 
     /// Whether the request is signed otherwise than it is protected.
     fn is_signed_otherwise(&self) -> bool
         ensures { result ≡ is_signed_otherwise self.now }
     {
-        let signed = self.sha1 || self.sha256;
+        let signed = self.signed.is_signed();
         match self.mechanism {
             Some(Mechanism::ShortTerm | Mechanism::LongTerm) => !signed,
             Some(Mechanism::FirstLongTerm) | None => signed,
@@ -108,7 +51,7 @@ impl TransactionParts {
     /// let (mut parts, _key) = transaction.into_parts();
     /// assert_eq!(rt; parts.check(), Ok(()));
     /// // The schedule has seven requests.
-    /// parts.sent = 8;
+    /// parts.state.sent = 8;
     /// assert_eq!(rt; parts.check(), Err(PartsError::SentTooOften));
     /// ```
     pub fn check(&self) -> Result<(), PartsError>
@@ -118,26 +61,73 @@ impl TransactionParts {
         if self.is_signed_otherwise() {
             return Err(PartsError::SignedOtherwise);
         }
-        if self.plan().requests() < self.sent {
+        if self.plan.requests() < self.state.sent {
             return Err(PartsError::SentTooOften);
         }
-        if self.clock.as_nanos() < self.last.as_nanos() {
+        if self.state.clock.as_nanos() < self.state.last.as_nanos() {
             return Err(PartsError::SentTooLate);
         }
         Ok(())
     }
 
+    /// Tests that a key, or none, is that of a transaction of these parts, as
+    /// [`Transaction::from_parts`] does after [`TransactionParts::check`].
+    ///
+    /// [`Transaction::from_parts`]: crate::Transaction::from_parts
+    ///
+    /// # Errors
+    ///
+    /// The first of these that applies: `NoKey` if a credential protects the request and there is no
+    /// key; `NoUseForKey` if none does and there is one; `SignedOtherwise` if the key of a short-term
+    /// credential works with no integrity attribute of the request; `KeyForOneAlgorithm` if the key
+    /// of a long-term credential was made for one.
+    pub fn check_key(&self, key: Option<&IntegrityKey>) -> Result<(), PartsError>
+        ensures { let fault = key_fault self.now.mechanism self.now.signed (option_copied key.entry) in
+            MatchResult result (λ _. fault ≡ None) (λ e. fault ≡ Some e) }
+    {
+        match (self.mechanism, key) {
+            (None | Some(Mechanism::FirstLongTerm), None) => Ok(()),
+            (None | Some(Mechanism::FirstLongTerm), Some(_)) => Err(PartsError::NoUseForKey),
+            (Some(Mechanism::ShortTerm | Mechanism::LongTerm), None) => Err(PartsError::NoKey),
+            (Some(Mechanism::ShortTerm), Some(key)) => {
+                if self.signed.is_signed_for(key) {
+                    Ok(())
+                } else {
+                    Err(PartsError::SignedOtherwise)
+                }
+            }
+            (Some(Mechanism::LongTerm), Some(key)) => match key.algorithm() {
+                None => Ok(()),
+                Some(_) => Err(PartsError::KeyForOneAlgorithm),
+            },
+        }
+    }
+
+    /// Whether a message is a response with the method and the transaction ID of the request.
+    pub(crate) fn is_answer(&self, message: &Message<'_>) -> bool
+        ensures { result ≡ is_answer self.now (message_bytes message.now) }
+    {
+        message.is_response()
+            && message.method() == self.method
+            && message.transaction_id() == self.id
+    }
+
     /// Returns the moment from which on a poll does something, as
     /// [`Transaction::next_wake`](crate::Transaction::next_wake) has it.
     pub fn next_wake(&self) -> Option<Duration>
-        ensures { MatchOption result (is_some self.now.end ≡ true)
-            (λ at. (self.now.end ≡ None)
-            × (as_nanos at ≡ min (due (plan_in self.now) (state_in self.now)) max_nanos)) }
+        ensures { Wakes self.now result }
     {
-        match self.end {
+        match self.state.end {
             Some(_) => None,
-            None => Some(self.state().due(&self.plan())),
+            None => Some(self.state.due(&self.plan)),
         }
+    }
+
+    /// Returns `true` if a poll now answers something else than `WaitUntil`.
+    pub fn is_ready(&self, now: Duration) -> bool
+        ensures { result ≡ is_ready self.now.plan self.now.state now }
+    {
+        self.state.is_ready(&self.plan, now)
     }
 
     /// Returns what the caller has to do now, as [`Transaction::poll`](crate::Transaction::poll)
@@ -165,48 +155,39 @@ impl TransactionParts {
     /// assert_eq!(rt; transaction.poll(start), Action::WaitUntil(Duration::from_millis(500)));
     /// ```
     pub fn poll(&mut self, now: Duration) -> Action
-        ensures polls { Polls (plan_in self.old) (state_in self.old) now result
-            (state_in self.new) }
-        ensures others { self.new ≡ at_state self.old (state_in self.new) }
+        ensures polls { Polls self.old.plan self.old.state now result self.new.state }
+        ensures others { self.new ≡ at_state self.old self.new.state }
     {
-        let mut state = self.state();
-        let action = state.poll(&self.plan(), now);
-        self.go_on(state);
-        action
+        self.state.poll(&self.plan, now)
     }
 
     /// Stops sending the request, as
     /// [`Transaction::stop_sending`](crate::Transaction::stop_sending) does.
     pub fn stop_sending(&mut self)
-        ensures { self.new ≡ at_state self.old (stopped_by (state_in self.old)) }
+        ensures { self.new ≡ at_state self.old (stopped_by self.old.state) }
     {
-        let mut state = self.state();
-        state.stop_sending();
-        self.go_on(state);
+        self.state.stop_sending();
     }
 
     /// Returns how long the response took, as
     /// [`Transaction::round_trip`](crate::Transaction::round_trip) does.
     pub fn round_trip(&self, now: Duration) -> Option<Duration>
-        ensures { TellsTime (state_in self.now) now result }
+        ensures { TellsTime self.now.state now result }
     {
-        self.state().round_trip(now)
+        self.state.round_trip(now)
     }
 
     /// Ends the transaction, unless it has ended.
-    fn end_by(&mut self, end: TransactionEnd)
-        ensures { self.new ≡ at_state self.old (ended_by end (state_in self.old)) }
+    pub(crate) fn end_by(&mut self, end: TransactionEnd)
+        ensures { self.new ≡ at_state self.old (ended_by end self.old.state) }
     {
-        let mut state = self.state();
-        state.end_by(end);
-        self.go_on(state);
+        self.state.end_by(end);
     }
 
     /// Ends the transaction as cancelled, unless it has ended, as
     /// [`Transaction::cancel`](crate::Transaction::cancel) does.
     pub fn cancel(&mut self)
-        ensures { self.new ≡ at_state self.old (ended_by TransactionEnd.Cancelled
-            (state_in self.old)) }
+        ensures { self.new ≡ at_state self.old (ended_by TransactionEnd.Cancelled self.old.state) }
     {
         self.end_by(TransactionEnd::Cancelled);
     }
@@ -215,36 +196,8 @@ impl TransactionParts {
     /// [`Transaction::fail`](crate::Transaction::fail) does.
     pub fn fail(&mut self)
         ensures { self.new
-            ≡ at_state self.old (ended_by TransactionEnd.TransportFailed (state_in self.old)) }
+            ≡ at_state self.old (ended_by TransactionEnd.TransportFailed self.old.state) }
     {
         self.end_by(TransactionEnd::TransportFailed);
-    }
-}
-
-/// Tests that a key is that of a transaction by a mechanism, or by none, whose request shows these
-/// integrity attributes.
-pub(crate) fn check_key(
-    mechanism: Option<Mechanism>,
-    signed: Signed,
-    key: &Option<IntegrityKey>,
-) -> Result<(), PartsError>
-    ensures { MatchResult result (λ _. key_fault mechanism signed key.now ≡ None)
-        (λ e. key_fault mechanism signed key.now ≡ Some e) }
-{
-    match (mechanism, key) {
-        (None | Some(Mechanism::FirstLongTerm), None) => Ok(()),
-        (None | Some(Mechanism::FirstLongTerm), Some(_)) => Err(PartsError::NoUseForKey),
-        (Some(Mechanism::ShortTerm | Mechanism::LongTerm), None) => Err(PartsError::NoKey),
-        (Some(Mechanism::ShortTerm), Some(key)) => {
-            if signed.is_signed_for(key) {
-                Ok(())
-            } else {
-                Err(PartsError::SignedOtherwise)
-            }
-        }
-        (Some(Mechanism::LongTerm), Some(key)) => match key.algorithm() {
-            None => Ok(()),
-            Some(_) => Err(PartsError::KeyForOneAlgorithm),
-        },
     }
 }

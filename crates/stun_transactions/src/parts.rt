@@ -1,10 +1,9 @@
 //! The parts of a transaction.
 
+use crate::guard::Signed;
+use crate::plan::Plan;
 use crate::response_policy::ResponsePolicy;
-use crate::retransmission::TransactionEnd;
-use crate::schedule::Schedule;
-use std::time::Duration;
-use stun_types::TransportType;
+use crate::retransmission::RetransmissionState;
 use stun_types::message::{Method, TransactionId};
 use thiserror::Error;
 
@@ -49,33 +48,18 @@ pub enum PartsError {
 /// that stores it in its own representation.
 #[derive(Clone, Copy, Debug, PartialEq, Eq)]
 pub struct TransactionParts {
-    /// The schedule by which the request is sent.
-    pub schedule: Schedule,
-    /// The transport over which the request is sent.
-    pub transport: TransportType,
+    /// The schedule and the transport by which the request is sent.
+    pub plan: Plan,
     /// The method of the request.
     pub method: Method,
     /// The transaction ID of the request.
     pub id: TransactionId,
-    /// Whether the request shows a MESSAGE-INTEGRITY.
-    pub sha1: bool,
-    /// Whether the request shows a MESSAGE-INTEGRITY-SHA256.
-    pub sha256: bool,
+    /// The integrity attributes that the request shows.
+    pub signed: Signed,
     /// The credential mechanism in use, if one is.
     pub mechanism: Option<Mechanism>,
     /// The requirements of the STUN usage on responses.
     pub usage: ResponsePolicy,
-    /// The number of polls that have answered `Send`.
-    pub sent: u32,
-    /// The moment of the last poll that answered `Send`, and before the first the moment at which
-    /// the transaction began.
-    pub last: Duration,
-    /// The latest moment that a call was given.
-    pub clock: Duration,
-    /// Whether a response that wasn't authentic was discarded.
-    pub violated: bool,
-    /// Whether the caller has stopped sending.
-    pub stopped: bool,
-    /// How the transaction ended, if it has.
-    pub end: Option<TransactionEnd>,
+    /// How far the transaction has come.
+    pub state: RetransmissionState,
 }

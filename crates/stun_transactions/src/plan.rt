@@ -9,8 +9,10 @@ use stun_types::TransportType;
 /// A schedule and the transport over which its requests are sent.
 #[derive(Clone, Copy, Debug, PartialEq, Eq)]
 pub struct Plan {
-    pub(crate) schedule: Schedule,
-    pub(crate) transport: TransportType,
+    /// The schedule by which the request is sent.
+    pub schedule: Schedule,
+    /// The transport over which the request is sent.
+    pub transport: TransportType,
 }
 
 impl Plan {

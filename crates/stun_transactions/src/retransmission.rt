@@ -42,18 +42,19 @@ pub enum Action {
 /// The state of a request's retransmissions: how far its transaction has come.
 #[derive(Clone, Copy, Debug, PartialEq, Eq)]
 pub struct RetransmissionState {
-    /// How many requests were sent.
-    pub(crate) sent: u32,
-    /// When the last of them was, and before the first the moment at which the transaction began.
-    pub(crate) last: Duration,
-    /// The latest moment that the caller has reported.
-    pub(crate) clock: Duration,
-    /// Whether a response was discarded that wasn't authentic.
-    pub(crate) violated: bool,
+    /// The number of polls that have answered `Send`.
+    pub sent: u32,
+    /// The moment of the last poll that answered `Send`, and before the first the moment at which
+    /// the transaction began.
+    pub last: Duration,
+    /// The latest moment that a call was given.
+    pub clock: Duration,
+    /// Whether a response that wasn't authentic was discarded.
+    pub violated: bool,
     /// Whether the caller has stopped sending.
-    pub(crate) stopped: bool,
-    /// How it ended.
-    pub(crate) end: Option<TransactionEnd>,
+    pub stopped: bool,
+    /// How the transaction ended, if it has.
+    pub end: Option<TransactionEnd>,
 }
 
 /// How a failure ends a transaction.

@@ -4,11 +4,12 @@ ghost use Rattle.std.specs.Prelude.{◌≡◌, None, Some, true, is_some, option
 ghost use Rattle.std.specs.List.{position};
 ghost use Rattle.std.specs.Duration.{as_nanos};
 ghost use Rattle.stun_types.specs.Message.{message_bytes};
-ghost use Rattle.stun_transactions.specs.Slots.{id_of, has_id, is_free, place_of, held, changed, room_fault, IsAdded, has_turn, wake, sooner, soonest, PollsSlot, PollsSlots, after_receiving, ending, stopping, addressee, Tells};
+ghost use Rattle.stun_transactions.specs.Slots.{id_of, has_id, is_free, place_of, held, changed, room_fault, IsAdded, has_turn, wake, sooner, soonest, PollsSlot, PollsSlots, addressee, Tells};
+ghost use Rattle.stun_transactions.specs.Transactions.{after_receiving, ending, stopping};
 
+use crate::beginning::BeginError;
 use crate::received::Received;
 use crate::retransmission::{Action, TransactionEnd};
-use crate::terms::BeginError;
 use crate::transaction::Transaction;
 use std::time::Duration;
 use stun_types::attribute::AttributeType;

@@ -74,7 +74,8 @@ impl<const N: usize> Transactions<N> {
     ghost use Rattle.std.specs.List.{All};
     ghost use Rattle.std.specs.Duration.{as_nanos};
     ghost use Rattle.stun_types.specs.Message.{message_bytes};
-    ghost use Rattle.stun_transactions.specs.Slots.{HasDistinctIds, place_of, held, changed, add_fault, Adds, soonest, PollsSlots, after_receiving, ending, stopping, addressee, Tells};
+    ghost use Rattle.stun_transactions.specs.Slots.{HasDistinctIds, place_of, held, changed, add_fault, Adds, soonest, PollsSlots, addressee, Tells};
+    ghost use Rattle.stun_transactions.specs.Transactions.{after_receiving, ending, stopping};
 
     /// Returns a set with no transactions, and room for `N`.
     pub fn new() -> Transactions<N>
@@ -130,8 +131,8 @@ impl<const N: usize> Transactions<N> {
     ) -> Result<(), AddError>
         ensures { MatchResult result
             (λ _. (add_fault protection (message_bytes request.now) self.old ≡ None)
-            × Adds (message_bytes request.now) schedule transport protection usage now self.old
-            self.new)
+            × Adds (message_bytes request.now) (record { schedule = schedule; transport = transport })
+            protection usage now self.old self.new)
             (λ e. (add_fault protection (message_bytes request.now) self.old ≡ Some e)
             × (self.new ≡ self.old)) }
     {

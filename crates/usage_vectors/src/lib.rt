@@ -25,16 +25,16 @@ ghost use Rattle.stun_authentication.specs.LongTerm.{long_term};
 ghost use Rattle.stun_authentication.specs.ShortTerm.{short_term};
 ghost use Rattle.usage_vectors.specs.Authentications.{unprinted, printed, everybody, nobody, user, other, sent_with_both, sent_with_md5, unsigned, signed, promised, unpromised, sha256_chosen, sha256_listed, md5_listed, both_listed, hashed};
 ghost use Rattle.stun_transactions.specs.Rows.{moments, row_end, row_wait};
-ghost use Rattle.stun_transactions.specs.Parts.{plan_in, parts_fault};
+ghost use Rattle.stun_transactions.specs.Parts.{parts_fault};
 ghost use Rattle.stun_transactions.specs.Receiving.{content};
 ghost use Rattle.stun_transactions.specs.Schedules.{requests_in};
-ghost use Rattle.stun_transactions.specs.Terms.{begin_fault};
+ghost use Rattle.stun_transactions.specs.Beginning.{begin_fault};
 ghost use Rattle.stun_transactions.specs.declared.guard.Protection.TheVariants.{Unprotected, ShortTerm};
 ghost use Rattle.stun_transactions.specs.declared.parts.PartsError.TheVariants.{SentTooOften};
 ghost use Rattle.stun_transactions.specs.declared.parts.TransactionParts.{TransactionParts};
 ghost use Rattle.stun_transactions.specs.declared.received.Failure.TheVariants.{UnknownAttribute, NoErrorCode};
 ghost use Rattle.stun_transactions.specs.declared.received.Outcome.TheVariants.{Failed};
-ghost use Rattle.stun_transactions.specs.declared.terms.BeginError.TheVariants.{NotARequest};
+ghost use Rattle.stun_transactions.specs.declared.beginning.BeginError.TheVariants.{NotARequest};
 ghost use Rattle.stun_framing.specs.declared.stream_kind.StreamKind.TheVariants.{Messages, ChannelDataToo};
 ghost use Rattle.stun_framing.specs.declared.error.StreamFault.TheVariants.{NotStun, NotPadded, TooLong};
 ghost use Rattle.stun_framing.specs.Framing.{room_of, stated_length, IsCut, stream_fault};
@@ -181,7 +181,7 @@ pub fn streams_are_right()
 pub fn first_refusals_are_right()
     ensures unsigned_response { (key : IntegrityKey) → begin_fault (ShortTerm key) unsigned_error ≡ Some NotARequest }
     ensures signed_response { begin_fault Unprotected ipv4_response ≡ Some NotARequest }
-    ensures too_often { (parts : TransactionParts) → parts.mechanism ≡ None → parts.sha1 ≡ false → parts.sha256 ≡ false → nat_lt (requests_in (plan_in parts)) parts.sent ≡ true → parts_fault parts ≡ Some SentTooOften }
+    ensures too_often { (parts : TransactionParts) → parts.mechanism ≡ None → parts.signed.sha1 ≡ false → parts.signed.sha256 ≡ false → nat_lt (requests_in parts.plan) parts.state.sent ≡ true → parts_fault parts ≡ Some SentTooOften }
     ensures unknown { content None [] unsigned_error ≡ Failed (UnknownAttribute (record { 0 = 0x7FFF })) }
     ensures understood { content None (record { 0 = 0x7FFF } ∷ []) unsigned_error ≡ Failed NoErrorCode }
 {}

@@ -1,6 +1,7 @@
 use Rattle.std.proofs.Common.{◌≡◌, ℕ, List, Option, sym, ap, ◌∙◌, subst}
 use Rattle.stun_grammar.specs.Headers.{id_field}
-use Rattle.stun_transactions.specs.Slots.{place_of, held, changed, after_receiving, Tells}
+use Rattle.stun_transactions.specs.Slots.{place_of, held, changed, Tells}
+use Rattle.stun_transactions.specs.Transactions.{after_receiving}
 use Rattle.stun_transactions.proofs.SlotsLemmas.{addressed}
 use Rattle.stun_transactions.proofs.slots.receive.Goals as goal
 

@@ -1,6 +1,7 @@
 use Rattle.std.proofs.Common.{refl}
 use Rattle.stun_transactions.specs.declared.retransmission.TransactionEnd.TheVariants.{TransportFailed}
-use Rattle.stun_transactions.specs.Slots.{ending, place_of}
+use Rattle.stun_transactions.specs.Transactions.{ending}
+use Rattle.stun_transactions.specs.Slots.{place_of}
 use Rattle.stun_transactions.proofs.SlotsLemmas.{changed_distinct}
 use Rattle.stun_transactions.proofs.transactions.Transactions.fail.Goals as goal
 

@@ -1,5 +1,6 @@
 use Rattle.std.proofs.Common.{refl}
-use Rattle.stun_transactions.specs.Slots.{after_receiving, addressee}
+use Rattle.stun_transactions.specs.Transactions.{after_receiving}
+use Rattle.stun_transactions.specs.Slots.{addressee}
 use Rattle.stun_transactions.proofs.SlotsLemmas.{changed_distinct}
 use Rattle.stun_transactions.proofs.transactions.Transactions.receive.Goals as goal
 

@@ -1,5 +1,6 @@
 use Rattle.std.proofs.Common.{refl}
-use Rattle.stun_transactions.specs.Slots.{stopping, place_of}
+use Rattle.stun_transactions.specs.Transactions.{stopping}
+use Rattle.stun_transactions.specs.Slots.{place_of}
 use Rattle.stun_transactions.proofs.SlotsLemmas.{changed_distinct}
 use Rattle.stun_transactions.proofs.transactions.Transactions.stop_sending.Goals as goal
 
