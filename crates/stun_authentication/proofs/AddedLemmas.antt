@@ -1,6 +1,6 @@
 -- A message, attribute by attribute.
 use Rattle.std.proofs.Common.{arith, ◌+◌, ◌≡◌, ℕ, ◌^◌, ◌<◌, List, [], ◌∷◌, ◌++◌, length, Option, None, Some, Result, Ok, Err, inl, inr, refl, sym, ap, ◌∙◌, subst, append_assoc}
-use Rattle.std.specs.Prelude.{OnOk}
+use Rattle.std.specs.Prelude.{OnOk, OnErr}
 use Rattle.std.specs.Result.{IsErr, IsErrAnd}
 use Rattle.std.specs.Option.{option_or, option_map}
 use Rattle.std.proofs.lemmas.List.{map-append}
@@ -13,7 +13,7 @@ use Rattle.stun_grammar.specs.Steps.{Step, add, appended_by, barring_types}
 use Rattle.stun_grammar.specs.Writing.{message_encoding}
 use Rattle.stun_grammar.proofs.AddingLemmas.{message_more}
 use Rattle.stun_types.specs.Resuming.{after_step}
-use Rattle.stun_types.specs.Writers.{Writer, Gains, Spends, Allocates}
+use Rattle.stun_types.specs.Writers.{Writer, Gains, Spends, IsUnchanged, Allocates}
 use Rattle.stun_authentication.specs.Writing.{no_room, steps_length, adds, sizes, FailsFor, TakesSteps, IsUnended, Lengthens}
 use Rattle.stun_authentication.proofs.TakenLemmas.{passed_on, one_taken, one_then, cut_off, none_taken}
 use Rattle.stun_authentication.proofs.TypesLemmas.{free, ending_none, unended_more}
@@ -40,14 +40,14 @@ unfolding appended_by
 same_bytes message type value = refl
 
 -- one more attribute is added
-pub added : (result : Result (Unit {0}) StunWriteError) (old new : Writer) (type : ℕ) (value : List ℕ) → OnOk result (Gains old new type value) → Spends old new (attribute_length (length value)) 1
+pub added : (result : Result (Unit {0}) StunWriteError) (old new : Writer) (type : ℕ) (value : List ℕ) → OnOk result (Gains old new type value) → OnErr result (IsUnchanged old new) → Spends old new (attribute_length (length value)) 1
     → IsAddAnswer (add_refusal (add type value) old.types (length old.bytes) old.greatest) (Allocates old (length value)) result → IsOrdinary type → type < 2 ^ 16 → length value < 2 ^ 16
     → Lengthens result old new (canonical type value ∷ [])
-added result old new type value gains spends reported ordinary t v = record {
+added result old new type value gains same spends reported ordinary t v = record {
   written = written result gains;
   answer = λ none. answers room (Allocates old (length value)) result (subst (λ (r : Option StunWriteError). IsAddAnswer r (Allocates old (length value)) result) (only_room type value old.types (length old.bytes) old.greatest (free (add type value) old.types none)) reported);
   unended = λ none. stays result gains none;
-  takes = one_taken (add type value) result old new type value refl refl (same_bytes old.bytes type value) gains spends reported;
+  takes = one_taken (add type value) result old new type value refl refl (same_bytes old.bytes type value) gains same spends reported;
 }
   where
     room : Option StunWriteError

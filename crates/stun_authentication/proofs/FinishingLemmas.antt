@@ -66,7 +66,7 @@ sign_step a key r old new adds reported =
       answer = λ none. fails _ (Allocates old (digest_length a)) r (subst (λ (o : Option StunWriteError). IsAddAnswer o (Allocates old (digest_length a)) r) (only_room (sign a key) old.types (length old.bytes) old.greatest none) reported);
       types = on_ok r (λ (g : Gains old new (type_of_algorithm a) value). g.types) adds.ok;
       size = on_ok r (λ (g : Gains old new (type_of_algorithm a) value). g.size ∙ ap (λ (k : ℕ). grown_length (length old.bytes) k) n) adds.ok;
-      takes = one_taken (sign a key) r old new (type_of_algorithm a) value refl n refl adds.ok adds.spends reported;
+      takes = one_taken (sign a key) r old new (type_of_algorithm a) value refl n refl adds.ok adds.err adds.spends reported;
     }
 
 pub finger_step : (r : Result (Unit {0}) StunWriteError) (old new : Writer) → Adds r old new FINGERPRINT (fingerprint_value old.bytes (length old.bytes))
@@ -84,7 +84,7 @@ finger_step r old new adds reported =
       answer = λ none. fails _ (Allocates old 4) r (subst (λ (o : Option StunWriteError). IsAddAnswer o (Allocates old 4) r) (only_room finger old.types (length old.bytes) old.greatest none) reported);
       types = on_ok r (λ (g : Gains old new FINGERPRINT value). g.types) adds.ok;
       size = on_ok r (λ (g : Gains old new FINGERPRINT value). g.size ∙ ap (λ (k : ℕ). grown_length (length old.bytes) k) (fingerprint_length old.bytes (length old.bytes))) adds.ok;
-      takes = one_taken finger r old new FINGERPRINT value refl (fingerprint_length old.bytes (length old.bytes)) refl adds.ok adds.spends reported;
+      takes = one_taken finger r old new FINGERPRINT value refl (fingerprint_length old.bytes (length old.bytes)) refl adds.ok adds.err adds.spends reported;
     }
 
 -- ---- Both

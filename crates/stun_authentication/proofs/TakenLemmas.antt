@@ -1,17 +1,18 @@
 -- Steps that are taken one after the other.
-use Rattle.std.proofs.Common.{◌≡◌, ℕ, ◌+◌, List, [], ◌∷◌, ◌++◌, length, map, Option, None, Some, Result, Ok, Err, inl, inr, refl, sym, ap, ◌∙◌, append_assoc, arith}
-use Rattle.std.specs.Prelude.{◌⊎◌, OnOk, MatchResult, drop}
+use Rattle.std.proofs.Common.{◌≤◌, ◌≡◌, ℕ, ◌+◌, List, [], ◌∷◌, ◌++◌, length, map, Option, None, Some, Result, Ok, Err, inl, inr, refl, sym, ap, ◌∙◌, append_assoc, arith}
+use Rattle.std.specs.Prelude.{◌⊎◌, OnOk, OnErr, MatchResult, drop}
 use Rattle.std.specs.Result.{IsErr, IsErrAnd}
 use Rattle.std.specs.Option.{option_or}
-use Rattle.std.proofs.lemmas.List.{length-append, map-append, append-nil, drop-drop}
+use Rattle.std.proofs.lemmas.List.{length-append, map-append, append-nil, drop-drop, drop-append-le}
 use Rattle.stun_grammar.specs.declared.error.StunWriteError.{StunWriteError}
 use Rattle.stun_grammar.specs.declared.error.StunWriteError.TheVariants.{OutOfMemory}
 use Rattle.stun_grammar.specs.Adding.{appended, grown_length, add_refusal, IsAddAnswer}
-use Rattle.stun_grammar.specs.Attributes.{attribute_length}
+use Rattle.stun_grammar.specs.Attributes.{attribute_length, attribute_encoding}
 use Rattle.stun_grammar.specs.Steps.{Step, value_length}
+use Rattle.stun_grammar.proofs.AddingRefusedLemmas.{no_refusal}
 use Rattle.stun_types.specs.Resuming.{after_step, after_steps}
-use Rattle.stun_types.specs.Writers.{Writer, Gains, Spends, Allocates}
-use Rattle.stun_authentication.specs.Writing.{step_type, steps_length, steps_refusal, refusal_by, Lacks, TakesSteps}
+use Rattle.stun_types.specs.Writers.{Writer, Gains, Spends, IsUnchanged, Allocates}
+use Rattle.stun_authentication.specs.Writing.{step_type, steps_length, steps_refusal, refusal_by, Lacks, KeepsAttributes, TakesSteps}
 
 -- ---- Two lists of steps
 
@@ -61,12 +62,24 @@ one_answer (Some x) P L (Err e) f reported = inl (ap (λ r. Some (error_of x r))
     error_of other (Ok done) = other
     error_of other (Err e) = e
 
+unrefused : (x : Option StunWriteError) (P : Type 0) (done : Unit {0}) → IsAddAnswer x P (Ok done) → x ≡ None
+unrefused None P done reported = refl
+unrefused (Some x) P done reported = absurd cc
+
+behind_appended : (message : List ℕ) (type : ℕ) (value : List ℕ) → 20 ≤ length message → drop 20 (appended message type value) ≡ drop 20 (message ++ attribute_encoding type value)
+unfolding appended
+behind_appended [] type value long = absurd (omega (arith, long))
+behind_appended (a ∷ []) type value long = absurd (omega (arith, long))
+behind_appended (a ∷ b ∷ []) type value long = absurd (omega (arith, long))
+behind_appended (a ∷ b ∷ c ∷ []) type value long = absurd (omega (arith, long))
+behind_appended (a ∷ b ∷ c ∷ f ∷ d) type value long = refl
+
 -- a step is taken, or it is refused
 pub one_taken : (step : Step) (r : Result (Unit {0}) StunWriteError) (old new : Writer) (type : ℕ) (value : List ℕ) → type ≡ step_type step → length value ≡ value_length step
-    → appended old.bytes type value ≡ after_step old.bytes step → OnOk r (Gains old new type value) → Spends old new (attribute_length (length value)) 1
+    → appended old.bytes type value ≡ after_step old.bytes step → OnOk r (Gains old new type value) → OnErr r (IsUnchanged old new) → Spends old new (attribute_length (length value)) 1
     → IsAddAnswer (add_refusal step old.types (length old.bytes) old.greatest) (Allocates old (value_length step)) r → TakesSteps r old new (step ∷ [])
 unfolding after_steps
-one_taken step r old new type value t n is gains spends reported =
+one_taken step r old new type value t n is gains same spends reported =
     let size : attribute_length (length value) ≡ attribute_length (value_length step) = ap attribute_length n in
     record {
       answer = one_answer (add_refusal step old.types (length old.bytes) old.greatest) (Allocates old (value_length step)) (Lacks old (step ∷ [])) r lacking reported;
@@ -80,8 +93,23 @@ one_taken step r old new type value t n is gains spends reported =
         ready_bytes = omega (arith, spends.ready_bytes, size);
         ready_types = omega (arith, spends.ready_types);
       };
+      keeps = keeps_one r gains same reported;
     }
   where
+    keeps_one : (r : Result (Unit {0}) StunWriteError) → OnOk r (Gains old new type value) → OnErr r (IsUnchanged old new) → IsAddAnswer (add_refusal step old.types (length old.bytes) old.greatest) (Allocates old (value_length step)) r → KeepsAttributes old.bytes new.bytes
+    keeps_one (Ok done) gained same reported =
+        let long = (no_refusal step old.types (length old.bytes) old.greatest (unrefused (add_refusal step old.types (length old.bytes) old.greatest) (Allocates old (value_length step)) done reported)).header in
+        record {
+          more = attribute_encoding type value;
+          kept = ap (drop 20) gained.bytes ∙ behind_appended old.bytes type value long ∙ drop-append-le 20 old.bytes (attribute_encoding type value) long;
+          longer = omega (arith, gained.size);
+        }
+    keeps_one (Err e) gained same reported = record {
+      more = [];
+      kept = ap (drop 20) same.bytes ∙ sym (append-nil (drop 20 old.bytes));
+      longer = omega (arith, ap length same.bytes);
+    }
+
     whole : attribute_length (length value) ≡ attribute_length (value_length step) → attribute_length (length value) ≡ steps_length (step ∷ [])
     whole size = omega (arith, size)
 
@@ -130,6 +158,7 @@ cut_off e old new xs ys one = record {
     ready_bytes = omega (arith, one.spends.ready_bytes, steps_length-append xs ys);
     ready_types = omega (arith, one.spends.ready_types, length-append xs ys);
   };
+  keeps = one.keeps;
 }
 
 -- some are taken, and then others
@@ -145,6 +174,11 @@ one_then {T} done result old mid new xs ys one two = record {
     slice_name = two.spends.slice_name ∙ one.spends.slice_name;
     ready_bytes = omega (arith, one.spends.ready_bytes, two.spends.ready_bytes, steps_length-append xs ys);
     ready_types = omega (arith, one.spends.ready_types, two.spends.ready_types, length-append xs ys);
+  };
+  keeps = record {
+    more = one.keeps.more ++ two.keeps.more;
+    kept = two.keeps.kept ∙ ap (λ (l : List ℕ). l ++ two.keeps.more) one.keeps.kept ∙ append_assoc (drop 20 old.bytes) one.keeps.more two.keeps.more;
+    longer = omega (arith, one.keeps.longer, two.keeps.longer);
   };
 }
   where
@@ -190,4 +224,5 @@ none_taken old done = record {
   size = omega arith;
   rest = refl;
   spends = record { greatest = refl; slice_name = refl; ready_bytes = omega arith; ready_types = omega arith };
+  keeps = record { more = []; kept = sym (append-nil (drop 20 old.bytes)); longer = omega arith };
 }

@@ -1,6 +1,6 @@
 -- What adding attributes to a message that is written returns and writes, and how it is finished: it
 -- is signed, and gets a FINGERPRINT (RFC 8489, sections 7, 9.1.3 and 9.2.4).
-use Rattle.std.specs.Prelude.{◌≡◌, ◌⊎◌, ℕ, ◌+◌, ◌<◌, Bool, true, false, List, [], ◌∷◌, ◌++◌, length, drop, map, Option, None, Some, Result, Err, MatchResult, MatchOption, OnOk, if◌then◌else◌}
+use Rattle.std.specs.Prelude.{◌≡◌, ◌⊎◌, ℕ, ◌+◌, ◌<◌, ◌≤◌, Bool, true, false, List, [], ◌∷◌, ◌++◌, length, drop, map, Option, None, Some, Result, Err, MatchResult, MatchOption, OnOk, if◌then◌else◌}
 use Rattle.std.specs.List.{list_any}
 use Rattle.std.specs.Option.{option_or}
 use Rattle.stun_grammar.specs.declared.error.StunWriteError.{StunWriteError}
@@ -68,6 +68,12 @@ pub record Lacks (w : Writer) (steps : List Step) : Type 0 where
   pub taken : refusal_by w first ≡ None
   pub lacks : (w.ready_bytes < steps_length first) ⊎ (w.ready_types < length first)
 
+-- the attributes that were there stay, and more may follow them
+pub record KeepsAttributes (old new : List ℕ) : Type 0 where
+  pub more : List ℕ
+  pub kept : drop 20 new ≡ drop 20 old ++ more
+  pub longer : length old ≤ length new
+
 -- steps are all taken, or the first that is refused ends them, or an allocation fails
 pub record TakesSteps {T : Type 0} (result : Result T StunWriteError) (old new : Writer)
     (steps : List Step) : Type 0 where
@@ -78,6 +84,7 @@ pub record TakesSteps {T : Type 0} (result : Result T StunWriteError) (old new :
   pub size : OnOk result (length new.bytes ≡ length old.bytes + steps_length steps)
   pub rest : OnOk result (new.rest ≡ drop (steps_length steps) old.rest)
   pub spends : Spends old new (steps_length steps) (length steps)
+  pub keeps : KeepsAttributes old.bytes new.bytes
 
 -- ---- Ordinary attributes
 
