@@ -8,4 +8,5 @@ mod EntriesLemmas
 mod FinishingLemmas
 mod NoncesLemmas
 mod ProvesLemmas
+mod TakenLemmas
 pub mod TypesLemmas

@@ -61,9 +61,9 @@ is_bid_down d =
     option_map_or (λ nonce. promises_algorithms nonce) (value_of d NONCE) false
     && not (is_some (list_of d))
 
--- a list was seen, and d has none
-abbrev pub lost_list : (seen : Option (List ℕ)) → List ℕ → Bool
-lost_list seen d = is_some seen && not (is_some (list_of d))
+-- the server sent a list before, and d has none
+abbrev pub lost_list : (had_algorithms : Bool) → List ℕ → Bool
+lost_list had_algorithms d = had_algorithms && not (is_some (list_of d))
 
 -- the text in an attribute of d
 abbrev pub text_in : ℕ → List ℕ → Option (List ℕ)
@@ -110,15 +110,16 @@ by_texts supported tried d =
     (text_of text_max NONCE d) (Err Incomplete))
     (text_of text_max REALM d) (Err Incomplete)
 
--- a list that was promised, or that was seen before, is there (the first paragraph)
-abbrev pub by_list : List PasswordAlgorithmValue → (tried seen : Option (List ℕ)) → List ℕ
-    → Result Asked NoRetry
-by_list supported tried seen d =
-    if is_bid_down d || lost_list seen d then Err BidDown else by_texts supported tried d
+-- a list that was promised, or that the server sent before, is there (the first paragraph)
+abbrev pub by_list : List PasswordAlgorithmValue → (tried : Option (List ℕ))
+    → (had_algorithms : Bool) → List ℕ → Result Asked NoRetry
+by_list supported tried had_algorithms d =
+    if is_bid_down d || lost_list had_algorithms d then Err BidDown else by_texts supported tried d
 
 -- what d asks a client to carry that supports these algorithms; or why its request isn't sent
--- again. Its credentials were tried in one realm or in none, and it has seen one list or none
-abbrev pub challenge_of : List PasswordAlgorithmValue → (tried seen : Option (List ℕ)) → List ℕ
-    → Result Asked NoRetry
-challenge_of supported tried seen d =
-    if is_challenge d then by_list supported tried seen d else Err NotAChallenge
+-- again. Its credentials were tried in one realm or in none, and the server sent it a list before or
+-- not
+abbrev pub challenge_of : List PasswordAlgorithmValue → (tried : Option (List ℕ))
+    → (had_algorithms : Bool) → List ℕ → Result Asked NoRetry
+challenge_of supported tried had_algorithms d =
+    if is_challenge d then by_list supported tried had_algorithms d else Err NotAChallenge

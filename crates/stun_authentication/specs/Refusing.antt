@@ -18,7 +18,7 @@ use Rattle.stun_authentication.specs.declared.demand.Mismatch.TheVariants.{NoLis
 use Rattle.stun_authentication.specs.Answers.{refusal_code, refusal_reason}
 use Rattle.stun_authentication.specs.Cookies.{promises_algorithms}
 use Rattle.stun_authentication.specs.Policies.{is_fingerprinted}
-use Rattle.stun_authentication.specs.Writing.{finished, print_sizes, sizes}
+use Rattle.stun_authentication.specs.Writing.{finished, print_steps, step_sizes, sizes}
 
 -- ---- What a client is asked for
 
@@ -70,4 +70,4 @@ refusal_of r refusal demand =
 -- the lengths of the values of its attributes
 abbrev pub refusal_sizes : List ℕ → Refusal → Option Demand → List ℕ
 refusal_sizes r refusal demand =
-    sizes (refusal_attributes refusal demand) ++ print_sizes (is_fingerprinted r)
+    sizes (refusal_attributes refusal demand) ++ step_sizes (print_steps (is_fingerprinted r))

@@ -1,20 +1,24 @@
 -- Requests with credentials, as they are written (RFC 8489, sections 9.1.2, 9.2.2, 9.2.5, 14.4, 14.11
 -- and 14.12).
-use Rattle.std.specs.Prelude.{ℕ, Bool, true, false, List, [], ◌∷◌, ◌++◌, Option, None, Some}
+use Rattle.std.specs.Prelude.{◌⊎◌, ℕ, Bool, true, false, List, [], ◌∷◌, ◌++◌, length, Option, None, Some, Result, MatchOption, nat_lt, if◌then◌else◌}
+use Rattle.stun_grammar.specs.declared.error.StunWriteError.{StunWriteError}
+use Rattle.stun_grammar.specs.declared.error.StunWriteError.TheVariants.{TooLarge, OutOfMemory}
 use Rattle.stun_grammar.specs.declared.integrity_algorithm.IntegrityAlgorithm.{IntegrityAlgorithm}
 use Rattle.stun_grammar.specs.declared.integrity_algorithm.IntegrityAlgorithm.TheVariants.{Sha1, Sha256}
 use Rattle.stun_grammar.specs.Attributes.{Attribute, canonical}
 use Rattle.stun_grammar.specs.AttributeTypes.{USERNAME, USERHASH, REALM, NONCE, PASSWORD_ALGORITHM, PASSWORD_ALGORITHMS}
-use Rattle.stun_grammar.specs.Hmac.{digest_length}
+use Rattle.stun_grammar.specs.Steps.{Step, sign}
 use Rattle.stun_grammar.specs.Writing.{message_encoding}
 use Rattle.stun_attributes.specs.Userhash.{user_hash}
 use Rattle.stun_keys.specs.declared.keys.long_term.LongTermCredentials.{LongTermCredentials}
 use Rattle.stun_keys.specs.Keys.{login_username, login_password, long_term_key}
 use Rattle.stun_values.specs.declared.algorithm.PasswordAlgorithmValue.{PasswordAlgorithmValue}
+use Rattle.stun_types.specs.Writers.{Writer}
 use Rattle.stun_values.specs.Algorithms.{algorithm_encoding, integrity_of}
+use Rattle.stun_values.specs.TextValues.{username_max}
 use Rattle.stun_authentication.specs.Challenges.{Asked, signing_algorithm}
 use Rattle.stun_authentication.specs.Identities.{Who, named, hashed}
-use Rattle.stun_authentication.specs.Writing.{signed, finished, print_sizes, sizes}
+use Rattle.stun_authentication.specs.Writing.{adds, signed, finished, print_steps, Finishes, FinishesBy, FailsBy}
 
 -- ---- Short-term credentials (section 9.1.2)
 
@@ -79,20 +83,51 @@ abbrev pub user_key : Asked → User → List ℕ
 user_key asked user =
     long_term_key (integrity_of asked.algorithm) user.name asked.realm user.password
 
--- a request with these attributes, and after them what the challenge asks for, signed
+-- a request with these attributes, and after them what the challenge asks for, signed with a key
+abbrev pub answering_attributes : (fingerprint : Bool) → Asked → (name key : List ℕ) → ℕ → ℕ
+    → List Attribute → List Attribute
+answering_attributes fingerprint asked name key kind id before =
+    finished fingerprint kind id
+    (signed kind id (before ++ credentials asked name) (signing_algorithm asked) key)
+
+-- the same with the user's key
 abbrev pub retried_attributes : (fingerprint : Bool) → Asked → User → ℕ → ℕ → List Attribute
     → List Attribute
 retried_attributes fingerprint asked user kind id before =
-    finished fingerprint kind id
-    (signed kind id (before ++ credentials asked user.name) (signing_algorithm asked)
-    (user_key asked user))
+    answering_attributes fingerprint asked user.name (user_key asked user) kind id before
 
 abbrev pub retried_request : (fingerprint : Bool) → Asked → User → ℕ → ℕ → List Attribute → List ℕ
 retried_request fingerprint asked user kind id before =
     message_encoding kind id (retried_attributes fingerprint asked user kind id before)
 
--- the lengths of the values of what a client adds that answers a challenge
-abbrev pub login_sizes : Asked → List ℕ → (fingerprint : Bool) → List ℕ
-login_sizes asked name fingerprint =
-    sizes (credentials asked name)
-    ++ digest_length (signing_algorithm asked) ∷ print_sizes fingerprint
+-- the steps by which a request answers a challenge, and is signed with a key
+abbrev pub login_steps : (fingerprint : Bool) → Asked → (name key : List ℕ) → List Step
+login_steps fingerprint asked name key =
+    adds (credentials asked name)
+    ++ sign (signing_algorithm asked) key ∷ print_steps fingerprint
+
+-- why a request can't name a user: no USERNAME has so many bytes (section 14.3)
+abbrev pub name_refusal : List ℕ → Option StunWriteError
+name_refusal name =
+    if nat_lt username_max (length name) then Some (TooLarge username_max (length name)) else None
+
+-- a challenge is answered with a key for a user, or nothing is written, since the name is too long or
+-- the key was made for the other algorithm
+abbrev pub AnswersWith : Asked → (name : List ℕ) → (made_for : Option IntegrityAlgorithm)
+    → (key : List ℕ) → (fingerprint : Bool) → Result (Unit {0}) StunWriteError → (old new : Writer)
+    → Type 0
+AnswersWith asked name made_for key fingerprint result old new =
+    MatchOption (name_refusal name)
+    (FinishesBy made_for (signing_algorithm asked) result old new
+    (answering_attributes fingerprint asked name key) (login_steps fingerprint asked name key))
+    (FailsBy result old new)
+
+-- the same with the user's key, which takes memory
+abbrev pub AnswersFor : {T : Type 0} → Asked → User → (fingerprint : Bool)
+    → Result T StunWriteError → (old new : Writer) → Type 0
+AnswersFor asked user fingerprint result old new =
+    MatchOption (name_refusal user.name)
+    (Finishes result old new (retried_attributes fingerprint asked user)
+    (login_steps fingerprint asked user.name (user_key asked user))
+    ⊎ FailsBy result old new OutOfMemory)
+    (FailsBy result old new)

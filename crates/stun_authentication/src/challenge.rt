@@ -24,7 +24,7 @@ use stun_types::message::IntegrityAlgorithm;
 ///       \x80\x02\x00\x08\x00\x01\x00\x00\x00\x02\x00\x00",
 /// )?;
 /// let supported = [PasswordAlgorithmValue::SHA256];
-/// let challenge = challenge_of(&response, &supported, None, None)?;
+/// let challenge = challenge_of(&response, &supported, None, false)?;
 /// // MD5 and SHA-256, in the order of the server.
 /// let list = b"\x00\x01\x00\x00\x00\x02\x00\x00".as_slice();
 /// assert_eq!(rt; challenge.password_algorithms(), Some(list));

@@ -1,14 +1,60 @@
 //! The end of a reply to a message that is accepted.
 
 ghost use Rattle.std.specs.Prelude.{◌∷◌};
-ghost use Rattle.stun_grammar.specs.Hmac.{digest_length};
+ghost use Rattle.stun_grammar.specs.Steps.{sign};
 ghost use Rattle.stun_keys.specs.Keys.{key_algorithm, key_bytes};
-ghost use Rattle.stun_authentication.specs.Writing.{FinishesBy, finished, signed, print_sizes};
+ghost use Rattle.stun_authentication.specs.Writing.{FinishesBy, finished, signed, print_steps};
 
 use crate::Accepted;
-use crate::writing::finish;
-use stun_types::message::StunWriteError;
+use crate::writing::sign_and_print;
+use stun_types::message::{IntegrityAlgorithm, IntegrityKey, StunWriteError};
 use stun_types::prelude::*;
+
+/// Finishes the reply to a request that was accepted, with the key and the algorithm of the
+/// decision, as [`Accepted::finish_reply`] does: for a caller that has kept them apart.
+///
+/// # Errors
+///
+/// As for [`Accepted::finish_reply`].
+///
+/// # Examples
+///
+/// ```
+/// use stun_authentication::finish_reply_with_key;
+/// use stun_types::message::{IntegrityAlgorithm, IntegrityKey, Message, MessageWriteVec};
+/// use stun_types::message::StunWriteError;
+/// use stun_types::prelude::*;
+///
+/// let request = Message::from_bytes(
+///     b"\x00\x01\x00\x00\x21\x12\xA4\x42\xB7\xE7\xA7\x01\xBC\x34\xD6\x86\xFA\x87\xDF\xAE",
+/// )?;
+/// // The key of a user who is known to use MESSAGE-INTEGRITY alone.
+/// let (sha1, sha256) = (IntegrityAlgorithm::Sha1, IntegrityAlgorithm::Sha256);
+/// let key = IntegrityKey::new(alloc, b"VOkJxbRl1RmTxUk/WvJxBt", Some(sha1))?;
+/// let mut reply = Message::builder_success(&request, MessageWriteVec::new(alloc))?;
+/// let refused = finish_reply_with_key(&key, sha256, true, &mut reply);
+/// assert_eq!(rt; refused, Err(StunWriteError::IntegrityFailed));
+/// finish_reply_with_key(&key, sha1, true, &mut reply)?;
+/// let bytes = reply.finish();
+/// let validated = Message::from_bytes(&bytes)?.validate_integrity_with_key(&key);
+/// assert_eq!(rt; validated, Ok(sha1));
+/// ```
+pub fn finish_reply_with_key<B: MessageWrite>(
+    key: &IntegrityKey,
+    algorithm: IntegrityAlgorithm,
+    fingerprint: bool,
+    write: &mut B,
+) -> Result<(), StunWriteError>
+    ensures { let bytes = key_bytes key.now in
+        FinishesBy (key_algorithm key.now) algorithm result (B.state write.old) (B.state write.new)
+        (λ kind id before. finished fingerprint kind id (signed kind id before algorithm bytes))
+        (sign algorithm bytes ∷ print_steps fingerprint) }
+{
+    if !key.serves(algorithm) {
+        return Err(StunWriteError::IntegrityFailed);
+    }
+    sign_and_print(key, algorithm, fingerprint, write)
+}
 
 impl Accepted {
     /// Finishes the reply to a request that is accepted: signs it with the user's key, by the
@@ -19,9 +65,11 @@ impl Accepted {
     /// # Errors
     ///
     /// `IntegrityFailed` if the key was made for the other algorithm; nothing is written then.
-    /// `OutOfMemory` if an allocation failed. Else, if the message isn't signed yet and has no
-    /// FINGERPRINT, the first of the two that doesn't fit decides: `TooSmall` or `TooLarge`, as for
-    /// `add_message_integrity_with_key`. What was written before an error stays.
+    /// Else the first of the two that isn't added decides, as for `add_message_integrity_with_key`
+    /// and `add_fingerprint`: `TooSmall` or `TooLarge` if it doesn't fit, `AttributeExists` or
+    /// `FingerprintExists` if the message was signed or had a FINGERPRINT before, and `OutOfMemory`
+    /// if an allocation failed, which none does within the writer's ready room. What was written
+    /// before an error stays.
     ///
     /// # Examples
     ///
@@ -53,8 +101,8 @@ impl Accepted {
             FinishesBy (key_algorithm self.now.key) a result
             (B.state write.old) (B.state write.new)
             (λ kind id before. finished fingerprint kind id (signed kind id before a key))
-            (digest_length a ∷ print_sizes fingerprint) }
+            (sign a key ∷ print_steps fingerprint) }
     {
-        finish(&self.key, self.reply_algorithm, fingerprint, write)
+        finish_reply_with_key(&self.key, self.reply_algorithm, fingerprint, write)
     }
 }

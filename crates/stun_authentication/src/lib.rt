@@ -48,7 +48,7 @@
 //!
 //! // The client answers with its name and password.
 //! let response = Message::from_bytes(&refused)?;
-//! let challenge = challenge_of(&response, &algorithms, None, None)?;
+//! let challenge = challenge_of(&response, &algorithms, None, false)?;
 //! let mut second = Message::builder_request(BINDING, &mut rng, MessageWriteVec::new(alloc))?;
 //! answer_challenge(alloc, &challenge, "alice", "wonderland", true, &mut second)?;
 //! let second = second.finish();
@@ -91,12 +91,13 @@ pub use challenge::{Challenge, NoRetry};
 pub use codes::{is_challenge, response_code, shown_code};
 pub use cookie::{SecurityFeatures, nonce_cookie, security_features};
 pub use demand::{Demand, Mismatch};
+pub use finishing::finish_reply_with_key;
 pub use identity::Identity;
 pub use laws::{
     accepted_is_authentic, cookie_is_read, nonces_are_texts, nonces_are_timed,
     what_counts_serves_both,
 };
-pub use login::{answer_challenge, key_for};
+pub use login::{answer_challenge, answer_challenge_with_key, key_for};
 pub use logins::Logins;
 pub use long_term::authenticate_long_term;
 pub use lookups::{LongTermKeys, NonceState, Nonces, ShortTermKeys};

@@ -1,12 +1,12 @@
 //! A client's next request: what it carries of a challenge (RFC 8489, section 9.2.5).
 
-ghost use Rattle.std.specs.Prelude.{◌≡◌, ◌≤◌, ◌<◌, ◌∷◌, [], None, Err, IfOk, IfErr, length};
+ghost use Rattle.std.specs.Prelude.{◌≡◌, ◌≤◌, ◌∷◌, [], None, Some, IfOk, IfErr, MatchResult, length};
 ghost use Rattle.stun_grammar.specs.Attributes.{canonical};
 ghost use Rattle.stun_grammar.specs.AttributeTypes.{REALM, NONCE};
-ghost use Rattle.stun_keys.specs.Keys.{IsKey};
+ghost use Rattle.stun_keys.specs.Keys.{IsKey, key_algorithm, key_bytes};
 ghost use Rattle.stun_values.specs.TextValues.{username_max};
-ghost use Rattle.stun_authentication.specs.Challenges.{asked_by, signing_algorithm};
-ghost use Rattle.stun_authentication.specs.Requests.{identity, identity_attribute, algorithm_attributes, credentials, user_key, retried_attributes, login_sizes};
+ghost use Rattle.stun_authentication.specs.Challenges.{asked_by};
+ghost use Rattle.stun_authentication.specs.Requests.{identity, identity_attribute, algorithm_attributes, credentials, user_key, answering_attributes, login_steps, name_refusal, AnswersWith, AnswersFor};
 ghost use Rattle.stun_authentication.specs.Writing.{Lengthens, Finishes};
 
 use crate::Challenge;
@@ -42,7 +42,7 @@ use stun_values::{USERNAME_MAX, write_algorithm};
 ///       \x80\x02\x00\x08\x00\x01\x00\x00\x00\x02\x00\x00",
 /// )?;
 /// let supported = [PasswordAlgorithmValue::SHA256];
-/// let challenge = challenge_of(&response, &supported, None, None)?;
+/// let challenge = challenge_of(&response, &supported, None, false)?;
 /// // The SHA-256 of `George:example.com:secret`.
 /// let key = key_for(alloc, &challenge, "George", "secret")?;
 /// assert!(rt; key.as_bytes().starts_with(&[0x9C, 0x61, 0x08, 0xE0, 0x37, 0x2F, 0x04, 0xB7]));
@@ -127,6 +127,104 @@ fn add_credentials<B: MessageWrite>(
     add_algorithms(challenge, write)
 }
 
+/// Checks that a USERNAME has room for a name.
+fn check_name(name: &str) -> Result<(), StunWriteError>
+    ensures { MatchResult result (λ _. name_refusal name.now ≡ None)
+        (λ e. name_refusal name.now ≡ Some e) }
+{
+    if name.len() > USERNAME_MAX as usize {
+        return Err(StunWriteError::TooLarge {
+            expected: USERNAME_MAX as usize,
+            actual: name.len(),
+        });
+    }
+    Ok(())
+}
+
+/// Adds what a request carries of a challenge, and finishes it with a key, whichever algorithm the
+/// key was made for.
+fn answer_by<B: MessageWrite>(
+    challenge: &Challenge<'_>,
+    name: &str,
+    key: &IntegrityKey,
+    fingerprint: bool,
+    write: &mut B,
+) -> Result<(), StunWriteError>
+    requires { length name.now ≤ username_max }
+    ensures { let asked = asked_by challenge.now in let key = key_bytes key.now in
+        Finishes result (B.state write.old) (B.state write.new)
+        (answering_attributes fingerprint asked name.now key)
+        (login_steps fingerprint asked name.now key) }
+{
+    add_credentials(challenge, name, write)?;
+    sign_and_print(key, challenge.integrity_algorithm(), fingerprint, write)
+}
+
+/// Answers a challenge with a key that [`key_for`] made, as [`answer_challenge`] does: a client
+/// that keeps the key writes each further request with it. It takes no memory but the writer's.
+///
+/// # Errors
+///
+/// The first of these that applies:
+///
+/// - `TooLarge { expected: 513, actual }` if the name has more than 513 bytes, which no USERNAME
+///   has; nothing is written then;
+/// - `IntegrityFailed` if the key was made for the algorithm by which the request isn't signed
+///   ([`Challenge::integrity_algorithm`]); nothing is written then;
+/// - that of the first attribute that isn't added, as `add_attribute`,
+///   `add_message_integrity_with_key` and `add_fingerprint` fail: `TooSmall` or `TooLarge` if it
+///   doesn't fit; `MessageIntegrityExists`, `FingerprintExists` or `AttributeExists` if the message
+///   was signed or had a FINGERPRINT before; `OutOfMemory` if an allocation failed, which none does
+///   within the writer's ready room. What was written before it stays.
+///
+/// # Examples
+///
+/// ```
+/// use stun_authentication::{answer_challenge_with_key, challenge_of, key_for};
+/// use stun_types::attribute::PasswordAlgorithmValue;
+/// use stun_types::message::{BINDING, Message, MessageClass, MessageType, MessageWriteMutSlice};
+/// use stun_types::message::TransactionId;
+/// use stun_types::prelude::*;
+///
+/// // The 401 of section 20 of RFC 8656, without SOFTWARE.
+/// let response = Message::from_bytes(
+///     b"\x01\x13\x00\x54\x21\x12\xA4\x42\xA5\x62\x50\xD3\xF1\x7A\xBE\x67\x94\x22\xDE\x85\
+///       \x00\x09\x00\x10\x00\x00\x04\x01Unauthorized\x00\x14\x00\x0Bexample.com\x00\
+///       \x00\x15\x00\x20obMatJos2gAAAadl7W7PeDU4hKE72jda\
+///       \x80\x02\x00\x08\x00\x01\x00\x00\x00\x02\x00\x00",
+/// )?;
+/// let supported = [PasswordAlgorithmValue::SHA256];
+/// let challenge = challenge_of(&response, &supported, None, false)?;
+/// let key = key_for(alloc, &challenge, "George", "secret")?;
+/// // Two requests with the same key, each in a slice.
+/// let mtype = MessageType::from_class_method(MessageClass::Request, BINDING);
+/// for number in 1..3 {
+///     let mut slice = [0; 256];
+///     let write = MessageWriteMutSlice::new(alloc, &mut slice);
+///     let mut request = Message::builder(mtype, TransactionId::from(number), write)?;
+///     answer_challenge_with_key(&challenge, "George", &key, true, &mut request)?;
+///     let length = request.finish();
+///     let request = Message::from_bytes(&slice[..length])?;
+///     assert!(rt; request.validate_integrity_with_key(&key).is_ok());
+/// }
+/// ```
+pub fn answer_challenge_with_key<B: MessageWrite>(
+    challenge: &Challenge<'_>,
+    name: &str,
+    key: &IntegrityKey,
+    fingerprint: bool,
+    write: &mut B,
+) -> Result<(), StunWriteError>
+    ensures { AnswersWith (asked_by challenge.now) name.now (key_algorithm key.now)
+        (key_bytes key.now) fingerprint result (B.state write.old) (B.state write.new) }
+{
+    check_name(name)?;
+    if !key.serves(challenge.integrity_algorithm()) {
+        return Err(StunWriteError::IntegrityFailed);
+    }
+    answer_by(challenge, name, key, fingerprint, write)
+}
+
 /// Answers a challenge (RFC 8489, section 9.2.5): after the attributes that a request has already,
 /// adds USERNAME, or USERHASH if the challenge asks for it, REALM and NONCE, and
 /// PASSWORD-ALGORITHMS and PASSWORD-ALGORITHM if it has a list; signs all of it; and adds a
@@ -141,13 +239,13 @@ fn add_credentials<B: MessageWrite>(
 ///
 /// # Errors
 ///
-/// The first of these that applies. What was written before an error stays.
+/// The first of these that applies:
 ///
 /// - `TooLarge { expected: 513, actual }` if the name has more than 513 bytes, which no USERNAME
-///   has;
-/// - `OutOfMemory` if an allocation failed;
-/// - if the message isn't signed yet and has no FINGERPRINT, `TooSmall` or `TooLarge`, as for
-///   `add_attribute`, by the first attribute that doesn't fit.
+///   has; nothing is written then;
+/// - `OutOfMemory` if the key couldn't be allocated; nothing is written then;
+/// - that of the first attribute that isn't added, as for [`answer_challenge_with_key`]. What was
+///   written before it stays.
 ///
 /// # Examples
 ///
@@ -168,7 +266,7 @@ fn add_credentials<B: MessageWrite>(
 ///       \x80\x02\x00\x08\x00\x01\x00\x00\x00\x02\x00\x00",
 /// )?;
 /// let supported = [PasswordAlgorithmValue::SHA256];
-/// let challenge = challenge_of(&response, &supported, None, None)?;
+/// let challenge = challenge_of(&response, &supported, None, false)?;
 /// let mut rng: StdRng = make_rng(&rt)?;
 /// let vector = MessageWriteVec::new(alloc);
 /// let mut request = Message::builder_request(methods::ALLOCATE, &mut rng, vector)?;
@@ -187,25 +285,15 @@ pub fn answer_challenge<B: MessageWrite>(
     fingerprint: bool,
     write: &mut B,
 ) -> Result<IntegrityKey, StunWriteError>
-    ensures long { username_max < length name.now
-        → result ≡ Err (StunWriteError.TooLarge username_max (length name.now)) }
-    ensures written { let asked = asked_by challenge.now in length name.now ≤ username_max
-        → Finishes result (B.state write.old) (B.state write.new)
-        (retried_attributes fingerprint asked
-        (record { name = name.now; password = password.now }))
-        (login_sizes asked name.now fingerprint) }
+    ensures answer { AnswersFor (asked_by challenge.now)
+        (record { name = name.now; password = password.now }) fingerprint result
+        (B.state write.old) (B.state write.new) }
     ensures key { IfOk result (IsKey None
         (user_key (asked_by challenge.now)
         (record { name = name.now; password = password.now }))) }
 {
-    if name.len() > USERNAME_MAX as usize {
-        return Err(StunWriteError::TooLarge {
-            expected: USERNAME_MAX as usize,
-            actual: name.len(),
-        });
-    }
+    check_name(name)?;
     let key = key_for(alloc, challenge, name, password)?;
-    add_credentials(challenge, name, write)?;
-    sign_and_print(&key, challenge.integrity_algorithm(), fingerprint, write)?;
+    answer_by(challenge, name, &key, fingerprint, write)?;
     Ok(key)
 }

@@ -1,6 +1,6 @@
 //! The error response to a request that is refused.
 
-ghost use Rattle.std.specs.Prelude.{◌≡◌, ◌≢◌, ◌∷◌, ◌<◌, ◌^◌, [], length, None, Some, IfOk, OnOk, MatchResult};
+ghost use Rattle.std.specs.Prelude.{◌≡◌, ◌≢◌, ◌∷◌, ◌<◌, ◌^◌, [], length, None, Some, IfOk, OnOk, OnErr, MatchResult};
 ghost use Rattle.std.specs.Option.{option_copied};
 ghost use Rattle.stun_base.specs.MessageTypes.{class_of};
 ghost use Rattle.stun_base.specs.declared.message_type.MessageClass.TheVariants.{Request};
@@ -8,14 +8,14 @@ ghost use Rattle.stun_attributes.specs.ErrorCodes.{error_code, error_reason, IsE
 ghost use Rattle.stun_attributes.specs.PasswordAlgorithms.{held_algorithms};
 ghost use Rattle.stun_attributes.specs.Texts.{text_bytes};
 ghost use Rattle.stun_grammar.specs.Adding.{Fits, add_refusal, IsAddAnswer};
-ghost use Rattle.stun_grammar.specs.Attributes.{canonical};
+ghost use Rattle.stun_grammar.specs.Attributes.{canonical, attribute_length};
 ghost use Rattle.stun_grammar.specs.AttributeTypes.{ERROR_CODE, REALM, NONCE, PASSWORD_ALGORITHMS};
 ghost use Rattle.stun_grammar.specs.Headers.{type_field};
 ghost use Rattle.stun_grammar.specs.Steps.{add};
 ghost use Rattle.stun_types.specs.Message.{message_bytes};
 ghost use Rattle.stun_values.specs.Algorithms.{algorithms_encoding};
 ghost use Rattle.stun_values.specs.ErrorValues.{error_value};
-ghost use Rattle.stun_types.specs.Writers.{Allocates, Gains};
+ghost use Rattle.stun_types.specs.Writers.{Allocates, Gains, IsUnchanged, Spends};
 ghost use Rattle.stun_authentication.specs.declared.answer.Refusal.TheVariants.{StaleNonce};
 ghost use Rattle.stun_authentication.specs.Answers.{refusal_code, refusal_reason};
 ghost use Rattle.stun_authentication.specs.Refusing.{demanded, carried, refusal_of, refusal_sizes};
@@ -47,7 +47,9 @@ fn add_realm<B: MessageWrite>(attribute: &Realm, write: &mut B) -> Result<(), St
         (Allocates (B.state write.old) (length (text_bytes attribute.now))) result }
     ensures gains { OnOk result (Gains (B.state write.old) (B.state write.new) REALM
         (text_bytes attribute.now)) }
-    ensures greatest { (B.state write.new).greatest ≡ (B.state write.old).greatest }
+    ensures same { OnErr result (IsUnchanged (B.state write.old) (B.state write.new)) }
+    ensures spends { Spends (B.state write.old) (B.state write.new)
+        (attribute_length (length (text_bytes attribute.now))) 1 }
     ensures fits { length (text_bytes attribute.now) < 2 ^ 16 }
 {
     write.add_attribute(attribute)
@@ -61,7 +63,9 @@ fn add_nonce<B: MessageWrite>(attribute: &Nonce, write: &mut B) -> Result<(), St
         (Allocates (B.state write.old) (length (text_bytes attribute.now))) result }
     ensures gains { OnOk result (Gains (B.state write.old) (B.state write.new) NONCE
         (text_bytes attribute.now)) }
-    ensures greatest { (B.state write.new).greatest ≡ (B.state write.old).greatest }
+    ensures same { OnErr result (IsUnchanged (B.state write.old) (B.state write.new)) }
+    ensures spends { Spends (B.state write.old) (B.state write.new)
+        (attribute_length (length (text_bytes attribute.now))) 1 }
     ensures fits { length (text_bytes attribute.now) < 2 ^ 16 }
 {
     write.add_attribute(attribute)
@@ -91,7 +95,6 @@ fn add_demand<B: MessageWrite>(demand: &Demand, write: &mut B) -> Result<(), Stu
 }
 
 /// Adds what a refusal carries beside its code.
-#[tactic(auto, using(crate::proofs::AddedLemmas::nothing_more))]
 fn add_carried<B: MessageWrite>(
     refusal: Refusal,
     demand: Option<&Demand>,

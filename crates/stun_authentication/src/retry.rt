@@ -88,14 +88,14 @@ fn repeats(response: &Message<'_>, tried: Option<&str>, realm: &str) -> bool
 /// (RFC 8489, section 9.2.5).
 ///
 /// `supported` are the password algorithms that the client supports. Two more arguments say what
-/// the client knows from earlier challenges; both are `None` for the first:
+/// the client knows from earlier challenges; they are `None` and `false` for the first:
 ///
 /// - `tried` is the realm in which the refused request had these credentials
 ///   ([`Challenge::realm`] of the challenge that it answered); `None` if it had none, or if the
 ///   user's name or password has changed since.
-/// - `seen` is the list that the server sent before ([`Challenge::password_algorithms`]); `None` if
-///   it sent none. A client that knows that the server was replaced, and that the new one sends no
-///   list, passes `None` too.
+/// - `had_algorithms` is `true` if the server sent a list of password algorithms before
+///   ([`Challenge::password_algorithms`] of an earlier challenge is `Some`). A client that knows that
+///   the server was replaced, and that the new one sends no list, passes `false` too.
 ///
 /// The request is sent again in a new transaction: [`answer_challenge`](crate::answer_challenge)
 /// writes what it carries.
@@ -105,7 +105,7 @@ fn repeats(response: &Message<'_>, tried: Option<&str>, realm: &str) -> bool
 /// The first of these that applies:
 ///
 /// - `NotAChallenge` if the response is no error response with the code 401 or 438;
-/// - `BidDown` if [`is_bid_down`] says so, or if a list was seen and this response has none;
+/// - `BidDown` if [`is_bid_down`] says so, or if the server sent a list before and this response has none;
 /// - `Incomplete` if it shows no REALM or no NONCE, or one that is no text;
 /// - `NoAlgorithm` if none of the algorithms on the list is supported, or if there is no list and
 ///   MD5 isn't;
@@ -126,29 +126,29 @@ fn repeats(response: &Message<'_>, tried: Option<&str>, realm: &str) -> bool
 ///       \x80\x02\x00\x08\x00\x01\x00\x00\x00\x02\x00\x00",
 /// )?;
 /// let supported = [PasswordAlgorithmValue::SHA256];
-/// let challenge = challenge_of(&response, &supported, None, None)?;
+/// let challenge = challenge_of(&response, &supported, None, false)?;
 /// assert_eq!(rt; challenge.realm(), "example.com");
 /// assert_eq!(rt; challenge.nonce(), "obMatJos2gAAAadl7W7PeDU4hKE72jda");
 /// assert_eq!(rt; challenge.password_algorithm(), PasswordAlgorithmValue::SHA256);
 /// // The same response to a request that had credentials of this realm refuses them.
-/// let again = challenge_of(&response, &supported, Some("example.com"), None);
+/// let again = challenge_of(&response, &supported, Some("example.com"), false);
 /// assert_eq!(rt; again.err(), Some(NoRetry::SameCredentials));
 /// ```
 pub fn challenge_of<'a>(
     response: &Message<'a>,
     supported: &[PasswordAlgorithmValue],
     tried: Option<&str>,
-    seen: Option<&[u8]>,
+    had_algorithms: bool,
 ) -> Result<Challenge<'a>, NoRetry>
     ensures { let asked = challenge_of supported.now (option_map (λ text. text.now) tried.entry)
-        (option_map (λ value. value.now) seen.entry) (message_bytes response.now) in
+        had_algorithms (message_bytes response.now) in
         MatchResult result (λ challenge. asked ≡ Ok (asked_by challenge)) (λ e. asked ≡ Err e) }
 {
     if !is_challenge(response) {
         return Err(NoRetry::NotAChallenge);
     }
     let list = value_of(response, PasswordAlgorithms::TYPE);
-    if is_bid_down(response) || (seen.is_some() && list.is_none()) {
+    if is_bid_down(response) || (had_algorithms && list.is_none()) {
         return Err(NoRetry::BidDown);
     }
     let Some(realm) = text_of(response, Realm::TYPE, REALM_MAX) else {

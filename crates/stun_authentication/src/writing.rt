@@ -3,16 +3,15 @@
 ghost use Rattle.std.specs.Prelude.{◌≡◌, ◌≤◌, ◌<◌, ◌^◌, ◌∷◌, [], length};
 ghost use Rattle.stun_grammar.specs.Attributes.{canonical};
 ghost use Rattle.stun_grammar.specs.AttributeTypes.{IsOrdinary};
-ghost use Rattle.stun_grammar.specs.Hmac.{digest_length};
-ghost use Rattle.stun_keys.specs.Keys.{key_algorithm, key_bytes};
-ghost use Rattle.stun_authentication.specs.Writing.{Lengthens, Finishes, FinishesBy, finished, signed, print_sizes};
+ghost use Rattle.stun_grammar.specs.Steps.{sign};
+ghost use Rattle.stun_keys.specs.Keys.{key_bytes};
+ghost use Rattle.stun_authentication.specs.Writing.{Lengthens, Finishes, finished, signed, print_steps};
 
 use stun_types::attribute::AttributeType;
 use stun_types::message::{IntegrityAlgorithm, IntegrityKey, StunWriteError};
 use stun_types::prelude::*;
 
 /// Adds an attribute.
-#[tactic(auto, using(crate::proofs::AddedLemmas::added))]
 pub(crate) fn add_one<B: MessageWrite>(
     attribute: &dyn AttributeWrite,
     write: &mut B,
@@ -25,7 +24,6 @@ pub(crate) fn add_one<B: MessageWrite>(
 }
 
 /// Adds an attribute of an ordinary type, by its type and its value.
-#[tactic(auto, using(crate::proofs::AddedLemmas::added))]
 pub(crate) fn add_bytes<B: MessageWrite>(
     atype: AttributeType,
     value: &[u8],
@@ -43,7 +41,7 @@ pub(crate) fn add_bytes<B: MessageWrite>(
 /// Adds a FINGERPRINT, if one is wanted.
 pub(crate) fn add_print<B: MessageWrite>(wanted: bool, write: &mut B) -> Result<(), StunWriteError>
     ensures { Finishes result (B.state write.old) (B.state write.new) (finished wanted)
-        (print_sizes wanted) }
+        (print_steps wanted) }
 {
     if wanted {
         return write.add_fingerprint();
@@ -62,30 +60,11 @@ pub(crate) fn sign_and_print<B: MessageWrite>(
     ensures { let key = key_bytes key.now in
         Finishes result (B.state write.old) (B.state write.new)
         (λ kind id before. finished fingerprint kind id (signed kind id before algorithm key))
-        (digest_length algorithm ∷ print_sizes fingerprint) }
+        (sign algorithm key ∷ print_steps fingerprint) }
 {
     write.add_message_integrity_with_key(key, algorithm)?;
     if fingerprint {
         write.add_fingerprint()?;
     }
     Ok(())
-}
-
-/// Signs a message, unless the key was made for the other algorithm, and adds a FINGERPRINT, if one
-/// is wanted.
-pub(crate) fn finish<B: MessageWrite>(
-    key: &IntegrityKey,
-    algorithm: IntegrityAlgorithm,
-    fingerprint: bool,
-    write: &mut B,
-) -> Result<(), StunWriteError>
-    ensures { let bytes = key_bytes key.now in
-        FinishesBy (key_algorithm key.now) algorithm result (B.state write.old) (B.state write.new)
-        (λ kind id before. finished fingerprint kind id (signed kind id before algorithm bytes))
-        (digest_length algorithm ∷ print_sizes fingerprint) }
-{
-    if !key.serves(algorithm) {
-        return Err(StunWriteError::IntegrityFailed);
-    }
-    sign_and_print(key, algorithm, fingerprint, write)
 }

@@ -162,34 +162,34 @@ or_both : (a b : Bool) → a ≡ false → b ≡ false → (a || b) ≡ false
 or_both false b x y = y
 or_both true b x y = absurd (cc x)
 
-kept_list : (tried seen : Option (List ℕ)) (refusal : Refusal) (offer : Offer) → Retries tried seen refusal offer → (is_some seen && not (is_some (offered_list offer))) ≡ false
-kept_list tried seen refusal offer r = by_lists seen offer.algorithms r.listed
+kept_list : (tried : Option (List ℕ)) (had_algorithms : Bool) (refusal : Refusal) (offer : Offer) → Retries tried had_algorithms refusal offer → (had_algorithms && not (is_some (offered_list offer))) ≡ false
+kept_list tried had_algorithms refusal offer r = by_lists had_algorithms offer.algorithms r.listed
   where
-    by_lists : (one : Option (List ℕ)) (two : Option (List PasswordAlgorithmValue)) → (is_some one ≡ true → is_some two ≡ true) → (is_some one && not (is_some (option_map (λ (xs : List PasswordAlgorithmValue). algorithms_encoding xs) two))) ≡ false
-    by_lists None two h = refl
-    by_lists (Some x) (Some xs) h = refl
-    by_lists (Some x) None h = absurd (cc (h refl))
+    by_lists : (had : Bool) (two : Option (List PasswordAlgorithmValue)) → (had ≡ true → is_some two ≡ true) → (had && not (is_some (option_map (λ (xs : List PasswordAlgorithmValue). algorithms_encoding xs) two))) ≡ false
+    by_lists false two h = refl
+    by_lists true (Some xs) h = refl
+    by_lists true None h = absurd (cc (h refl))
 
 and_false : (x : Bool) → (x && false) ≡ false
 and_false true = refl
 and_false false = refl
 
-no_repeat : (tried seen : Option (List ℕ)) (refusal : Refusal) (offer : Offer) (code : Option ℕ) → asks refusal ≡ true → code ≡ Some (refusal_code refusal) → Retries tried seen refusal offer
+no_repeat : (tried : Option (List ℕ)) (had_algorithms : Bool) (refusal : Refusal) (offer : Offer) (code : Option ℕ) → asks refusal ≡ true → code ≡ Some (refusal_code refusal) → Retries tried had_algorithms refusal offer
     → (is_code 401 code && option_map_or (λ (before : List ℕ). pointwise nat_eq before offer.realm) tried false) ≡ false
-no_repeat tried seen BadRequest offer code e is r = absurd cc
-no_repeat tried seen Unauthenticated offer code e is r = ap (λ (b : Bool). is_code 401 code && b) (r.untried refl) ∙ and_false (is_code 401 code)
-no_repeat tried seen StaleNonce offer code e is r = ap (λ (o : Option ℕ). is_code 401 o && option_map_or (λ (before : List ℕ). pointwise nat_eq before offer.realm) tried false) is
+no_repeat tried had_algorithms BadRequest offer code e is r = absurd cc
+no_repeat tried had_algorithms Unauthenticated offer code e is r = ap (λ (b : Bool). is_code 401 code && b) (r.untried refl) ∙ and_false (is_code 401 code)
+no_repeat tried had_algorithms StaleNonce offer code e is r = ap (λ (o : Option ℕ). is_code 401 o && option_map_or (λ (before : List ℕ). pointwise nat_eq before offer.realm) tried false) is
 
 reported_text : (value : List ℕ) (o : Option (List ℕ)) → o ≡ Some value → text_fault text_max value ≡ None → option_and_then (λ (v : List ℕ). text_in text_max v) o ≡ Some value
 reported_text value o is none =
     ap (λ (p : Option (List ℕ)). option_and_then (λ (v : List ℕ). text_in text_max v) p) is
     ∙ ap (λ (f : Option StunParseError). if is_some f then None else Some value) none
 
-rows : (supported : List PasswordAlgorithmValue) (tried seen : Option (List ℕ)) (offer : Offer) (a : PasswordAlgorithmValue) (d : List ℕ)
-    → is_challenge d ≡ true → (is_bid_down d || lost_list seen d) ≡ false → text_of text_max REALM d ≡ Some offer.realm → text_of text_max NONCE d ≡ Some offer.nonce → list_of d ≡ offered_list offer
-    → Takes supported offer a → repeats tried offer.realm d ≡ false → challenge_of supported tried seen d ≡ Ok (asked_of offer a)
-rows supported tried seen offer a d asked down realm-is nonce-is list-is takes fresh =
-    ap (λ (b : Bool). if b then by_list supported tried seen d else Err NotAChallenge) asked
+rows : (supported : List PasswordAlgorithmValue) (tried : Option (List ℕ)) (had_algorithms : Bool) (offer : Offer) (a : PasswordAlgorithmValue) (d : List ℕ)
+    → is_challenge d ≡ true → (is_bid_down d || lost_list had_algorithms d) ≡ false → text_of text_max REALM d ≡ Some offer.realm → text_of text_max NONCE d ≡ Some offer.nonce → list_of d ≡ offered_list offer
+    → Takes supported offer a → repeats tried offer.realm d ≡ false → challenge_of supported tried had_algorithms d ≡ Ok (asked_of offer a)
+rows supported tried had_algorithms offer a d asked down realm-is nonce-is list-is takes fresh =
+    ap (λ (b : Bool). if b then by_list supported tried had_algorithms d else Err NotAChallenge) asked
     ∙ ap (λ (b : Bool). if b then Err BidDown else by_texts supported tried d) down
     ∙ ap (λ (o : Option (List ℕ)). option_map_or (λ (realm : List ℕ). option_map_or (λ (nonce : List ℕ). by_algorithm supported tried realm nonce d) (text_of text_max NONCE d) (Err Incomplete)) o (Err Incomplete)) realm-is
     ∙ ap (λ (o : Option (List ℕ)). option_map_or (λ (nonce : List ℕ). by_algorithm supported tried offer.realm nonce d) o (Err Incomplete)) nonce-is
@@ -197,9 +197,9 @@ rows supported tried seen offer a d asked down realm-is nonce-is list-is takes f
     ∙ ap (λ (o : Option PasswordAlgorithmValue). option_map_or (λ (algorithm : PasswordAlgorithmValue). by_credentials tried (asked_of offer algorithm) d) o (Err NoAlgorithm)) takes
     ∙ ap (λ (b : Bool). if b then Err SameCredentials else Ok (asked_of offer a)) fresh
 
-read_of : IsFirst → IsMissing → (refusal : Refusal) (offer : Offer) (supported : List PasswordAlgorithmValue) (a : PasswordAlgorithmValue) (tried seen : Option (List ℕ)) (d : List ℕ) → asks refusal ≡ true → class_of (type_field d) ≡ ErrorClass → IsLawful offer
-    → promises_algorithms offer.nonce ≡ is_some offer.algorithms → Takes supported offer a → Retries tried seen refusal offer → Shows d (code_value refusal) offer.realm offer.nonce (offered_list offer) → challenge_of supported tried seen d ≡ Ok (asked_of offer a)
-read_of first missing refusal offer supported a tried seen d asking class lawful agrees takes retries s =
+read_of : IsFirst → IsMissing → (refusal : Refusal) (offer : Offer) (supported : List PasswordAlgorithmValue) (a : PasswordAlgorithmValue) (tried : Option (List ℕ)) (had_algorithms : Bool) (d : List ℕ) → asks refusal ≡ true → class_of (type_field d) ≡ ErrorClass → IsLawful offer
+    → promises_algorithms offer.nonce ≡ is_some offer.algorithms → Takes supported offer a → Retries tried had_algorithms refusal offer → Shows d (code_value refusal) offer.realm offer.nonce (offered_list offer) → challenge_of supported tried had_algorithms d ≡ Ok (asked_of offer a)
+read_of first missing refusal offer supported a tried had_algorithms d asking class lawful agrees takes retries s =
     let code = canonical ERROR_CODE (code_value refusal) in
     let list = offered_list offer in
     let rest = canonical REALM offer.realm ∷ canonical NONCE offer.nonce ∷ list_attributes list in
@@ -210,20 +210,20 @@ read_of first missing refusal offer supported a tried seen d asking class lawful
     let list-is = list_there first missing d (code_value refusal) offer.realm offer.nonce list s in
     let nonce-is : value_of d NONCE ≡ Some offer.nonce = value_there first d (code ∷ canonical REALM offer.realm ∷ []) (list_attributes list ++ s.more) (canonical NONCE offer.nonce) s.shows refl in
     let realm-is : value_of d REALM ≡ Some offer.realm = value_there first d (code ∷ []) ((canonical NONCE offer.nonce ∷ list_attributes list) ++ s.more) (canonical REALM offer.realm) s.shows refl in
-    rows supported tried seen offer a d (challenges refusal (response_code d) asking code-is)
-    (or_both (is_bid_down d) (lost_list seen d)
+    rows supported tried had_algorithms offer a d (challenges refusal (response_code d) asking code-is)
+    (or_both (is_bid_down d) (lost_list had_algorithms d)
     (ap (λ (o : Option (List ℕ)). option_map_or (λ (n : List ℕ). promises_algorithms n) o false && not (is_some (list_of d))) nonce-is
     ∙ ap (λ (l : Option (List ℕ)). promises_algorithms offer.nonce && not (is_some l)) list-is ∙ not_down offer.algorithms (promises_algorithms offer.nonce) agrees)
-    (ap (λ (l : Option (List ℕ)). is_some seen && not (is_some l)) list-is ∙ kept_list tried seen refusal offer retries))
+    (ap (λ (l : Option (List ℕ)). had_algorithms && not (is_some l)) list-is ∙ kept_list tried had_algorithms refusal offer retries))
     (reported_text offer.realm (value_of d REALM) realm-is lawful.realm_is) (reported_text offer.nonce (value_of d NONCE) nonce-is lawful.nonce_is) list-is takes
-    (no_repeat tried seen refusal offer (response_code d) asking code-is retries)
+    (no_repeat tried had_algorithms refusal offer (response_code d) asking code-is retries)
 
 -- for the attributes that `refuse_long_term` writes, under an equation
-written_read : IsFirst → IsMissing → (attributes : List Attribute) (refusal : Refusal) (offer : Offer) (supported : List PasswordAlgorithmValue) (a : PasswordAlgorithmValue) (tried seen : Option (List ℕ)) (fingerprint : Bool) (kind id : ℕ)
+written_read : IsFirst → IsMissing → (attributes : List Attribute) (refusal : Refusal) (offer : Offer) (supported : List PasswordAlgorithmValue) (a : PasswordAlgorithmValue) (tried : Option (List ℕ)) (had_algorithms : Bool) (fingerprint : Bool) (kind id : ℕ)
     → attributes ≡ written (code_value refusal) offer.realm offer.nonce (offered_list offer) → asks refusal ≡ true → kind < 2 ^ 14 → id < 2 ^ 96 → class_of kind ≡ ErrorClass → IsLawful offer
-    → promises_algorithms offer.nonce ≡ is_some offer.algorithms → Takes supported offer a → Retries tried seen refusal offer → HasRoom kind id (finished fingerprint kind id attributes)
-    → challenge_of supported tried seen (message_encoding kind id (finished fingerprint kind id attributes)) ≡ Ok (asked_of offer a)
-written_read first missing attributes refusal offer supported a tried seen fingerprint kind id is asking kind_fits id_fits class lawful agrees takes retries room =
+    → promises_algorithms offer.nonce ≡ is_some offer.algorithms → Takes supported offer a → Retries tried had_algorithms refusal offer → HasRoom kind id (finished fingerprint kind id attributes)
+    → challenge_of supported tried had_algorithms (message_encoding kind id (finished fingerprint kind id attributes)) ≡ Ok (asked_of offer a)
+written_read first missing attributes refusal offer supported a tried had_algorithms fingerprint kind id is asking kind_fits id_fits class lawful agrees takes retries room =
     let all = finished fingerprint kind id attributes in
     let d = message_encoding kind id all in
     let list = offered_list offer in
@@ -235,12 +235,12 @@ written_read first missing attributes refusal offer supported a tried seen finge
     (added ERROR_CODE (code_value refusal) (lit< tt) (code_short refusal asking) refl, (added REALM offer.realm (lit< tt) (text_short offer.realm lawful.realm_is) refl, (added NONCE offer.nonce (lit< tt) (text_short offer.nonce lawful.nonce_is) refl, list_added list lawful.list_fits)))
     (subst (HasRoom kind id) is fits)) in
     let writable : IsWritable kind id all = finished_writable fingerprint kind id attributes so (free finger (types attributes) plain) room in
-    read_of first missing refusal offer supported a tried seen d asking (ap class_of (type-message kind id all kind_fits) ∙ class) lawful agrees takes retries
+    read_of first missing refusal offer supported a tried had_algorithms d asking (ap class_of (type-message kind id all kind_fits) ∙ class) lawful agrees takes retries
     (record { more = ended.more; shows = shown-message kind id all writable ∙ ap (placed 20) (ended.whole ∙ ap (λ (l : List Attribute). l ++ ended.more) is); ending = ended.ending })
 
-pub challenge_read : IsFirst → IsMissing → (refusal : Refusal) (demand : Demand) (supported : List PasswordAlgorithmValue) (algorithm : PasswordAlgorithmValue) (tried seen : Option (List ℕ)) (fingerprint : Bool) (kind id : ℕ)
+pub challenge_read : IsFirst → IsMissing → (refusal : Refusal) (demand : Demand) (supported : List PasswordAlgorithmValue) (algorithm : PasswordAlgorithmValue) (tried : Option (List ℕ)) (had_algorithms : Bool) (fingerprint : Bool) (kind id : ℕ)
     → (let offer = offer_of demand in
-    asks refusal ≡ true → kind < 2 ^ 14 → id < 2 ^ 96 → class_of kind ≡ ErrorClass → IsLawful offer → promises_algorithms offer.nonce ≡ is_some offer.algorithms → Takes supported offer algorithm → Retries tried seen refusal offer
-    → HasRoom kind id (refused_attributes fingerprint kind id refusal demand) → challenge_of supported tried seen (refused fingerprint kind id refusal demand) ≡ Ok (asked_of offer algorithm))
-challenge_read first missing refusal demand supported algorithm tried seen fingerprint kind id asking =
-    written_read first missing (refusal_attributes refusal (Some demand)) refusal (offer_of demand) supported algorithm tried seen fingerprint kind id (same_written refusal demand asking) asking
+    asks refusal ≡ true → kind < 2 ^ 14 → id < 2 ^ 96 → class_of kind ≡ ErrorClass → IsLawful offer → promises_algorithms offer.nonce ≡ is_some offer.algorithms → Takes supported offer algorithm → Retries tried had_algorithms refusal offer
+    → HasRoom kind id (refused_attributes fingerprint kind id refusal demand) → challenge_of supported tried had_algorithms (refused fingerprint kind id refusal demand) ≡ Ok (asked_of offer algorithm))
+challenge_read first missing refusal demand supported algorithm tried had_algorithms fingerprint kind id asking =
+    written_read first missing (refusal_attributes refusal (Some demand)) refusal (offer_of demand) supported algorithm tried had_algorithms fingerprint kind id (same_written refusal demand asking) asking

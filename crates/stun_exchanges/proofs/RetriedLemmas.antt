@@ -42,16 +42,16 @@ of_asked first missing policy nonces keys offer supported algorithm asked user k
     → long_term policy offer.realm nonces keys (retried_request fingerprint x user kind id before) ≡ accept key (signing_algorithm x) (signing_algorithm x)) same
     (accepted first missing policy nonces keys offer supported algorithm user key fingerprint kind id before offered takes short class own)
 
-pub retried : IsFirst → IsMissing → (policy : Policy) (nonces : List ℕ → Known) (keys : Who → List ℕ → PasswordAlgorithmValue → Option UserKey) (refusal : Refusal) (demand : Demand) (supported : List PasswordAlgorithmValue) (algorithm : PasswordAlgorithmValue) (tried seen : Option (List ℕ)) (print : Bool) (other number : ℕ) (asked : Asked) (user : User) (key : UserKey) (fingerprint : Bool) (kind id : ℕ) (before : List Attribute)
+pub retried : IsFirst → IsMissing → (policy : Policy) (nonces : List ℕ → Known) (keys : Who → List ℕ → PasswordAlgorithmValue → Option UserKey) (refusal : Refusal) (demand : Demand) (supported : List PasswordAlgorithmValue) (algorithm : PasswordAlgorithmValue) (tried : Option (List ℕ)) (had_algorithms : Bool) (print : Bool) (other number : ℕ) (asked : Asked) (user : User) (key : UserKey) (fingerprint : Bool) (kind id : ℕ) (before : List Attribute)
     → (let offer = offer_of demand in
-    asks refusal ≡ true → other < 2 ^ 14 → number < 2 ^ 96 → class_of other ≡ ErrorClass → IsLawful offer → IsOffered nonces offer → Takes supported offer algorithm → Retries tried seen refusal offer → HasRoom other number (refused_attributes print other number refusal demand)
-    → challenge_of supported tried seen (refused print other number refusal demand) ≡ Ok asked → length user.name < 2 ^ 16 → class_of kind ≡ Request → IsOwn kind id before → HasRoom kind id (retried_attributes fingerprint asked user kind id before)
+    asks refusal ≡ true → other < 2 ^ 14 → number < 2 ^ 96 → class_of other ≡ ErrorClass → IsLawful offer → IsOffered nonces offer → Takes supported offer algorithm → Retries tried had_algorithms refusal offer → HasRoom other number (refused_attributes print other number refusal demand)
+    → challenge_of supported tried had_algorithms (refused print other number refusal demand) ≡ Ok asked → length user.name < 2 ^ 16 → class_of kind ≡ Request → IsOwn kind id before → HasRoom kind id (retried_attributes fingerprint asked user kind id before)
     → keys (identity asked.anonymous asked.realm user.name) asked.realm asked.algorithm ≡ Some key → Works (user_key asked user) (signing_algorithm asked) key → Serves policy (signing_algorithm asked) fingerprint
     → long_term policy offer.realm nonces keys (retried_request fingerprint asked user kind id before) ≡ accept key (signing_algorithm asked) (signing_algorithm asked))
-retried first missing policy nonces keys refusal demand supported algorithm tried seen print other number asked user key fingerprint kind id before asking kind_fits id_fits error lawful offered takes retries fits read name_fits class own =
+retried first missing policy nonces keys refusal demand supported algorithm tried had_algorithms print other number asked user key fingerprint kind id before asking kind_fits id_fits error lawful offered takes retries fits read name_fits class own =
     let offer = offer_of demand in
-    let same : asked_of offer algorithm ≡ asked = ok_is (asked_of offer algorithm) asked (challenge_of supported tried seen (refused print other number refusal demand))
-    (challenge_read first missing refusal demand supported algorithm tried seen print other number asking kind_fits id_fits error lawful offered.agrees takes retries fits) read in
+    let same : asked_of offer algorithm ≡ asked = ok_is (asked_of offer algorithm) asked (challenge_of supported tried had_algorithms (refused print other number refusal demand))
+    (challenge_read first missing refusal demand supported algorithm tried had_algorithms print other number asking kind_fits id_fits error lawful offered.agrees takes retries fits) read in
     of_asked first missing policy nonces keys offer supported algorithm asked user key fingerprint kind id before same offered takes
     (record { realm_fits = text_short offer.realm lawful.realm_is; nonce_fits = text_short offer.nonce lawful.nonce_is; list_fits = lawful.list_fits; name_fits = name_fits }) class own
 

@@ -92,9 +92,9 @@ refused fingerprint kind id refusal demand =
     message_encoding kind id (refused_attributes fingerprint kind id refusal demand)
 
 -- nothing that a client knows from earlier challenges keeps it from answering one that offers this:
--- if it has seen a list, this has one, and if its credentials were tried, a 401 asks for
+-- if the server sent a list before, this has one, and if its credentials were tried, a 401 asks for
 -- another realm
-pub record Retries (tried seen : Option (List ℕ)) (refusal : Refusal) (offer : Offer) : Type 0 where
-  pub listed : is_some seen ≡ true → is_some offer.algorithms ≡ true
+pub record Retries (tried : Option (List ℕ)) (had_algorithms : Bool) (refusal : Refusal) (offer : Offer) : Type 0 where
+  pub listed : had_algorithms ≡ true → is_some offer.algorithms ≡ true
   pub untried : refusal ≡ Unauthenticated
       → option_map_or (λ before. pointwise nat_eq before offer.realm) tried false ≡ false

@@ -50,14 +50,14 @@ use stun_types::shown_is_found;
 /// offer.
 pub fn challenge_is_read()
     ensures { (refusal : Refusal) (demand : Demand) (supported : List PasswordAlgorithmValue)
-        (algorithm : PasswordAlgorithmValue) (tried seen : Option (List ℕ))
+        (algorithm : PasswordAlgorithmValue) (tried : Option (List ℕ)) (had_algorithms : Bool)
         (fingerprint : Bool) (kind id : ℕ)
         → let offer = offer_of demand in
         asks refusal ≡ true → kind < 2 ^ 14 → id < 2 ^ 96 → class_of kind ≡ ErrorClass
         → IsLawful offer → promises_algorithms offer.nonce ≡ is_some offer.algorithms
-        → Takes supported offer algorithm → Retries tried seen refusal offer
+        → Takes supported offer algorithm → Retries tried had_algorithms refusal offer
         → HasRoom kind id (refused_attributes fingerprint kind id refusal demand)
-        → challenge_of supported tried seen (refused fingerprint kind id refusal demand)
+        → challenge_of supported tried had_algorithms (refused fingerprint kind id refusal demand)
         ≡ Ok (asked_of offer algorithm) }
 {
     shown_is_found();
@@ -92,16 +92,16 @@ pub fn login_is_accepted()
     ensures retried { (policy : Policy) (nonces : List ℕ → Known)
         (keys : Who → List ℕ → PasswordAlgorithmValue → Option UserKey)
         (refusal : Refusal) (demand : Demand) (supported : List PasswordAlgorithmValue)
-        (algorithm : PasswordAlgorithmValue) (tried seen : Option (List ℕ)) (print : Bool)
+        (algorithm : PasswordAlgorithmValue) (tried : Option (List ℕ)) (had_algorithms : Bool) (print : Bool)
         (other number : ℕ)
         (asked : Asked) (user : User) (key : UserKey) (fingerprint : Bool) (kind id : ℕ)
         (before : List Attribute)
         → let offer = offer_of demand in
         asks refusal ≡ true → other < 2 ^ 14 → number < 2 ^ 96 → class_of other ≡ ErrorClass
         → IsLawful offer → IsOffered nonces offer → Takes supported offer algorithm
-        → Retries tried seen refusal offer
+        → Retries tried had_algorithms refusal offer
         → HasRoom other number (refused_attributes print other number refusal demand)
-        → challenge_of supported tried seen (refused print other number refusal demand) ≡ Ok asked
+        → challenge_of supported tried had_algorithms (refused print other number refusal demand) ≡ Ok asked
         → length user.name < 2 ^ 16 → class_of kind ≡ Request → IsOwn kind id before
         → HasRoom kind id (retried_attributes fingerprint asked user kind id before)
         → keys (identity asked.anonymous asked.realm user.name) asked.realm asked.algorithm

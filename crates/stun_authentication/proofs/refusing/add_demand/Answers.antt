@@ -23,8 +23,8 @@ returns-in-Some g c =
     let new = state c.add_nonce.new.write in
     let r = c.in_ok-add_realm.ensures in
     let n = c.in_ok-add_nonce.ensures in
-    let one = added (Ok c.in_ok-add_realm.field-0) old mid REALM (text_bytes demand.realm) r.gains r.greatest r.answer realm_is_ordinary (lit< tt) r.fits in
-    let two = added (Ok c.in_ok-add_nonce.field-0) mid new NONCE (text_bytes demand.nonce) n.gains n.greatest n.answer nonce_is_ordinary (lit< tt) n.fits in
+    let one = added (Ok c.in_ok-add_realm.field-0) old mid REALM (text_bytes demand.realm) r.gains r.same r.spends r.answer realm_is_ordinary (lit< tt) r.fits in
+    let two = added (Ok c.in_ok-add_nonce.field-0) mid new NONCE (text_bytes demand.nonce) n.gains n.same n.spends n.answer nonce_is_ordinary (lit< tt) n.fits in
     let both = in_turn c.in_ok-add_realm.field-0 (Ok c.in_ok-add_nonce.field-0) old mid new (realm ∷ []) (nonce ∷ []) one two in
     rw c.in-Some.is
     (in_turn c.in_ok-add_nonce.field-0 c.add_algorithms.result old new (state c.add_algorithms.new.write) (realm ∷ nonce ∷ []) _ both c.add_algorithms.ensures)
@@ -40,8 +40,8 @@ returns-in-None g c =
     let new = state c.add_nonce.new.write in
     let r = c.in_ok-add_realm.ensures in
     let n = c.in_ok-add_nonce.ensures in
-    let one = added (Ok c.in_ok-add_realm.field-0) old mid REALM (text_bytes demand.realm) r.gains r.greatest r.answer realm_is_ordinary (lit< tt) r.fits in
-    let two = added (Ok c.in_ok-add_nonce.field-0) mid new NONCE (text_bytes demand.nonce) n.gains n.greatest n.answer nonce_is_ordinary (lit< tt) n.fits in
+    let one = added (Ok c.in_ok-add_realm.field-0) old mid REALM (text_bytes demand.realm) r.gains r.same r.spends r.answer realm_is_ordinary (lit< tt) r.fits in
+    let two = added (Ok c.in_ok-add_nonce.field-0) mid new NONCE (text_bytes demand.nonce) n.gains n.same n.spends n.answer nonce_is_ordinary (lit< tt) n.fits in
     rw c.in-None.is
     (in_turn c.in_ok-add_realm.field-0 (Ok c.in_ok-add_nonce.field-0) old mid new (realm ∷ []) (nonce ∷ []) one two)
 
@@ -55,7 +55,7 @@ returns-in_err-add_realm g c =
     let mid = state c.add_realm.new.write in
     let e = c.in_err-add_realm.field-0.0 in
     let r = c.in_err-add_realm.ensures in
-    let one = added (Err e) old mid REALM (text_bytes demand.realm) r.gains r.greatest r.answer realm_is_ordinary (lit< tt) r.fits in
+    let one = added (Err e) old mid REALM (text_bytes demand.realm) r.gains r.same r.spends r.answer realm_is_ordinary (lit< tt) r.fits in
     failed c.from_residual.result old mid e (realm ∷ []) (nonce ∷ listed demand.algorithms) one c.from_residual.ensures
 
 pub returns-in_err-add_nonce : goal.returns-in_err-add_nonce
@@ -70,7 +70,7 @@ returns-in_err-add_nonce g c =
     let e = c.in_err-add_nonce.field-0.0 in
     let r = c.in_ok-add_realm.ensures in
     let n = c.in_err-add_nonce.ensures in
-    let one = added (Ok c.in_ok-add_realm.field-0) old mid REALM (text_bytes demand.realm) r.gains r.greatest r.answer realm_is_ordinary (lit< tt) r.fits in
-    let two = added (Err e) mid new NONCE (text_bytes demand.nonce) n.gains n.greatest n.answer nonce_is_ordinary (lit< tt) n.fits in
+    let one = added (Ok c.in_ok-add_realm.field-0) old mid REALM (text_bytes demand.realm) r.gains r.same r.spends r.answer realm_is_ordinary (lit< tt) r.fits in
+    let two = added (Err e) mid new NONCE (text_bytes demand.nonce) n.gains n.same n.spends n.answer nonce_is_ordinary (lit< tt) n.fits in
     let both = in_turn c.in_ok-add_realm.field-0 (Err e) old mid new (realm ∷ []) (nonce ∷ []) one two in
     failed c.from_residual-in_err-add_nonce.result old new e (realm ∷ nonce ∷ []) (listed demand.algorithms) both c.from_residual-in_err-add_nonce.ensures
