@@ -1,6 +1,6 @@
 //! Attributes, a walk over them, and a look-up.
 
-ghost use Rattle.std.specs.Prelude.{◌≡◌, ◌≤◌, ◌<◌, [], false, length, Some, None, IfSome, MatchOption, slice_get, slice_set};
+ghost use Rattle.std.specs.Prelude.{◌≡◌, ◌≤◌, ◌<◌, [], false, length, drop, Some, None, MatchOption, slice_set};
 ghost use Rattle.std.specs.Option.{option_map};
 ghost use Rattle.stun_grammar.specs.Showing.{shown};
 ghost use Rattle.stun_types.specs.Iterating.{shown_behind};
