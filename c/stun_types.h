@@ -15,8 +15,9 @@
  *   comment lists first; OUT_OF_MEMORY may come before the last of them.
  * - No zero permits anything. A verdict is a struct of type stun_types_validated,
  *   stun_types_authentication, stun_types_action or stun_types_received: a call that fails fills it
- *   with zeros, which say that nothing is decided. A stun_types_policy of zeros is the strictest of
- *   RFC 8489, and if an argument of an enumeration has no meaning for 0, 0 is BAD_ARGUMENT.
+ *   with zeros, which say that nothing is decided. A stun_types_policy of zeros lets both
+ *   algorithms count, as RFC 8489 does. If an argument of an enumeration has no meaning for 0, 0 is
+ *   BAD_ARGUMENT.
  * - Arguments are tested. Only a key has to be what the library made (see Keys).
  * - The layout of the structs is part of the ABI. `reserved` is for fields of later versions: it is 0
  *   in what is passed in, or the call returns BAD_ARGUMENT, and 0 in what a call writes.
@@ -307,13 +308,18 @@ STUN_TYPES_NODISCARD STUN_TYPES_NONNULL((3))
 stun_types_answer stun_types_read_header(const uint8_t *bytes, size_t length,
                                          stun_types_header *header);
 
-/* How far a walk over the attributes has come: it begins as STUN_TYPES_CURSOR. */
+/* How far a walk over the attributes of a message has come: it begins as STUN_TYPES_CURSOR. */
 typedef struct {
-    size_t index; /* how many attributes it has yielded */
-    uint64_t reserved;
+    size_t index;      /* how many attributes it has yielded */
+    size_t offset;     /* of the header that follows the last of them */
+    size_t length;     /* of the message that the last one was in */
+    uint64_t id_begin; /* the first eight bytes of its transaction ID, big-endian */
+    uint32_t id_end;   /* the last four of them */
+    uint16_t last;     /* the type of the last attribute */
+    uint16_t reserved;
 } stun_types_cursor;
 
-#define STUN_TYPES_CURSOR { 0, 0 }
+#define STUN_TYPES_CURSOR { 0, 0, 0, 0, 0, 0, 0 }
 
 /* STUN_TYPES_CURSOR, for languages that read no macros. */
 STUN_TYPES_NODISCARD
@@ -323,10 +329,11 @@ stun_types_cursor stun_types_cursor_first(void);
    MESSAGE-INTEGRITY, MESSAGE-INTEGRITY-SHA256 and FINGERPRINT each, in this order (RFC 8489,
    sections 14.5 to 14.7). False if there are no more, and from then on: cursor and attribute stay
    as they were. The bytes need not parse: they show nothing if they have no header or another
-   length than it states. The cursor may be any: it yields the attribute of its index, and none if
-   `reserved` isn't 0. Each call reads the attributes before the one that it yields, so a walk over
-   16,383 empty attributes, as many as a message can have, reads 134 million headers: of messages that
-   may be long use stun_types_attributes. */
+   length than it states. A call reads one attribute, and a whole walk each attribute once.
+   The cursor may be any, and what is yielded lies within the bytes. With a message of another length
+   or transaction ID than that of the last attribute, it reads as many attributes as it has yielded
+   again, and yields the next one. With other bytes of the same length and ID, it yields what begins
+   at its offset, which may be within a value. It yields none if `reserved` isn't 0. */
 STUN_TYPES_NODISCARD STUN_TYPES_NONNULL((3, 4))
 bool stun_types_next(const uint8_t *bytes, size_t length, stun_types_cursor *cursor,
                      stun_types_attribute *attribute);
@@ -503,17 +510,23 @@ static inline void stun_types_key_free(stun_types_key *key) {
     stun_types_keys_free(key, key ? 1 : 0);
 }
 
-/* Which messages a usage takes. All zeros are the strictest policy: both algorithms serve, an HMAC
-   isn't cut, and a message without a FINGERPRINT is taken, as RFC 8489 has it if no usage says
-   otherwise. */
+/* Which messages a usage takes. All zeros take the MESSAGE-INTEGRITY of a message that shows no
+   MESSAGE-INTEGRITY-SHA256: so a message from which somebody has removed the latter counts, if its
+   MESSAGE-INTEGRITY is right. They take no HMAC that is cut, and a message without a FINGERPRINT, as
+   RFC 8489 has it if no usage says otherwise. */
 typedef struct {
     stun_types_integrity algorithm; /* whose attribute counts, or STUN_TYPES_INTEGRITY_ANY: of both */
-    uint32_t min_hmac_length;    /* bytes that a MESSAGE-INTEGRITY-SHA256 has at least (section 14.6): a usage
-                             may say 16, 20, 24 or 28; 0 is 32 */
-    uint32_t fingerprint; /* not 0: the usage uses FINGERPRINT, as ICE does, and a message without one
-                             isn't taken (sections 6.3 and 7) */
+    uint32_t min_hmac_length;       /* bytes that a MESSAGE-INTEGRITY-SHA256 has at least (section
+                                       14.6): a usage may say 16, 20, 24 or 28; 0 is 32 */
+    uint32_t fingerprint;           /* not 0: the usage uses FINGERPRINT, as ICE does, and a message
+                                       without one isn't taken (sections 6.3 and 7) */
     uint32_t reserved;
 } stun_types_policy;
+
+/* MESSAGE-INTEGRITY-SHA256 alone counts, for peers that all know RFC 8489. */
+#define STUN_TYPES_POLICY_SHA256 { STUN_TYPES_INTEGRITY_SHA256, 0, 0, 0 }
+/* Both count, MESSAGE-INTEGRITY-SHA256 if it is shown: for peers of RFC 5389 too. It is all zeros. */
+#define STUN_TYPES_POLICY_BOTH { STUN_TYPES_INTEGRITY_ANY, 0, 0, 0 }
 
 /* What was checked of a message that is valid; all zeros if it isn't. */
 typedef struct {
@@ -822,7 +835,8 @@ stun_types_answer stun_types_make_nonce(const stun_types_key *secret, uint32_t f
 /* What the server knows of the nonce in a request of this client, for stun_types_authenticate_long_term:
    it is valid; stale, if its window is over or its time is still to come; or unknown, if it was made by
    another secret, for another client or with other features. At most one HMAC is computed. A server
-   that changes its secret keeps the old one for a window, and calls this with both.
+   that changes its secret keeps the old one for a window, and calls this with both. If the call fails,
+   *state is NONCE_UNKNOWN.
    BAD_ARGUMENT, NO_KEY: as above. Allocates: OUT_OF_MEMORY. */
 STUN_TYPES_NODISCARD STUN_TYPES_NONNULL((1, 5, 8))
 stun_types_answer stun_types_judge_nonce(const stun_types_key *secret, uint32_t features,
@@ -844,8 +858,8 @@ typedef struct {
     uint64_t reliable_wait; /* over TCP, the whole time (Ti) */
     uint32_t requests;      /* how many are sent at most (Rc) */
     uint32_t last_wait;     /* how many times rto is waited after the last (Rm) */
-    uint32_t min_hmac_length;      /* bytes that a MESSAGE-INTEGRITY-SHA256 has at least (section 14.6): a
-                               usage may say 16, 20, 24 or 28; 0 is 32 */
+    uint32_t min_hmac_length; /* bytes that a MESSAGE-INTEGRITY-SHA256 has at least (section 14.6): a
+                                 usage may say 16, 20, 24 or 28; 0 is 32 */
     uint32_t fingerprint;   /* not 0: the usage sends FINGERPRINT, so that a response without one is
                                discarded (sections 6.3 and 7) */
     uint64_t reserved;
@@ -1109,6 +1123,139 @@ STUN_TYPES_NODISCARD STUN_TYPES_NONNULL((7))
 stun_types_answer stun_types_write_channel_data(uint16_t channel, const void *data,
                                                 size_t data_length, bool padded, uint8_t *room,
                                                 size_t size, size_t *written);
+
+/* ---- Layout ----------------------------------------------------------------------------------- */
+
+/* A program that lays out a type otherwise than the library (-fshort-enums, -fpack-struct, another
+   processor) doesn't compile. */
+#if defined(__cplusplus)
+#define STUN_TYPES_LAYOUT(name, holds) static_assert(holds, #name)
+#elif defined(__STDC_VERSION__) && __STDC_VERSION__ >= 201112L
+#define STUN_TYPES_LAYOUT(name, holds) _Static_assert(holds, #name)
+#else
+#define STUN_TYPES_LAYOUT(name, holds) typedef char stun_types_layout_##name[(holds) ? 1 : -1]
+#endif
+/* (written by c/abi.py) */
+STUN_TYPES_LAYOUT(status_size, sizeof(stun_types_status) == 4);
+STUN_TYPES_LAYOUT(class_size, sizeof(stun_types_class) == 4);
+STUN_TYPES_LAYOUT(method_size, sizeof(stun_types_method) == 4);
+STUN_TYPES_LAYOUT(code_size, sizeof(stun_types_code) == 4);
+STUN_TYPES_LAYOUT(password_size, sizeof(stun_types_password) == 4);
+STUN_TYPES_LAYOUT(integrity_size, sizeof(stun_types_integrity) == 4);
+STUN_TYPES_LAYOUT(protocol_size, sizeof(stun_types_protocol) == 4);
+STUN_TYPES_LAYOUT(authentication_kind_size, sizeof(stun_types_authentication_kind) == 4);
+STUN_TYPES_LAYOUT(nonce_state_size, sizeof(stun_types_nonce_state) == 4);
+STUN_TYPES_LAYOUT(transport_size, sizeof(stun_types_transport) == 4);
+STUN_TYPES_LAYOUT(protection_size, sizeof(stun_types_protection) == 4);
+STUN_TYPES_LAYOUT(action_kind_size, sizeof(stun_types_action_kind) == 4);
+STUN_TYPES_LAYOUT(end_size, sizeof(stun_types_end) == 4);
+STUN_TYPES_LAYOUT(received_kind_size, sizeof(stun_types_received_kind) == 4);
+STUN_TYPES_LAYOUT(answer_size, sizeof(stun_types_answer) == 24);
+STUN_TYPES_LAYOUT(answer_code, offsetof(stun_types_answer, code) == 0);
+STUN_TYPES_LAYOUT(answer_type, offsetof(stun_types_answer, type) == 4);
+STUN_TYPES_LAYOUT(answer_expected, offsetof(stun_types_answer, expected) == 8);
+STUN_TYPES_LAYOUT(answer_actual, offsetof(stun_types_answer, actual) == 16);
+STUN_TYPES_LAYOUT(id_size, sizeof(stun_types_id) == 12);
+STUN_TYPES_LAYOUT(id_bytes, offsetof(stun_types_id, bytes) == 0);
+STUN_TYPES_LAYOUT(header_size, sizeof(stun_types_header) == 20);
+STUN_TYPES_LAYOUT(header_type, offsetof(stun_types_header, type) == 0);
+STUN_TYPES_LAYOUT(header_method, offsetof(stun_types_header, method) == 2);
+STUN_TYPES_LAYOUT(header_message_class, offsetof(stun_types_header, message_class) == 4);
+STUN_TYPES_LAYOUT(header_length, offsetof(stun_types_header, length) == 6);
+STUN_TYPES_LAYOUT(header_id, offsetof(stun_types_header, id) == 8);
+STUN_TYPES_LAYOUT(attribute_size, sizeof(stun_types_attribute) == 16);
+STUN_TYPES_LAYOUT(attribute_value_at, offsetof(stun_types_attribute, value_at) == 0);
+STUN_TYPES_LAYOUT(attribute_type, offsetof(stun_types_attribute, type) == 8);
+STUN_TYPES_LAYOUT(attribute_length, offsetof(stun_types_attribute, length) == 10);
+STUN_TYPES_LAYOUT(cursor_size, sizeof(stun_types_cursor) == 40);
+STUN_TYPES_LAYOUT(cursor_index, offsetof(stun_types_cursor, index) == 0);
+STUN_TYPES_LAYOUT(cursor_offset, offsetof(stun_types_cursor, offset) == 8);
+STUN_TYPES_LAYOUT(cursor_length, offsetof(stun_types_cursor, length) == 16);
+STUN_TYPES_LAYOUT(cursor_id_begin, offsetof(stun_types_cursor, id_begin) == 24);
+STUN_TYPES_LAYOUT(cursor_id_end, offsetof(stun_types_cursor, id_end) == 32);
+STUN_TYPES_LAYOUT(cursor_last, offsetof(stun_types_cursor, last) == 36);
+STUN_TYPES_LAYOUT(cursor_reserved, offsetof(stun_types_cursor, reserved) == 38);
+STUN_TYPES_LAYOUT(address_size, sizeof(stun_types_address) == 20);
+STUN_TYPES_LAYOUT(address_octets, offsetof(stun_types_address, octets) == 0);
+STUN_TYPES_LAYOUT(address_port, offsetof(stun_types_address, port) == 16);
+STUN_TYPES_LAYOUT(address_family, offsetof(stun_types_address, family) == 18);
+STUN_TYPES_LAYOUT(key_size, sizeof(stun_types_key) == 16);
+STUN_TYPES_LAYOUT(key_at, offsetof(stun_types_key, at) == 0);
+STUN_TYPES_LAYOUT(key_held, offsetof(stun_types_key, held) == 8);
+STUN_TYPES_LAYOUT(hash_size, sizeof(stun_types_hash) == 32);
+STUN_TYPES_LAYOUT(hash_bytes, offsetof(stun_types_hash, bytes) == 0);
+STUN_TYPES_LAYOUT(policy_size, sizeof(stun_types_policy) == 16);
+STUN_TYPES_LAYOUT(policy_algorithm, offsetof(stun_types_policy, algorithm) == 0);
+STUN_TYPES_LAYOUT(policy_min_hmac_length, offsetof(stun_types_policy, min_hmac_length) == 4);
+STUN_TYPES_LAYOUT(policy_fingerprint, offsetof(stun_types_policy, fingerprint) == 8);
+STUN_TYPES_LAYOUT(policy_reserved, offsetof(stun_types_policy, reserved) == 12);
+STUN_TYPES_LAYOUT(validated_size, sizeof(stun_types_validated) == 16);
+STUN_TYPES_LAYOUT(validated_algorithm, offsetof(stun_types_validated, algorithm) == 0);
+STUN_TYPES_LAYOUT(validated_hmac_length, offsetof(stun_types_validated, hmac_length) == 4);
+STUN_TYPES_LAYOUT(validated_reserved, offsetof(stun_types_validated, reserved) == 8);
+STUN_TYPES_LAYOUT(authentication_size, sizeof(stun_types_authentication) == 24);
+STUN_TYPES_LAYOUT(authentication_kind, offsetof(stun_types_authentication, kind) == 0);
+STUN_TYPES_LAYOUT(authentication_error_code, offsetof(stun_types_authentication, error_code) == 4);
+STUN_TYPES_LAYOUT(authentication_algorithm, offsetof(stun_types_authentication, algorithm) == 8);
+STUN_TYPES_LAYOUT(authentication_reply_algorithm, offsetof(stun_types_authentication, reply_algorithm) == 12);
+STUN_TYPES_LAYOUT(authentication_password_algorithm, offsetof(stun_types_authentication, password_algorithm) == 16);
+STUN_TYPES_LAYOUT(authentication_reserved, offsetof(stun_types_authentication, reserved) == 20);
+STUN_TYPES_LAYOUT(cookie_size, sizeof(stun_types_cookie) == 13);
+STUN_TYPES_LAYOUT(cookie_bytes, offsetof(stun_types_cookie, bytes) == 0);
+STUN_TYPES_LAYOUT(schedule_size, sizeof(stun_types_schedule) == 40);
+STUN_TYPES_LAYOUT(schedule_rto, offsetof(stun_types_schedule, rto) == 0);
+STUN_TYPES_LAYOUT(schedule_reliable_wait, offsetof(stun_types_schedule, reliable_wait) == 8);
+STUN_TYPES_LAYOUT(schedule_requests, offsetof(stun_types_schedule, requests) == 16);
+STUN_TYPES_LAYOUT(schedule_last_wait, offsetof(stun_types_schedule, last_wait) == 20);
+STUN_TYPES_LAYOUT(schedule_min_hmac_length, offsetof(stun_types_schedule, min_hmac_length) == 24);
+STUN_TYPES_LAYOUT(schedule_fingerprint, offsetof(stun_types_schedule, fingerprint) == 28);
+STUN_TYPES_LAYOUT(schedule_reserved, offsetof(stun_types_schedule, reserved) == 32);
+STUN_TYPES_LAYOUT(transaction_size, sizeof(stun_types_transaction) == 88);
+STUN_TYPES_LAYOUT(transaction_schedule, offsetof(stun_types_transaction, schedule) == 0);
+STUN_TYPES_LAYOUT(transaction_last, offsetof(stun_types_transaction, last) == 40);
+STUN_TYPES_LAYOUT(transaction_clock, offsetof(stun_types_transaction, clock) == 48);
+STUN_TYPES_LAYOUT(transaction_id, offsetof(stun_types_transaction, id) == 56);
+STUN_TYPES_LAYOUT(transaction_sent, offsetof(stun_types_transaction, sent) == 68);
+STUN_TYPES_LAYOUT(transaction_method, offsetof(stun_types_transaction, method) == 72);
+STUN_TYPES_LAYOUT(transaction_transport, offsetof(stun_types_transaction, transport) == 74);
+STUN_TYPES_LAYOUT(transaction_protection, offsetof(stun_types_transaction, protection) == 75);
+STUN_TYPES_LAYOUT(transaction_signed_by, offsetof(stun_types_transaction, signed_by) == 76);
+STUN_TYPES_LAYOUT(transaction_violated, offsetof(stun_types_transaction, violated) == 77);
+STUN_TYPES_LAYOUT(transaction_end, offsetof(stun_types_transaction, end) == 78);
+STUN_TYPES_LAYOUT(transaction_stopped, offsetof(stun_types_transaction, stopped) == 79);
+STUN_TYPES_LAYOUT(transaction_reserved, offsetof(stun_types_transaction, reserved) == 80);
+STUN_TYPES_LAYOUT(action_size, sizeof(stun_types_action) == 24);
+STUN_TYPES_LAYOUT(action_kind, offsetof(stun_types_action, kind) == 0);
+STUN_TYPES_LAYOUT(action_end, offsetof(stun_types_action, end) == 4);
+STUN_TYPES_LAYOUT(action_until, offsetof(stun_types_action, until) == 8);
+STUN_TYPES_LAYOUT(action_reserved, offsetof(stun_types_action, reserved) == 16);
+STUN_TYPES_LAYOUT(received_size, sizeof(stun_types_received) == 16);
+STUN_TYPES_LAYOUT(received_kind, offsetof(stun_types_received, kind) == 0);
+STUN_TYPES_LAYOUT(received_number, offsetof(stun_types_received, number) == 4);
+STUN_TYPES_LAYOUT(received_algorithm, offsetof(stun_types_received, algorithm) == 8);
+STUN_TYPES_LAYOUT(received_reserved, offsetof(stun_types_received, reserved) == 12);
+STUN_TYPES_LAYOUT(challenge_size, sizeof(stun_types_challenge) == 64);
+STUN_TYPES_LAYOUT(challenge_realm_at, offsetof(stun_types_challenge, realm_at) == 0);
+STUN_TYPES_LAYOUT(challenge_realm_length, offsetof(stun_types_challenge, realm_length) == 8);
+STUN_TYPES_LAYOUT(challenge_nonce_at, offsetof(stun_types_challenge, nonce_at) == 16);
+STUN_TYPES_LAYOUT(challenge_nonce_length, offsetof(stun_types_challenge, nonce_length) == 24);
+STUN_TYPES_LAYOUT(challenge_algorithms_at, offsetof(stun_types_challenge, algorithms_at) == 32);
+STUN_TYPES_LAYOUT(challenge_algorithms_length, offsetof(stun_types_challenge, algorithms_length) == 40);
+STUN_TYPES_LAYOUT(challenge_password_algorithm, offsetof(stun_types_challenge, password_algorithm) == 48);
+STUN_TYPES_LAYOUT(challenge_anonymous, offsetof(stun_types_challenge, anonymous) == 52);
+STUN_TYPES_LAYOUT(challenge_integrity_algorithm, offsetof(stun_types_challenge, integrity_algorithm) == 56);
+STUN_TYPES_LAYOUT(challenge_reserved, offsetof(stun_types_challenge, reserved) == 60);
+STUN_TYPES_LAYOUT(stream_size, sizeof(stun_types_stream) == 32);
+STUN_TYPES_LAYOUT(stream_offset, offsetof(stun_types_stream, offset) == 0);
+STUN_TYPES_LAYOUT(stream_pending, offsetof(stun_types_stream, pending) == 8);
+STUN_TYPES_LAYOUT(stream_message, offsetof(stun_types_stream, message) == 16);
+STUN_TYPES_LAYOUT(stream_reserved, offsetof(stun_types_stream, reserved) == 24);
+STUN_TYPES_LAYOUT(channel_data_size, sizeof(stun_types_channel_data) == 16);
+STUN_TYPES_LAYOUT(channel_data_data_at, offsetof(stun_types_channel_data, data_at) == 0);
+STUN_TYPES_LAYOUT(channel_data_channel, offsetof(stun_types_channel_data, channel) == 8);
+STUN_TYPES_LAYOUT(channel_data_length, offsetof(stun_types_channel_data, length) == 10);
+/* (until here) */
+#undef STUN_TYPES_LAYOUT
 
 #ifdef __cplusplus
 }

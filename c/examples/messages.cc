@@ -58,9 +58,9 @@ int main() try {
     std::printf("%d.%d.%d.%d:%d\n", ip[0], ip[1], ip[2], ip[3], address.port);
     Key key("wonderland");
     auto request = signed_request("alice", key);
-    const stun_types_policy strictest{};
+    const stun_types_policy both{};
     stun_types_validated validated;
-    check(stun_types_validate_by_policy(request.data(), request.size(), &strictest, &key.key,
+    check(stun_types_validate_by_policy(request.data(), request.size(), &both, &key.key,
                                         &validated));
     for (auto byte : request) std::printf("%02x", byte);
     std::printf("\n");

@@ -65,9 +65,9 @@ func main() {
 	check(C.stun_types_key_short_term(&key, unsafe.Pointer(&password[0]), C.size_t(len(password))))
 	defer C.stun_types_key_free(&key)
 	request := signedRequest([]byte("alice"), &key)
-	var strictest C.stun_types_policy
+	var both C.stun_types_policy
 	var validated C.stun_types_validated
 	length := C.size_t(len(request))
-	check(C.stun_types_validate_by_policy(data(request), length, &strictest, &key, &validated))
+	check(C.stun_types_validate_by_policy(data(request), length, &both, &key, &validated))
 	fmt.Println(hex.EncodeToString(request))
 }

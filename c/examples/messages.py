@@ -87,10 +87,10 @@ def signed_request(stun, user, key):
 def main():
     stun = load(sys.argv[1] if len(sys.argv) > 1 else "libstun_types.so.0.1")
     print(address_in(stun, RESPONSE))
-    key, password, strictest, validated = Key(), b"wonderland", Policy(), Validated()
+    key, password, both, validated = Key(), b"wonderland", Policy(), Validated()
     stun.stun_types_key_short_term(key, password, len(password))
     request = signed_request(stun, b"alice", key)
-    stun.stun_types_validate_by_policy(request, len(request), strictest, key, validated)
+    stun.stun_types_validate_by_policy(request, len(request), both, key, validated)
     stun.stun_types_keys_free(key, 1)
     print(request.hex())
 

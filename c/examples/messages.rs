@@ -92,7 +92,7 @@ fn main() -> Result<(), String> {
     check(unsafe { stun_types_key_short_term(&mut key, password.as_ptr(), password.len()) })?;
     let request = signed_request("alice", &key)?;
     let (bytes, size) = (request.as_ptr(), request.len());
-    let (policy, mut validated) = (Policy::default(), Validated::default()); // the strictest
+    let (policy, mut validated) = (Policy::default(), Validated::default()); // both algorithms count
     check(unsafe { stun_types_validate_by_policy(bytes, size, &policy, &key, &mut validated) })?;
     let hex: String = request.iter().map(|byte| format!("{byte:02x}")).collect();
     println!("{hex}");

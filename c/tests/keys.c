@@ -557,6 +557,25 @@ static void test_policies(void) {
                 PLAIN(STUN_TYPES_NO_KEY));
         CHECK(is_zero(validated, sizeof *validated));
     }
+    row("stun_types_validate_by_policy", "the policies that the header names");
+    {
+        static const stun_types_policy both = STUN_TYPES_POLICY_BOTH;
+        static const stun_types_policy sha256 = STUN_TYPES_POLICY_SHA256;
+        slice bytes = hex(CHECK_SHA1);
+        stun_types_key *key = password_key(text("pass"));
+        stun_types_validated *validated = NEW(stun_types_validated);
+        CHECK(is_zero(&both, sizeof both));
+        ANSWERS(stun_types_validate_by_policy(bytes.bytes, bytes.length, &both, key, validated),
+                OK_ANSWER);
+        CHECK(validated->algorithm == STUN_TYPES_INTEGRITY_SHA1);
+        heap_allow(true);
+        ANSWERS(stun_types_validate_by_policy(bytes.bytes, bytes.length, &sha256, key, validated),
+                answer_of(STUN_TYPES_MISSING_ATTRIBUTE, STUN_TYPES_ATTRIBUTE_MESSAGE_INTEGRITY_SHA256,
+                          0, 0));
+        heap_allow(false);
+        CHECK(is_zero(validated, sizeof *validated));
+        stun_types_key_free(key);
+    }
     row("stun_types_validate", "an HMAC of 16 bytes");
     {
         slice bytes = hex(CHECK_CUT);

@@ -9,7 +9,6 @@ void test_writing(void);
 void test_servers(void);
 void test_clients(void);
 void test_streams(void);
-void test_layout(void);
 void test_nulls(void);
 void test_calls(void);
 
