@@ -13,9 +13,9 @@ use Rattle.stun_framing.specs.declared.error.StreamError.{StreamError}
 use Rattle.stun_framing.specs.Streams.{Stream, begun, answer, left, offset_of}
 use Rattle.stun_framing.specs.Runs.{message_in, HasCome}
 use Rattle.stun_framing.proofs.ComingLemmas.{none, comes, stops}
-use Rattle.stun_framing.specs.InputOutput.{WritesPart}
-use Rattle.stun_framing.proofs.KnownBytesLemmas.{Consumes-append, Appends-append, Appends-keep}
-use Rattle.stun_framing.specs.declared.run_error.RunError.TheVariants.{Usage, TooLong, ReadFailed, WriteFailed, NoMemory}
+use Rattle.stun_programs.specs.InputOutput.{WritesPart}
+use Rattle.stun_programs.proofs.KnownBytesLemmas.{Consumes-append, Appends-append, Appends-keep}
+use Rattle.stun_programs.specs.declared.run_error.RunError.TheVariants.{Usage, TooLong, ReadFailed, WriteFailed, NoMemory}
 use Rattle.stun_agent.specs.declared.end.AgentError.{AgentError}
 use Rattle.stun_agent.specs.declared.end.AgentError.TheVariants.{Cut, NoMessage, NoReply, Run}
 use Rattle.stun_agent.specs.declared.end.RunEnd.TheVariants.{Complete}

@@ -3,8 +3,8 @@ use Rattle.std.specs.Prelude.{◌≡◌, ℕ, ◌≤◌, Bool, true, false, ◌&
 use Rattle.std.specs.Str.Parse.{IsNumeral, digits_value}
 use Rattle.stun_keys.specs.Keys.{IsKey}
 use Rattle.stun_attributes.specs.Texts.{text_bytes}
-use Rattle.stun_framing.specs.declared.run_error.RunError.{RunError}
-use Rattle.stun_framing.specs.declared.run_error.RunError.TheVariants.{Usage, NoMemory}
+use Rattle.stun_programs.specs.declared.run_error.RunError.{RunError}
+use Rattle.stun_programs.specs.declared.run_error.RunError.TheVariants.{Usage, NoMemory}
 use Rattle.stun_agent.specs.declared.arguments.AskTask.{AskTask}
 use Rattle.stun_agent.specs.declared.arguments.Verb.{Verb}
 use Rattle.stun_agent.specs.declared.arguments.Verb.TheVariants.{Request, Response}

@@ -4,9 +4,9 @@
 use Rattle.std.specs.Prelude.{ℕ, List, Option, Result, Ok, Err}
 use Rattle.std.specs.Io.KnownBytes.{Keeps, Appends}
 use Rattle.stun_grammar.specs.Writing.{greatest_length}
-use Rattle.stun_framing.specs.InputOutput.{ReadsAll, ReadsTooMuch, WritesPart}
-use Rattle.stun_framing.specs.declared.run_error.RunError.{RunError}
-use Rattle.stun_framing.specs.declared.run_error.RunError.TheVariants.{TooLong, ReadFailed, WriteFailed, NoMemory}
+use Rattle.stun_programs.specs.InputOutput.{ReadsAll, ReadsTooMuch, WritesPart}
+use Rattle.stun_programs.specs.declared.run_error.RunError.{RunError}
+use Rattle.stun_programs.specs.declared.run_error.RunError.TheVariants.{TooLong, ReadFailed, WriteFailed, NoMemory}
 use Rattle.stun_agent.specs.declared.binding.BindingResult.{BindingResult}
 use Rattle.stun_agent.specs.declared.query.Query.{Query}
 use Rattle.stun_agent.specs.declared.end.RunEnd.{RunEnd}

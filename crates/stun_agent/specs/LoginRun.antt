@@ -2,8 +2,8 @@
 use Rattle.std.specs.Prelude.{◌≡◌, ℕ, List, Option, Result, Ok, Err}
 use Rattle.std.specs.Io.KnownBytes.{Keeps}
 use Rattle.stun_grammar.specs.Writing.{greatest_length}
-use Rattle.stun_framing.specs.InputOutput.{ReadsAll}
-use Rattle.stun_framing.specs.declared.run_error.RunError.TheVariants.{Usage, WriteFailed}
+use Rattle.stun_programs.specs.InputOutput.{ReadsAll}
+use Rattle.stun_programs.specs.declared.run_error.RunError.TheVariants.{Usage, WriteFailed}
 use Rattle.stun_agent.specs.declared.end.AgentError.{AgentError}
 use Rattle.stun_agent.specs.declared.end.AgentError.TheVariants.{Run}
 use Rattle.stun_agent.specs.declared.end.RunEnd.{RunEnd}

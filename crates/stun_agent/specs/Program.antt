@@ -1,9 +1,9 @@
 -- The commands, and how the program says how it ended.
 use Rattle.std.specs.Prelude.{◌≡◌, ℕ, ◌⊎◌, List, [], ◌∷◌, ◌++◌, codes, Option, Result, Ok, Err}
 use Rattle.std.specs.declared.net.socket_addr.SocketAddr.{SocketAddr}
-use Rattle.stun_framing.specs.RunErrors.{line_of}
-use Rattle.stun_framing.specs.declared.run_error.RunError.{RunError}
-use Rattle.stun_framing.specs.declared.run_error.RunError.TheVariants.{Usage}
+use Rattle.stun_programs.specs.RunErrors.{line_of}
+use Rattle.stun_programs.specs.declared.run_error.RunError.{RunError}
+use Rattle.stun_programs.specs.declared.run_error.RunError.TheVariants.{Usage}
 use Rattle.stun_agent.specs.declared.arguments.AskTask.{AskTask}
 use Rattle.stun_agent.specs.declared.arguments.ReplyTask.{ReplyTask}
 use Rattle.stun_agent.specs.declared.arguments.ReplyTask.TheVariants.{Datagram, Stream}

@@ -5,9 +5,9 @@ use Rattle.std.specs.Prelude.{◌≡◌, ℕ, List, Option, None, Some, Result, 
 use Rattle.std.specs.Io.KnownBytes.{Keeps, Appends}
 use Rattle.std.specs.declared.net.socket_addr.SocketAddr.{SocketAddr}
 use Rattle.stun_grammar.specs.Writing.{greatest_length}
-use Rattle.stun_framing.specs.InputOutput.{ReadsAll, ReadsTooMuch, WritesPart}
-use Rattle.stun_framing.specs.declared.run_error.RunError.{RunError}
-use Rattle.stun_framing.specs.declared.run_error.RunError.TheVariants.{TooLong, ReadFailed, WriteFailed, NoMemory}
+use Rattle.stun_programs.specs.InputOutput.{ReadsAll, ReadsTooMuch, WritesPart}
+use Rattle.stun_programs.specs.declared.run_error.RunError.{RunError}
+use Rattle.stun_programs.specs.declared.run_error.RunError.TheVariants.{TooLong, ReadFailed, WriteFailed, NoMemory}
 use Rattle.stun_server.specs.Reply.{reply}
 use Rattle.stun_agent.specs.declared.end.RunEnd.{RunEnd}
 use Rattle.stun_agent.specs.declared.end.RunEnd.TheVariants.{Replied, NoReply}

@@ -10,9 +10,9 @@ use Rattle.stun_framing.specs.declared.stream_kind.StreamKind.TheVariants.{Messa
 use Rattle.stun_framing.specs.Framing.{Room, room_of, IsMessage, IsCut}
 use Rattle.stun_framing.specs.Streams.{offset_of}
 use Rattle.stun_framing.specs.Runs.{ending}
-use Rattle.stun_framing.specs.InputOutput.{WritesPart}
+use Rattle.stun_programs.specs.InputOutput.{WritesPart}
 use Rattle.stun_server.specs.Reply.{reply}
-use Rattle.stun_framing.specs.declared.run_error.RunError.TheVariants.{ReadFailed, WriteFailed, NoMemory}
+use Rattle.stun_programs.specs.declared.run_error.RunError.TheVariants.{ReadFailed, WriteFailed, NoMemory}
 use Rattle.stun_agent.specs.declared.end.AgentError.{AgentError}
 use Rattle.stun_agent.specs.declared.end.AgentError.TheVariants.{Cut, NoMessage, Run}
 use Rattle.stun_agent.specs.declared.end.RunEnd.{RunEnd}

@@ -4,9 +4,9 @@ use Rattle.std.specs.Io.KnownBytes.{Keeps, Appends, Consumes, IsAtEnd}
 use Rattle.std.specs.declared.net.socket_addr.SocketAddr.{SocketAddr}
 use Rattle.stun_framing.specs.Streams.{Stream, answer, left}
 use Rattle.stun_framing.specs.Runs.{message_in, HasCome}
-use Rattle.stun_framing.specs.InputOutput.{WritesPart}
-use Rattle.stun_framing.specs.declared.run_error.RunError.{RunError}
-use Rattle.stun_framing.specs.declared.run_error.RunError.TheVariants.{WriteFailed, NoMemory}
+use Rattle.stun_programs.specs.InputOutput.{WritesPart}
+use Rattle.stun_programs.specs.declared.run_error.RunError.{RunError}
+use Rattle.stun_programs.specs.declared.run_error.RunError.TheVariants.{WriteFailed, NoMemory}
 use Rattle.stun_agent.specs.declared.end.AgentError.{AgentError}
 use Rattle.stun_agent.specs.declared.end.AgentError.TheVariants.{Cut, NoMessage, Run}
 use Rattle.stun_agent.specs.declared.end.RunEnd.{RunEnd}

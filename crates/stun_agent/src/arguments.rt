@@ -14,8 +14,8 @@ use std::alloc::Global;
 use std::env::Args;
 use std::net::{IpAddr, SocketAddr};
 use stun_authentication::Policy;
-use stun_framing::RunError;
 use stun_keys::keys::key_of_bytes;
+use stun_programs::RunError;
 use stun_types::attribute::Username;
 use stun_types::message::{IntegrityAlgorithm, ShortTermCredentials, StunWriteError, TransactionId};
 

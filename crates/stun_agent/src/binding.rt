@@ -11,7 +11,7 @@ use crate::query::{Login, Query};
 use std::alloc::Global;
 use std::net::SocketAddr;
 use std::time::Duration;
-use stun_framing::RunError;
+use stun_programs::RunError;
 use stun_transactions::{Action, Protection, Received, Schedule, Transaction, ResponsePolicy, response_address};
 use stun_types::TransportType;
 use stun_types::attribute::AttributeWrite;

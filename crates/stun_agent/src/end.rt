@@ -3,7 +3,8 @@
 ghost use Rattle.std.specs.Prelude.{◌≡◌};
 
 use crate::binding::BindingResult;
-use stun_framing::{RunError, StreamError};
+use stun_framing::StreamError;
+use stun_programs::RunError;
 
 /// What a run came to.
 #[derive(Clone, Copy, PartialEq, Eq)]

@@ -14,10 +14,13 @@ use crate::users::{AuthenticatedReply, Issued, answer_to};
 use std::alloc::{AllocError, Global};
 use std::io::{Read, Write};
 use std::net::SocketAddr;
-use stun_base::GREATEST_LENGTH;
-use stun_framing::{RunError, read_all, write_all};
+use stun_programs::{RunError, read_all, write_all};
 use stun_server::reply;
 use stun_types::message::StunWriteError;
+
+/// The most bytes that are read of a datagram: a header, and as many as its length field can state.
+/// More never parse; three more than [`GREATEST_MESSAGE`](stun_types::message::GREATEST_MESSAGE) may.
+const LONGEST_DATAGRAM: usize = 65555;
 
 /// Reads a datagram that came from `source`, up to the end of `reader`, and writes the reply that
 /// it gets, if any.
@@ -43,7 +46,7 @@ pub fn reply_to<R: Read, W: Write>(
         (R.remaining reader.old) (R.remaining reader.new)
         (W.contents writer.old) (W.contents writer.new) }
 {
-    let input = read_all(alloc, GREATEST_LENGTH, reader)?;
+    let input = read_all(alloc, LONGEST_DATAGRAM, reader)?;
     let Ok(replied) = reply(alloc, source, &input) else {
         return Err(RunError::NoMemory);
     };
@@ -104,7 +107,7 @@ pub fn tell<R: Read, W: Write>(
         (R.remaining reader.old) (R.remaining reader.new)
         (W.contents writer.old) (W.contents writer.new) }
 {
-    let input = read_all(alloc, GREATEST_LENGTH, reader)?;
+    let input = read_all(alloc, LONGEST_DATAGRAM, reader)?;
     let read = read_response(alloc, query, &input)?;
     let text = result_text(alloc, read)?;
     write_all(text.as_bytes(), writer)?;
@@ -131,7 +134,7 @@ pub fn log_in<R: Read, W: Write>(
         (R.remaining reader.old) (R.remaining reader.new)
         (W.contents writer.old) (W.contents writer.new) }
 {
-    let input = match read_all(alloc, GREATEST_LENGTH, reader) {
+    let input = match read_all(alloc, LONGEST_DATAGRAM, reader) {
         Ok(input) => input,
         Err(e) => return Err(AgentError::Run(RunError::from(e))),
     };

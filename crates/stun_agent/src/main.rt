@@ -16,7 +16,7 @@ use program::{run_on, status_of, write_offset};
 use std::env;
 use std::io::Write;
 use std::process::ExitCode;
-use stun_framing::arguments_error;
+use stun_programs::arguments_error;
 
 fn main(rt: HostRuntime) -> ExitCode {
     let end = match env::args(&rt) {

@@ -16,7 +16,7 @@ use std::alloc::Global;
 use std::env::Args;
 use std::io;
 use std::io::{Read, Write};
-use stun_framing::{FAILED, RunError};
+use stun_programs::{FAILED, RunError};
 
 /// The commands.
 #[derive(Clone, Copy, PartialEq, Eq)]

@@ -10,8 +10,10 @@ use crate::end::{AgentError, RunEnd};
 use std::alloc::Global;
 use std::io::{ErrorKind, Read, Write};
 use std::net::SocketAddr;
-use stun_framing::{GREATEST_MESSAGE, MessageStream, RunError, write_all};
+use stun_framing::MessageStream;
+use stun_programs::{RunError, write_all};
 use stun_server::reply;
+use stun_types::message::GREATEST_MESSAGE;
 
 /// Reads what is there, or waits for it. A read that is interrupted is tried again.
 fn read_piece<R: Read>(reader: &mut R, piece: &mut [u8]) -> Result<usize, RunError>

@@ -41,8 +41,13 @@ impl Model for MessageHeader {
     ghost view = { λ h. record { type = h.mtype; length = h.length; id = h.transaction_id } };
 }
 
-/// The greatest length of a message: a header, and as many bytes as its length field can state.
-pub const GREATEST_LENGTH: usize = 65555;
+/// The greatest length of a message, in bytes: a buffer of this length takes any message of a stream,
+/// and any that is written.
+///
+/// It is a header and the greatest length field that is a multiple of 4, as it is of every message
+/// (RFC 8489, section 5). A datagram may be up to three bytes longer and still parse: after an ending
+/// attribute the bytes that follow another attribute aren't looked at.
+pub const GREATEST_MESSAGE: usize = 65552;
 
 /// Whether the first byte, if there is one, can be that of a header.
 fn first_may_begin(bytes: &[u8]) -> bool

@@ -1,9 +1,14 @@
-//! Laws of message types. The contract of each function is the law.
+//! Laws of messages and their types. The contract of each function is the law.
 
-ghost use Rattle.std.specs.Prelude.{◌≡◌, ℕ, ◌%◌, ◌^◌, ◌<◌};
+ghost use Rattle.std.specs.Prelude.{◌≡◌, ℕ, ◌%◌, ◌^◌, ◌<◌, ◌≤◌, List, length, None};
+ghost use Rattle.stun_grammar.specs.Numbers.{IsBytes};
+ghost use Rattle.stun_grammar.specs.Attributes.{Attribute};
+ghost use Rattle.stun_grammar.specs.Writing.{message_encoding, IsWritable};
+ghost use Rattle.stun_grammar.specs.Parsing.{parse_fault};
 ghost use Rattle.stun_base.specs.declared.message_type.MessageClass.{MessageClass};
 ghost use Rattle.stun_base.specs.MessageTypes.{type_of, class_of, method_of};
 
+use crate::header::GREATEST_MESSAGE;
 use crate::{BINDING, MessageClass, MessageType};
 
 /// The type of a class and a method determines the class and the low twelve bits of the method, and
@@ -22,3 +27,13 @@ pub fn binding_request() -> MessageType
 {
     MessageType::from_class_method(MessageClass::Request, BINDING)
 }
+
+/// A message that may be written has at most [`GREATEST_MESSAGE`](crate::GREATEST_MESSAGE) bytes, and
+/// so has one that parses, if the number of its bytes is a multiple of 4.
+pub fn messages_have_a_greatest_length()
+    ensures written { (type id : ℕ) (attributes : List Attribute)
+        → IsWritable type id attributes
+        → length (message_encoding type id attributes) ≤ GREATEST_MESSAGE }
+    ensures parsed { (d : List ℕ) → IsBytes d → parse_fault d ≡ None → length d % 4 ≡ 0
+        → length d ≤ GREATEST_MESSAGE }
+{}

@@ -14,9 +14,9 @@ mod transport;
 
 pub use attribute_header::{AttributeHeader, pad_attribute_len};
 pub use data::{Data, DataOwned, DataSlice};
-pub use header::{GREATEST_LENGTH, MessageHeader, check_header, number_at, read_header};
+pub use header::{GREATEST_MESSAGE, MessageHeader, check_header, number_at, read_header};
 pub use hex::Hex;
-pub use laws::{binding_request, one_message_type};
+pub use laws::{binding_request, messages_have_a_greatest_length, one_message_type};
 pub use message_type::{BINDING, MessageClass, MessageType, Method, put_class_and_method};
 pub use stun_grammar::{AddError, AttributeType, StunParseError, StunWriteError, ValidateError};
 pub use transaction_id::{MAGIC_COOKIE, TransactionId};

@@ -2,7 +2,7 @@
 
 ghost use Rattle.std.specs.Prelude.{◌≡◌, ◌↔◌, ◌<◌, ◌≤◌, ◌++◌, ◌+◌, ◌^◌, IsTrue, Result, Ok, Err, IfOk, IfErr, OnOk, length, drop, codes, slice_range};
 ghost use Rattle.stun_grammar.specs.Numbers.{be16, number};
-ghost use Rattle.stun_grammar.specs.Names.{method_name, method_text};
+ghost use Rattle.stun_grammar.specs.Names.{method_name, numbered_text};
 ghost use Rattle.stun_base.specs.MessageTypes.{type_of, class_of, method_of, class_bits, class_name, is_response as responds};
 
 use byteorder::{BigEndian, ByteOrder};
@@ -415,20 +415,25 @@ impl MessageType {
     }
 }
 
-/// Writes the name of the class of a message type, and its method:
-/// `Request, method: 1(0x1: BINDING)`.
+/// Writes the name of the class of a message type, and its method, by its number and the name that is
+/// given: `Request, method: 1(0x1: BINDING)`.
 ///
 /// # Errors
 ///
 /// That of the sink.
-pub fn put_class_and_method<S: TextSink>(sink: &mut S, mtype: MessageType) -> Result<(), S::Error>
+pub fn put_class_and_method<S: TextSink>(
+    sink: &mut S,
+    mtype: MessageType,
+    method_name: &str,
+) -> Result<(), S::Error>
     ensures { OnOk result (S.wrote sink.old
-        (class_name (class_of mtype) ++ codes ", method: " ++ method_text (method_of mtype))
+        (class_name (class_of mtype) ++ codes ", method: "
+        ++ numbered_text (method_of mtype) method_name.now)
         sink.new) }
 {
     sink.put(mtype.class().name())?;
     sink.put(", method: ")?;
-    mtype.method().print(sink)?;
+    put_numbered(sink, mtype.method().value(), method_name)?;
     Ok(())
 }
 
@@ -439,7 +444,7 @@ impl PrintText for MessageType {
 
     fn print<S: TextSink>(&self, sink: &mut S) -> Result<(), S::Error> {
         sink.put("MessageType(class: ")?;
-        put_class_and_method(sink, *self)?;
+        put_class_and_method(sink, *self, self.method().name())?;
         Ok(())
     }
 }

@@ -6,4 +6,3 @@ mod RunsLemmas
 pub mod ComingLemmas
 mod ResumingLemmas
 pub mod StoredLemmas
-pub mod KnownBytesLemmas

@@ -9,7 +9,7 @@ ghost use Rattle.stun_framing.specs.Framing.{Room, IsStunMessage, IsChannelData,
 ghost use Rattle.stun_framing.specs.Streams.{Stream, begun, resumed, can_resume, answer, left};
 ghost use Rattle.stun_framing.specs.Runs.{message_in, IsHandedOver, left_by, yielded, IsDone, Says, HasCome};
 
-use crate::message_stream::GREATEST_MESSAGE;
+use stun_base::GREATEST_MESSAGE;
 
 /// The messages that the calls yield, and where and why they stop, are those that the bytes of the
 /// stream say, however these are cut into pieces.
@@ -29,7 +29,7 @@ pub fn one_cut()
 
 /// A STUN message of a stream is a header and as many bytes as it states, so that none is refused
 /// for its length; all such bytes are one if their length is a multiple of 4 and the buffer takes
-/// them; no message is longer than [`GREATEST_MESSAGE`](crate::GREATEST_MESSAGE); and no bytes are
+/// them; no message is longer than [`GREATEST_MESSAGE`](stun_base::GREATEST_MESSAGE); and no bytes are
 /// both a STUN message and a ChannelData message.
 pub fn messages_are_framed()
     ensures framed { (size : ℕ) (m : List ℕ) → IsStunMessage size m → frame_fault m ≡ None }

@@ -3,27 +3,21 @@
 //!
 //! A [`MessageStream`] is handed the pieces, and yields each message whole. It has no socket, and it
 //! allocates nothing. [`push_raw`] does the same for a caller that keeps the buffer and two numbers.
-//!
-//! For programs over standard input and output there are [`read_all`], [`write_all`] and [`RunError`].
 #![tactic(auto)]
 
 mod error;
 mod fault;
 mod gather;
-mod input_output;
 mod laws;
 mod message_stream;
-mod run_error;
 mod stored_stream;
 mod stream_kind;
 
 pub use error::{StreamError, StreamFault};
-pub use input_output::{InputError, WriteFailed, read_all, write_all};
 pub use laws::{
     calls_go_on, cuts_change_nothing, faults_are_right, messages_are_framed, one_cut,
     resuming_changes_nothing,
 };
-pub use message_stream::{GREATEST_MESSAGE, MessageStream};
-pub use run_error::{FAILED, RunError, arguments_error};
+pub use message_stream::MessageStream;
 pub use stored_stream::{Pushed, push_raw};
 pub use stream_kind::StreamKind;

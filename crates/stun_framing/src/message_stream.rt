@@ -8,12 +8,6 @@ use crate::gather::{Gathered, NOTHING, gather, held_part};
 use crate::stream_kind::StreamKind;
 use std::marker::Model;
 
-/// The greatest length of a message in a stream, in bytes: a buffer of this length takes any.
-///
-/// It is a header and the greatest length field that is a multiple of 4, as it is of every message
-/// (RFC 8489, section 5).
-pub const GREATEST_MESSAGE: usize = 65552;
-
 /// What is gathered of a message that isn't whole.
 pub(crate) fn pending_of(gathered: Gathered) -> Gathered
     ensures { result ≡ pending_of gathered }
@@ -45,7 +39,8 @@ pub(crate) fn offset_behind(offset: u64, gathered: Gathered) -> u64
 /// # Examples
 ///
 /// ```
-/// use stun_framing::{GREATEST_MESSAGE, MessageStream};
+/// use stun_framing::MessageStream;
+/// use stun_types::message::GREATEST_MESSAGE;
 ///
 /// // A binding request, whose bytes come in two pieces.
 /// let request = b"\x00\x01\x00\x00\x21\x12\xA4\x42\

@@ -1,3 +1,2 @@
-mod ItemsLemmas
 mod EscapingLemmas
 mod TypesLemmas

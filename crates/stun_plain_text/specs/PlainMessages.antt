@@ -1,36 +1,10 @@
 -- How a message is printed in printable ASCII.
-use Rattle.std.specs.Prelude.{ℕ, List, ◌++◌, codes}
-use Rattle.stun_text.specs.Lists.{with_commas}
-use Rattle.stun_grammar.specs.Chains.{Shown}
-use Rattle.stun_grammar.specs.Names.{numbered_text}
-use Rattle.stun_grammar.specs.Showing.{shown}
-use Rattle.stun_base.specs.MessageTypes.{Header, header_of, class_of, method_of, class_name, id_text}
+use Rattle.std.specs.Prelude.{ℕ, List}
+use Rattle.stun_types.specs.PrintedMessages.{text_by}
 use Rattle.stun_plain_text.specs.Escaping.{escaped}
 use Rattle.stun_plain_text.specs.NamesOfAll.{method_name}
 use Rattle.stun_plain_text.specs.PlainValues.{attribute_text}
 
--- an attribute that is shown
-abbrev pub shown_text : Shown → List ℕ
-shown_text attribute = attribute_text attribute.type attribute.value
-
--- attributes that are shown, with a comma and a space between them
-abbrev pub attributes_text : List Shown → List ℕ
-attributes_text = with_commas shown_text
-
--- what precedes them: the class, the method and the transaction ID
-abbrev pub method_text : ℕ → List ℕ
-method_text method = numbered_text method (method_name method)
-
-abbrev pub head_text : Header → List ℕ
-head_text header =
-    codes "Message(class: " ++ class_name (class_of header.type)
-    ++ codes ", method: " ++ method_text (method_of header.type)
-    ++ codes ", transaction: " ++ id_text header.id ++ codes ", attributes: ["
-
--- a message: its header, and the attributes that it shows
-abbrev pub message_text : List ℕ → List ℕ
-message_text d = head_text (header_of d) ++ attributes_text (shown d) ++ codes "])"
-
--- the same in printable ASCII
+-- its text, with the names of STUN, ICE, TURN and NAT discovery, in printable ASCII
 unfoldable pub plain_text : List ℕ → List ℕ
-plain_text d = escaped (message_text d)
+plain_text d = escaped (text_by method_name (λ type value borrowed. attribute_text type value) d)

@@ -2,12 +2,11 @@
 
 ghost use Rattle.std.specs.Prelude.{◌≡◌};
 ghost use Rattle.std.specs.Option.{option_map};
-ghost use Rattle.stun_base.specs.MessageTypes.{class_name};
 ghost use Rattle.stun_types.specs.KnownTypes.{facts};
 ghost use Rattle.stun_plain_text.specs.NamesOfAll.{known_type, value_form, type_name, method_name};
 
 use stun_types::attribute::{AttributeType, KnownType, ValueForm};
-use stun_types::message::{MessageClass, Method};
+use stun_types::message::Method;
 
 /// Returns what an RFC says of an attribute type: its name, the form of its values, and which RFC
 /// it is; `None` for a type that neither STUN nor ICE, TURN and NAT discovery have.
@@ -50,18 +49,6 @@ pub(crate) fn type_name(atype: AttributeType) -> &'static str
     match known_type(atype.value()) {
         Some(known) => known.name,
         None => "unknown",
-    }
-}
-
-/// The name of a class.
-pub(crate) fn class_name(class: MessageClass) -> &'static str
-    ensures { result.now ≡ class_name class }
-{
-    match class {
-        MessageClass::Request => "Request",
-        MessageClass::Indication => "Indication",
-        MessageClass::Success => "Success",
-        MessageClass::Error => "Error",
     }
 }
 

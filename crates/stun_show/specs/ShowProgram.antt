@@ -1,8 +1,8 @@
 -- What the program does with its arguments, and how it reports how it ended.
 use Rattle.std.specs.Prelude.{◌≡◌, ℕ, List, [], ◌∷◌, ◌++◌, codes, Option, Some, None, Result, Ok, Err, MatchResult}
-use Rattle.stun_framing.specs.RunErrors.{line_of}
-use Rattle.stun_framing.specs.declared.run_error.RunError.{RunError}
-use Rattle.stun_framing.specs.declared.run_error.RunError.TheVariants.{Usage}
+use Rattle.stun_programs.specs.RunErrors.{line_of}
+use Rattle.stun_programs.specs.declared.run_error.RunError.{RunError}
+use Rattle.stun_programs.specs.declared.run_error.RunError.TheVariants.{Usage}
 use Rattle.stun_show.specs.declared.report.RunEnd.{RunEnd}
 use Rattle.stun_show.specs.declared.report.RunEnd.TheVariants.{Shown, Refused}
 use Rattle.stun_show.specs.Report.{line_feed}

@@ -2,9 +2,9 @@
 -- what the writer holds, before the run and (with a prime) after it, if those bytes are known.
 use Rattle.std.specs.Prelude.{◌≡◌, ℕ, List, Option, Result, Ok, Err}
 use Rattle.std.specs.Io.KnownBytes.{Keeps, Appends}
-use Rattle.stun_framing.specs.InputOutput.{ReadsAll, ReadsTooMuch, WritesPart}
-use Rattle.stun_framing.specs.declared.run_error.RunError.{RunError}
-use Rattle.stun_framing.specs.declared.run_error.RunError.TheVariants.{Usage, TooLong, ReadFailed, WriteFailed, NoMemory}
+use Rattle.stun_programs.specs.InputOutput.{ReadsAll, ReadsTooMuch, WritesPart}
+use Rattle.stun_programs.specs.declared.run_error.RunError.{RunError}
+use Rattle.stun_programs.specs.declared.run_error.RunError.TheVariants.{Usage, TooLong, ReadFailed, WriteFailed, NoMemory}
 use Rattle.stun_show.specs.declared.report.RunEnd.{RunEnd}
 use Rattle.stun_show.specs.Report.{report, end_of}
 

@@ -6,7 +6,7 @@ ghost use Rattle.stun_show.specs.ShowRun.{Ends};
 use crate::report::{RunEnd, report};
 use std::alloc::Global;
 use std::io::{Read, Write};
-use stun_framing::{RunError, read_all, write_all};
+use stun_programs::{RunError, read_all, write_all};
 
 /// The most bytes that are read: 128 KiB.
 const LONGEST_INPUT: usize = 131_072;

@@ -9,7 +9,7 @@ use program::{run_on, status_of};
 use std::env;
 use std::io::Write;
 use std::process::ExitCode;
-use stun_framing::arguments_error;
+use stun_programs::arguments_error;
 
 fn main(rt: HostRuntime) -> ExitCode {
     let end = match env::args(&rt) {

@@ -11,7 +11,7 @@ use crate::report::RunEnd;
 use std::alloc::Global;
 use std::env::Args;
 use std::io::{Read, Write};
-use stun_framing::{FAILED, RunError};
+use stun_programs::{FAILED, RunError};
 
 /// The password that the arguments give: the one after the program's name, if there is one. With
 /// more than one the usage is wrong.

@@ -6,14 +6,13 @@ use Rattle.stun_text.specs.Lists.{with_commas, comma_before}
 use Rattle.stun_grammar.specs.Chains.{Shown}
 use Rattle.stun_base.specs.Data.{is_borrowed}
 use Rattle.stun_attributes.specs.Raw.{raw_type, raw_data, raw_value}
-use Rattle.stun_attributes.specs.PrintedAttributes.{attribute_text}
 use Rattle.stun_attributes.specs.declared.wire.raw.RawAttribute.{RawAttribute}
 use Rattle.stun_types.specs.Iterating.{item_view, borrowed}
 use Rattle.stun_types.specs.PrintedMessages.{attributes_text}
 
 -- the text of an item that was yielded
-abbrev pub item_text : ℕ × RawAttribute → List ℕ
-item_text item = attribute_text (raw_type item.1) (raw_value item.1) (is_borrowed (raw_data item.1))
+abbrev pub item_text : (ℕ → List ℕ → Bool → List ℕ) → ℕ × RawAttribute → List ℕ
+item_text text item = text (raw_type item.1) (raw_value item.1) (is_borrowed (raw_data item.1))
 
 -- after an item come a comma and a space
 pub comma_behind : {X : Type 0} (xs : List X) (x : X) → codes ", " ≡ comma_before (length (xs ++ x ∷ []))
@@ -30,12 +29,13 @@ module _ {X Y : Type 0} (text : X → List ℕ) (view : Y → X) where
   commas_map (y ∷ ys) = ap (λ (l : List ℕ). text (view y) ++ l) (others_map ys)
 
 -- an attribute that is shown, and whether its value is borrowed
-abbrev viewed_text : Shown × Bool → List ℕ
-viewed_text view = attribute_text view.0.type view.0.value view.1
+abbrev viewed_text : (ℕ → List ℕ → Bool → List ℕ) → Shown × Bool → List ℕ
+viewed_text text view = text view.0.type view.0.value view.1
 
 -- the items of these attributes print as the attributes do
-pub items_text : (items : List (ℕ × RawAttribute)) (attributes : List Shown) → map item_view items ≡ borrowed attributes → with_commas item_text items ≡ attributes_text attributes
-items_text items attributes e =
-    commas_map viewed_text item_view items
-    ∙ ap (with_commas viewed_text) e
-    ∙ sym (commas_map viewed_text (λ (a : Shown). (a, true)) attributes)
+pub items_text : (text : ℕ → List ℕ → Bool → List ℕ) (items : List (ℕ × RawAttribute)) (attributes : List Shown) → map item_view items ≡ borrowed attributes
+    → with_commas (item_text text) items ≡ attributes_text text attributes
+items_text text items attributes e =
+    commas_map (viewed_text text) item_view items
+    ∙ ap (with_commas (viewed_text text)) e
+    ∙ sym (commas_map (viewed_text text) (λ (a : Shown). (a, true)) attributes)

@@ -66,7 +66,9 @@ pub use stun_attributes::{
     empty_is_read_back, integrity_types_are_read_back, number_attribute_is_read_back,
     number_is_read_back, packed_attribute_is_read_back, text_is_read_back, xor_twice,
 };
-pub use stun_base::{AddressFamily, ParseTransportTypeError, TransportType};
+pub use stun_base::{
+    AddressFamily, ParseTransportTypeError, TransportType, messages_have_a_greatest_length,
+};
 pub use stun_grammar::{
     fingerprint_has_length, hmac_has_length, length_is_stated, message_grows, step_has_length,
 };

@@ -3,6 +3,7 @@
 mod build;
 pub mod framed;
 mod look_up;
+mod printed;
 mod read;
 mod reply;
 mod unknown;
@@ -17,8 +18,8 @@ pub use crate::writing::{
 pub use read::Message;
 pub use reply::response_answers;
 pub use stun_base::{
-    AddError, BINDING, MAGIC_COOKIE, MessageClass, MessageHeader, MessageType, Method,
-    StunParseError, StunWriteError, TransactionId, ValidateError,
+    AddError, BINDING, GREATEST_MESSAGE, MAGIC_COOKIE, MessageClass, MessageHeader, MessageType,
+    Method, StunParseError, StunWriteError, TransactionId, ValidateError,
 };
 pub use stun_grammar::IntegrityAlgorithm;
 pub use stun_keys::keys::{

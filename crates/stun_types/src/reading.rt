@@ -1,5 +1,5 @@
-//! Reading bytes: whether they are a message, which attributes they show, where its integrity
-//! attributes are, and how it is printed (RFC 8489, sections 6.3, 14 and 14.5 to 14.7).
+//! Reading bytes: whether they are a message, which attributes they show, and where its
+//! integrity attributes are (RFC 8489, sections 6.3, 14 and 14.5 to 14.7).
 //! [`Message`](crate::message::Message) is built on these functions.
 mod endings;
 mod fingerprint;
@@ -9,7 +9,6 @@ mod iterate;
 mod laws;
 mod offsets;
 mod parse;
-mod printed;
 mod step;
 
 pub(crate) use endings::type_number;
@@ -19,5 +18,4 @@ pub use iterate::MessageAttributesIter;
 pub use laws::{found_has_its_type, found_is_there, shown_is_found, walks_from_there};
 pub use offsets::IntegrityOffsets;
 pub use parse::check_message;
-pub use printed::print_message;
 pub use step::shown_at;

@@ -1,7 +1,8 @@
 //! Names of attribute types and methods, and functions that print attributes, which a user adds to
-//! those of the library, and attributes printed by them.
+//! those of the library, and attributes printed by them; and how messages are printed.
 
 mod display_with;
+mod message_printer;
 mod own;
 mod printer;
 mod reading;
@@ -10,6 +11,7 @@ mod table;
 mod written;
 
 pub use display_with::DisplayWith;
+pub use message_printer::{MessagePrinter, print_message};
 pub use printer::AttributeDisplay;
 pub use reading::print_read;
 pub use registry::Registry;

@@ -4,9 +4,9 @@ ghost use Rattle.std.specs.Prelude.{◌≡◌, None};
 ghost use Rattle.stun_grammar.specs.Parsing.{parse_fault};
 ghost use Rattle.stun_types.specs.Offsets.{OffsetsOf};
 
-use crate::reading::{
-    IntegrityOffsets, MessageAttributesIter, check_message, iter_framed, print_message,
-};
+use super::printed::OwnPrinter;
+use crate::reading::{IntegrityOffsets, MessageAttributesIter, check_message, iter_framed};
+use crate::show::print_message;
 use std::fmt;
 use stun_base::{
     MessageClass, MessageHeader, MessageType, Method, StunParseError, TransactionId, read_header,
@@ -276,9 +276,8 @@ impl PrintText for Message<'_> {
 
     ghost text = { λ message. message_text (message_bytes message) };
 
-    #[tactic(auto, using(stun_grammar::proofs::ParsingLemmas::parsed_frame))]
     fn print<S: TextSink>(&self, sink: &mut S) -> Result<(), S::Error> {
-        print_message(self.as_bytes(), sink)
+        print_message(&OwnPrinter, self, sink)
     }
 }
 

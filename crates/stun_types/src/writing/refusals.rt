@@ -9,9 +9,14 @@ ghost use Rattle.stun_grammar.specs.Adding.{first_of, numbers, Fits, exists_refu
 ghost use Rattle.stun_types.specs.Additions.{step_of};
 
 use crate::writing::MessageWrite;
-use stun_base::{AttributeType, GREATEST_LENGTH, StunWriteError};
+use stun_base::{AttributeType, StunWriteError};
 use stun_grammar::IntegrityAlgorithm;
 use stun_grammar::attribute_types::{FINGERPRINT, MESSAGE_INTEGRITY, MESSAGE_INTEGRITY_SHA256};
+
+/// A header, and as many bytes as its length field can state: what `TooLarge` reports. No message that
+/// is written is so long, since attributes end at multiples of 4: the greatest length is
+/// [`GREATEST_MESSAGE`](stun_base::GREATEST_MESSAGE).
+const GREATEST_STATED: usize = 65555;
 
 /// What kind of attribute is added. One check serves all adds: the kind decides which written types
 /// bar the addition, and which error reports that.
@@ -121,9 +126,9 @@ pub(crate) fn check_room(
             actual: most,
         });
     }
-    if grown_length > GREATEST_LENGTH {
+    if grown_length > GREATEST_STATED {
         return Err(StunWriteError::TooLarge {
-            expected: GREATEST_LENGTH,
+            expected: GREATEST_STATED,
             actual: grown_length,
         });
     }

@@ -9,5 +9,5 @@ returns g c =
     let joins = g.met.S.TextSink.joins in
     let a = c.in_ok-put.ensures in
     let b = c.in_ok-put-2.ensures in
-    let d = c.in_ok-print.ensures in
+    let d = c.in_ok-put_numbered.ensures in
     spelled_so wrote joins (first_of (search rules, grind (arith, common_steps))) (both wrote joins a (both wrote joins b d))

@@ -1,8 +1,8 @@
 use Rattle.std.proofs.Common.{take, length, ap, arith}
 use Rattle.std.proofs.lemmas.List.{take_rest, length-drop}
-use Rattle.stun_framing.proofs.KnownBytesLemmas.{Appends-keep, Appends-more}
-use Rattle.stun_framing.proofs.input_output.write_all.Goals as goal
-use Rattle.stun_framing.proofs.input_output.write_all.Goals.{in-Ok, in-Err+else-ne}
+use Rattle.stun_programs.proofs.KnownBytesLemmas.{Appends-keep, Appends-more}
+use Rattle.stun_programs.proofs.input_output.write_all.Goals as goal
+use Rattle.stun_programs.proofs.input_output.write_all.Goals.{in-Ok, in-Err+else-ne}
 
 pub loop-turn-preserved : goal.loop-turn-preserved
 loop-turn-preserved g c =

@@ -1,7 +1,7 @@
 //! How a run of a program fails.
 
 ghost use Rattle.std.specs.Prelude.{◌≡◌, ◌≢◌};
-ghost use Rattle.stun_framing.specs.RunErrors.{run_error_of, line_of};
+ghost use Rattle.stun_programs.specs.RunErrors.{run_error_of, line_of};
 
 use crate::input_output::{InputError, WriteFailed};
 use std::alloc::AllocError;
@@ -38,7 +38,7 @@ impl From<InputError> for RunError {
 }
 
 impl From<WriteFailed> for RunError {
-    ghost use Rattle.stun_framing.specs.declared.run_error.RunError.TheVariants.{WriteFailed};
+    ghost use Rattle.stun_programs.specs.declared.run_error.RunError.TheVariants.{WriteFailed};
 
     ghost from_gives = { λ _ made. made ≡ WriteFailed };
 
@@ -48,7 +48,7 @@ impl From<WriteFailed> for RunError {
 }
 
 impl From<AllocError> for RunError {
-    ghost use Rattle.stun_framing.specs.declared.run_error.RunError.TheVariants.{NoMemory};
+    ghost use Rattle.stun_programs.specs.declared.run_error.RunError.TheVariants.{NoMemory};
 
     ghost from_gives = { λ _ made. made ≡ NoMemory };
 
@@ -63,7 +63,7 @@ impl From<AllocError> for RunError {
 ///
 /// ```
 /// use std::io::ErrorKind;
-/// use stun_framing::{RunError, arguments_error};
+/// use stun_programs::{RunError, arguments_error};
 ///
 /// // An argument that isn't UTF-8.
 /// assert_eq!(rt; arguments_error(ErrorKind::InvalidData), RunError::Usage);
@@ -86,7 +86,7 @@ impl RunError {
     /// # Examples
     ///
     /// ```
-    /// use stun_framing::RunError;
+    /// use stun_programs::RunError;
     ///
     /// let usage = "usage: stun_show < MESSAGE\n";
     /// assert_eq!(rt; RunError::Usage.line(usage), usage);

@@ -1,6 +1,6 @@
 use Rattle.std.proofs.Common.{◌≤◌, vec_len}
 use Rattle.std.specs.Io.KnownBytes.{Consumes}
-use Rattle.stun_framing.proofs.input_output.read_all.Given as goal
+use Rattle.stun_programs.proofs.input_output.read_all.Given as goal
 
 -- `input` is what was read so far, and no longer than may be read
 abbrev pub invariant-loop-turn : goal.invariant-loop-turn

@@ -3,8 +3,8 @@
 -- known.
 use Rattle.std.specs.Prelude.{ℕ, ◌<◌, ◌≤◌, List, length, take, Option, ⊤}
 use Rattle.std.specs.Io.KnownBytes.{Appends, Consumes, IsAtEnd}
-use Rattle.stun_framing.specs.declared.input_output.InputError.{InputError}
-use Rattle.stun_framing.specs.declared.input_output.InputError.TheVariants.{TooLong, ReadFailed, NoMemory}
+use Rattle.stun_programs.specs.declared.input_output.InputError.{InputError}
+use Rattle.stun_programs.specs.declared.input_output.InputError.TheVariants.{TooLong, ReadFailed, NoMemory}
 
 -- the input is all that was left, and no longer than may be read
 pub record ReadsAll (most : ℕ) (left left' : Option (List ℕ)) (input : List ℕ) : Type 0 where

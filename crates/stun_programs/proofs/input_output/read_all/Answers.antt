@@ -1,7 +1,7 @@
 use Rattle.std.proofs.Common.{◌++◌, take, arith}
 use Rattle.std.proofs.lemmas.List.{length-append}
-use Rattle.stun_framing.proofs.KnownBytesLemmas.{Consumes-append}
-use Rattle.stun_framing.proofs.input_output.read_all.Goals as goal
+use Rattle.stun_programs.proofs.KnownBytesLemmas.{Consumes-append}
+use Rattle.stun_programs.proofs.input_output.read_all.Goals as goal
 
 pub returns-then-count-most : goal.returns-then-count-most
 returns-then-count-most g c =

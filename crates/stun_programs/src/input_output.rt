@@ -2,7 +2,7 @@
 
 ghost use Rattle.std.specs.Prelude.{MatchResult};
 ghost use Rattle.std.specs.Io.KnownBytes.{Appends};
-ghost use Rattle.stun_framing.specs.InputOutput.{ReadsAll, StopsReading, WritesPart};
+ghost use Rattle.stun_programs.specs.InputOutput.{ReadsAll, StopsReading, WritesPart};
 
 use std::alloc::Global;
 use std::io::{ErrorKind, Read, Write};
@@ -32,7 +32,7 @@ pub struct WriteFailed;
 /// # Examples
 ///
 /// ```
-/// use stun_framing::{InputError, read_all};
+/// use stun_programs::{InputError, read_all};
 ///
 /// let mut input = b"0001 0000".as_slice();
 /// assert_eq!(rt; read_all(alloc, 1000, &mut input)?.as_slice(), b"0001 0000".as_slice());
@@ -77,7 +77,7 @@ pub fn read_all<R: Read>(alloc: Global, most: usize, reader: &mut R) -> Result<V
 /// # Examples
 ///
 /// ```
-/// use stun_framing::{WriteFailed, write_all};
+/// use stun_programs::{WriteFailed, write_all};
 ///
 /// let mut output = Vec::new(alloc);
 /// assert_eq!(rt; write_all(b"one message", &mut output), Ok(()));

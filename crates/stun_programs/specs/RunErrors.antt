@@ -1,9 +1,9 @@
 -- How a run of a program fails, and how the program says so.
 use Rattle.std.specs.Prelude.{ℕ, List, [], ◌∷◌, ◌++◌, codes}
-use Rattle.stun_framing.specs.declared.input_output.InputError.{InputError}
-use Rattle.stun_framing.specs.declared.input_output.InputError.TheVariants as Input
-use Rattle.stun_framing.specs.declared.run_error.RunError.{RunError}
-use Rattle.stun_framing.specs.declared.run_error.RunError.TheVariants.{Usage, TooLong, ReadFailed, WriteFailed, NoMemory}
+use Rattle.stun_programs.specs.declared.input_output.InputError.{InputError}
+use Rattle.stun_programs.specs.declared.input_output.InputError.TheVariants as Input
+use Rattle.stun_programs.specs.declared.run_error.RunError.{RunError}
+use Rattle.stun_programs.specs.declared.run_error.RunError.TheVariants.{Usage, TooLong, ReadFailed, WriteFailed, NoMemory}
 
 -- how a run fails when reading does
 abbrev pub run_error_of : InputError → RunError

@@ -1,6 +1,6 @@
 use Rattle.std.proofs.Common.{◌≤◌, length, take}
 use Rattle.std.specs.Io.KnownBytes.{Appends}
-use Rattle.stun_framing.proofs.input_output.write_all.Given as goal
+use Rattle.stun_programs.proofs.input_output.write_all.Given as goal
 
 -- a prefix was written
 abbrev pub invariant-loop-turn : goal.invariant-loop-turn

@@ -1,0 +1,2 @@
+pub mod InputOutput
+pub mod RunErrors
