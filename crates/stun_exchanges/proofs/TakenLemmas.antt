@@ -1,5 +1,5 @@
 -- A signed reply is taken.
-use Rattle.std.proofs.Common.{◌≡◌, ℕ, Bool, true, false, eqb, List, Option, Some, None, Result, refl, sym, ap, subst, ◌∙◌}
+use Rattle.std.proofs.Common.{◌≡◌, ℕ, Bool, true, false, eqb, List, Option, Some, None, Result, refl, ap, ◌∙◌}
 use Rattle.std.specs.Prelude.{◌&&◌, is_some, not, if◌then◌else◌}
 use Rattle.std.specs.List.{list_any}
 use Rattle.std.specs.Option.{option_map_or}
@@ -11,15 +11,13 @@ use Rattle.stun_grammar.specs.declared.integrity_algorithm.IntegrityAlgorithm.{I
 use Rattle.stun_grammar.specs.declared.integrity_algorithm.IntegrityAlgorithm.TheVariants.{Sha1, Sha256}
 use Rattle.stun_grammar.specs.Attributes.{Attribute, types}
 use Rattle.stun_grammar.specs.AttributeTypes.{NONCE, FINGERPRINT, is_ending}
-use Rattle.stun_grammar.specs.Headers.{type_field}
 use Rattle.stun_grammar.specs.Parsing.{parse_fault}
 use Rattle.stun_grammar.specs.ScannedOrder.{has}
 use Rattle.stun_grammar.specs.Verdicts.{type_of_algorithm, is_checked_type}
 use Rattle.stun_grammar.specs.Writing.{message_encoding}
 use Rattle.stun_grammar.proofs.WritingLemmas.{parse-message, shown-message}
-use Rattle.stun_base.specs.MessageTypes.{method_of}
 use Rattle.stun_keys.specs.declared.keys.integrity_key.IntegrityKey.{IntegrityKey}
-use Rattle.stun_types.specs.Replies.{responds_to, is_answer_to}
+use Rattle.stun_types.specs.Replies.{is_answer_to}
 use Rattle.stun_authentication.specs.Challenges.{list_of, is_bid_down}
 use Rattle.stun_authentication.specs.Codes.{is_challenge, is_code, response_code}
 use Rattle.stun_authentication.specs.Cookies.{promises_algorithms}
