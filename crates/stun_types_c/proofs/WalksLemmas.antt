@@ -5,9 +5,8 @@ use Rattle.std.specs.Prelude.{slice_get, ◌==◌, if◌then◌else◌}
 use Rattle.std.specs.Option.{option_map}
 use Rattle.stun_grammar.specs.Chains.{Shown}
 use Rattle.stun_grammar.specs.Showing.{shown}
-use Rattle.stun_types_c.specs.declared.attribute.Cursor.{Cursor}
 use Rattle.stun_types_c.specs.declared.attribute.ShownAttribute.{ShownAttribute}
-use Rattle.stun_types_c.specs.Attributes.{in_c, left, laid_over}
+use Rattle.stun_types_c.specs.Attributes.{in_c, laid_over}
 
 -- ---- All attributes
 
