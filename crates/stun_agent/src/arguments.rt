@@ -17,7 +17,9 @@ use stun_authentication::Policy;
 use stun_keys::keys::key_of_bytes;
 use stun_programs::RunError;
 use stun_types::attribute::Username;
-use stun_types::message::{IntegrityAlgorithm, ShortTermCredentials, StunWriteError, TransactionId};
+use stun_types::message::{
+    IntegrityAlgorithm, ShortTermCredentials, StunWriteError, TransactionId,
+};
 
 /// What `reply` is to do.
 #[derive(Clone, Copy, PartialEq, Eq)]

@@ -12,10 +12,15 @@ use std::alloc::Global;
 use std::net::SocketAddr;
 use std::time::Duration;
 use stun_programs::RunError;
-use stun_transactions::{Action, Protection, Received, Schedule, Transaction, ResponsePolicy, response_address};
+use stun_transactions::{
+    Action, Protection, Received, ResponsePolicy, Schedule, Transaction, response_address,
+};
 use stun_types::TransportType;
 use stun_types::attribute::AttributeWrite;
-use stun_types::message::{BINDING, IntegrityAlgorithm, Message, MessageClass, MessageType, MessageWriteVec, Step, TransactionId, write_steps};
+use stun_types::message::{
+    BINDING, IntegrityAlgorithm, Message, MessageClass, MessageType, MessageWriteVec, Step,
+    TransactionId, write_steps,
+};
 use stun_types::prelude::*;
 
 /// What a datagram says of the request.

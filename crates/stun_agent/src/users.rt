@@ -10,9 +10,18 @@ ghost use Rattle.stun_agent.specs.Issued.{algorithms_of};
 
 use std::alloc::Global;
 use std::net::SocketAddr;
-use stun_authentication::{Accepted, Authentication, Demand, NonceState, Logins, Nonces, Policy, Refusal, authenticate_long_term, authenticate_short_term, refuse_long_term, refuse_short_term, security_features};
-use stun_types::attribute::{AttributeStaticType, Fingerprint, KNOWN, Nonce, PasswordAlgorithmValue, PasswordAlgorithms, Realm, XorMappedAddress};
-use stun_types::message::{BINDING, LongTermCredentials, Message, MessageClass, MessageWriteVec, StunWriteError};
+use stun_authentication::{
+    Accepted, Authentication, Demand, Logins, NonceState, Nonces, Policy, Refusal,
+    authenticate_long_term, authenticate_short_term, refuse_long_term, refuse_short_term,
+    security_features,
+};
+use stun_types::attribute::{
+    AttributeStaticType, Fingerprint, KNOWN, Nonce, PasswordAlgorithmValue, PasswordAlgorithms,
+    Realm, XorMappedAddress,
+};
+use stun_types::message::{
+    BINDING, LongTermCredentials, Message, MessageClass, MessageWriteVec, StunWriteError,
+};
 use stun_types::prelude::*;
 
 /// The realm of the users.

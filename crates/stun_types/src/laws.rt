@@ -12,7 +12,7 @@ ghost use Rattle.stun_attributes.specs.Integrity.{ReadsFingerprint, ReadsIntegri
 ghost use Rattle.stun_attributes.specs.Userhash.{ReadsUserhash};
 ghost use Rattle.stun_types.specs.ReadTypes.{IsReadBy};
 
-use stun_attributes::{
+use crate::attribute::{
     AlternateDomain, AlternateServer, AttributeFromRaw, ErrorCode, Fingerprint, MessageIntegrity,
     MessageIntegritySha256, Nonce, PasswordAlgorithm, PasswordAlgorithms, Realm, Software,
     UnknownAttributes, Userhash, Username, XorMappedAddress,

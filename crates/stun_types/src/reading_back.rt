@@ -15,10 +15,10 @@ ghost use Rattle.stun_attributes.specs.ReadBack.{HasOneReading};
 ghost use Rattle.stun_types.specs.LookingUp.{nth, IsRead};
 ghost use Rattle.stun_types.specs.ReadingBack.{Holds, ShowsFirst};
 
-use crate::reading::shown_is_found;
-use stun_attributes::{
+use crate::attribute::{
     Attribute, AttributeFromRaw, AttributeStaticType, ReadValue, TypedAttribute,
 };
+use crate::reading::shown_is_found;
 
 /// What a writer holds after `builder` and after each accepted `add_attribute` parses, and shows
 /// each attribute that was added. The premises are what the contracts of these calls state.

@@ -4,7 +4,7 @@ ghost use Rattle.std.specs.Prelude.{◌≡◌};
 ghost use Rattle.std.specs.Option.{option_map};
 ghost use Rattle.stun_types.specs.KnownTypes.{facts, known_type, own_form};
 
-use stun_base::AttributeType;
+use crate::attribute::AttributeType;
 use stun_grammar::attribute_types::{
     ALTERNATE_DOMAIN, ALTERNATE_SERVER, ERROR_CODE, FINGERPRINT, MAPPED_ADDRESS, MESSAGE_INTEGRITY,
     MESSAGE_INTEGRITY_SHA256, NONCE, PASSWORD_ALGORITHM, PASSWORD_ALGORITHMS, REALM, SOFTWARE,

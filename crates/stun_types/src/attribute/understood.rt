@@ -1,6 +1,6 @@
 //! The types that an implementation of RFC 8489 understands.
 
-use stun_base::AttributeType;
+use crate::attribute::AttributeType;
 use stun_grammar::attribute_types;
 
 /// The types of RFC 8489 that must be understood (section 18.3), for

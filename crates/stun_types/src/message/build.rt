@@ -8,9 +8,9 @@ ghost use Rattle.stun_base.specs.Drawing.{drawn_id};
 ghost use Rattle.stun_types.specs.Writers.{BeginsMessage, IsBegun, Pushes};
 
 use super::Message;
+use crate::message::{MessageClass, MessageType, Method, StunWriteError, TransactionId};
 use crate::writing::{MessageWrite, header_bytes};
 use rand_core::Rng;
-use stun_base::{MessageClass, MessageType, Method, StunWriteError, TransactionId};
 
 impl Message<'_> {
     /// Begins a message of the type `mtype` with the transaction ID `transaction_id`: writes the

@@ -5,11 +5,10 @@ ghost use Rattle.stun_types.specs.LookingUp.{nth, IsFound, IsRawFound, IsRead, I
 ghost use Rattle.stun_types.specs.Message.{message_bytes};
 
 use super::Message;
+use crate::attribute::{AttributeFromRaw, AttributeStaticType, AttributeType, RawAttribute};
+use crate::message::{IntegrityAlgorithm, StunParseError};
 use crate::reading::{integrity_raw, type_number};
 use std::alloc::Global;
-use stun_attributes::{AttributeFromRaw, AttributeStaticType, RawAttribute};
-use stun_base::{AttributeType, StunParseError};
-use stun_grammar::IntegrityAlgorithm;
 use stun_grammar::attribute_types::{MESSAGE_INTEGRITY, MESSAGE_INTEGRITY_SHA256};
 
 impl<'a> Message<'a> {

@@ -1,9 +1,9 @@
 //! How the library itself prints a message.
 
+use crate::attribute::RawAttribute;
+use crate::message::Method;
 use crate::show::MessagePrinter;
-use stun_attributes::RawAttribute;
-use stun_base::Method;
-use stun_text::{PrintText, TextSink};
+use crate::{PrintText, TextSink};
 
 /// The names and texts that methods and attributes print by themselves.
 pub(super) struct OwnPrinter;

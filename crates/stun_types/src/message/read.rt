@@ -5,13 +5,15 @@ ghost use Rattle.stun_grammar.specs.Parsing.{parse_fault};
 ghost use Rattle.stun_types.specs.Offsets.{OffsetsOf};
 
 use super::printed::OwnPrinter;
+use crate::message::{
+    MessageClass, MessageHeader, MessageType, Method, StunParseError, TransactionId,
+};
 use crate::reading::{IntegrityOffsets, MessageAttributesIter, check_message, iter_framed};
 use crate::show::print_message;
+use crate::{PrintText, TextSink, TextTooLong};
 use std::fmt;
-use stun_base::{
-    MessageClass, MessageHeader, MessageType, Method, StunParseError, TransactionId, read_header,
-};
-use stun_text::{PrintText, TextSink, TextTooLong, write_text};
+use stun_base::read_header;
+use stun_text::write_text;
 
 /// A message, borrowed from the bytes that [`Message::from_bytes`] parsed.
 ///

@@ -3,9 +3,9 @@
 ghost use Rattle.std.specs.Prelude.{◌≡◌};
 ghost use Rattle.stun_types.specs.Replies.{is_unknown};
 
+use crate::attribute::AttributeType;
 use crate::reading::MessageAttributesIter;
 use crate::writing::is_among;
-use stun_base::AttributeType;
 
 /// An iterator over the types of the attributes that a message shows, that must be understood (they
 /// are below 0x8000) and aren't among those supported, in order and as often as shown (RFC 8489,

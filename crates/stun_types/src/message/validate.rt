@@ -13,12 +13,13 @@ mod compare;
 mod find;
 
 use super::Message;
+use crate::message::{
+    IntegrityAlgorithm, IntegrityKey, MessageIntegrityCredentials, StunParseError, ValidateError,
+};
 use compare::compare_hmac;
 use find::find_checked;
 use std::alloc::Global;
-use stun_base::{StunParseError, ValidateError};
-use stun_grammar::IntegrityAlgorithm;
-use stun_keys::keys::{IntegrityKey, MessageIntegrityCredentials, key_of_credentials};
+use stun_keys::keys::key_of_credentials;
 
 /// Makes the key that the credentials give for an algorithm; the error says that an allocation
 /// failed.

@@ -5,7 +5,7 @@ ghost use Rattle.stun_grammar.specs.ShownOrder.{in_order};
 ghost use Rattle.stun_grammar.specs.ScannedOrder.{in_any_order};
 ghost use Rattle.stun_attributes.specs.Raw.{raw_type};
 
-use stun_attributes::RawAttribute;
+use crate::attribute::RawAttribute;
 use stun_grammar::attribute_types::{FINGERPRINT, MESSAGE_INTEGRITY, MESSAGE_INTEGRITY_SHA256};
 
 /// The number of an attribute's type.

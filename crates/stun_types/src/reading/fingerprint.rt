@@ -5,10 +5,11 @@ ghost use Rattle.stun_grammar.specs.AttributeTypes.{FINGERPRINT as FINGERPRINT_T
 ghost use Rattle.stun_grammar.specs.Fingerprints.{fingerprint_fault};
 ghost use Rattle.stun_attributes.specs.Raw.{raw_type, raw_value};
 
+use crate::attribute::RawAttribute;
+use crate::message::StunParseError;
 use crate::reading::endings::type_number;
 use byteorder::{BigEndian, ByteOrder};
-use stun_attributes::{RawAttribute, fingerprint_at};
-use stun_base::StunParseError;
+use stun_attributes::fingerprint_at;
 use stun_grammar::attribute_types::FINGERPRINT;
 use stun_values::check_length;
 

@@ -5,8 +5,9 @@ ghost use Rattle.stun_grammar.specs.Headers.{Begins, length_field};
 ghost use Rattle.stun_grammar.specs.Showing.{frame_fault, shown};
 ghost use Rattle.stun_types.specs.Iterating.{items_left, borrowed};
 
+use crate::message::{MessageHeader, StunParseError};
 use crate::reading::MessageAttributesIter;
-use stun_base::{MessageHeader, StunParseError, check_header, number_at};
+use stun_base::{check_header, number_at};
 use stun_values::check_length;
 
 /// The length of a message, as its header states it.

@@ -6,10 +6,11 @@ ghost use Rattle.stun_grammar.specs.Verdicts.{type_of_algorithm, is_checked_type
 ghost use Rattle.stun_types.specs.Offsets.{OffsetsOf};
 ghost use Rattle.stun_types.specs.LookingUp.{IsFound};
 
+use crate::attribute::{AttributeType, RawAttribute};
+use crate::message::IntegrityAlgorithm;
 use crate::reading::IntegrityOffsets;
-use stun_attributes::{RawAttribute, borrowed_attribute};
-use stun_base::{AttributeType, number_at};
-use stun_grammar::IntegrityAlgorithm;
+use stun_attributes::borrowed_attribute;
+use stun_base::number_at;
 use stun_grammar::attribute_types::{MESSAGE_INTEGRITY, MESSAGE_INTEGRITY_SHA256};
 
 /// An integrity attribute that was read at an offset: that of its header, its algorithm, and its

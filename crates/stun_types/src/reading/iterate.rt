@@ -3,10 +3,10 @@
 ghost use Rattle.std.specs.Prelude.{◌≡◌, ◌≤◌, length};
 ghost use Rattle.stun_grammar.specs.Showing.{shown};
 
+use crate::attribute::RawAttribute;
 use crate::reading::endings::type_number;
 use crate::reading::frame::{check_frame, iter_framed};
 use crate::reading::step::shown_at;
-use stun_attributes::RawAttribute;
 use stun_grammar::attribute_types::FINGERPRINT;
 
 /// An iterator over the attributes that a message shows, in order, each with the offset of its

@@ -1,7 +1,7 @@
 //! The offsets of the integrity attributes that a message shows.
 
+use crate::message::IntegrityAlgorithm;
 use crate::reading::endings::follows;
-use stun_grammar::IntegrityAlgorithm;
 use stun_grammar::attribute_types::{FINGERPRINT, MESSAGE_INTEGRITY, MESSAGE_INTEGRITY_SHA256};
 
 /// The places of the integrity attributes of a message: the offsets of their headers from the

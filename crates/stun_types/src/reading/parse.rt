@@ -6,12 +6,12 @@ ghost use Rattle.stun_grammar.specs.Showing.{frame_fault};
 ghost use Rattle.stun_types.specs.Endings.{IsOrdinaryTo};
 ghost use Rattle.stun_types.specs.Offsets.{OffsetsOf};
 
+use crate::message::{MessageHeader, StunParseError};
 use crate::reading::endings::{Seen, type_number};
 use crate::reading::fingerprint::check_scanned;
 use crate::reading::frame::check_frame;
 use crate::reading::offsets::IntegrityOffsets;
 use stun_attributes::attribute_at;
-use stun_base::{MessageHeader, StunParseError};
 use stun_grammar::attribute_types::is_ending;
 
 /// Checks the attributes of a message from `start` on, after ordinary ones: ending types, each at

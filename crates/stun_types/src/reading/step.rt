@@ -3,8 +3,9 @@
 ghost use Rattle.std.specs.Prelude.{◌≡◌, ◌≤◌, [], length, MatchOption};
 ghost use Rattle.stun_types.specs.Iterating.{shown_behind, ShowsFirst};
 
+use crate::attribute::RawAttribute;
 use crate::reading::endings::{follows, type_number};
-use stun_attributes::{RawAttribute, attribute_at};
+use stun_attributes::attribute_at;
 
 /// The attribute whose header is at `offset` in a message, if it is shown there after one of type
 /// `last`, and the offset after its padding: one step of [`MessageAttributesIter`], for a caller

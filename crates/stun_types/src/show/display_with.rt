@@ -1,8 +1,8 @@
 use super::printer::AttributeDisplay;
 use super::registry::Registry;
 use super::written::ShowTextError;
+use crate::attribute::RawAttribute;
 use std::fmt;
-use stun_attributes::RawAttribute;
 
 /// An attribute that prints by [`Registry::show`].
 ///

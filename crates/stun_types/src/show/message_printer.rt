@@ -7,10 +7,10 @@ ghost use Rattle.stun_attributes.specs.Raw.{raw_type, raw_data, raw_value};
 ghost use Rattle.stun_types.specs.Message.{message_bytes};
 ghost use Rattle.stun_types.specs.PrintedMessages.{head_text, attributes_text, text_by};
 
-use crate::message::Message;
-use stun_attributes::RawAttribute;
-use stun_base::{MessageHeader, Method, put_class_and_method};
-use stun_text::{PrintText, TextSink};
+use crate::attribute::RawAttribute;
+use crate::message::{Message, MessageHeader, Method};
+use crate::{PrintText, TextSink};
+use stun_base::put_class_and_method;
 
 /// The names of methods and the texts of attributes by which [`print_message`] prints a message.
 ///

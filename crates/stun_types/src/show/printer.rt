@@ -1,6 +1,6 @@
+use crate::attribute::RawAttribute;
 use std::alloc::Global;
 use std::fmt;
-use stun_attributes::RawAttribute;
 
 /// A function that prints an attribute: it appends the text to an empty one, which grows in memory
 /// from the allocator.

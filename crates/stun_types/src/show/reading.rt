@@ -4,11 +4,12 @@ ghost use Rattle.std.specs.Prelude.{OnOk};
 ghost use Rattle.std.specs.String.{string_bytes};
 ghost use Rattle.stun_types.specs.Shown.{AppendsRead};
 
+use crate::attribute::{AttributeFromRaw, RawAttribute};
+use crate::message::StunParseError;
 use std::alloc::Global;
 use std::fmt;
 use std::fmt::Write;
-use stun_attributes::{AttributeFromRaw, RawAttribute, print_malformed};
-use stun_base::StunParseError;
+use stun_attributes::print_malformed;
 
 /// An attribute that prints as one whose value is not what its type asks for.
 #[derive(Clone, Copy)]

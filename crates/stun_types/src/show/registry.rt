@@ -2,10 +2,10 @@ use super::own::own_or;
 use super::printer::{AttributeDisplay, Printer};
 use super::table::Table;
 use super::written::{ShowTextError, answer, write_made};
+use crate::attribute::{Attribute, AttributeType, RawAttribute};
+use crate::message::{Method, StunWriteError};
 use std::alloc::Global;
 use std::fmt;
-use stun_attributes::{Attribute, RawAttribute};
-use stun_base::{AttributeType, Method, StunWriteError};
 use stun_values::is_typed;
 
 /// Names of attribute types and of methods, and functions that print attributes, for numbers that

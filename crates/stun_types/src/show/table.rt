@@ -2,8 +2,8 @@ ghost use Rattle.std.specs.Prelude.{◌≡◌, ℕ, ◌==◌, None, IfErr, OnOk,
 ghost use Rattle.std.specs.List.{position};
 ghost use Rattle.stun_types.specs.Table.{value_of, Sets};
 
+use crate::message::StunWriteError;
 use std::alloc::{AllocError, Global};
-use stun_base::StunWriteError;
 
 /// Values by number, at most one for each.
 #[derive(Drop)]

@@ -3,7 +3,8 @@
 ghost use Rattle.std.specs.Prelude.{◌≡◌};
 ghost use Rattle.stun_types.specs.Shown.{WritesText, written_answer};
 
-use stun_text::{PrintText, TextSink, TextTooLong, write_text};
+use crate::{PrintText, TextSink, TextTooLong};
+use stun_text::write_text;
 use thiserror::Error;
 
 /// Why [`Registry::write_text`](crate::show::Registry::write_text) doesn't write the whole text.

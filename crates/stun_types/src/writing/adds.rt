@@ -14,14 +14,13 @@ ghost use Rattle.stun_types.specs.Writers.{Allocates, Adds};
 
 mod every_writer;
 
+use crate::attribute::{AttributeType, AttributeWrite};
+use crate::message::{
+    AddError, IntegrityAlgorithm, IntegrityKey, MessageClass, MessageIntegrityCredentials,
+    MessageType, Method, StunWriteError, TransactionId,
+};
 use crate::writing::MessageWrite;
 use std::alloc::Global;
-use stun_attributes::AttributeWrite;
-use stun_base::{
-    AddError, AttributeType, MessageClass, MessageType, Method, StunWriteError, TransactionId,
-};
-use stun_grammar::IntegrityAlgorithm;
-use stun_keys::keys::{IntegrityKey, MessageIntegrityCredentials};
 
 /// Adds attributes to a message that is being written, and reads its header (RFC 8489, sections 5
 /// and 14). Every [`MessageWrite`] has these methods.

@@ -6,7 +6,7 @@ ghost use Rattle.std.specs.Option.{option_map};
 ghost use Rattle.stun_grammar.specs.ScannedOrder.{has};
 ghost use Rattle.stun_grammar.specs.Adding.{numbers, first_of};
 
-use stun_base::AttributeType;
+use crate::attribute::AttributeType;
 
 /// Whether `atype` is in `types`.
 fn any_is(types: &[AttributeType], atype: AttributeType) -> bool

@@ -4,9 +4,10 @@ ghost use Rattle.std.specs.Prelude.{◌≡◌, ◌+◌, ◌≤◌, ◌++◌, len
 ghost use Rattle.stun_grammar.specs.Writing.{greatest_length};
 ghost use Rattle.stun_grammar.specs.Adding.{appended, grown_length};
 
+use crate::attribute::{AttributeType, AttributeWrite, EncodeValue};
 use byteorder::{BigEndian, ByteOrder};
-use stun_attributes::{AttributeWrite, EncodeValue, write_attribute, write_encoded};
-use stun_base::{AttributeType, pad_attribute_len};
+use stun_attributes::{write_attribute, write_encoded};
+use stun_base::pad_attribute_len;
 
 /// Copies `more` to the place after the first `len` bytes of `slice`.
 pub(crate) fn write_at(slice: &mut [u8], len: usize, more: &[u8])

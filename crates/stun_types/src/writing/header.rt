@@ -3,9 +3,9 @@
 ghost use Rattle.std.specs.Prelude.{◌≡◌, ◌^◌, ◌<◌, ◌≤◌, ◌++◌, [], length, drop};
 ghost use Rattle.stun_grammar.specs.Writing.{message_encoding};
 
+use crate::message::{MAGIC_COOKIE, MessageType, TransactionId};
 use crate::writing::append::write_at;
 use byteorder::{BigEndian, ByteOrder};
-use stun_base::{MAGIC_COOKIE, MessageType, TransactionId};
 
 /// The header of a message without attributes: the type in two bytes, the length 0 in two, the
 /// magic cookie in four and the transaction ID in twelve.

@@ -13,11 +13,12 @@ ghost use Rattle.stun_attributes.specs.Raw.{Finds};
 ghost use Rattle.stun_types.specs.Resuming.{message_types, whole_fault};
 ghost use Rattle.stun_types.specs.Listing.{counted, listed_types};
 
+use crate::attribute::{AttributeType, RawAttribute};
+use crate::message::{MessageHeader, StunParseError};
 use crate::reading::check_frame;
 use crate::writing::is_among;
 use crate::writing::types::all_end;
-use stun_attributes::{RawAttribute, attribute_at};
-use stun_base::{AttributeType, MessageHeader, StunParseError};
+use stun_attributes::attribute_at;
 use stun_grammar::attribute_types::is_ending;
 
 /// The attributes that a message had when a writer resumed it: how many bytes after the

@@ -11,12 +11,11 @@ ghost use Rattle.stun_grammar.specs.AttributeTypes.{FINGERPRINT as FINGERPRINT_T
 ghost use Rattle.stun_grammar.specs.Steps.{integrity_value};
 ghost use Rattle.stun_types.specs.Writers.{HasRoomFor, Allocates, Adds};
 
+use crate::attribute::AttributeType;
+use crate::message::{IntegrityAlgorithm, IntegrityKey, StunWriteError};
 use crate::writing::MessageWrite;
 use stun_attributes::{fingerprint_at, hmac_sha1_at, hmac_sha256_at};
-use stun_base::{AttributeType, StunWriteError};
-use stun_grammar::IntegrityAlgorithm;
 use stun_grammar::attribute_types::{FINGERPRINT, MESSAGE_INTEGRITY, MESSAGE_INTEGRITY_SHA256};
-use stun_keys::keys::IntegrityKey;
 
 /// Appends the integrity attribute of an algorithm: the HMAC of the message so far, 20 bytes in a
 /// MESSAGE-INTEGRITY and 32 in a MESSAGE-INTEGRITY-SHA256.

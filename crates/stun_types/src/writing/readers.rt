@@ -4,8 +4,9 @@ ghost use Rattle.std.specs.Prelude.{◌≡◌, true};
 ghost use Rattle.stun_grammar.specs.Headers.{is_header};
 ghost use Rattle.stun_base.specs.MessageTypes.{header_of};
 
+use crate::message::MessageHeader;
 use crate::writing::MessageWrite;
-use stun_base::{MessageHeader, read_header};
+use stun_base::read_header;
 
 /// The header that the bytes written begin with.
 #[tactic(auto, unfolding(stun_grammar::specs::Headers::is_header))]

@@ -8,9 +8,9 @@ ghost use Rattle.stun_grammar.specs.Writing.{greatest_length};
 ghost use Rattle.stun_grammar.specs.Adding.{first_of, numbers, Fits, exists_refusal, order_refusal, room_refusal};
 ghost use Rattle.stun_types.specs.Additions.{step_of};
 
+use crate::attribute::AttributeType;
+use crate::message::{IntegrityAlgorithm, StunWriteError};
 use crate::writing::MessageWrite;
-use stun_base::{AttributeType, StunWriteError};
-use stun_grammar::IntegrityAlgorithm;
 use stun_grammar::attribute_types::{FINGERPRINT, MESSAGE_INTEGRITY, MESSAGE_INTEGRITY_SHA256};
 
 /// A header, and as many bytes as its length field can state: what `TooLarge` reports. No message that

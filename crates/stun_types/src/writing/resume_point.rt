@@ -4,9 +4,9 @@ ghost use Rattle.std.specs.Prelude.{◌≡◌, length, take, MatchResult, Some, 
 ghost use Rattle.stun_grammar.specs.Parsing.{parse_fault};
 ghost use Rattle.stun_types.specs.Resuming.{resume_fault};
 
+use crate::message::StunParseError;
 use crate::reading::check_message;
 use crate::writing::listed::Listed;
-use stun_base::StunParseError;
 
 /// The point at which a writer can resume the message in the first bytes of a slice, as
 /// [`ResumePoint::check`] found; [`MessageWriteMutSlice::resume_at`] makes that writer.

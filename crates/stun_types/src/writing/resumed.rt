@@ -1,13 +1,13 @@
 //! Adding to a message in a slice, without a writer: for a caller that keeps the slice and
 //! how many bytes of it are the message.
 
+use crate::attribute::{AttributeType, EncodeValue};
+use crate::message::{AddError, IntegrityAlgorithm, IntegrityKey, StunWriteError};
 use crate::writing::refusals::{Addition, barring, check_order, check_room, ending_types};
 use crate::writing::{ResumePoint, append_encoded, append_value};
-use stun_attributes::{EncodeValue, fingerprint_at, hmac_sha1_at, hmac_sha256_at};
-use stun_base::{AddError, AttributeType, StunWriteError, pad_attribute_len};
-use stun_grammar::IntegrityAlgorithm;
+use stun_attributes::{fingerprint_at, hmac_sha1_at, hmac_sha256_at};
+use stun_base::pad_attribute_len;
 use stun_grammar::attribute_types::{FINGERPRINT, MESSAGE_INTEGRITY, MESSAGE_INTEGRITY_SHA256};
-use stun_keys::keys::IntegrityKey;
 use stun_values::hmac_length;
 
 impl ResumePoint {

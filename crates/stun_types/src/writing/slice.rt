@@ -1,11 +1,12 @@
 //! A writer into a borrowed slice.
 
+use crate::attribute::{AttributeType, AttributeWrite};
+use crate::message::{StunParseError, StunWriteError};
 use crate::writing::append::{append_sized, write_at};
 use crate::writing::listed::Listed;
 use crate::writing::{MessageWrite, ResumePoint, WrittenTypes, append_value};
 use std::alloc::Global;
-use stun_attributes::AttributeWrite;
-use stun_base::{AttributeType, StunParseError, StunWriteError, pad_attribute_len};
+use stun_base::pad_attribute_len;
 
 /// Writes a message (RFC 8489, section 5) into a borrowed slice, from its first byte on, or resumes
 /// one that is there ([`MessageWriteMutSlice::resume`]). What follows the bytes written stays as it

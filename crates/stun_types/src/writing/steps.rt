@@ -6,13 +6,13 @@ ghost use Rattle.stun_grammar.specs.Adding.{Fits, add_refusal, IsAddAnswer};
 ghost use Rattle.stun_types.specs.Writers.{Allocates, Adds, IsUnchanged};
 ghost use Rattle.stun_types.specs.Runs.{plain, AddsOrdinary, MakesKey, Runs};
 
-use crate::message::Message;
+use crate::attribute::AttributeWrite;
+use crate::message::{
+    IntegrityAlgorithm, IntegrityKey, Message, MessageIntegrityCredentials, MessageType,
+    StunWriteError, TransactionId,
+};
 use crate::writing::{MessageWrite, MessageWriteExt};
 use std::alloc::Global;
-use stun_attributes::AttributeWrite;
-use stun_base::{MessageType, StunWriteError, TransactionId};
-use stun_grammar::IntegrityAlgorithm;
-use stun_keys::keys::{IntegrityKey, MessageIntegrityCredentials};
 
 /// One step of [`write_steps`]: an attribute that is added to the message, given, or computed over
 /// what is written so far (a signature or a FINGERPRINT).

@@ -8,12 +8,13 @@ ghost use Rattle.stun_grammar.specs.AttributeTypes.{is_ending};
 ghost use Rattle.stun_grammar.specs.ScannedOrder.{has};
 ghost use Rattle.stun_grammar.specs.Adding.{numbers, first_of};
 
+use crate::attribute::AttributeType;
+use crate::message::StunWriteError;
 use crate::writing::{first_among, is_among};
 use smallvec::SmallVec;
 use std::alloc::Global;
 use std::fmt;
 use std::marker::Model;
-use stun_base::{AttributeType, StunWriteError};
 use stun_grammar::attribute_types::is_ending;
 
 /// The types of the attributes written, in order. While no ending type is written, an add takes

@@ -2,11 +2,12 @@
 
 ghost use Rattle.std.specs.Prelude.{◌≡◌, ◌-◌, ◌≤◌, ◌++◌, [], IsOk, OnOk, OnErr, replicate, vec_len, vec_capacity};
 
+use crate::attribute::{AttributeType, AttributeWrite};
+use crate::message::StunWriteError;
 use crate::writing::append::{append_sized, write_at};
 use crate::writing::{MessageWrite, WrittenTypes, append_value};
 use std::alloc::{AllocError, Global};
-use stun_attributes::AttributeWrite;
-use stun_base::{AttributeType, StunWriteError, pad_attribute_len};
+use stun_base::pad_attribute_len;
 
 /// Writes a message (RFC 8489, section 5) into a vector, which grows as needed. The types of
 /// sixteen attributes need no memory; those of more are kept in memory of the same allocator. A

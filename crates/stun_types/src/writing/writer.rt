@@ -6,8 +6,8 @@ ghost use Rattle.stun_grammar.specs.ScannedOrder.{has};
 ghost use Rattle.stun_grammar.specs.Adding.{numbers, first_of, Fits};
 ghost use Rattle.stun_types.specs.Writers.{Writer, HasRoomFor, Extends, Pushes, PushesAttribute};
 
-use stun_attributes::AttributeWrite;
-use stun_base::{AttributeType, StunWriteError};
+use crate::attribute::{AttributeType, AttributeWrite};
+use crate::message::StunWriteError;
 
 /// A destination of messages: a writer of a header and attributes (RFC 8489, sections 5 and 14).
 /// `MessageWriteVec` writes to a vector, `MessageWriteMutSlice` to a borrowed slice, and a type of

@@ -12,9 +12,8 @@ ghost use Rattle.stun_types.specs.Writers.{BeginsMessage, IsBegun, Pushes};
 ghost use Rattle.stun_types.specs.Message.{message_bytes};
 ghost use Rattle.stun_types.specs.Replies.{is_answer_to, response_type};
 
-use crate::message::Message;
+use crate::message::{Message, MessageClass, MessageType, StunWriteError};
 use crate::writing::MessageWrite;
-use stun_base::{MessageClass, MessageType, StunWriteError};
 
 /// The law of responses: a message that may be written with the type of a response to a request and
 /// with its transaction ID answers the request, whatever its attributes. The function does nothing:

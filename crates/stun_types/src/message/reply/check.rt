@@ -9,10 +9,10 @@ ghost use Rattle.stun_types.specs.Writers.{IsUnchanged};
 ghost use Rattle.stun_types.specs.Message.{message_bytes};
 ghost use Rattle.stun_types.specs.Replies.{unknown_types, lacks, check_reply, IsReply, IsReplyAnswer, Replies};
 
-use crate::message::{Message, UnknownTypes};
+use crate::attribute::AttributeType;
+use crate::message::{Message, StunWriteError, UnknownTypes};
 use crate::writing::MessageWrite;
 use std::alloc::{AllocError, Global};
-use stun_base::{AttributeType, StunWriteError};
 
 /// The unknown types that the message shows.
 fn unknown_types_of(

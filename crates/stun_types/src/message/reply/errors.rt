@@ -9,11 +9,10 @@ ghost use Rattle.stun_types.specs.Message.{message_bytes};
 ghost use Rattle.stun_types.specs.Replies.{bad_reply, unknown_reply, IsReply, IsReplyAnswer, Replies};
 
 use super::parts::{ReplyPart, write_reply};
-use crate::message::Message;
+use crate::attribute::{AttributeType, ErrorCode};
+use crate::message::{Message, StunWriteError};
 use crate::writing::MessageWrite;
 use std::alloc::Global;
-use stun_attributes::ErrorCode;
-use stun_base::{AttributeType, StunWriteError};
 
 impl Message<'_> {
     /// Writes the reply to a malformed request: an error response with the SOFTWARE `stun-types`

@@ -16,11 +16,10 @@ ghost use Rattle.stun_types.specs.Writers.{IsUnchanged, Spends, KeepsHeader, Gai
 ghost use Rattle.stun_types.specs.Message.{message_bytes};
 ghost use Rattle.stun_types.specs.Replies.{error_attribute, Replies, attribute_of, IsMakeable, AddsMade};
 
-use crate::message::Message;
+use crate::attribute::{AttributeType, AttributeWrite, ErrorCode, Software, UnknownAttributes};
+use crate::message::{Message, StunWriteError};
 use crate::writing::{MessageWrite, MessageWriteExt};
 use std::alloc::Global;
-use stun_attributes::{AttributeWrite, ErrorCode, Software, UnknownAttributes};
-use stun_base::{AttributeType, StunWriteError};
 
 /// An attribute of a reply.
 #[derive(Clone, Copy)]

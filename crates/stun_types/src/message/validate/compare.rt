@@ -7,11 +7,9 @@ ghost use Rattle.stun_grammar.specs.Verdicts.{hmac_fault, covered_bytes, verdict
 ghost use Rattle.stun_keys.specs.Keys.{key_bytes};
 ghost use Rattle.stun_types.specs.Validating.{shown_integrity};
 
+use crate::message::{IntegrityAlgorithm, IntegrityKey, ValidateError};
 use crate::reading::IntegrityAt;
 use stun_attributes::{hmac_sha1_at, hmac_sha256_at, same_bytes};
-use stun_base::ValidateError;
-use stun_grammar::IntegrityAlgorithm;
-use stun_keys::keys::IntegrityKey;
 
 /// Whether the value of an integrity attribute is a prefix of the HMAC of the bytes that it covers.
 /// The attribute's header is at `offset`. All bytes of the value are compared, even after a

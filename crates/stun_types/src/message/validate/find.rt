@@ -7,9 +7,9 @@ ghost use Rattle.stun_grammar.specs.declared.integrity_algorithm.IntegrityAlgori
 ghost use Rattle.stun_types.specs.Offsets.{OffsetsOf};
 ghost use Rattle.stun_types.specs.Validating.{shown_integrity, IsChecked};
 
+use crate::attribute::AttributeType;
+use crate::message::{IntegrityAlgorithm, StunParseError, ValidateError};
 use crate::reading::{IntegrityAt, IntegrityOffsets};
-use stun_base::{AttributeType, StunParseError, ValidateError};
-use stun_grammar::IntegrityAlgorithm;
 use stun_grammar::attribute_types::MESSAGE_INTEGRITY;
 use stun_values::check_hmac_length;
 

@@ -1,17 +1,16 @@
 //! How every writer adds an attribute: what is checked, and what is appended.
 
+use crate::attribute::{AttributeType, AttributeWrite};
+use crate::message::{
+    AddError, IntegrityAlgorithm, IntegrityKey, MessageClass, MessageIntegrityCredentials,
+    MessageType, Method, StunWriteError, TransactionId,
+};
 use crate::writing::protect::{push_fingerprint, push_integrity};
 use crate::writing::readers::written_header;
 use crate::writing::refusals::{Addition, check_add};
 use crate::writing::{MessageWrite, MessageWriteExt};
 use std::alloc::Global;
-use stun_attributes::AttributeWrite;
-use stun_base::{
-    AddError, AttributeType, MessageClass, MessageType, Method, StunWriteError, TransactionId,
-    pad_attribute_len,
-};
-use stun_grammar::IntegrityAlgorithm;
-use stun_keys::keys::{IntegrityKey, MessageIntegrityCredentials};
+use stun_base::pad_attribute_len;
 use stun_values::hmac_length;
 
 impl<W: MessageWrite> MessageWriteExt for W {
