@@ -1,7 +1,9 @@
 //! Attributes whose values have a form of the library, and their numbers and names.
 
 use crate::{Change, Transmissions, attribute_types};
-use stun_types::attribute::{AddressAttribute, AttributeKind, BytesAttribute, PackedAttribute, ValueBytes};
+use stun_types::attribute::{
+    AddressAttribute, AttributeKind, BytesAttribute, PackedAttribute, ValueBytes,
+};
 
 /// MAPPED-ADDRESS: the address that a request came from, as it is (RFC 8489, section 14.1). The
 /// value is 8 bytes for IPv4 and 20 for IPv6.

@@ -11,7 +11,11 @@ mod transmissions;
 
 pub use attribute_types::{KNOWN, known_type};
 pub use change::Change;
-pub use kinds::{ChangeRequest, ChangeRequestKind, MappedAddress, MappedAddressKind, OtherAddress, OtherAddressKind, Padding, PaddingKind, ResponseOrigin, ResponseOriginKind, TransactionTransmitCounter, TransactionTransmitCounterKind};
+pub use kinds::{
+    ChangeRequest, ChangeRequestKind, MappedAddress, MappedAddressKind, OtherAddress,
+    OtherAddressKind, Padding, PaddingKind, ResponseOrigin, ResponseOriginKind,
+    TransactionTransmitCounter, TransactionTransmitCounterKind,
+};
 pub use laws::{fields_are_held, response_port_is_read_back};
 pub use response_port::ResponsePort;
 pub use transmissions::Transmissions;

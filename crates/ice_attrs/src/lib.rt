@@ -16,7 +16,10 @@ mod symmetry;
 pub use attribute_types::{KNOWN, known_type};
 pub use credentials::{CheckUsername, Ufrag, is_password};
 pub use formula::{pair_priority, priority};
-pub use kinds::{IceControlled, IceControlledKind, IceControlling, IceControllingKind, Priority, PriorityKind, UseCandidate, UseCandidateKind};
+pub use kinds::{
+    IceControlled, IceControlledKind, IceControlling, IceControllingKind, Priority, PriorityKind,
+    UseCandidate, UseCandidateKind,
+};
 pub use laws::{greater_tiebreaker_controls, one_split};
 pub use pacing::{DEFAULT_TA, LEAST_RTO, LEAST_TA, agreed_ta, check_rto, gathering_rto};
 pub use roles::{Role, RoleDecision, decide_role};

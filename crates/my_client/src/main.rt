@@ -4,7 +4,9 @@
 use std::alloc::Global;
 use std::io;
 use stun_types::attribute::Software;
-use stun_types::message::{BINDING, Message, MessageClass, MessageType, MessageWriteVec, StunWriteError, TransactionId};
+use stun_types::message::{
+    BINDING, Message, MessageClass, MessageType, MessageWriteVec, StunWriteError, TransactionId,
+};
 use stun_types::prelude::*;
 
 /// The bytes of a binding request that names what made it.

@@ -12,7 +12,10 @@ mod userhash;
 pub use compare::same_bytes;
 pub use covered::{fingerprint_at, hmac_sha1_at, hmac_sha256_at};
 pub use fingerprint::Fingerprint;
-pub use laws::{fingerprint_is_read_back, integrity_is_read_back, integrity_sha256_is_read_back, integrity_types_are_read_back, userhash_is_read_back};
+pub use laws::{
+    fingerprint_is_read_back, integrity_is_read_back, integrity_sha256_is_read_back,
+    integrity_types_are_read_back, userhash_is_read_back,
+};
 pub use message_integrity::MessageIntegrity;
 pub use message_integrity_sha256::MessageIntegritySha256;
 pub use userhash::Userhash;

@@ -29,7 +29,10 @@ ghost use Rattle.stun_attributes.specs.Texts.{text_bytes};
 ghost use Rattle.stun_attributes.specs.Unknown.{ReadsTypes, listed};
 
 use crate::wire::{Attribute, AttributeFromRaw, EncodeValue, ReadValue};
-use crate::{AlternateDomain, AlternateServer, ErrorCode, Nonce, PasswordAlgorithm, PasswordAlgorithms, Realm, Software, TextAttribute, UnknownAttributes, Username, XorMappedAddress};
+use crate::{
+    AlternateDomain, AlternateServer, ErrorCode, Nonce, PasswordAlgorithm, PasswordAlgorithms,
+    Realm, Software, TextAttribute, UnknownAttributes, Username, XorMappedAddress,
+};
 
 /// A text has one reading, unless out of memory.
 #[tactic(auto, using(crate::proofs::TextsLemmas::read_back))]

@@ -27,9 +27,22 @@ mod xored;
 pub use alternate_domain::AlternateDomain;
 pub use alternate_server::{AlternateServer, AlternateServerKind};
 pub use error_code::{ErrorCode, ErrorCodeBuilder};
-pub use integrity::{Fingerprint, MessageIntegrity, MessageIntegritySha256, Userhash, fingerprint_at, fingerprint_is_read_back, hmac_sha1_at, hmac_sha256_at, integrity_is_read_back, integrity_sha256_is_read_back, integrity_types_are_read_back, same_bytes, userhash_is_read_back};
-pub use kinds::{AddressAttribute, AttributeKind, BytesAttribute, EmptyAttribute, NumberAttribute, PackedAttribute, PackedKind, ValueBytes, XorAddressAttribute, address_attribute_is_read_back, bytes_are_read_back, empty_is_read_back, number_attribute_is_read_back, number_is_read_back, packed_attribute_is_read_back};
-pub use laws::{algorithm_is_read_back, algorithms_are_read_back, attribute_types_are_read_back, error_is_read_back, text_is_read_back, types_are_read_back, xor_twice};
+pub use integrity::{
+    Fingerprint, MessageIntegrity, MessageIntegritySha256, Userhash, fingerprint_at,
+    fingerprint_is_read_back, hmac_sha1_at, hmac_sha256_at, integrity_is_read_back,
+    integrity_sha256_is_read_back, integrity_types_are_read_back, same_bytes,
+    userhash_is_read_back,
+};
+pub use kinds::{
+    AddressAttribute, AttributeKind, BytesAttribute, EmptyAttribute, NumberAttribute,
+    PackedAttribute, PackedKind, ValueBytes, XorAddressAttribute, address_attribute_is_read_back,
+    bytes_are_read_back, empty_is_read_back, number_attribute_is_read_back, number_is_read_back,
+    packed_attribute_is_read_back,
+};
+pub use laws::{
+    algorithm_is_read_back, algorithms_are_read_back, attribute_types_are_read_back,
+    error_is_read_back, text_is_read_back, types_are_read_back, xor_twice,
+};
 pub use mapped::MappedSocketAddr;
 pub use nonce::Nonce;
 pub use password_algorithm::PasswordAlgorithm;
@@ -39,6 +52,10 @@ pub use software::Software;
 pub use text::TextAttribute;
 pub use unknown_attributes::UnknownAttributes;
 pub use username::Username;
-pub use wire::{Attribute, AttributeFromRaw, AttributeStaticType, AttributeWrite, BorrowValue, EncodeValue, RawAttribute, ReadValue, TypedAttribute, attribute_at, borrowed_attribute, check_type, copy_to_start, owned_attribute, print_malformed, to_owned_raw, write_attribute, write_encoded};
+pub use wire::{
+    Attribute, AttributeFromRaw, AttributeStaticType, AttributeWrite, BorrowValue, EncodeValue,
+    RawAttribute, ReadValue, TypedAttribute, attribute_at, borrowed_attribute, check_type,
+    copy_to_start, owned_attribute, print_malformed, to_owned_raw, write_attribute, write_encoded,
+};
 pub use xor_mapped_address::{XorMappedAddress, XorMappedAddressKind};
 pub use xored::XorSocketAddr;

@@ -7,7 +7,9 @@ use std::fmt;
 use stun_base::{StunParseError, StunWriteError};
 use stun_grammar::attribute_types;
 use stun_text::{PrintText, TextSink};
-use stun_values::{PasswordAlgorithmValue, check_algorithms, print_algorithms, read_algorithm, write_algorithms};
+use stun_values::{
+    PasswordAlgorithmValue, check_algorithms, print_algorithms, read_algorithm, write_algorithms,
+};
 
 /// PASSWORD-ALGORITHMS: the algorithms that a server supports for passwords, the preferred one
 /// first (RFC 8489, section 14.11).

@@ -9,7 +9,10 @@ ghost use Rattle.stun_bench.specs.Answers.{none, algorithm_of as algorithm_repor
 use crate::reading::{offset_of, prefix};
 use std::alloc::Global;
 use stun_attributes::{hmac_sha1_at, hmac_sha256_at};
-use stun_types::message::{IntegrityAlgorithm, IntegrityKey, LongTermKeyCredentials, Message, MessageIntegrityCredentials, ShortTermCredentials, StunWriteError, ValidateError};
+use stun_types::message::{
+    IntegrityAlgorithm, IntegrityKey, LongTermKeyCredentials, Message, MessageIntegrityCredentials,
+    ShortTermCredentials, StunWriteError, ValidateError,
+};
 
 /// What a workload returns if it can't be run.
 pub const NONE: u64 = u64::MAX;

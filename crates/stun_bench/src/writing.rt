@@ -9,7 +9,10 @@ use crate::keys::{NONE, algorithm_of, short_key};
 use crate::typed::text_answer;
 use std::alloc::Global;
 use stun_types::attribute::{AttributeType, RawAttribute, Username};
-use stun_types::message::{BINDING, IntegrityAlgorithm, IntegrityKey, Message, MessageClass, MessageHeader, MessageType, MessageWriteMutSlice, MessageWriteVec, StunWriteError, TransactionId};
+use stun_types::message::{
+    BINDING, IntegrityAlgorithm, IntegrityKey, Message, MessageClass, MessageHeader, MessageType,
+    MessageWriteMutSlice, MessageWriteVec, StunWriteError, TransactionId,
+};
 use stun_types::prelude::*;
 
 /// The value of PRIORITY.

@@ -14,7 +14,10 @@ mod stored_stream;
 mod stream_kind;
 
 pub use error::{StreamError, StreamFault};
-pub use laws::{calls_go_on, cuts_change_nothing, faults_are_right, messages_are_framed, one_cut, resuming_changes_nothing};
+pub use laws::{
+    calls_go_on, cuts_change_nothing, faults_are_right, messages_are_framed, one_cut,
+    resuming_changes_nothing,
+};
 pub use message_stream::MessageStream;
 pub use stored_stream::{Pushed, push_raw};
 pub use stream_kind::StreamKind;

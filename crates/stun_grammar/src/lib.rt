@@ -21,6 +21,13 @@ pub use adding_laws::{fingerprint_has_length, hmac_has_length, message_grows, st
 pub use attribute_type::{AttributeType, put_type_debug};
 pub use error::{AddError, StunParseError, StunWriteError, ValidateError};
 pub use integrity_algorithm::IntegrityAlgorithm;
-pub use integrity_laws::{integrity_has_origin, integrity_is_exact, integrity_is_exact_with_key, integrity_is_local, integrity_is_local_with_key, step_is_written, steps_are_read_back};
-pub use laws::{canonical_is_attribute, encoding_grows, encoding_is_read_back, incomplete_header, length_is_stated, one_any_order, one_chain, one_longest_prefix, one_order, one_spelling, prefix_of_chain, refusals_of_parsing, right_fingerprint, written_is_read_back};
+pub use integrity_laws::{
+    integrity_has_origin, integrity_is_exact, integrity_is_exact_with_key, integrity_is_local,
+    integrity_is_local_with_key, step_is_written, steps_are_read_back,
+};
+pub use laws::{
+    canonical_is_attribute, encoding_grows, encoding_is_read_back, incomplete_header,
+    length_is_stated, one_any_order, one_chain, one_longest_prefix, one_order, one_spelling,
+    prefix_of_chain, refusals_of_parsing, right_fingerprint, written_is_read_back,
+};
 pub use numbered::put_numbered;

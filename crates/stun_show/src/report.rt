@@ -14,7 +14,9 @@ use std::alloc::{AllocError, Global};
 use stun_base::Hex;
 use stun_keys::keys::key_of_bytes;
 use stun_types::attribute::RawAttribute;
-use stun_types::message::{IntegrityAlgorithm, Message, MessageHeader, StunParseError, ValidateError};
+use stun_types::message::{
+    IntegrityAlgorithm, Message, MessageHeader, StunParseError, ValidateError,
+};
 
 /// How a run ends that has written a report.
 #[derive(Debug, Clone, Copy, PartialEq, Eq)]

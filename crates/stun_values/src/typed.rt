@@ -4,7 +4,12 @@ ghost use Rattle.std.specs.Prelude.{◌≡◌, ℕ, Some, None, MatchOption, Mat
 ghost use Rattle.stun_values.specs.Typed.{rule_fault, rule_text, value_fault, value_text};
 ghost use Rattle.stun_values.specs.TypedValues.{typed_text};
 
-use crate::{AlgorithmList, PasswordAlgorithmValue, Rule, check_hash_length, check_hmac_length, check_types, print_address, print_algorithm, print_error, print_hex, print_plain, print_quoted, print_types_in, print_xored, read_address, read_checksum, read_error, read_one, read_text, rule_of};
+use crate::{
+    AlgorithmList, PasswordAlgorithmValue, Rule, check_hash_length, check_hmac_length, check_types,
+    print_address, print_algorithm, print_error, print_hex, print_plain, print_quoted,
+    print_types_in, print_xored, read_address, read_checksum, read_error, read_one, read_text,
+    rule_of,
+};
 use std::net::SocketAddr;
 use stun_base::{AttributeType, StunParseError};
 use stun_text::TextSink;

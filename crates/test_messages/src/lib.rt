@@ -2,7 +2,10 @@
 #![tactic(auto)]
 
 use std::alloc::{AllocError, Global};
-use stun_types::message::{LongTermKeyCredentials, MessageAttributesIter, MessageIntegrityCredentials, ShortTermCredentials};
+use stun_types::message::{
+    LongTermKeyCredentials, MessageAttributesIter, MessageIntegrityCredentials,
+    ShortTermCredentials,
+};
 
 /// A SOFTWARE with an empty value.
 pub const SOFTWARE: [u8; 4] = [0x80, 0x22, 0x00, 0x00];

@@ -1,7 +1,9 @@
 ghost use Rattle.std.specs.Prelude.{◌≡◌};
 ghost use Rattle.turn_attrs.specs.Turn.{family_byte, family_of_byte};
 
-use crate::{AdditionalAddressFamilyKind, EvenPortKind, RequestedAddressFamilyKind, RequestedTransportKind};
+use crate::{
+    AdditionalAddressFamilyKind, EvenPortKind, RequestedAddressFamilyKind, RequestedTransportKind,
+};
 use std::fmt;
 use stun_types::attribute::PackedKind;
 use stun_types::{AddressFamily, PrintText, TextSink};

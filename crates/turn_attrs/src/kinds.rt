@@ -2,7 +2,10 @@
 
 use crate::{Channel, IcmpError, Ipv6AddressFamily, attribute_types};
 use stun_types::AddressFamily;
-use stun_types::attribute::{AttributeKind, BytesAttribute, EmptyAttribute, NumberAttribute, PackedAttribute, ValueBytes, XorAddressAttribute};
+use stun_types::attribute::{
+    AttributeKind, BytesAttribute, EmptyAttribute, NumberAttribute, PackedAttribute, ValueBytes,
+    XorAddressAttribute,
+};
 
 /// CHANNEL-NUMBER: the channel that a peer is bound to (RFC 8656, section 18.1). The value is the
 /// number of the channel in two bytes, big-endian, and two bytes that are written 0 and ignored.

@@ -25,7 +25,14 @@ pub use channel_data::{ChannelData, ChannelDataError, channel_data_length};
 pub use channels::Channel;
 pub use family::Ipv6AddressFamily;
 pub use icmp::IcmpError;
-pub use kinds::{AccessToken, AccessTokenKind, AdditionalAddressFamily, AdditionalAddressFamilyKind, ChannelNumber, ChannelNumberKind, ConnectionId, ConnectionIdKind, DataKind, DontFragment, DontFragmentKind, EvenPort, EvenPortKind, Icmp, IcmpKind, MobilityTicket, MobilityTicketKind, PeerData, RequestedAddressFamily, RequestedAddressFamilyKind, RequestedTransport, RequestedTransportKind, ReservationToken, ReservationTokenKind, XorPeerAddress, XorPeerAddressKind, XorRelayedAddress, XorRelayedAddressKind};
+pub use kinds::{
+    AccessToken, AccessTokenKind, AdditionalAddressFamily, AdditionalAddressFamilyKind,
+    ChannelNumber, ChannelNumberKind, ConnectionId, ConnectionIdKind, DataKind, DontFragment,
+    DontFragmentKind, EvenPort, EvenPortKind, Icmp, IcmpKind, MobilityTicket, MobilityTicketKind,
+    PeerData, RequestedAddressFamily, RequestedAddressFamilyKind, RequestedTransport,
+    RequestedTransportKind, ReservationToken, ReservationTokenKind, XorPeerAddress,
+    XorPeerAddressKind, XorRelayedAddress, XorRelayedAddressKind,
+};
 pub use laws::{address_error_is_read_back, channel_data_is_framed, fields_are_held};
 pub use lifetime::Lifetime;
 pub use lifetimes::{DEFAULT_LIFETIME, allocation_lifetime, refresh_lifetime};

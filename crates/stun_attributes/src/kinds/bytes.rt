@@ -4,7 +4,10 @@ ghost use Rattle.std.specs.Prelude.{◌≤◌, length};
 ghost use Rattle.stun_base.specs.Data.{data_bytes};
 
 use crate::kinds::AttributeKind;
-use crate::wire::{Attribute, AttributeFromRaw, AttributeStaticType, AttributeWrite, BorrowValue, RawAttribute, borrowed_attribute, check_type, write_attribute};
+use crate::wire::{
+    Attribute, AttributeFromRaw, AttributeStaticType, AttributeWrite, BorrowValue, RawAttribute,
+    borrowed_attribute, check_type, write_attribute,
+};
 use std::alloc::Global;
 use std::fmt;
 use std::marker::PhantomData;

@@ -15,7 +15,10 @@ ghost use Rattle.stun_attributes.specs.declared.kinds.number.NumberAttribute.{Nu
 ghost use Rattle.stun_attributes.specs.declared.kinds.xored.XorAddressAttribute.{XorAddressAttribute};
 ghost use Rattle.stun_attributes.specs.Kinds.{addr_of, bytes_of, fields_held, number_of, xored_of};
 
-use crate::kinds::{AddressAttribute, AttributeKind, BytesAttribute, EmptyAttribute, NumberAttribute, PackedAttribute, PackedKind, ValueBytes, XorAddressAttribute};
+use crate::kinds::{
+    AddressAttribute, AttributeKind, BytesAttribute, EmptyAttribute, NumberAttribute,
+    PackedAttribute, PackedKind, ValueBytes, XorAddressAttribute,
+};
 use crate::wire::{Attribute, AttributeFromRaw, EncodeValue, ReadValue};
 
 /// A number of one, two, four or eight bytes has one reading.

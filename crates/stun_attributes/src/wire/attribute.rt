@@ -9,7 +9,9 @@ ghost use Rattle.stun_grammar.specs.Attributes.{header_encoding, attribute_encod
 
 use crate::wire::RawAttribute;
 use std::alloc::Global;
-use stun_base::{AttributeHeader, AttributeType, StunParseError, StunWriteError, pad_attribute_len};
+use stun_base::{
+    AttributeHeader, AttributeType, StunParseError, StunWriteError, pad_attribute_len,
+};
 
 /// An attribute of a message: a type, and a value of at most 65535 bytes (RFC 8489, section 14).
 ///

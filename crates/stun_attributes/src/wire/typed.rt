@@ -5,7 +5,10 @@ ghost use Rattle.stun_grammar.specs.declared.error.StunParseError.{StunParseErro
 ghost use Rattle.stun_attributes.specs.Raw.{raw_type, raw_value};
 ghost use Rattle.stun_attributes.specs.Reading.{ReadsTyped};
 
-use crate::wire::{Attribute, AttributeFromRaw, AttributeStaticType, AttributeWrite, EncodeValue, RawAttribute, borrowed_attribute, check_type, to_owned_raw, write_encoded};
+use crate::wire::{
+    Attribute, AttributeFromRaw, AttributeStaticType, AttributeWrite, EncodeValue, RawAttribute,
+    borrowed_attribute, check_type, to_owned_raw, write_encoded,
+};
 use std::alloc::Global;
 use stun_base::{AttributeType, StunParseError, StunWriteError};
 
