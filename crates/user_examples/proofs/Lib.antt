@@ -5,3 +5,4 @@ mod MyValueLemmas
 mod WhoseLemmas
 mod BehindLemmas
 mod TwoWritersLemmas
+mod KindsLemmas

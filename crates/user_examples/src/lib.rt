@@ -13,6 +13,7 @@ mod header;
 mod hops;
 mod in_array;
 mod in_slice;
+mod kinds;
 mod literal;
 mod my_attribute;
 mod note;
@@ -21,6 +22,7 @@ mod owned;
 mod pushed;
 mod request;
 mod room;
+mod there;
 mod two_writers;
 mod whose;
 mod write_fixed;
@@ -34,6 +36,10 @@ pub use header::{header_behind_adds, header_in_forty, header_in_vector};
 pub use hops::{Hops, HopsKind, hops_there_and_back};
 pub use in_array::{signed_in_array, steps_in_array};
 pub use in_slice::software_in_slice;
+pub use kinds::{
+    Home, HomeKind, Marker, MarkerKind, Quiet, QuietKind, home_there_and_back,
+    marker_there_and_back, quiet_there_and_back,
+};
 pub use literal::{add_by_match, add_if_short, add_or_return};
 pub use my_attribute::{MyAttribute, my_attribute_is_read_back};
 pub use note::{Note, NoteKind, note_of, note_there_and_back};
