@@ -330,7 +330,7 @@ stun_types_cursor stun_types_cursor_first(void);
    sections 14.5 to 14.7). False if there are no more, and from then on: cursor and attribute stay
    as they were. The bytes need not parse: they show nothing if they have no header or another
    length than it states. A call reads one attribute, and a whole walk each attribute once.
-   The cursor may be any, and what is yielded lies within the bytes. With a message of another length
+   The cursor may be any, and what is yielded is within the bytes. With a message of another length
    or transaction ID than that of the last attribute, it reads as many attributes as it has yielded
    again, and yields the next one. With other bytes of the same length and ID, it yields what begins
    at its offset, which may be within a value. It yields none if `reserved` isn't 0. */

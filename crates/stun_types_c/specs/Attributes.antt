@@ -22,7 +22,7 @@ pub record TakesFirst (at : Place) (found : ShownAttribute) (next : Place) (d : 
   pub shows : shown_behind at.last at.offset d ≡ first ∷ shown_behind next.last next.offset d
   pub is_first : found ≡ in_c first
 
--- a place of d behind its header from where on d shows these attributes
+-- a place of d after its header, from which on d shows these attributes
 pub record IsPlaceOf (attributes : List Shown) (d : List ℕ) (at : Place) : Type 0 where
   pub behind : 20 ≤ at.offset
   pub within : at.offset ≤ length d
