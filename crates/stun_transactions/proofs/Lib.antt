@@ -1,5 +1,5 @@
 mod FirstPollLemmas
-mod PartsLemmas
+pub mod PartsLemmas
 mod PreparingLemmas
 mod RowsLemmas
 mod RunsLemmas

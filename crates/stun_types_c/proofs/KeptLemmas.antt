@@ -1,44 +1,34 @@
 -- A transaction that C keeps as numbers.
-use Rattle.std.proofs.Common.{◌≡◌, ℕ, zero, suc, ◌+◌, ◌-◌, ◌/◌, ◌%◌, ◌^◌, ◌<◌, ◌≤◌, Bool, true, false, List, Option, None, Some, refl, sym, ap, subst, ◌∙◌, inl, inr, arith}
-use Rattle.std.specs.Prelude.{is_some, nat_lt, min, not, ◌&&◌, ◌==◌, if◌then◌else◌}
+use Rattle.std.proofs.Common.{◌≡◌, ℕ, zero, suc, ◌-◌, ◌/◌, ◌%◌, ◌^◌, ◌<◌, ◌≤◌, Bool, true, false, List, Option, None, Some, refl, sym, ap, subst, ◌∙◌, inl, inr, arith}
+use Rattle.std.specs.Prelude.{is_some, nat_lt, min, ◌==◌, if◌then◌else◌}
 use Rattle.std.specs.Int.{from_bool}
 use Rattle.std.specs.Duration.{as_nanos}
-use Rattle.std.specs.Option.{option_or}
 use Rattle.std.specs.declared.time.Duration.{Duration}
 use Rattle.std.proofs.Math.Nat.{mul-div_cancel, min-eq_left}
-use Rattle.std.proofs.lemmas.Bool.{cases_Bool, ltb-true, ltb-false, le-ltb}
-use Rattle.stun_grammar.specs.Headers.{type_field}
+use Rattle.std.proofs.lemmas.Bool.{cases_Bool}
 use Rattle.stun_base.specs.declared.transport.TransportType.{TransportType}
 use Rattle.stun_base.specs.declared.transport.TransportType.TheVariants.{Udp, Tcp}
-use Rattle.stun_base.specs.MessageTypes.{class_of}
 use Rattle.stun_transactions.specs.declared.retransmission.Action.{Action}
 use Rattle.stun_transactions.specs.declared.retransmission.Action.TheVariants.{Send, WaitUntil, Ended}
 use Rattle.stun_transactions.specs.declared.retransmission.RetransmissionState.{RetransmissionState}
 use Rattle.stun_transactions.specs.declared.retransmission.TransactionEnd.{TransactionEnd}
 use Rattle.stun_transactions.specs.declared.retransmission.TransactionEnd.TheVariants.{Answered, TimedOut, IntegrityViolated, Refused, Cancelled, TransportFailed}
-use Rattle.stun_transactions.specs.declared.guard.Protection.{Protection}
-use Rattle.stun_transactions.specs.declared.guard.Protection.TheVariants.{Unprotected, FirstLongTerm, ShortTerm, LongTerm}
-use Rattle.stun_transactions.specs.declared.guard.Signed.{Signed}
-use Rattle.stun_transactions.specs.declared.terms.BeginError.{BeginError}
-use Rattle.stun_transactions.specs.declared.terms.BeginError.TheVariants.{NotARequest}
+use Rattle.stun_transactions.specs.declared.parts.Mechanism.{Mechanism}
 use Rattle.stun_transactions.specs.declared.parts.PartsError.{PartsError}
-use Rattle.stun_transactions.specs.declared.parts.PartsError.TheVariants.{SignedOtherwise, SentTooOften, SentTooLate}
 use Rattle.stun_transactions.specs.declared.parts.TransactionParts.{TransactionParts}
 use Rattle.stun_transactions.specs.declared.plan.Plan.{Plan}
 use Rattle.stun_transactions.specs.declared.received.Discard.TheVariants.{NotAuthentic, OtherAlgorithm, BidDown, UnsignedBadRequest, NoFingerprint}
 use Rattle.stun_transactions.specs.declared.received.Outcome.{Outcome}
 use Rattle.stun_transactions.specs.declared.received.Outcome.TheVariants.{NotForThis, Discarded, Failed, Success, Error}
 use Rattle.stun_transactions.specs.declared.schedule.Schedule.{Schedule}
-use Rattle.stun_transactions.specs.declared.transaction.Transaction.{Transaction}
 use Rattle.stun_transactions.specs.declared.response_policy.ResponsePolicy.{ResponsePolicy}
-use Rattle.stun_transactions.specs.Retransmissions.{later, ended_by, stopped_by, Polls}
+use Rattle.stun_transactions.specs.Retransmissions.{later, begun, ended_by, stopped_by, Polls}
 use Rattle.stun_transactions.specs.Outcomes.{after}
-use Rattle.stun_transactions.specs.Parts.{plan_in, state_in, at_state, mechanism_of, signs, parts_of, is_signed_otherwise, parts_fault}
-use Rattle.stun_transactions.specs.Schedules.{requests_over, requests_in}
-use Rattle.stun_transactions.specs.Guards.{signed_by, is_signed, protects}
-use Rattle.stun_authentication.specs.LongTerm.{is_request}
-use Rattle.stun_transactions.specs.Terms.{mismatch, request_fault, key_misfit, begin_fault}
-use Rattle.stun_transactions.specs.Transactions.{terms_of, state_of, Begins}
+use Rattle.stun_transactions.specs.Parts.{at_state, parts_fault}
+use Rattle.stun_transactions.specs.Schedules.{requests_over}
+use Rattle.stun_transactions.specs.Guards.{signs}
+use Rattle.stun_transactions.specs.Beginning.{request_fault, request_parts}
+use Rattle.stun_transactions.proofs.PartsLemmas.{begun_sound, polled as sound_polled, ended as sound_ended, stopped as sound_stopped, received as sound_received}
 use Rattle.stun_types_c.specs.declared.call_result.CResult.{CResult}
 use Rattle.stun_types_c.specs.declared.transactions.CTransaction.{CTransaction}
 use Rattle.stun_types_c.specs.declared.transactions.CSchedule.{CSchedule}
@@ -58,7 +48,7 @@ end_numbered n = if n == 0 then None else (
     if n == 5 then Some Cancelled else Some TransportFailed)))))
 
 -- a number says which integrity attributes there are
-pub signed_is : (n : ℕ) (sha1 sha256 : Bool) → n ≡ signed_number sha1 sha256 → (sha1 ≡ (n % 2 == 1)) × (sha256 ≡ nat_lt 1 n)
+pub signed_is : (n : ℕ) (sha1 sha256 : Bool) → n ≡ signed_number (record { sha1 = sha1; sha256 = sha256 }) → (sha1 ≡ (n % 2 == 1)) × (sha256 ≡ nat_lt 1 n)
 signed_is n true true is = rw is (refl, refl)
 signed_is n true false is = rw is (refl, refl)
 signed_is n false true is = rw is (refl, refl)
@@ -69,7 +59,7 @@ bit_reported zero few = refl
 bit_reported (suc zero) few = refl
 bit_reported (suc (suc n)) few = absurd (omega (arith, few))
 
-pub signed_reported : (n : ℕ) → n ≤ 3 → n ≡ signed_number (n % 2 == 1) (nat_lt 1 n)
+pub signed_reported : (n : ℕ) → n ≤ 3 → n ≡ signed_number (record { sha1 = n % 2 == 1; sha256 = nat_lt 1 n })
 signed_reported zero few = refl
 signed_reported (suc zero) few = refl
 signed_reported (suc (suc zero)) few = refl
@@ -102,8 +92,8 @@ bit_back false = refl
 
 same_meant : (kept : CTransaction) (one other : TransactionParts) → TellsParts kept one → TellsParts kept other → AreSame one other
 same_meant kept one other a b =
-    let shown = signed_is kept.signed_by one.sha1 one.sha256 a.signed in
-    let reported = signed_is kept.signed_by other.sha1 other.sha256 b.signed in
+    let shown = signed_is kept.signed_by one.signed.sha1 one.signed.sha256 a.signed in
+    let reported = signed_is kept.signed_by other.signed.sha1 other.signed.sha256 b.signed in
     record {
       schedule = record {
         rto_is = a.schedule.numbers.rto_is ∙ sym b.schedule.numbers.rto_is;
@@ -121,9 +111,9 @@ same_meant kept one other a b =
       sent = a.state.sent ∙ sym b.state.sent;
       last = a.state.last.nanos ∙ sym b.state.last.nanos;
       clock = a.state.clock.nanos ∙ sym b.state.clock.nanos;
-      violated = sym (bit_back one.violated) ∙ ap (λ (n : ℕ). n == 1) (sym a.state.violated ∙ b.state.violated) ∙ bit_back other.violated;
-      stopped = sym (bit_back one.stopped) ∙ ap (λ (n : ℕ). n == 1) (sym a.state.stopped ∙ b.state.stopped) ∙ bit_back other.stopped;
-      end = sym (end_back one.end) ∙ ap end_numbered (sym a.state.end ∙ b.state.end) ∙ end_back other.end;
+      violated = sym (bit_back one.state.violated) ∙ ap (λ (n : ℕ). n == 1) (sym a.state.violated ∙ b.state.violated) ∙ bit_back other.state.violated;
+      stopped = sym (bit_back one.state.stopped) ∙ ap (λ (n : ℕ). n == 1) (sym a.state.stopped ∙ b.state.stopped) ∙ bit_back other.state.stopped;
+      end = sym (end_back one.state.end) ∙ ap end_numbered (sym a.state.end ∙ b.state.end) ∙ end_back other.state.end;
     }
 
 pub same_parts : (kept : CTransaction) (one other : TransactionParts) → Keeps kept one → Keeps kept other → AreSame one other
@@ -139,7 +129,7 @@ same_fault one other same =
       same.mechanism,
       same.sha1,
       same.sha256,
-      same_requests one.schedule other.schedule one.transport same.schedule.max_requests_is,
+      same_requests one.plan.schedule other.plan.schedule one.plan.transport same.schedule.max_requests_is,
       same.transport,
       same.sent,
       same.clock,
@@ -154,67 +144,6 @@ unsound kept parts other e tells fault keeps =
     absurd (let sound : parts_fault parts ≡ None = same ∙ none in cc (sound, fault))
 
 -- ---- A transaction that goes on
-
-grows : (clock now : Duration) → as_nanos clock ≤ as_nanos (later clock now)
-grows clock now = elim (cases_Bool (nat_lt (as_nanos clock) (as_nanos now))) [
-  | inl less ↦ rw less (omega (arith, ltb-true (as_nanos clock) (as_nanos now) less))
-  | inr not_less ↦ rw not_less (omega arith)
-]
-
--- if a further request is to be sent, there is room for it
-room : (stopped : Bool) (sent requests : ℕ) → (not stopped && nat_lt sent requests) ≡ true → sent < requests
-room false sent requests more = ltb-true sent requests more
-room true sent requests more = absurd cc
-
--- no test fails
-no_test : (a b c : Bool) (x y z : PartsError) → (if a then Some x else (if b then Some y else (if c then Some z else None))) ≡ None → (a ≡ false) × (b ≡ false) × (c ≡ false)
-no_test true b c x y z e = absurd cc
-no_test false true c x y z e = absurd cc
-no_test false false true x y z e = absurd cc
-no_test false false false x y z e = (refl, refl, refl)
-
-module _ (parts : TransactionParts) (none : parts_fault parts ≡ None) where
-  passes : (is_signed_otherwise parts ≡ false) × (nat_lt (requests_in (plan_in parts)) parts.sent ≡ false) × (nat_lt (as_nanos parts.clock) (as_nanos parts.last) ≡ false)
-  passes = no_test (is_signed_otherwise parts) (nat_lt (requests_in (plan_in parts)) parts.sent) (nat_lt (as_nanos parts.clock) (as_nanos parts.last)) SignedOtherwise SentTooOften SentTooLate none
-
-  often : parts.sent ≤ requests_in (plan_in parts)
-  often = ltb-false (requests_in (plan_in parts)) parts.sent passes.1
-
-  late : as_nanos parts.last ≤ as_nanos parts.clock
-  late = ltb-false (as_nanos parts.clock) (as_nanos parts.last) passes.2
-
-  sound_at : (state : RetransmissionState) → state.sent ≤ requests_in (plan_in parts) → as_nanos state.last ≤ as_nanos state.clock → parts_fault (at_state parts state) ≡ None
-  sound_at state few early =
-      rw (passes.0, le-ltb (requests_in (plan_in parts)) state.sent few, le-ltb (as_nanos state.clock) (as_nanos state.last) early) refl
-
-  sound_polled : (now : Duration) (action : Action) (state : RetransmissionState) → Polls (plan_in parts) (state_in parts) now action state → parts_fault (at_state parts state) ≡ None
-  sound_polled now Send state polls =
-      let new = record (state_in parts) { sent = parts.sent + 1; last = later parts.clock now; clock = later parts.clock now } in
-      ap (λ (c : RetransmissionState). parts_fault (at_state parts c)) polls.new_is ∙ sound_at new (omega (arith, room parts.stopped parts.sent (requests_in (plan_in parts)) polls.more)) (omega arith)
-  sound_polled now (WaitUntil until) state polls =
-      let new = record (state_in parts) { clock = later parts.clock now } in
-      ap (λ (c : RetransmissionState). parts_fault (at_state parts c)) polls.new_is ∙ sound_at new often (omega (arith, late, grows parts.clock now))
-  sound_polled now (Ended end) state (inl over) = ap (λ (c : RetransmissionState). parts_fault (at_state parts c)) over.same ∙ none
-  sound_polled now (Ended end) state (inr out) =
-      let new = record (state_in parts) { clock = later parts.clock now; end = Some end } in
-      ap (λ (c : RetransmissionState). parts_fault (at_state parts c)) out.new_is ∙ sound_at new often (omega (arith, late, grows parts.clock now))
-
-  sound_ended : (end : TransactionEnd) → parts_fault (at_state parts (ended_by end (state_in parts))) ≡ None
-  sound_ended end = elim (cases_Bool (is_some parts.end)) [ inl there ↦ rw there none | inr away ↦ rw away none ]
-
-  sound_stopped : parts_fault (at_state parts (stopped_by (state_in parts))) ≡ None
-  sound_stopped = elim (cases_Bool (is_some parts.end)) [ inl there ↦ rw there none | inr away ↦ rw away none ]
-
-  sound_received : (outcome : Outcome) → parts_fault (at_state parts (after outcome (state_in parts))) ≡ None
-  sound_received NotForThis = none
-  sound_received (Discarded NotAuthentic claim) = none
-  sound_received (Discarded OtherAlgorithm claim) = none
-  sound_received (Discarded BidDown claim) = none
-  sound_received (Discarded UnsignedBadRequest claim) = none
-  sound_received (Discarded NoFingerprint claim) = none
-  sound_received (Failed failure) = none
-  sound_received (Success proof) = none
-  sound_received (Error code proof) = none
 
 abbrev IsWhole : Duration → Type 0
 IsWhole moment = IsAt (millis_of moment) moment
@@ -266,10 +195,10 @@ received_whole (Success proof) state from = record { last = from.last; clock = f
 received_whole (Error code proof) state from = record { last = from.last; clock = from.clock }
 
 module _ (kept : CTransaction) (parts : TransactionParts) (keeps : Keeps kept parts) where
-  kept_whole : IsWholeState (state_in parts)
+  kept_whole : IsWholeState parts.state
   kept_whole = record {
-    last = is_whole kept.last parts.last keeps.tells.state.last;
-    clock = is_whole kept.clock parts.clock keeps.tells.state.clock;
+    last = is_whole kept.last parts.state.last keeps.tells.state.last;
+    clock = is_whole kept.clock parts.state.clock keeps.tells.state.clock;
   }
 
   goes_on : (state : RetransmissionState) → IsWholeState state → parts_fault (at_state parts state) ≡ None → GoesOn parts state kept (with_state kept state)
@@ -292,39 +221,39 @@ module _ (kept : CTransaction) (parts : TransactionParts) (keeps : Keeps kept pa
     };
   }
 
-  pub polled : (now : ℕ) (moment : Duration) (action : Action) (state : RetransmissionState) → IsAt now moment → Polls (plan_in parts) (state_in parts) moment action state → GoesOn parts state kept (with_state kept state)
+  pub polled : (now : ℕ) (moment : Duration) (action : Action) (state : RetransmissionState) → IsAt now moment → Polls parts.plan parts.state moment action state → GoesOn parts state kept (with_state kept state)
   polled now moment action state at polls =
-      goes_on state (polled_whole (plan_in parts) (state_in parts) state moment action kept_whole (is_whole now moment at) polls)
-      (sound_polled parts keeps.sound moment action state polls)
+      goes_on state (polled_whole parts.plan parts.state state moment action kept_whole (is_whole now moment at) polls)
+      (sound_polled parts moment action state keeps.sound polls)
 
-  pub ended : (end : TransactionEnd) → GoesOn parts (ended_by end (state_in parts)) kept (with_state kept (ended_by end (state_in parts)))
-  ended end = goes_on (ended_by end (state_in parts)) (ended_whole end (state_in parts) kept_whole) (sound_ended parts keeps.sound end)
+  pub ended : (end : TransactionEnd) → GoesOn parts (ended_by end parts.state) kept (with_state kept (ended_by end parts.state))
+  ended end = goes_on (ended_by end parts.state) (ended_whole end parts.state kept_whole) (sound_ended parts end keeps.sound)
 
-  pub stopped : GoesOn parts (stopped_by (state_in parts)) kept (with_state kept (stopped_by (state_in parts)))
-  stopped = goes_on (stopped_by (state_in parts)) (stopped_whole (state_in parts) kept_whole) (sound_stopped parts keeps.sound)
+  pub stopped : GoesOn parts (stopped_by parts.state) kept (with_state kept (stopped_by parts.state))
+  stopped = goes_on (stopped_by parts.state) (stopped_whole parts.state kept_whole) (sound_stopped parts keeps.sound)
 
-  pub received : (outcome : Outcome) → GoesOn parts (after outcome (state_in parts)) kept (with_state kept (after outcome (state_in parts)))
-  received outcome = goes_on (after outcome (state_in parts)) (received_whole outcome (state_in parts) kept_whole) (sound_received parts keeps.sound outcome)
+  pub received : (outcome : Outcome) → GoesOn parts (after outcome parts.state) kept (with_state kept (after outcome parts.state))
+  received outcome = goes_on (after outcome parts.state) (received_whole outcome parts.state kept_whole) (sound_received parts outcome keeps.sound)
 
 -- ---- The calls
 
-pub ends : (old new : CTransaction) (parts ended_parts : TransactionParts) (end : TransactionEnd) (result : CResult) → Keeps old parts → ended_parts ≡ at_state parts (ended_by end (state_in parts)) → new ≡ with_state old (state_in ended_parts) → result ≡ plain OK
+pub ends : (old new : CTransaction) (parts ended_parts : TransactionParts) (end : TransactionEnd) (result : CResult) → Keeps old parts → ended_parts ≡ at_state parts (ended_by end parts.state) → new ≡ with_state old ended_parts.state → result ≡ plain OK
     → Ends end result old new
 ends old new parts ended_parts end result keeps parts-is new-is ok =
-    let new-as = new-is ∙ ap (λ (p : TransactionParts). with_state old (state_in p)) parts-is in
-    inr (parts, keeps, (ok, subst (GoesOn parts (ended_by end (state_in parts)) old) (sym new-as) (ended old parts keeps end)))
+    let new-as = new-is ∙ ap (λ (p : TransactionParts). with_state old p.state) parts-is in
+    inr (parts, keeps, (ok, subst (GoesOn parts (ended_by end parts.state) old) (sym new-as) (ended old parts keeps end)))
 
-pub stops : (old new : CTransaction) (parts stopped_parts : TransactionParts) (result : CResult) → Keeps old parts → stopped_parts ≡ at_state parts (stopped_by (state_in parts)) → new ≡ with_state old (state_in stopped_parts) → result ≡ plain OK
+pub stops : (old new : CTransaction) (parts stopped_parts : TransactionParts) (result : CResult) → Keeps old parts → stopped_parts ≡ at_state parts (stopped_by parts.state) → new ≡ with_state old stopped_parts.state → result ≡ plain OK
     → StopsKept result old new
 stops old new parts stopped_parts result keeps parts-is new-is ok =
-    let new-as = new-is ∙ ap (λ (p : TransactionParts). with_state old (state_in p)) parts-is in
-    inr (parts, keeps, (ok, subst (GoesOn parts (stopped_by (state_in parts)) old) (sym new-as) (stopped old parts keeps)))
+    let new-as = new-is ∙ ap (λ (p : TransactionParts). with_state old p.state) parts-is in
+    inr (parts, keeps, (ok, subst (GoesOn parts (stopped_by parts.state) old) (sym new-as) (stopped old parts keeps)))
 
 pub polls : (now : ℕ) (moment : Duration) (old new : CTransaction) (before wanted : CAction) (parts polled_parts : TransactionParts) (action : Action) (result : CResult) → IsAt now moment → Keeps old parts
-    → Polls (plan_in parts) (state_in parts) moment action (state_in polled_parts) → new ≡ with_state old (state_in polled_parts) → wanted ≡ wanted_of action → result ≡ plain OK
+    → Polls parts.plan parts.state moment action polled_parts.state → new ≡ with_state old polled_parts.state → wanted ≡ wanted_of action → result ≡ plain OK
     → PollsKept now result (record { kept = old; wanted = before }) (record { kept = new; wanted = wanted })
 polls now moment old new before wanted parts polled_parts action result at keeps does new-is reported ok =
-    let state = state_in polled_parts in
+    let state = polled_parts.state in
     inr (
       parts,
       keeps,
@@ -342,62 +271,23 @@ polls now moment old new before wanted parts polled_parts action result at keeps
       ),
     )
 
--- ---- What is received
-
--- a transaction whose state changes has the same parts but for that
-pub gone_on : (old new : Transaction) → terms_of new ≡ terms_of old → parts_of new ≡ at_state (parts_of old) (state_of new)
-gone_on old new same = rw same refl
-
 -- ---- A transaction that begins
 
--- the request isn't refused
-by_request : (one other : Option BeginError) → option_or one other ≡ None → one ≡ None
-by_request None other free = refl
-by_request (Some e) other free = absurd cc
-
--- a request that is no fault is signed exactly if it is protected
-as_signed : (request signed : Bool) (by : Protection) → (if request then mismatch (protects by) signed else Some NotARequest) ≡ None → (if signs (mechanism_of by) then not signed else signed) ≡ false
-as_signed false signed by free = absurd cc
-as_signed true true Unprotected free = absurd cc
-as_signed true false Unprotected free = refl
-as_signed true true FirstLongTerm free = absurd cc
-as_signed true false FirstLongTerm free = refl
-as_signed true true (ShortTerm key) free = refl
-as_signed true false (ShortTerm key) free = absurd cc
-as_signed true true (LongTerm key) free = refl
-as_signed true false (LongTerm key) free = absurd cc
-
-pub begun_keeps : (d : List ℕ) (waits : CSchedule) (transport protection now : ℕ) (schedule : Schedule) (usage : ResponsePolicy) (over : TransportType) (by : Protection) (moment : Duration) (transaction : Transaction)
-    → Schedules waits schedule → usage_named waits ≡ Some usage → transport_numbered transport ≡ Some over → mechanism_numbered protection ≡ Some (mechanism_of by) → IsAt now moment → begin_fault by d ≡ None → Begins d schedule over by usage moment transaction
-    → Keeps (begun_in_c d waits transport protection now) (parts_of transaction)
-begun_keeps d waits transport protection now schedule usage over by moment transaction scheduled named moves protected at free begins =
-    let parts = parts_of transaction in
-    let state = state_of transaction in
-    let mechanism : mechanism_of (terms_of transaction).protection ≡ mechanism_of by = ap mechanism_of begins.terms.protection_is in
-    let request = by_request (request_fault (protects by) d) (key_misfit by (signed_by d)) free in
-    let signed : is_signed_otherwise parts ≡ false =
-    rw (mechanism, begins.terms.signed_is) (as_signed (is_request (class_of (type_field d))) (is_signed (signed_by d)) by request) in
-    let sent : parts.sent ≡ 0 = ap (λ (c : RetransmissionState). c.sent) begins.state in
-    let same : as_nanos parts.last ≡ as_nanos parts.clock = ap (λ (c : RetransmissionState). as_nanos c.last) begins.state ∙ sym (ap (λ (c : RetransmissionState). as_nanos c.clock) begins.state) in
-    record {
-      tells = record {
-        schedule = subst (Schedules waits) (sym (ap (λ (p : Plan). p.schedule) begins.terms.plan_is)) scheduled;
-        transport = moves ∙ ap Some (sym (ap (λ (p : Plan). p.transport) begins.terms.plan_is));
-        method = begins.terms.method_is;
-        method_valid = omega arith;
-        id = begins.terms.id_is;
-        signed = ap (λ (s : Signed). signed_number s.sha1 s.sha256) (sym begins.terms.signed_is);
-        mechanism = protected ∙ ap Some (sym mechanism);
-        usage = named ∙ ap Some (sym begins.terms.usage_is);
-        reserved = refl;
-        state = record {
-          sent = sent;
-          last = subst (IsAt now) (sym (ap (λ (c : RetransmissionState). c.last) begins.state)) at;
-          clock = subst (IsAt now) (sym (ap (λ (c : RetransmissionState). c.clock) begins.state)) at;
-          violated = ap (λ (c : RetransmissionState). from_bool c.violated) (sym begins.state);
-          stopped = ap (λ (c : RetransmissionState). from_bool c.stopped) (sym begins.state);
-          end = ap (λ (c : RetransmissionState). number_of_end c.end) (sym begins.state);
-        };
-      };
-      sound = rw (signed, le-ltb (requests_in (plan_in parts)) parts.sent (omega (arith, sent)), le-ltb (as_nanos parts.clock) (as_nanos parts.last) (omega (arith, same))) refl;
-    }
+pub begun_keeps : (d : List ℕ) (waits : CSchedule) (transport protection now : ℕ) (plan : Plan) (mechanism : Option Mechanism) (usage : ResponsePolicy) (moment : Duration)
+    → Schedules waits plan.schedule → usage_named waits ≡ Some usage → transport_numbered transport ≡ Some plan.transport → mechanism_numbered protection ≡ Some mechanism → IsAt now moment → request_fault (signs mechanism) d ≡ None
+    → Keeps (begun_in_c d waits transport protection now) (request_parts d plan mechanism usage (begun moment))
+begun_keeps d waits transport protection now plan mechanism usage moment scheduled named moves protected at free = record {
+  tells = record {
+    schedule = scheduled;
+    transport = moves;
+    method = refl;
+    method_valid = omega arith;
+    id = refl;
+    signed = refl;
+    mechanism = protected;
+    usage = named;
+    reserved = refl;
+    state = record { sent = refl; last = at; clock = at; violated = refl; stopped = refl; end = refl };
+  };
+  sound = begun_sound d plan mechanism usage moment free;
+}

@@ -6,7 +6,6 @@ use Rattle.stun_base.specs.MessageTypes.{class_of, is_response}
 use Rattle.stun_grammar.specs.Headers.{header_fault, id_field, type_field}
 use Rattle.stun_grammar.specs.Numbers.{number}
 use Rattle.stun_transactions.specs.declared.parts.TransactionParts.{TransactionParts}
-use Rattle.stun_transactions.specs.Parts.{plan_in, state_in}
 use Rattle.stun_transactions.specs.Retransmissions.{due, is_timed}
 use Rattle.stun_transactions.specs.Slots.{sooner}
 use Rattle.stun_types_c.specs.declared.transactions.CTransaction.{CTransaction}
@@ -36,8 +35,8 @@ TellsNumber reported result old new =
 -- when a transaction of these parts is to be polled, in milliseconds, unless it has ended
 abbrev pub wake_in : TransactionParts → Option ℕ
 wake_in parts =
-    if is_some parts.end then None
-    else Some (min (min (due (plan_in parts) (state_in parts)) max_nanos / 1_000_000) (2 ^ 64 - 1))
+    if is_some parts.state.end then None
+    else Some (min (min (due parts.plan parts.state) max_nanos / 1_000_000) (2 ^ 64 - 1))
 
 -- when the transaction that C keeps is to be polled; what keeps none never is
 abbrev pub WakesAt : CTransaction → Option ℕ → Type 0
@@ -60,7 +59,7 @@ TellsSoonest kept result old new =
 abbrev pub TakesTime : (now : ℕ) → CTransaction → Option ℕ → Type 0
 TakesTime now kept reported =
     MatchKept kept (reported ≡ None)
-    (λ parts. reported ≡ (if is_timed (state_in parts) then Some (now - kept.last) else None))
+    (λ parts. reported ≡ (if is_timed parts.state then Some (now - kept.last) else None))
 
 abbrev pub TellsRoundTrip : (now : ℕ) → CTransaction → Bool → (old new : ℕ) → Type 0
 TellsRoundTrip now kept result old new =

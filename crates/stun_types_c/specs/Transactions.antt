@@ -1,6 +1,6 @@
 -- A client's transaction, which C keeps as plain numbers (RFC 8489, sections 6.2, 6.3.3, 6.3.4, 9.1.4
 -- and 9.2.5). Moments are whole milliseconds since a beginning of C's choice.
-use Rattle.std.specs.Prelude.{◌≡◌, ℕ, ◌+◌, ◌-◌, ◌*◌, ◌/◌, ◌^◌, ◌<◌, ◌≤◌, ◌==◌, ◌⊎◌, Bool, true, false, List, length, slice_range, Option, None, Some, Result, Ok, Err, is_some, min, not, ◌&&◌, MatchOption, MatchResult, IsSomeAnd, option_map, if◌then◌else◌}
+use Rattle.std.specs.Prelude.{◌≡◌, ℕ, ◌+◌, ◌-◌, ◌*◌, ◌/◌, ◌^◌, ◌<◌, ◌≤◌, ◌==◌, ◌⊎◌, List, length, slice_range, Option, None, Some, Result, Ok, Err, is_some, min, not, ◌&&◌, MatchOption, MatchResult, IsSomeAnd, option_map, if◌then◌else◌}
 use Rattle.std.specs.Int.{from_bool}
 use Rattle.std.specs.Option.{option_map_or, option_or}
 use Rattle.std.specs.Duration.{as_nanos}
@@ -23,6 +23,8 @@ use Rattle.stun_transactions.specs.declared.retransmission.TransactionEnd.TheVar
 use Rattle.stun_transactions.specs.declared.guard.Signed.{Signed as ShownIntegrity}
 use Rattle.stun_transactions.specs.declared.parts.Mechanism.{Mechanism}
 use Rattle.stun_transactions.specs.declared.parts.Mechanism.TheVariants.{ShortTerm, FirstLongTerm, LongTerm}
+use Rattle.stun_transactions.specs.declared.parts.PartsError.{PartsError}
+use Rattle.stun_transactions.specs.declared.parts.PartsError.TheVariants.{SignedOtherwise, NoKey}
 use Rattle.stun_transactions.specs.declared.parts.TransactionParts.{TransactionParts}
 use Rattle.stun_transactions.specs.declared.received.Claim.{Claim}
 use Rattle.stun_transactions.specs.declared.received.Discard.{Discard}
@@ -32,18 +34,16 @@ use Rattle.stun_transactions.specs.declared.received.Outcome.{Outcome}
 use Rattle.stun_transactions.specs.declared.received.Outcome.TheVariants.{NotForThis, Discarded, Failed, Success, Error}
 use Rattle.stun_transactions.specs.declared.schedule.Schedule.{Schedule}
 use Rattle.stun_transactions.specs.declared.schedule.ScheduleError.{ScheduleError}
-use Rattle.stun_transactions.specs.declared.terms.BeginError.{BeginError}
-use Rattle.stun_transactions.specs.declared.terms.BeginError.TheVariants.{NotARequest, NotSigned, Signed, KeyForOneAlgorithm}
-use Rattle.stun_transactions.specs.declared.transaction.Transaction.{Transaction}
+use Rattle.stun_transactions.specs.declared.beginning.BeginError.{BeginError}
+use Rattle.stun_transactions.specs.declared.beginning.BeginError.TheVariants.{NotARequest, NotSigned, Signed, KeyForOneAlgorithm}
 use Rattle.stun_transactions.specs.declared.response_policy.ResponsePolicy.{ResponsePolicy}
 use Rattle.stun_transactions.specs.Retransmissions.{Polls, ended_by, stopped_by}
-use Rattle.stun_transactions.specs.Guards.{signed_by, is_signed_for}
+use Rattle.stun_transactions.specs.Guards.{signed_by, signs}
 use Rattle.stun_transactions.specs.Outcomes.{after}
-use Rattle.stun_transactions.specs.Parts.{plan_in, state_in, signed_in as signed_of, at_state, signs, parts_of, key_of, parts_fault}
+use Rattle.stun_transactions.specs.Parts.{at_state, parts_fault, key_fault}
 use Rattle.stun_transactions.specs.Receiving.{received_outcome}
 use Rattle.stun_transactions.specs.Schedules.{schedule_fault, IsSchedule}
-use Rattle.stun_transactions.specs.Terms.{request_fault}
-use Rattle.stun_transactions.specs.Transactions.{terms_of, state_of}
+use Rattle.stun_transactions.specs.Beginning.{request_fault}
 use Rattle.stun_types_c.specs.declared.call_result.CResult.{CResult}
 use Rattle.stun_types_c.specs.declared.transactions.CTransaction.{CTransaction}
 use Rattle.stun_types_c.specs.declared.transactions.CReceived.{CReceived}
@@ -83,8 +83,8 @@ abbrev pub number_of_end : Option TransactionEnd → ℕ
 number_of_end end = option_map_or end_number end 0
 
 -- the number of the integrity attributes that a request shows
-abbrev pub signed_number : (sha1 sha256 : Bool) → ℕ
-signed_number sha1 sha256 = from_bool sha1 + 2 * from_bool sha256
+abbrev pub signed_number : ShownIntegrity → ℕ
+signed_number signed = from_bool signed.sha1 + 2 * from_bool signed.sha256
 
 -- a moment is so many milliseconds, a number of 64 bits
 pub record IsAt (millis : ℕ) (moment : Duration) : Type 0 where
@@ -127,16 +127,16 @@ pub record TellsState (kept : CTransaction) (state : RetransmissionState) : Type
 
 -- its parts
 pub record TellsParts (kept : CTransaction) (parts : TransactionParts) : Type 0 where
-  pub schedule : Schedules kept.schedule parts.schedule
-  pub transport : transport_numbered kept.transport ≡ Some parts.transport
+  pub schedule : Schedules kept.schedule parts.plan.schedule
+  pub transport : transport_numbered kept.transport ≡ Some parts.plan.transport
   pub method : parts.method ≡ kept.method
   pub method_valid : kept.method < 0xf000
   pub id : parts.id ≡ number kept.id.bytes
-  pub signed : kept.signed_by ≡ signed_number parts.sha1 parts.sha256
+  pub signed : kept.signed_by ≡ signed_number parts.signed
   pub mechanism : mechanism_numbered kept.protection ≡ Some parts.mechanism
   pub usage : usage_named kept.schedule ≡ Some parts.usage
   pub reserved : kept.reserved ≡ 0
-  pub state : TellsState kept (state_in parts)
+  pub state : TellsState kept parts.state
 
 -- the numbers keep a transaction of these parts
 pub record Keeps (kept : CTransaction) (parts : TransactionParts) : Type 0 where
@@ -154,21 +154,21 @@ MatchKept kept P Q =
 
 -- two transactions are the same: moments are compared by how long they are
 pub record AreSame (one other : TransactionParts) : Type 0 where
-  pub schedule : IsSchedule other.schedule.rto other.schedule.max_requests other.schedule.last_wait_factor
-      other.schedule.reliable_timeout one.schedule
-  pub transport : one.transport ≡ other.transport
+  pub schedule : IsSchedule other.plan.schedule.rto other.plan.schedule.max_requests
+      other.plan.schedule.last_wait_factor other.plan.schedule.reliable_timeout one.plan.schedule
+  pub transport : one.plan.transport ≡ other.plan.transport
   pub method : one.method ≡ other.method
   pub id : one.id ≡ other.id
-  pub sha1 : one.sha1 ≡ other.sha1
-  pub sha256 : one.sha256 ≡ other.sha256
+  pub sha1 : one.signed.sha1 ≡ other.signed.sha1
+  pub sha256 : one.signed.sha256 ≡ other.signed.sha256
   pub mechanism : one.mechanism ≡ other.mechanism
   pub usage : one.usage ≡ other.usage
-  pub sent : one.sent ≡ other.sent
-  pub last : as_nanos one.last ≡ as_nanos other.last
-  pub clock : as_nanos one.clock ≡ as_nanos other.clock
-  pub violated : one.violated ≡ other.violated
-  pub stopped : one.stopped ≡ other.stopped
-  pub end : one.end ≡ other.end
+  pub sent : one.state.sent ≡ other.state.sent
+  pub last : as_nanos one.state.last ≡ as_nanos other.state.last
+  pub clock : as_nanos one.state.clock ≡ as_nanos other.state.clock
+  pub violated : one.state.violated ≡ other.state.violated
+  pub stopped : one.state.stopped ≡ other.state.stopped
+  pub end : one.state.end ≡ other.state.end
 
 -- ---- What calls leave
 
@@ -193,13 +193,13 @@ pub record GoesOn (parts : TransactionParts) (state : RetransmissionState)
 abbrev pub Ends : TransactionEnd → CResult → CTransaction → CTransaction → Type 0
 Ends end result old new =
     MatchKept old ((result ≡ plain BAD_ARGUMENT) × (new ≡ old))
-    (λ parts. (result ≡ plain OK) × GoesOn parts (ended_by end (state_in parts)) old new)
+    (λ parts. (result ≡ plain OK) × GoesOn parts (ended_by end parts.state) old new)
 
 -- the transaction that C keeps sends nothing more, unless it has ended
 abbrev pub StopsKept : CResult → CTransaction → CTransaction → Type 0
 StopsKept result old new =
     MatchKept old ((result ≡ plain BAD_ARGUMENT) × (new ≡ old))
-    (λ parts. (result ≡ plain OK) × GoesOn parts (stopped_by (state_in parts)) old new)
+    (λ parts. (result ≡ plain OK) × GoesOn parts (stopped_by parts.state) old new)
 
 -- what C reads if nothing is decided: a call that fails writes this
 abbrev pub nothing_wanted : CAction
@@ -222,7 +222,7 @@ pub record PollsParts (parts : TransactionParts) (now : ℕ) (old new : Polled) 
   pub at : IsAt now moment
   pub action : Action
   pub state : RetransmissionState
-  pub polls : Polls (plan_in parts) (state_in parts) moment action state
+  pub polls : Polls parts.plan parts.state moment action state
   pub goes_on : GoesOn parts state old.kept new.kept
   pub reported : new.wanted ≡ wanted_of action
 
@@ -235,10 +235,6 @@ PollsKept now result old new =
 
 -- ---- What begins
 
--- which integrity attributes the message d shows, by their number
-abbrev pub signed_in : List ℕ → ℕ
-signed_in d = signed_number (signed_by d).sha1 (signed_by d).sha256
-
 -- what is answered if no transaction begins
 abbrev pub request_answer : BeginError → CResult
 request_answer NotARequest = plain NOT_A_REQUEST
@@ -246,20 +242,21 @@ request_answer NotSigned = plain NOT_SIGNED
 request_answer Signed = plain SIGNED
 request_answer KeyForOneAlgorithm = plain BAD_ARGUMENT
 
--- why a key isn't that of a request that a mechanism protects, and that shows these integrity
--- attributes: there is none; or the mechanism is the short-term one, and the key works with none of
--- them (RFC 8489, section 9.1.2); or it is the long-term one, whose key serves both (section 9.2.5),
--- and the key was made for one
-abbrev pub key_answer : Option Mechanism → ShownIntegrity → Option IntegrityKey
-    → Option CResult
-key_answer None signed held = None
-key_answer (Some FirstLongTerm) signed held = None
-key_answer (Some ShortTerm) signed None = Some (plain NO_KEY)
-key_answer (Some ShortTerm) signed (Some key) =
-    if is_signed_for (key_algorithm key) signed then None else Some (plain NOT_SIGNED)
-key_answer (Some LongTerm) signed None = Some (plain NO_KEY)
-key_answer (Some LongTerm) signed (Some key) =
-    if is_some (key_algorithm key) then Some (plain BAD_ARGUMENT) else None
+-- the key of a handle that a transaction needs: none if no credential protects its request
+abbrev pub needed_key : Option Mechanism → Option IntegrityKey → Option IntegrityKey
+needed_key mechanism held = if signs mechanism then held else None
+
+-- what is answered if a key isn't that of a transaction
+abbrev pub key_answer : PartsError → CResult
+key_answer NoKey = plain NO_KEY
+key_answer SignedOtherwise = plain NOT_SIGNED
+key_answer _ = plain BAD_ARGUMENT
+
+-- why the key of a handle isn't that of a request that a mechanism protects, and that shows these
+-- integrity attributes
+abbrev pub held_answer : Option Mechanism → ShownIntegrity → Option IntegrityKey → Option CResult
+held_answer mechanism signed held =
+    option_map key_answer (key_fault mechanism signed (needed_key mechanism held))
 
 -- why no transaction begins by a mechanism, or by none: by the schedule, the request or the key
 abbrev pub terms_answer : CSchedule → Option Mechanism → Option IntegrityKey → List ℕ
@@ -267,7 +264,7 @@ abbrev pub terms_answer : CSchedule → Option Mechanism → Option IntegrityKey
 terms_answer waits mechanism held d =
     if is_some (waits_fault waits) then Some (plain OUT_OF_RANGE)
     else option_or (option_map request_answer (request_fault (signs mechanism) d))
-    (key_answer mechanism (signed_by d) held)
+    (held_answer mechanism (signed_by d) held)
 
 -- why none begins with the bytes d: they are no message, or a number has no meaning, or by the terms
 abbrev pub begin_answer : CSchedule → (transport protection : ℕ) → Option IntegrityKey → List ℕ
@@ -290,7 +287,7 @@ begun_in_c d waits transport protection now = record {
   method = method_of (type_field d);
   transport = transport;
   protection = protection;
-  signed_by = signed_in d;
+  signed_by = signed_number (signed_by d);
   violated = 0;
   end = 0;
   stopped = 0;
@@ -351,39 +348,28 @@ abbrev pub Ignores : CResult → CResult → ReceivedState → ReceivedState →
 Ignores answer result old new =
     (result ≡ answer) × (new ≡ record old { reported = nothing_received })
 
--- the key of a transaction: none if no credential protects its request, otherwise a copy of the one
--- that a handle holds; or an allocation failed
-abbrev pub CopiesHeld : (protected : Bool) → Option IntegrityKey
-    → Result (Option IntegrityKey) CResult → Type 0
-CopiesHeld true (Some held) made =
+-- a copy of the key of a handle, or none; or an allocation failed
+abbrev pub CopiesHeld : Option IntegrityKey → Result (Option IntegrityKey) CResult → Type 0
+CopiesHeld None made = made ≡ Ok None
+CopiesHeld (Some held) made =
     MatchResult made (λ key. IsSomeAnd key (IsKey (key_algorithm held) (key_bytes held)))
     (λ answer. answer ≡ plain OUT_OF_MEMORY)
-CopiesHeld true None made = made ≡ Ok None
-CopiesHeld false held made = made ≡ Ok None
 
--- the same, or why the key that a handle holds isn't that of the transaction of these parts
+-- a copy of the key that a transaction of these parts needs, or why the key that a handle holds isn't
+-- its
 abbrev pub Copies : TransactionParts → Option IntegrityKey
     → Result (Option IntegrityKey) CResult → Type 0
 Copies parts held made =
-    MatchOption (key_answer parts.mechanism (signed_of parts) held)
-    (CopiesHeld (signs parts.mechanism) held made)
+    MatchOption (held_answer parts.mechanism parts.signed held)
+    (CopiesHeld (needed_key parts.mechanism held) made)
     (λ answer. made ≡ Err answer)
 
--- what the bytes d are for the transaction of these parts and this key
-pub record IsOutcome (parts : TransactionParts) (key : Option IntegrityKey)
-    (understood : List AttributeType) (d : List ℕ) (outcome : Outcome) : Type 0 where
-  pub transaction : Transaction
-  pub parts_are : parts_of transaction ≡ parts
-  pub key_is : key_of transaction ≡ key
-  pub is : outcome ≡ received_outcome (terms_of transaction) (state_of transaction) understood d
-
--- the transaction receives them, and goes on
+-- a transaction of these parts and this key receives the bytes d, and goes on
 pub record ReceivesParts (parts : TransactionParts) (key : Option IntegrityKey)
     (understood : List AttributeType) (d : List ℕ) (old new : ReceivedState) : Type 0 where
-  pub outcome : Outcome
-  pub is_outcome : IsOutcome parts key understood d outcome
-  pub goes_on : GoesOn parts (after outcome (state_in parts)) old.kept new.kept
-  pub reported : new.reported ≡ outcome_in_c outcome
+  pub goes_on : GoesOn parts (after (received_outcome parts key understood d) parts.state)
+      old.kept new.kept
+  pub reported : new.reported ≡ outcome_in_c (received_outcome parts key understood d)
 
 -- the same with the key of a handle, if there is one
 abbrev pub ReceivesWith : Option IntegrityKey → (understood d : List ℕ) → TransactionParts

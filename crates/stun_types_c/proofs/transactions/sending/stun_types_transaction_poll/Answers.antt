@@ -1,8 +1,8 @@
 use Rattle.std.proofs.Common.{◌≡◌}
 use Rattle.stun_types_c.specs.Transactions.{wanted_of}
 use Rattle.stun_types_c.proofs.KeptLemmas.{polls}
-use Rattle.stun_types_c.proofs.transactions.stun_types_transaction_poll.Goals as goal
-use Rattle.stun_types_c.proofs.transactions.stun_types_transaction_poll.Goals.{in-Send, in-WaitUntil, in-Ended}
+use Rattle.stun_types_c.proofs.transactions.sending.stun_types_transaction_poll.Goals as goal
+use Rattle.stun_types_c.proofs.transactions.sending.stun_types_transaction_poll.Goals.{in-Send, in-WaitUntil, in-Ended}
 
 pub returns : goal.returns
 returns c =

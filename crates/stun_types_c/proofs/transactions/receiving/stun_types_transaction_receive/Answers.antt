@@ -1,12 +1,14 @@
 use Rattle.std.proofs.Common.{◌≡◌, None, Ok, Err, refl, sym, ap, subst, ◌∙◌, inr}
 use Rattle.stun_transactions.specs.declared.parts.TransactionParts.{TransactionParts}
 use Rattle.stun_transactions.specs.Outcomes.{after}
-use Rattle.stun_transactions.specs.Parts.{state_in, whole_fault}
+use Rattle.stun_transactions.specs.Parts.{whole_fault}
+use Rattle.stun_transactions.specs.Receiving.{received_outcome}
 use Rattle.stun_types_c.specs.KeyHandles.{shared_key}
 use Rattle.stun_types_c.specs.Transactions.{with_state, GoesOn}
+use Rattle.stun_types_c.specs.TypeLists.{types_numbered}
 use Rattle.stun_types_c.proofs.KeptLemmas.{received}
 use Rattle.stun_types_c.proofs.CopiedKeysLemmas.{copied_is_whole}
-use Rattle.stun_types_c.proofs.transactions.stun_types_transaction_receive.Goals as goal
+use Rattle.stun_types_c.proofs.transactions.receiving.stun_types_transaction_receive.Goals as goal
 
 pub returns-in-Err : goal.returns-in-Err
 returns-in-Err c =
@@ -16,9 +18,11 @@ pub returns-in-Ok-receive : goal.returns-in-Ok-receive
 returns-in-Ok-receive c =
     let old = c.args.kept.now in
     let parts = c.in-Some-parts_of.parts in
-    let state = after c.in-Ok-receive.ensures.0 (state_in parts) in
+    let outcome = received_outcome parts c.in-Ok.copy (types_numbered c.args.understood.now) c.args.bytes.now in
     let types = c.as_slice.ensures ∙ c.in-Some.ensures.1 in
-    let new = c.store.ensures ∙ ap (λ (p : TransactionParts). with_state old (state_in p)) c.in-Ok-receive.ensures.2 in
+    let left = rw types at c.in-Ok-receive.ensures.0 in
+    let reported = rw types at c.in-Ok-receive.ensures.1 in
+    let new = c.store.ensures ∙ ap (λ (p : TransactionParts). with_state old p.state) left in
     inr (
       c.in-Some.ensures.0,
       inr (
@@ -30,10 +34,8 @@ returns-in-Ok-receive c =
           (
             c.plain-in-Ok-receive.ensures,
             record {
-              outcome = c.in-Ok-receive.ensures.0;
-              is_outcome = rw types at c.in-Ok-receive.ensures.1;
-              goes_on = subst (GoesOn parts state old) (sym new) (received old parts c.in-Some-parts_of.ensures c.in-Ok-receive.ensures.0);
-              reported = c.in-Ok-receive.ensures.3;
+              goes_on = subst (GoesOn parts (after outcome parts.state) old) (sym new) (received old parts c.in-Some-parts_of.ensures outcome);
+              reported = reported;
             },
           ),
         ),

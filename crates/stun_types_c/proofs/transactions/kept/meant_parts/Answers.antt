@@ -1,6 +1,6 @@
 use Rattle.std.proofs.Common.{rules, refl}
 use Rattle.stun_types_c.proofs.KeptLemmas.{bit_reported, signed_reported}
-use Rattle.stun_types_c.proofs.transactions.meant_parts.Goals as goal
+use Rattle.stun_types_c.proofs.transactions.kept.meant_parts.Goals as goal
 
 pub returns : goal.returns
 returns c = record {
