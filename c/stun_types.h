@@ -761,8 +761,8 @@ stun_types_answer stun_types_authenticate_long_term(const uint8_t *bytes, size_t
    reply has one if its request has one (section 7). key is that of the short-term credential, or the
    one by MD5; sha256_key is used if password_algorithm is STUN_TYPES_PASSWORD_SHA256. BAD_ARGUMENT: the
    authentication is no acceptance, or the key was made for the integrity attribute that isn't the
-   reply's. NO_KEY. Then both attributes are added as by their own calls: if the FINGERPRINT is refused,
-   the message stays signed, and *written counts that. */
+   reply's. NO_KEY. Then the errors of the calls that add the two attributes. A refused call leaves the
+   message, its first *written bytes; what room holds after them may have changed. */
 STUN_TYPES_NODISCARD STUN_TYPES_NONNULL((3, 4, 5, 6))
 stun_types_answer stun_types_finish_reply(uint8_t *room, size_t size, size_t *written,
                                           const stun_types_authentication *authentication,
@@ -1005,8 +1005,8 @@ typedef struct {
 
 /* Reads it (RFC 8489, section 9.2.5). supported are the password algorithms that the client knows.
    The other arguments are what it knows from earlier challenges. If was_tried, the refused request had
-   these credentials in the realm tried, that of the challenge which it answered. If was_seen, the server
-   has sent PASSWORD-ALGORITHMS before, so that a response without it may be an attacker's.
+   these credentials in the realm tried, that of the challenge which it answered. If had_algorithms, the
+   server has sent PASSWORD-ALGORITHMS before, so that a response without it may be an attacker's.
    BAD_ARGUMENT: a password algorithm, or more than 16 of them. INVALID_DATA: was_tried, and tried
    isn't UTF-8. The errors of stun_types_parse; NOT_A_CHALLENGE, BID_DOWN, INCOMPLETE, NO_ALGORITHM,
    SAME_CREDENTIALS. */
@@ -1014,7 +1014,7 @@ STUN_TYPES_NODISCARD STUN_TYPES_NONNULL((9))
 stun_types_answer stun_types_challenge_of(const uint8_t *bytes, size_t length,
                                           const uint16_t *supported, size_t supported_count,
                                           bool was_tried, const void *tried, size_t tried_length,
-                                          bool was_seen, stun_types_challenge *challenge);
+                                          bool had_algorithms, stun_types_challenge *challenge);
 
 /* Makes the key of a user in the realm of the challenge in response, by the password algorithm that it
    asks for. The key signs every request that answers this challenge, and validates the responses to it.
@@ -1036,9 +1036,9 @@ stun_types_answer stun_types_key_for(stun_types_key *key, const uint8_t *respons
    The errors, before anything is written: BAD_ARGUMENT: a password algorithm, or more than 16 of them.
    Those of stun_types_parse; NOT_A_CHALLENGE, BID_DOWN, INCOMPLETE, NO_ALGORITHM. INVALID_DATA: the
    user isn't UTF-8. TOO_LARGE: it has more than 513 bytes. NO_KEY. BAD_ARGUMENT: the key was made for
-   the integrity attribute by which the request isn't signed. Then each attribute is added as by
-   its own call, and *written counts it. The first one that is refused ends the call with that error:
-   begin the request anew, in a larger room if that was too small. */
+   the integrity attribute by which the request isn't signed. Then the errors of the calls that add each
+   attribute: the first one that is refused ends the call. A refused call leaves the message, its first
+   *written bytes; what room holds after them may have changed. */
 STUN_TYPES_NODISCARD STUN_TYPES_NONNULL((3, 10))
 stun_types_answer stun_types_answer_challenge(uint8_t *room, size_t size, size_t *written,
                                               const uint8_t *response, size_t response_length,

@@ -420,9 +420,13 @@ static void test_answer_challenge(void) {
         ANSWERS(stun_types_answer_challenge(bytes, size, written, response.bytes, response.length,
                                             BOTH + 1, 1, "user", 4, key, prints),
                 expected);
-        CHECK(*written == (size >= last ? last : i == 0 ? 20 : answer_ends[i - 1]));
-        CHECK(memcmp(bytes + 4, before.bytes + 4, 16) == 0);
-        CHECK(is_untouched(bytes + *written, size - *written));
+        if (size < last) {
+            /* what was added before is taken back: the message is as it was */
+            CHECK(*written == 20 && memcmp(bytes, before.bytes, 20) == 0);
+        } else {
+            CHECK(*written == last && memcmp(bytes + 4, before.bytes + 4, 16) == 0);
+            CHECK(is_untouched(bytes + last, size - last));
+        }
         ANSWERS(stun_types_parse(bytes, *written), OK_ANSWER);
     }
     stun_types_key_free(key);
@@ -590,7 +594,7 @@ static const struct {
     {"without the MD5 key", 1, 0x0008, 1, 0, false, true, true, 19, STUN_TYPES_NO_KEY, 0, 20},
     {"without the SHA-256 key", 1, 0x001C, 2, 0, true, false, true, 64, STUN_TYPES_NO_KEY, 0, 20},
     {"no room for the HMAC", 1, 0x0008, 0, 0, true, false, true, 43, STUN_TYPES_TOO_SMALL, 44, 20},
-    {"no room for the FINGERPRINT", 1, 0x0008, 0, 0, true, false, true, 51, STUN_TYPES_TOO_SMALL, 52, 44},
+    {"no room for the FINGERPRINT", 1, 0x0008, 0, 0, true, false, true, 51, STUN_TYPES_TOO_SMALL, 52, 20},
 };
 
 static void test_finish_reply(void) {

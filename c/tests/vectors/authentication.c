@@ -274,14 +274,14 @@ static size_t algorithms_of(char *list, uint16_t *algorithms) {
 }
 
 /* Answers with what a response asks for of a client that knows this. */
-static void answer_asked(const uint16_t *supported, size_t count, const slice *tried, bool was_seen,
+static void answer_asked(const uint16_t *supported, size_t count, const slice *tried, bool had_algorithms,
                          slice response) {
     static const slice none = {NULL, 0};
     stun_types_challenge *asked = NEW(stun_types_challenge);
     slice realm_tried = tried == NULL ? none : *tried;
     if (!is_taken(stun_types_challenge_of(response.bytes, response.length, supported, count,
                                           tried != NULL, realm_tried.bytes, realm_tried.length,
-                                          was_seen, asked))) {
+                                          had_algorithms, asked))) {
         CHECK(is_untouched(asked, sizeof *asked));
         return;
     }

@@ -60,10 +60,10 @@ by_algorithm_of supported tried realm nonce d asked h =
     let is = by_credentials_of tried (wanted chosen.0) asked d chosen.2 in
     (ap (λ (a : Asked). a.realm) is, ap (λ (a : Asked). a.nonce) is, ap (λ (a : Asked). a.list) is)
 
-is_of : (supported : List PasswordAlgorithmValue) (tried seen : Option (List ℕ)) (d : List ℕ) (asked : Asked) → challenge_of supported tried seen d ≡ Ok asked → IsOf d asked
-is_of supported tried seen d asked h =
-    let listed = if_ok (is_challenge d) NotAChallenge (by_list supported tried seen d) asked h in
-    let texts = unless_ok (is_bid_down d || lost_list seen d) BidDown (by_texts supported tried d) asked listed in
+is_of : (supported : List PasswordAlgorithmValue) (tried : Option (List ℕ)) (had_algorithms : Bool) (d : List ℕ) (asked : Asked) → challenge_of supported tried had_algorithms d ≡ Ok asked → IsOf d asked
+is_of supported tried had_algorithms d asked h =
+    let listed = if_ok (is_challenge d) NotAChallenge (by_list supported tried had_algorithms d) asked h in
+    let texts = unless_ok (is_bid_down d || lost_list had_algorithms d) BidDown (by_texts supported tried d) asked listed in
     let realm = some_ok (λ (realm : List ℕ). option_map_or (λ nonce. by_algorithm supported tried realm nonce d) (text_of text_max NONCE d) (Err Incomplete)) (text_of text_max REALM d) Incomplete asked texts in
     let nonce = some_ok (λ (nonce : List ℕ). by_algorithm supported tried realm.0 nonce d) (text_of text_max NONCE d) Incomplete asked realm.2 in
     let is = by_algorithm_of supported tried realm.0 nonce.0 d asked nonce.2 in
@@ -91,9 +91,9 @@ list_stands : (d : List ℕ) (o : Option Shown) → ((x : Shown) → o ≡ Some 
 list_stands d None there = refl
 list_stands d (Some x) there = there x refl
 
-pub asked_there : (supported : List PasswordAlgorithmValue) (tried seen : Option (List ℕ)) (d : List ℕ) (asked : Asked) → IsBytes d → challenge_of supported tried seen d ≡ Ok asked → StandsWhereReported d asked (in_c d asked)
-asked_there supported tried seen d asked bytes h =
-    let of = is_of supported tried seen d asked h in
+pub asked_there : (supported : List PasswordAlgorithmValue) (tried : Option (List ℕ)) (had_algorithms : Bool) (d : List ℕ) (asked : Asked) → IsBytes d → challenge_of supported tried had_algorithms d ≡ Ok asked → StandsWhereReported d asked (in_c d asked)
+asked_there supported tried had_algorithms d asked bytes h =
+    let of = is_of supported tried had_algorithms d asked h in
     let there : (type : ℕ) (x : Shown) → nth d type 0 ≡ Some x → slice_range d (x.offset + 4) (x.offset + 4 + length x.value) ≡ x.value = λ type x e. range_there d type x bytes e in
     record {
       realm = stands d (nth d REALM 0) asked.realm (there REALM) (text_value text_max (value_of d REALM) asked.realm of.realm);

@@ -10,7 +10,7 @@ mod KeptLemmas
 mod CopiedKeysLemmas
 mod StandsLemmas
 mod CChallengeLemmas
-mod StepsLemmas
+mod TakenInLemmas
 mod NumbersLemmas
 mod RefusalsLemmas
 mod ManyTransactionsLemmas

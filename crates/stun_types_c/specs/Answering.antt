@@ -1,6 +1,6 @@
 -- What a client's next request carries of a challenge, and the key that signs it (RFC 8489, sections
 -- 9.2.2, 9.2.3.2 and 9.2.5).
-use Rattle.std.specs.Prelude.{◌≡◌, ℕ, Bool, List, [], ◌∷◌, length, Option, None, Some, Result, Ok, Err, MatchOption, MatchResult, IsSomeAnd, nat_lt, if◌then◌else◌}
+use Rattle.std.specs.Prelude.{◌≡◌, ℕ, Bool, false, List, [], ◌∷◌, length, Option, None, Some, Result, Ok, Err, MatchOption, MatchResult, IsSomeAnd, nat_lt, if◌then◌else◌}
 use Rattle.std.specs.Option.{option_map_or, option_or}
 use Rattle.stun_grammar.specs.Parsing.{parse_fault}
 use Rattle.stun_keys.specs.declared.keys.integrity_key.IntegrityKey.{IntegrityKey}
@@ -8,15 +8,14 @@ use Rattle.stun_keys.specs.Keys.{IsKey, key_bytes}
 use Rattle.stun_values.specs.TextValues.{username_max}
 use Rattle.stun_authentication.specs.declared.challenge.NoRetry.{NoRetry}
 use Rattle.stun_authentication.specs.Challenges.{Asked, challenge_of, signing_algorithm}
-use Rattle.stun_authentication.specs.Requests.{credentials, user_key}
+use Rattle.stun_authentication.specs.Requests.{login_steps, user_key}
 use Rattle.stun_types_c.specs.declared.call_result.CResult.{CResult}
 use Rattle.stun_types_c.specs.CResults.{plain, counted, parse_result, Refuses}
 use Rattle.stun_types_c.specs.Challenges.{retry_answer}
 use Rattle.stun_types_c.specs.Codes.{OK, TOO_LARGE, BAD_ARGUMENT, NO_KEY}
 use Rattle.stun_types_c.specs.Credentials.{texts_refusal, WithTexts}
 use Rattle.stun_types_c.specs.PasswordAlgorithms.{password_algorithms_named}
-use Rattle.stun_types_c.specs.Steps.{Then, AddsEach, Ends}
-use Rattle.stun_types_c.specs.Writing.{Written, serving_answer}
+use Rattle.stun_types_c.specs.Writing.{Written, serving_answer, TakesIn}
 
 -- what is asked for, or why the request isn't sent again, in C's numbers
 abbrev pub in_answer : Result Asked NoRetry → Result Asked CResult
@@ -29,7 +28,7 @@ abbrev pub challenge_in : (numbers d : List ℕ) → Result Asked CResult
 challenge_in numbers d =
     option_map_or (λ supported.
     option_map_or (λ e. Err (parse_result e)) (parse_fault d)
-    (in_answer (challenge_of supported None None d)))
+    (in_answer (challenge_of supported None false d)))
     (password_algorithms_named numbers) (Err (plain BAD_ARGUMENT))
 
 -- a handle holds the key of a user in the realm of the challenge, by the password algorithm that it
@@ -57,14 +56,7 @@ name_answer name =
     (if nat_lt username_max (length name)
     then Some (counted TOO_LARGE username_max (length name)) else None)
 
--- what the challenge asks for is added for a user, and the request is signed with a key
-abbrev pub AddsAnswer : Asked → (name : List ℕ) → (fingerprint : Bool) → (key : List ℕ) → CResult
-    → Written
-    → Written → Type 0
-AddsAnswer asked name fingerprint key =
-    Then (AddsEach (credentials asked name)) (Ends fingerprint (signing_algorithm asked) key)
-
--- the same by what C passes; nothing is written if the key was made for the other algorithm
+-- by what C passes, the challenge is answered for a user with a key that serves
 abbrev pub AnswersChallenge : (numbers d name : List ℕ) → (fingerprint : Bool)
     → Option IntegrityKey → CResult → Written
     → Written → Type 0
@@ -74,7 +66,7 @@ AnswersChallenge numbers d name fingerprint held result old new =
     (MatchOption held
     (Refuses (plain NO_KEY) result old new)
     (λ key. MatchOption (serving_answer key (signing_algorithm asked))
-    (AddsAnswer asked name fingerprint (key_bytes key) result old new)
+    (TakesIn (login_steps fingerprint asked name (key_bytes key)) result old new)
     (λ answer. Refuses answer result old new)))
     (λ answer. Refuses answer result old new))
     (λ answer. Refuses answer result old new)

@@ -1,5 +1,5 @@
 -- What is reported to a client in C of a challenge (RFC 8489, section 9.2.5).
-use Rattle.std.specs.Prelude.{◌≡◌, ℕ, ◌+◌, Bool, List, [], length, slice_range, Option, None, Some, Result, MatchOption, MatchResult, if◌then◌else◌}
+use Rattle.std.specs.Prelude.{◌≡◌, ℕ, ◌+◌, Bool, List, length, slice_range, Option, None, Some, Result, MatchOption, MatchResult, if◌then◌else◌}
 use Rattle.std.specs.Option.{option_map_or}
 use Rattle.std.specs.Str.{is_utf8}
 use Rattle.stun_grammar.specs.AttributeTypes.{REALM, NONCE, PASSWORD_ALGORITHMS}
@@ -61,10 +61,6 @@ abbrev pub tried_answer : Option (List ℕ) → Option CResult
 tried_answer tried =
     option_map_or (λ realm. if is_utf8 realm then None else Some (plain INVALID_DATA)) tried None
 
--- a list that the server sent before, if C says that it sent one. Nothing but that it did counts
-abbrev pub seen_in : (was_seen : Bool) → Option (List ℕ)
-seen_in was_seen = if was_seen then Some [] else None
-
 -- what d asks for is reported, or why the request isn't sent again
 abbrev pub TellsChallenge : List ℕ → Result Asked NoRetry → CResult → (old new : CChallenge)
     → Type 0
@@ -75,21 +71,19 @@ TellsChallenge d reported result old new =
 
 -- reading the challenge in d: why it is no message, or the report to a client that supports these
 -- algorithms
-abbrev pub ReadsFor : List PasswordAlgorithmValue → (tried seen : Option (List ℕ)) → (d : List ℕ)
-    → CResult
-    → (old new : CChallenge) → Type 0
-ReadsFor supported tried seen d result old new =
+abbrev pub ReadsFor : List PasswordAlgorithmValue → (tried : Option (List ℕ))
+    → (had_algorithms : Bool) → (d : List ℕ) → CResult → (old new : CChallenge) → Type 0
+ReadsFor supported tried had_algorithms d result old new =
     MatchOption (parse_fault d)
-    (TellsChallenge d (challenge_of supported tried seen d) result old new)
+    (TellsChallenge d (challenge_of supported tried had_algorithms d) result old new)
     (λ e. Refuses (parse_result e) result old new)
 
 -- the same by the numbers of the algorithms
-abbrev pub ReadsChallenge : (numbers : List ℕ) → (tried seen : Option (List ℕ)) → (d : List ℕ)
-    → CResult
-    → (old new : CChallenge) → Type 0
-ReadsChallenge numbers tried seen d result old new =
+abbrev pub ReadsChallenge : (numbers : List ℕ) → (tried : Option (List ℕ))
+    → (had_algorithms : Bool) → (d : List ℕ) → CResult → (old new : CChallenge) → Type 0
+ReadsChallenge numbers tried had_algorithms d result old new =
     MatchOption (password_algorithms_named numbers)
     (Refuses (plain BAD_ARGUMENT) result old new)
     (λ supported. MatchOption (tried_answer tried)
-    (ReadsFor supported tried seen d result old new)
+    (ReadsFor supported tried had_algorithms d result old new)
     (λ answer. Refuses answer result old new))

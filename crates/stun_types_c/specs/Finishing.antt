@@ -1,15 +1,16 @@
 -- The end of a reply to a message that was accepted (RFC 8489, sections 7, 9.1.3 and 9.2.4).
-use Rattle.std.specs.Prelude.{Bool, ◌&&◌, Option, None, MatchOption, ◌==◌, if◌then◌else◌}
+use Rattle.std.specs.Prelude.{Bool, ◌&&◌, ◌∷◌, Option, None, MatchOption, ◌==◌, if◌then◌else◌}
 use Rattle.stun_grammar.specs.declared.integrity_algorithm.IntegrityAlgorithm.{IntegrityAlgorithm}
+use Rattle.stun_grammar.specs.Steps.{sign}
 use Rattle.stun_keys.specs.declared.keys.integrity_key.IntegrityKey.{IntegrityKey}
 use Rattle.stun_keys.specs.Keys.{key_bytes}
+use Rattle.stun_authentication.specs.Writing.{print_steps}
 use Rattle.stun_types_c.specs.declared.authentication.CAuthenticated.{CAuthenticated}
 use Rattle.stun_types_c.specs.declared.call_result.CResult.{CResult}
 use Rattle.stun_types_c.specs.CResults.{plain, Refuses}
 use Rattle.stun_types_c.specs.Codes.{BAD_ARGUMENT, NO_KEY}
 use Rattle.stun_types_c.specs.Keys.{algorithm_named}
-use Rattle.stun_types_c.specs.Steps.{Ends}
-use Rattle.stun_types_c.specs.Writing.{Written, serving_answer}
+use Rattle.stun_types_c.specs.Writing.{Written, serving_answer, TakesIn}
 
 -- the algorithm that signs the reply, if C's numbers are those of an acceptance, whose spare word is 0
 abbrev pub signing_named : CAuthenticated → Option IntegrityAlgorithm
@@ -31,5 +32,5 @@ FinishesReply reported first sha256 fingerprint result old new =
     (λ algorithm. MatchOption (key_named reported first sha256)
     (Refuses (plain NO_KEY) result old new)
     (λ key. MatchOption (serving_answer key algorithm)
-    (Ends fingerprint algorithm (key_bytes key) result old new)
+    (TakesIn (sign algorithm (key_bytes key) ∷ print_steps fingerprint) result old new)
     (λ answer. Refuses answer result old new)))

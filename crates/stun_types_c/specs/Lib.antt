@@ -12,7 +12,6 @@ pub mod KeyMemory
 pub mod Keys
 pub mod Usages
 pub mod Writing
-pub mod Steps
 pub mod Replying
 pub mod Numbers
 pub mod Server

@@ -1,6 +1,6 @@
 -- Writing into a slice of C's: what a call answers, and what the slice holds then (RFC 8489, sections
 -- 5 and 14).
-use Rattle.std.specs.Prelude.{◌≡◌, ℕ, ◌^◌, ◌++◌, List, [], length, take, drop, Option, None, Some, MatchOption, nat_lt, if◌then◌else◌}
+use Rattle.std.specs.Prelude.{◌≡◌, ℕ, ◌+◌, ◌^◌, ◌++◌, List, [], length, take, drop, Option, None, Some, MatchOption, nat_lt, if◌then◌else◌}
 use Rattle.std.specs.List.{flat_map}
 use Rattle.std.specs.Option.{option_map, option_or}
 use Rattle.std.specs.Str.{is_utf8}
@@ -17,8 +17,9 @@ use Rattle.stun_keys.specs.declared.keys.integrity_key.IntegrityKey.{IntegrityKe
 use Rattle.stun_keys.specs.Keys.{key_bytes, key_algorithm, serves}
 use Rattle.stun_values.specs.Addresses.{address_value, IsXored}
 use Rattle.stun_values.specs.ErrorValues.{error_value, making_fault}
-use Rattle.stun_types.specs.Resuming.{resume_fault}
+use Rattle.stun_types.specs.Resuming.{resume_fault, message_types, after_steps}
 use Rattle.stun_types.specs.ResumePoints.{any_in, step_in}
+use Rattle.stun_authentication.specs.Writing.{steps_length, steps_refusal}
 use Rattle.stun_types_c.specs.declared.call_result.CResult.{CResult}
 use Rattle.stun_types_c.specs.declared.address.Address.{Address}
 use Rattle.stun_types_c.specs.declared.reading.Id.{Id}
@@ -149,4 +150,18 @@ Signs held number result old new =
     (step_answer (length old.slice) (sign algorithm (key_bytes key)))
     (type_of_algorithm algorithm)
     (λ message. integrity_value message (key_bytes key) algorithm) result old new)))
+    (λ _. Refuses (plain BAD_ARGUMENT) result old new)
+
+-- steps are taken, one after the other, and what comes after the message stays; or the first that is
+-- refused ends them, and the message stays
+abbrev pub TakesIn : List Step → CResult → Written → Written → Type 0
+TakesIn steps result old new =
+    let message = take old.count old.slice in
+    MatchOption (resume_fault old.slice old.count)
+    (MatchOption (steps_refusal steps (message_types message) (length message) (Some (length old.slice)))
+    ((result ≡ plain OK) × (new ≡ record {
+      slice = after_steps message steps ++ drop (old.count + steps_length steps) old.slice;
+      count = old.count + steps_length steps;
+    }))
+    (λ e. (result ≡ write_result e) × (new.count ≡ old.count) × (take old.count new.slice ≡ message)))
     (λ _. Refuses (plain BAD_ARGUMENT) result old new)

@@ -3,7 +3,7 @@
 ghost use Rattle.std.specs.Prelude.{◌≡◌, Some, None, MatchResult, take};
 ghost use Rattle.std.specs.Option.{option_map};
 ghost use Rattle.stun_authentication.specs.Challenges.{asked_by};
-ghost use Rattle.stun_types_c.specs.Challenges.{retry_answer, value_at, in_c, tried_in, tried_answer, seen_in, ReadsFor, ReadsChallenge};
+ghost use Rattle.stun_types_c.specs.Challenges.{retry_answer, value_at, in_c, tried_in, tried_answer, ReadsFor, ReadsChallenge};
 
 use crate::attribute::first_shown;
 use crate::call_result::{CResult, parse_result, plain};
@@ -101,30 +101,23 @@ fn tried_in(was_tried: bool, realm: &[u8]) -> Result<Option<&str>, CResult>
     }
 }
 
-/// A list that the server sent before, if it sent one.
-fn seen_in(was_seen: bool) -> Option<&'static [u8]>
-    ensures { option_map (λ list. list.now) result ≡ seen_in was_seen }
-{
-    if was_seen { Some(&[]) } else { None }
-}
-
 /// What a response asks for.
 fn asked_by(
     response: &[u8],
     supported: &AlgorithmList,
     tried: Option<&str>,
-    seen: Option<&[u8]>,
+    had_algorithms: bool,
     asked: &mut CChallenge,
 ) -> CResult
     ensures { ReadsFor (take supported.now.count supported.now.all)
-        (option_map (λ text. text.now) tried.entry) (option_map (λ list. list.now) seen.entry)
-        response.now result asked.old asked.new }
+        (option_map (λ text. text.now) tried.entry) had_algorithms response.now result
+        asked.old asked.new }
 {
     let message = match Message::from_bytes(response) {
         Ok(message) => message,
         Err(error) => return parse_result(error),
     };
-    match challenge_of(&message, supported.as_slice(), tried, seen) {
+    match challenge_of(&message, supported.as_slice(), tried, had_algorithms) {
         Ok(challenge) => {
             *asked = in_c(response, &challenge);
             plain(codes::OK)
@@ -140,17 +133,17 @@ pub extern "C" fn stun_types_challenge_of(
     supported: &[u16],
     was_tried: bool,
     tried: &[u8],
-    was_seen: bool,
+    had_algorithms: bool,
     asked: &mut CChallenge,
 ) -> CResult
-    ensures { ReadsChallenge supported.now (tried_in was_tried tried.now) (seen_in was_seen)
+    ensures { ReadsChallenge supported.now (tried_in was_tried tried.now) had_algorithms
         response.now result asked.old asked.new }
 {
     let Some(supported) = algorithms_of(supported) else {
         return plain(codes::BAD_ARGUMENT);
     };
     match tried_in(was_tried, tried) {
-        Ok(tried) => asked_by(response, &supported, tried, seen_in(was_seen), asked),
+        Ok(tried) => asked_by(response, &supported, tried, had_algorithms, asked),
         Err(answer) => answer,
     }
 }

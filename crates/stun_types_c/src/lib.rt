@@ -33,7 +33,6 @@ mod server;
 mod shared_key;
 mod shared_place;
 mod stateless_nonces;
-mod steps;
 mod streams;
 mod transactions;
 mod type_list;

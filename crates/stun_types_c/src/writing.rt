@@ -1,15 +1,16 @@
 //! Writing a message step by step into a slice of the caller's.
 
-ghost use Rattle.std.specs.Prelude.{◌≡◌, ◌<◌, ◌≤◌, Some, None, length, take, MatchResult, MatchOption};
+ghost use Rattle.std.specs.Prelude.{◌≡◌, ◌<◌, ◌≤◌, ◌++◌, true, Some, None, length, take, drop, MatchResult, MatchOption};
 ghost use Rattle.stun_grammar.specs.AttributeTypes.{FINGERPRINT};
 ghost use Rattle.stun_grammar.specs.Fingerprints.{fingerprint_value};
+ghost use Rattle.stun_grammar.specs.Headers.{is_header};
 ghost use Rattle.stun_grammar.specs.Steps.{finger};
 ghost use Rattle.stun_values.specs.Addresses.{address_value};
 ghost use Rattle.stun_values.specs.ErrorValues.{making_fault};
 ghost use Rattle.stun_values.specs.TextValues.{text_max};
 ghost use Rattle.stun_types_c.specs.Codes.{OK};
 ghost use Rattle.stun_types_c.specs.KeyHandles.{shared_key};
-ghost use Rattle.stun_types_c.specs.CResults.{plain};
+ghost use Rattle.stun_types_c.specs.CResults.{plain, write_result};
 ghost use Rattle.stun_types_c.specs.Writing.{Begins, AppendsTo, AddsValue, AddsAddress, AddsXorAddress, AddsError, AddsTypes, Signs, any_answer, step_answer};
 
 use crate::address::{Address, is_plain_type, is_xored_type, socket_of};
@@ -62,6 +63,44 @@ pub(crate) fn store_length(added: Result<usize, CResult>, written: &mut usize) -
             plain(codes::OK)
         }
         Err(answer) => answer,
+    }
+}
+
+/// The header of a message.
+#[tactic(auto, using(stun_grammar::proofs::HeadersLemmas::header_length))]
+pub(crate) fn header_of(message: &[u8]) -> [u8; 20]
+    requires { is_header message.now ≡ true }
+    ensures { result ≡ take 20 message.now }
+{
+    let mut header = [0; 20];
+    header.copy_from_slice(&message[..20]);
+    header
+}
+
+/// Stores how long the message is at its end; or, if something was refused, writes its header as it
+/// was. What the call returns.
+pub(crate) fn store_end(
+    added: Result<(), StunWriteError>,
+    end: usize,
+    header: &[u8; 20],
+    room: &mut [u8],
+    written: &mut usize,
+) -> CResult
+    requires { 20 ≤ length room.old }
+    ensures { MatchResult added
+        (λ _. (result ≡ plain OK) × (written.new ≡ end) × (room.new ≡ room.old))
+        (λ e. (result ≡ write_result e) × (written.new ≡ written.old)
+        × (room.new ≡ header.now ++ drop 20 room.old)) }
+{
+    match added {
+        Ok(()) => {
+            *written = end;
+            plain(codes::OK)
+        }
+        Err(error) => {
+            room[..20].copy_from_slice(header);
+            write_result(error)
+        }
     }
 }
 
