@@ -12,7 +12,7 @@
 #include <time.h>
 #include <unistd.h>
 
-#include "../addresses.h"
+#include "../examples/addresses.h"
 
 /* ---- Options (main.c) ------------------------------------------------------------------------ */
 

@@ -1,13 +1,12 @@
-/* Tries what the sandbox of the server forbids, and what it allows. c/examples/run builds and runs
- * it.
+/* Tries what the sandbox of the server forbids, and what it allows. c/server/run builds and runs it.
  *
- *     cc -std=c11 -I c c/examples/sandbox_trial.c c/examples/server/sandbox.c -o sandbox_trial
- *     ./sandbox_trial
+ *     cc -std=c11 -I c c/server/trials/sandbox.c c/server/sandbox.c -o sandbox
+ *     ./sandbox
  *
  * The first line has the version of Landlock, 0 for none, and whether system calls can be filtered.
  * Then each attempt has a line for a process without a sandbox, for one with Landlock and for one
  * with both: the error that it met, 0 for none, or -31 if SIGSYS ended the process. */
-#include "server/server.h"
+#include "../server.h"
 
 #include <fcntl.h>
 #include <sys/wait.h>

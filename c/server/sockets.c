@@ -72,7 +72,7 @@ bool open_address(endpoints *to, const socket_address *at) {
     if (opened) return true;
     stun_types_address address;
     int error = errno;
-    fprintf(stderr, "server: ");
+    fprintf(stderr, "stun-server: ");
     if (address_of(&at->bytes, &address)) print_address(stderr, &address);
     fprintf(stderr, ": %s\n", strerror(error));
     return false;
@@ -113,7 +113,7 @@ static bool take_open(endpoints *to, int number) {
 
 bool take_socket(endpoints *to, int number) {
     if (take_open(to, number)) return true;
-    fprintf(stderr, "server: the socket with number %d can't be served: %s\n", number,
+    fprintf(stderr, "stun-server: the socket with number %d can't be served: %s\n", number,
             strerror(errno));
     return false;
 }

@@ -1,8 +1,8 @@
 /* A STUN server: it returns to each client the address that its request came from, over UDP and
  * TCP. docs/guide/SERVER.md says how to run it.
  *
- *     cc -std=c11 -O2 -I c FILES libstun_types_c.a liblibc_c.a -o server
- *     ./server [-t] [-j PROCESSES] [-U USER] [-o NAME=NUMBER].. ADDRESS PORT [ADDRESS PORT]..
+ *     cc -std=c11 -O2 -I c FILES libstun_types_c.a liblibc_c.a -o stun-server
+ *     ./stun-server [-t] [-j PROCESSES] [-U USER] [-o NAME=NUMBER].. ADDRESS PORT [ADDRESS PORT]..
  *
  * ADDRESS is an IPv4 or IPv6 address of this machine. 0.0.0.0 stands for all its IPv4 addresses,
  * and :: for all of both families. -h explains the options. A server that is started with open
@@ -49,14 +49,14 @@ static const struct {
 };
 
 bool cannot(const char *what) {
-    fprintf(stderr, "server: %s: %s\n", what, strerror(errno));
+    fprintf(stderr, "stun-server: %s: %s\n", what, strerror(errno));
     return false;
 }
 
 static int print_usage(FILE *to) {
-    fprintf(to, "usage: server [-t] [-j PROCESSES] [-U USER] [-o NAME=NUMBER].. ADDRESS PORT "
+    fprintf(to, "usage: stun-server [-t] [-j PROCESSES] [-U USER] [-o NAME=NUMBER].. ADDRESS PORT "
                 "[ADDRESS PORT]..\n"
-                "       server -h | -V\n");
+                "       stun-server -h | -V\n");
     return to == stdout ? 0 : 2;
 }
 
@@ -80,9 +80,9 @@ static int print_help(void) {
 
 static int print_version(void) {
 #ifdef STUN_TYPES_VERSION_TEXT
-    printf("server of stun_types %s\n", STUN_TYPES_VERSION_TEXT);
+    printf("stun-server of stun_types %s\n", STUN_TYPES_VERSION_TEXT);
 #else
-    printf("server of stun_types\n");
+    printf("stun-server of stun_types\n");
 #endif
     return fflush(stdout) == 0 ? 0 : 1;
 }

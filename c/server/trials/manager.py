@@ -1,0 +1,114 @@
+"""Trials of the server under a service manager."""
+import contextlib
+import os
+import pathlib
+import re
+import shutil
+import socket
+import sys
+import tempfile
+import time
+
+from harness import Server, after, ask, ask_once, expect, free_port, processor_ticks
+from steps import PATIENCE, Skipped, check, run, wait_until
+
+HERE = pathlib.Path(__file__).resolve().parent.parent
+
+# puts sockets at the numbers that a program looks for, and starts that program
+PASS_ON = """
+import fcntl, os, sys
+count, program = int(sys.argv[1]), sys.argv[2 + int(sys.argv[1]):]
+kept = [fcntl.fcntl(int(number), fcntl.F_DUPFD, 100) for number in sys.argv[2:2 + count]]
+for place, number in enumerate(kept, 3):
+    os.dup2(number, place)
+os.environ.update(LISTEN_FDS=str(count), LISTEN_PID=str(os.getpid()))
+os.execv(program[0], program)
+"""
+
+
+def passed_on(programs):
+    """A server that is started with open sockets serves these."""
+    with contextlib.ExitStack() as all_of:
+        udp = all_of.enter_context(socket.socket(socket.AF_INET, socket.SOCK_DGRAM))
+        udp.bind(("127.0.0.1", 0))
+        udp.setblocking(False)
+        tcp = all_of.enter_context(socket.create_server(("::1", 0), family=socket.AF_INET6))
+        numbers = [str(it.fileno()) for it in (udp, tcp)]
+        command = [sys.executable, "-c", PASS_ON, "2", *numbers]
+        server = Server(programs["server"], "-j", "2", at=(), command=command,
+                        pass_fds=[int(number) for number in numbers])
+        with server:
+            server.port = udp.getsockname()[1]
+            ask_once(server)
+            ask(programs["client"], "::1", str(tcp.getsockname()[1]), "-s")
+            check(server.started["workers"] == "3", str(server.started))
+            before = processor_ticks(server)
+            time.sleep(0.5)
+            check(processor_ticks(server) - before < 10, "it turns without a pause")
+            expect(server.end(), udp_received=1, udp_sent=1, tcp_accepted=1, tcp_received=1,
+                   tcp_sent=1)
+        words = ["127.0.0.1", free_port(["127.0.0.1"])]
+        opened = [int(number) for number in numbers]
+        status, _, told = run([*command, programs["server"], *words], pass_fds=opened)
+        check(status == 2, f"addresses beside sockets: status {status}: {told}")
+        others = {**os.environ, "LISTEN_FDS": "1", "LISTEN_PID": "1"}
+        status, _, told = run([programs["server"]], env=others)
+        check(status == 2, f"another process' sockets: status {status}: {told}")
+        for number in ["33", "0", "x", "", "-1"]:
+            news = f"os.environ.update(LISTEN_FDS='{number}', LISTEN_PID=str(os.getpid()))"
+            status, _, told = run([*after(news), programs["server"], "-j", "2"])
+            right = status == 1 and told.startswith(f"stun-server: LISTEN_FDS={number}: ") and "32" in told
+            check(right, f"LISTEN_FDS={number}: status {status}: {told}")
+        with socket.socket() as deaf:
+            command = [sys.executable, "-c", PASS_ON, "1", str(deaf.fileno())]
+            status, _, told = run([*command, programs["server"]], pass_fds=[deaf.fileno()])
+            check(status == 1 and "3" in told, f"a socket that isn't bound: {status}: {told}")
+
+
+def notified(programs):
+    """The service manager hears when the server is ready, that it lives, and that it ends: at a socket
+    that is a file, and at one that is none."""
+    with tempfile.TemporaryDirectory(prefix="server-") as folder:
+        os.chmod(folder, 0o755)
+        for name in (f"{folder}/news", f"@stun-server-{os.getpid()}"):
+            notified_at(programs, name)
+
+
+def notified_at(programs, name):
+    with socket.socket(socket.AF_UNIX, socket.SOCK_DGRAM) as manager:
+        manager.bind(name.replace("@", "\0"))
+        manager.settimeout(PATIENCE)
+        news = {**os.environ, "NOTIFY_SOCKET": name, "WATCHDOG_USEC": "30000000"}
+        with Server(programs["server"], env=news) as server:
+            check(manager.recv(200) == b"READY=1", "it isn't ready first")
+            check(manager.recv(200) == b"WATCHDOG=1", "it doesn't say that it lives")
+            wait_until(lambda: server.sockets() == [1], "a worker has the manager's socket")
+            ask(programs["client"], "127.0.0.1", server.port)
+            server.end()
+            told = manager.recv(200)
+            while told == b"WATCHDOG=1":
+                told = manager.recv(200)
+            check(told == b"STOPPING=1", f"it says {told}")
+
+
+UNIT = (HERE / "stun-server.service").read_text()
+UNIT_COMMAND = re.search(r"^ExecStart=(.*)$", UNIT, re.M)[1].split()
+
+
+def unit_command(programs):
+    """The command of the unit runs."""
+    status, _, told = run([programs["server"], *UNIT_COMMAND[1:-2], "-V"])
+    right = UNIT_COMMAND[0] == "/usr/local/bin/stun-server" and status == 0
+    check(right, f"status {status}: {told}")
+
+
+def unit_file(programs):
+    """The unit says what systemd understands."""
+    if not shutil.which("systemd-analyze"):
+        raise Skipped("systemd-analyze isn't on this machine")
+    with tempfile.TemporaryDirectory(prefix="server-") as folder:
+        os.chmod(folder, 0o755)
+        tried = pathlib.Path(folder) / "stun-server.service"
+        tried.write_text(UNIT.replace(UNIT_COMMAND[0], programs["server"]))
+        status, out, told = run(["systemd-analyze", "verify", "--man=no", str(tried)], 60)
+    check(status == 0 and out + told == "", f"status {status}: {out}{told}")
