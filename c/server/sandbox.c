@@ -6,6 +6,7 @@
 #include <linux/seccomp.h>
 #include <stddef.h>
 #include <sys/prctl.h>
+#include <sys/socket.h>
 #include <sys/syscall.h>
 
 /* ---- Landlock -------------------------------------------------------------------------------- */
@@ -70,7 +71,15 @@ static const int allowed[] = {
     SYS_ppoll, SYS_rt_sigreturn, SYS_restart_syscall, SYS_exit_group
 };
 
-enum { CALLS = sizeof allowed / sizeof *allowed };
+/* Those of which one argument, an integer, has to be a number. */
+static const struct {
+    int call, argument;
+    uint32_t number;
+} restricted[] = {
+    {SYS_setsockopt, 2, SO_LINGER},
+};
+
+enum { CALLS = sizeof allowed / sizeof *allowed, RESTRICTED = sizeof restricted / sizeof *restricted };
 
 bool can_filter(void) {
 #ifdef MACHINE
@@ -87,14 +96,20 @@ static struct sock_filter load(size_t offset) {
     return (struct sock_filter)BPF_STMT(BPF_LD | BPF_W | BPF_ABS, (uint32_t)offset);
 }
 
-/* Continues with the next step if what was loaded is a number, otherwise with the one after it. */
-static struct sock_filter if_equal(uint32_t number) {
-    return (struct sock_filter)BPF_JUMP(BPF_JMP | BPF_JEQ | BPF_K, number, 0, 1);
+/* Where the lower half of an argument is; both machines have it first. */
+static size_t argument_at(int argument) {
+    return offsetof(struct seccomp_data, args) + 8 * (size_t)argument;
 }
 
-static struct sock_filter if_different(uint32_t number) {
-    return (struct sock_filter)BPF_JUMP(BPF_JMP | BPF_JEQ | BPF_K, number, 1, 0);
+/* Leaves out so many steps if what was loaded is a number, and so many if it isn't. */
+static struct sock_filter if_equal_skip(uint32_t number, uint8_t if_so, uint8_t otherwise) {
+    return (struct sock_filter)BPF_JUMP(BPF_JMP | BPF_JEQ | BPF_K, number, if_so, otherwise);
 }
+
+/* The next step is for what was loaded if it is a number, or if it is another. */
+static struct sock_filter if_equal(uint32_t number) { return if_equal_skip(number, 0, 1); }
+
+static struct sock_filter if_different(uint32_t number) { return if_equal_skip(number, 1, 0); }
 
 static struct sock_filter end_by(uint32_t action) {
     return (struct sock_filter)BPF_STMT(BPF_RET | BPF_K, action);
@@ -103,7 +118,7 @@ static struct sock_filter end_by(uint32_t action) {
 /* SPEC_ALLOW: the processor may speculate as before. Older systems would slow the process down,
  * against code in it that reads its memory; it holds no secrets. */
 bool filter_calls(void) {
-    struct sock_filter steps[5 + 2 * CALLS];
+    struct sock_filter steps[5 + 2 * CALLS + 5 * RESTRICTED];
     unsigned short count = 0;
     steps[count++] = load(offsetof(struct seccomp_data, arch));
     steps[count++] = if_different(MACHINE);
@@ -112,6 +127,13 @@ bool filter_calls(void) {
     for (int i = 0; i < CALLS; i++) {
         steps[count++] = if_equal((uint32_t)allowed[i]);
         steps[count++] = end_by(SECCOMP_RET_ALLOW);
+    }
+    for (int i = 0; i < RESTRICTED; i++) {
+        steps[count++] = if_equal_skip((uint32_t)restricted[i].call, 0, 4);
+        steps[count++] = load(argument_at(restricted[i].argument));
+        steps[count++] = if_equal(restricted[i].number);
+        steps[count++] = end_by(SECCOMP_RET_ALLOW);
+        steps[count++] = end_by(SECCOMP_RET_KILL_PROCESS);
     }
     steps[count++] = end_by(SECCOMP_RET_KILL_PROCESS);
     struct sock_fprog program = {count, steps};

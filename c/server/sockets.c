@@ -4,7 +4,12 @@
 #include <fcntl.h>
 #include <netinet/tcp.h>
 
-enum { QUEUE = 4 << 20 }; /* bytes that may wait in a socket for UDP, if the system allows them */
+enum {
+    QUEUE = 4 << 20, /* bytes that may wait in a socket for UDP, if the system allows them */
+    /* of a connection; the system takes twice as much */
+    TO_SEND = 64 << 10,
+    TO_READ = 16 << 10
+};
 
 /* Sets an option of a socket that it can serve without. */
 static void set_option(int number, int level, int name, int value) {
@@ -33,6 +38,15 @@ static bool prepare_udp(int number, int family, bool wildcard) {
            setsockopt(number, SOL_SOCKET, SO_SNDTIMEO, &second, sizeof second) == 0;
 }
 
+/* What a socket for TCP does, so do the connections that it accepts: the system keeps little for
+ * each, and gives up on a client that takes nothing, whether or not the server knows it still. */
+static void prepare_tcp(int number) {
+    set_option(number, IPPROTO_TCP, TCP_NODELAY, 1);
+    set_option(number, SOL_SOCKET, SO_SNDBUF, TO_SEND);
+    set_option(number, SOL_SOCKET, SO_RCVBUF, TO_READ);
+    set_option(number, IPPROTO_TCP, TCP_USER_TIMEOUT, (int)options.idle_timeout * 1000);
+}
+
 /* Appends an endpoint. */
 static bool append(endpoints *to, const struct sockaddr_storage *at, endpoint made) {
     if (to->count == MOST_ENDPOINTS || !address_of(at, &made.address)) {
@@ -40,8 +54,7 @@ static bool append(endpoints *to, const struct sockaddr_storage *at, endpoint ma
         return false;
     }
     made.wildcard = is_wildcard(at);
-    /* (what it accepts has this option too) */
-    if (made.stream) set_option(made.socket, IPPROTO_TCP, TCP_NODELAY, 1);
+    if (made.stream) prepare_tcp(made.socket);
     if (!made.stream && !prepare_udp(made.socket, at->ss_family, made.wildcard)) return false;
     to->all[to->count++] = made;
     return true;

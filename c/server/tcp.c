@@ -106,6 +106,13 @@ static void close_connection(connection *closed) {
     while (tcp.open_end > tcp.connections && !tcp.open_end[-1].open) tcp.open_end--;
 }
 
+/* Closes a connection, and has the system drop what its client hasn't taken. */
+static void reset_connection(connection *closed) {
+    const struct linger none = {1, 0};
+    (void)setsockopt(closed->socket, SOL_SOCKET, SO_LINGER, &none, sizeof none);
+    close_connection(closed);
+}
+
 /* The connection that is closed for a new one: of the addresses with most connections, that which
  * has been idle longest. */
 static connection *find_least_needed(void) {
@@ -125,7 +132,7 @@ static connection *free_place(void) {
     }
     if (tcp.open_end < tcp.end) return tcp.open_end;
     connection *least = find_least_needed();
-    close_connection(least);
+    reset_connection(least);
     count(tcp.mine, TCP_DISPLACED, 1);
     return least;
 }
@@ -299,14 +306,14 @@ static void close_overdue(void) {
     for (connection *at = tcp.connections; at < tcp.open_end; at++) {
         if (!at->open) continue;
         if (at->half_closed) {
-            if (tcp.now >= at->closed_at) close_connection(at);
+            if (tcp.now >= at->closed_at) reset_connection(at);
             continue;
         }
         int why = overdue(at);
         if (why == COUNTS) continue;
         count(tcp.mine, why, 1);
         half_close(at);
-        if (!await(at, EPOLLIN)) close_connection(at);
+        if (!await(at, EPOLLIN)) reset_connection(at);
     }
     if (!tcp.accepting) accept_more(true);
 }

@@ -1,13 +1,15 @@
 """Trials of the server over TCP."""
 import contextlib
+import re
 import resource
 import select
+import shutil
 import socket
 import threading
 import time
 
 from harness import Server, after, ask, ask_on, expect, is_closed, many_files, read_replies, refusing
-from steps import PATIENCE, REQUEST, Wrong, check
+from steps import PATIENCE, REQUEST, Skipped, Wrong, check, run, wait_until
 
 
 def flood(deaf):
@@ -21,6 +23,38 @@ def flood(deaf):
             if not select.select([], [deaf], [], 0.3)[1]:
                 return
     raise Wrong(f"the server took {sent} bytes of a client that reads nothing")
+
+
+def kernel_memory(server):
+    """How many bytes the system keeps for each connection of a server, by its state: what was received,
+    what is to be sent, and what is set aside for either. The server needn't know the connection any
+    more."""
+    if not shutil.which("ss"):
+        raise Skipped("ss isn't on this machine")
+    _, out, _ = run(["ss", "-Htanm", f"sport = :{server.port}"])
+    found = []
+    for state, sizes in re.findall(r"^(\S+) .*\n?.*skmem:\(([^)]*)\)", out, re.M):
+        numbers = {name: int(size) for name, size in re.findall(r"([a-z]+)(\d+)", sizes)}
+        if state != "LISTEN":
+            found.append((state, numbers["r"] + numbers["w"] + numbers["f"]))
+    return found
+
+
+def slow_readers(programs):
+    """A client that reads nothing takes little of the system's memory, and none once its connection is
+    closed: because it was idle, or for another."""
+    with contextlib.ExitStack() as all_of:
+        idle, full = (all_of.enter_context(Server(programs["server"], "-t", "-o", option))
+                      for option in ("idle-timeout=1", "max-connections=1"))
+        for server in (idle, full):
+            flood(all_of.enter_context(server.connect()))
+        taken = kernel_memory(full)
+        check(len(taken) == 1 and taken[0][1] <= 400_000, f"one connection takes {taken}")
+        with full.connect() as other:
+            ask_on(other)
+        for server in (idle, full):
+            wait_until(lambda: not kernel_memory(server), "a connection is left")
+        check(idle.end()["tcp_idle"] == 1 and full.end()["tcp_displaced"] == 1, "other counts")
 
 
 def over_tcp(programs):
