@@ -43,7 +43,7 @@ def step(name):
         yield
     except Skipped as why:
         skip(name, why)
-    except (Wrong, OSError, ValueError, subprocess.SubprocessError) as error:
+    except (Wrong, OSError, ValueError, KeyError, subprocess.SubprocessError) as error:
         failed += 1
         print(f"{name}: {type(error).__name__}: {error}", flush=True)
     else:

@@ -158,7 +158,8 @@ void *shared_memory(size_t size);
 /* The signals that the supervisor waits for, and that are blocked in it. */
 sigset_t awaited_signals(void);
 
-/* Serves all endpoints until SIGTERM or SIGINT, by workers that it starts and replaces. */
+/* Serves all endpoints until SIGTERM or SIGINT, by workers that it starts and replaces. False: one
+ * has died too often in a row. */
 bool supervise(const endpoints *of, rate_table *rates);
 
 void serve_udp(const endpoint *from, rate_table *rates, tally *mine);

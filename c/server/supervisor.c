@@ -8,18 +8,32 @@
 
 enum {
     SECOND = 1000,
-    RESTART_TIME = 100, /* from one start of a worker to its next */
-    ENDING_TIME = 3000  /* for a worker that is to end, all in milliseconds */
+    MOMENT = 20,        /* how often those are looked at that are to begin */
+    RESTART_TIME = 100, /* from the end of a worker to its next start; it doubles with each death */
+    ENDING_TIME = 3000, /* for a worker that is to end, all in milliseconds */
+    MOST_DEATHS = 8,    /* of a worker in a row, each within a second or before it served */
+    MOST_MISSED = 2     /* looks, one a second, at which a worker that lives may not have turned */
 };
 
 typedef struct {
     const endpoint *from; /* it receives datagrams there; NULL: it has all connections */
     pid_t process;        /* 0: none; -1: it could not be started */
-    uint64_t started;
+    uint64_t started, ended;
+    uint64_t born;   /* the beats when it started */
     uint64_t beats;  /* as they were seen last */
     uint32_t missed; /* how often in turn they were the same, looked at once a second */
+    uint32_t deaths; /* in a row */
     bool hung;
 } worker;
+
+/* Deaths of one kind, of which one line a second is printed at most. */
+typedef struct {
+    const char *event;
+    uint64_t all, printed_at;
+    unsigned unprinted;
+    pid_t process; /* the last, and how it ended */
+    int status;
+} death_list;
 
 static struct {
     worker workers[MOST_WORKERS + 1];
@@ -27,8 +41,9 @@ static struct {
     tally *tallies; /* one for each worker */
     const endpoints *endpoints;
     rate_table *rates;
-    uint64_t began, died, hung;
-} group;
+    uint64_t began;
+    death_list died, hung;
+} group = {.died = {.event = "worker-died"}, .hung = {.event = "worker-hung"}};
 
 volatile sig_atomic_t ending;
 
@@ -103,12 +118,17 @@ static void work(const worker *as, tally *mine, pid_t supervisor) {
     _exit(0);
 }
 
+static uint64_t beats_of(const worker *of) {
+    return atomic_load_explicit(&group.tallies[of - group.workers].beats, memory_order_relaxed);
+}
+
 /* Starts a worker. If the system can't, that is an event once, however often it is tried again. */
 static void start(worker *started) {
     bool has_failed = started->process < 0;
     pid_t supervisor = getpid();
     tally *mine = &group.tallies[started - group.workers];
     started->started = milliseconds();
+    started->born = started->beats = beats_of(started);
     started->missed = 0;
     started->hung = false;
     started->process = fork();
@@ -124,16 +144,36 @@ static void start(worker *started) {
 static bool start_missing(void) {
     bool missing = false;
     for (worker *at = group.workers; at < group.workers + group.count; at++) {
-        if (at->process < 1 && milliseconds() - at->started >= RESTART_TIME) start(at);
+        uint64_t pause = (uint64_t)RESTART_TIME << (at->deaths > 0 ? at->deaths - 1 : 0);
+        uint64_t since = at->process < 0 ? at->started : at->ended;
+        if (at->process < 1 && milliseconds() - since >= pause) start(at);
         missing |= at->process < 1;
     }
     return missing;
 }
 
-static void print_death(const worker *dead, int status) {
-    int number = WIFSIGNALED(status) ? WTERMSIG(status) : WEXITSTATUS(status);
-    fprintf(stderr, "event=%s process=%ld %s=%d\n", dead->hung ? "worker-hung" : "worker-died",
-            (long)dead->process, WIFSIGNALED(status) ? "signal" : "status", number);
+/* Prints the deaths that are to be printed, unless their last line is newer than a second. */
+static void print_deaths(death_list *of) {
+    uint64_t now = milliseconds();
+    int number = WIFSIGNALED(of->status) ? WTERMSIG(of->status) : WEXITSTATUS(of->status);
+    if (of->unprinted == 0 || (of->printed_at > 0 && now - of->printed_at < SECOND)) return;
+    fprintf(stderr, "event=%s process=%ld %s=%d deaths=%u\n", of->event, (long)of->process,
+            WIFSIGNALED(of->status) ? "signal" : "status", number, of->unprinted);
+    of->unprinted = 0;
+    of->printed_at = now;
+}
+
+static void note_death(worker *dead, int status) {
+    death_list *kind = dead->hung ? &group.hung : &group.died;
+    uint64_t now = milliseconds();
+    bool early = now - dead->started < SECOND || beats_of(dead) == dead->born;
+    dead->deaths = early && !dead->hung ? dead->deaths + 1 : 0;
+    kind->all++;
+    kind->unprinted++;
+    kind->process = dead->process;
+    kind->status = status;
+    dead->process = 0;
+    dead->ended = now;
 }
 
 /* Notes which have died. Their sockets stay open, so that no datagram in these is lost. */
@@ -142,20 +182,30 @@ static void note_dead(void) {
     int status;
     while ((dead = waitpid(-1, &status, WNOHANG)) > 0) {
         for (worker *at = group.workers; at < group.workers + group.count; at++) {
-            if (at->process != dead) continue;
-            print_death(at, status);
-            *(at->hung ? &group.hung : &group.died) += 1;
-            at->process = 0;
+            if (at->process == dead) note_death(at, status);
         }
     }
+    print_deaths(&group.died);
+    print_deaths(&group.hung);
+}
+
+/* Whether a worker has died so often in a row that the server gives up. */
+static bool is_hopeless(void) {
+    for (worker *at = group.workers; at < group.workers + group.count; at++) {
+        if (at->deaths < MOST_DEATHS) continue;
+        group.died.printed_at = 0;
+        print_deaths(&group.died);
+        fprintf(stderr, "event=gave-up deaths=%u\n", (unsigned)at->deaths);
+        return true;
+    }
+    return false;
 }
 
 /* Ends those whose loops don't turn. The time is counted in looks of the supervisor's own: if the
  * whole machine pauses for a while, nobody is missed. */
 static void end_hung(void) {
     for (worker *at = group.workers; at < group.workers + group.count; at++) {
-        uint64_t beats = atomic_load_explicit(&group.tallies[at - group.workers].beats,
-                                              memory_order_relaxed);
+        uint64_t beats = beats_of(at);
         if (at->process < 1) continue;
         at->missed = beats == at->beats ? at->missed + 1 : 0;
         at->beats = beats;
@@ -163,6 +213,14 @@ static void end_hung(void) {
         at->hung = true;
         kill(at->process, SIGKILL);
     }
+}
+
+/* Whether each worker has begun to serve, and turns. */
+static bool all_serve(void) {
+    for (worker *at = group.workers; at < group.workers + group.count; at++) {
+        if (at->process < 1 || beats_of(at) == at->born || at->missed >= MOST_MISSED) return false;
+    }
+    return true;
 }
 
 /* Whether some workers are left; those that have ended are noted. */
@@ -202,7 +260,8 @@ static void print_start(int landlock) {
 
 static void print_now(void) {
     uint64_t uptime = (milliseconds() - group.began) / SECOND;
-    print_counts(group.tallies, group.count, group.endpoints, uptime, group.died, group.hung);
+    print_counts(group.tallies, group.count, group.endpoints, uptime, group.died.all,
+                 group.hung.all);
 }
 
 /* Plans a worker for each socket over UDP, as many as it is to have, and one for all others. */
@@ -219,19 +278,24 @@ static bool plan_workers(void) {
     return group.tallies != NULL;
 }
 
-static void look_after(void) {
-    const struct timespec second = {1, 0}, moment = {0, RESTART_TIME * 1000000};
+/* Looks after the workers until a signal ends the server. False: it gave up. */
+static bool look_after(void) {
+    const struct timespec second = {1, 0}, moment = {0, MOMENT * 1000000};
     sigset_t signals = awaited_signals();
     uint64_t looked = milliseconds();
+    bool is_ready = false;
     for (;;) {
-        int number = sigtimedwait(&signals, NULL, start_missing() ? &moment : &second);
-        if (number == SIGTERM || number == SIGINT) return;
+        bool waits = start_missing() || !is_ready;
+        int number = sigtimedwait(&signals, NULL, waits ? &moment : &second);
+        if (number == SIGTERM || number == SIGINT) return true;
         if (number == SIGHUP || number == SIGUSR1) print_now();
         note_dead();
+        if (is_hopeless()) return false;
+        if (!is_ready && (is_ready = all_serve())) notify("READY=1");
         if (milliseconds() - looked < SECOND) continue;
         looked = milliseconds();
         end_hung();
-        notify_alive();
+        if (is_ready && all_serve()) notify_alive();
     }
 }
 
@@ -244,10 +308,9 @@ bool supervise(const endpoints *from, rate_table *rates) {
     print_endpoints(from);
     for (size_t i = 0; i < group.count; i++) start(&group.workers[i]);
     print_start(landlock);
-    notify("READY=1");
-    look_after();
+    bool ended = look_after();
     notify("STOPPING=1");
     end_workers();
     print_now();
-    return true;
+    return ended;
 }

@@ -3,7 +3,9 @@ import contextlib
 import os
 import pathlib
 import re
+import select
 import shutil
+import signal
 import socket
 import sys
 import tempfile
@@ -65,30 +67,58 @@ def passed_on(programs):
             check(status == 1 and "3" in told, f"a socket that isn't bound: {status}: {told}")
 
 
+@contextlib.contextmanager
+def news_of(name=None):
+    """A manager's socket, and the environment of a server that it manages."""
+    name = name or f"@stun-server-{os.getpid()}"
+    with socket.socket(socket.AF_UNIX, socket.SOCK_DGRAM) as manager:
+        manager.bind(name.replace("@", "\0"))
+        manager.settimeout(PATIENCE)
+        yield manager, {**os.environ, "NOTIFY_SOCKET": name, "WATCHDOG_USEC": "30000000"}
+
+
+def heard(manager):
+    """What the manager has heard, and hasn't received yet."""
+    found = []
+    while select.select([manager], [], [], 0)[0]:
+        found.append(manager.recv(200))
+    return found
+
+
 def notified(programs):
     """The service manager hears when the server is ready, that it lives, and that it ends: at a socket
     that is a file, and at one that is none."""
     with tempfile.TemporaryDirectory(prefix="server-") as folder:
         os.chmod(folder, 0o755)
-        for name in (f"{folder}/news", f"@stun-server-{os.getpid()}"):
+        for name in (f"{folder}/news", None):
             notified_at(programs, name)
 
 
 def notified_at(programs, name):
-    with socket.socket(socket.AF_UNIX, socket.SOCK_DGRAM) as manager:
-        manager.bind(name.replace("@", "\0"))
-        manager.settimeout(PATIENCE)
-        news = {**os.environ, "NOTIFY_SOCKET": name, "WATCHDOG_USEC": "30000000"}
-        with Server(programs["server"], env=news) as server:
-            check(manager.recv(200) == b"READY=1", "it isn't ready first")
-            check(manager.recv(200) == b"WATCHDOG=1", "it doesn't say that it lives")
-            wait_until(lambda: server.sockets() == [1], "a worker has the manager's socket")
-            ask(programs["client"], "127.0.0.1", server.port)
+    with news_of(name) as (manager, news), Server(programs["server"], env=news) as server:
+        check(manager.recv(200) == b"READY=1", "it isn't ready first")
+        check(manager.recv(200) == b"WATCHDOG=1", "it doesn't say that it lives")
+        wait_until(lambda: server.sockets() == [1], "a worker has the manager's socket")
+        ask(programs["client"], "127.0.0.1", server.port)
+        server.end()
+        rest = heard(manager)
+        check(rest[-1] == b"STOPPING=1" and {*rest[:-1]} <= {b"WATCHDOG=1"}, f"it says {rest}")
+
+
+def watched(programs):
+    """The manager hears that the server lives only as long as each of its workers does."""
+    with news_of() as (manager, news):
+        options = ["-t", "-j", "2", "-o", "hang-timeout=600"]
+        with Server(programs["server"], *options, env=news) as server:
+            while manager.recv(200) != b"WATCHDOG=1":
+                pass
+            stopped = server.workers()[-1]
+            os.kill(stopped, signal.SIGSTOP)
+            wait_until(lambda: not select.select([manager], [], [], 3)[0] or not manager.recv(200),
+                       "it says that it lives with a worker that doesn't")
+            os.kill(stopped, signal.SIGCONT)
+            check(manager.recv(200) == b"WATCHDOG=1", "it doesn't live again")
             server.end()
-            told = manager.recv(200)
-            while told == b"WATCHDOG=1":
-                told = manager.recv(200)
-            check(told == b"STOPPING=1", f"it says {told}")
 
 
 UNIT = (HERE / "stun-server.service").read_text()

@@ -9,6 +9,7 @@ import time
 
 from harness import (Server, after, ask, ask_once, asking_socket, expect, free_port, refusing,
                      status_of)
+from manager import heard, news_of
 from steps import PATIENCE, REQUEST, Skipped, check, run, wait_until
 
 
@@ -40,9 +41,9 @@ def replaced(programs, command=()):
             before = server.workers()
             for worker in before:
                 os.kill(worker, number)
-            left = set(before)
-            while left:
-                left.discard(int(server.wait_for(f"worker-{event}")["process"]))
+            left = len(before)
+            while left > 0:
+                left -= int(server.wait_for(f"worker-{event}")["deaths"])
             ask(programs["client"], "127.0.0.1", server.port)
             ask(programs["client"], "127.0.0.1", server.port, "-s")
         for worker in server.workers():
@@ -79,18 +80,28 @@ def not_started(programs):
 
 
 def unconfined(programs):
-    """A worker whose system calls can't be filtered serves nobody."""
+    """A worker whose system calls can't be filtered serves nobody: it ends, is started again after a
+    time that doubles, and the eighth time ends the server. The manager doesn't hear that it is ready
+    or lives. A line a second says how many workers have ended."""
     command = after(refusing("seccomp", 0, 2))  # (2 asks what can be filtered)
-    with Server(programs["server"], "-t", command=command) as server:
-        check(server.started["seccomp"] == "on", str(server.started))
-        with asking_socket(server) as asking, server.connect() as stream:
-            asking.send(REQUEST + bytes(12))
-            stream.send(REQUEST + bytes(12))
-            for _ in range(6):
-                status = server.wait_for("worker-died").get("status")
-                check(status == "1", f"a worker ends with status {status}")
-        counted = server.end()
-        expect(counted, workers_died=counted["workers_died"])
+    with news_of() as (manager, news):
+        with Server(programs["server"], command=command, env=news) as server:
+            check(server.started["seccomp"] == "on", str(server.started))
+            began, deaths, lines = time.monotonic(), 0, 0
+            with asking_socket(server) as asking:
+                asking.send(REQUEST + bytes(12))
+                while deaths < 8:
+                    died = server.wait_for("worker-died")
+                    check(died["status"] == "1", f"a worker ends so: {died}")
+                    deaths, lines = deaths + int(died["deaths"]), lines + 1
+                check(server.wait_for("gave-up")["deaths"] == "8", "it gave up early or late")
+            counted = server.wait_for("counts")
+            took = time.monotonic() - began
+            check(server.ran.wait(PATIENCE) == 1, f"status {server.ran.returncode}")
+            check(lines <= took + 1, f"{lines} lines in {took} s")
+            check(took > 12, f"8 workers died in {took} s")
+            check(counted["udp_received"] == "0" and counted["workers_died"] == "8", str(counted))
+        check(heard(manager) == [b"STOPPING=1"], "the manager hears that it is ready or lives")
 
 
 def has_rights(programs, server, user, groups):
