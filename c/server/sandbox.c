@@ -79,7 +79,10 @@ static const struct {
     {SYS_setsockopt, 2, SO_LINGER},
 };
 
-enum { CALLS = sizeof allowed / sizeof *allowed, RESTRICTED = sizeof restricted / sizeof *restricted };
+enum {
+    CALLS = sizeof allowed / sizeof *allowed,
+    RESTRICTED = sizeof restricted / sizeof *restricted
+};
 
 bool can_filter(void) {
 #ifdef MACHINE

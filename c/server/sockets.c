@@ -39,12 +39,14 @@ static bool prepare_udp(int number, int family, bool wildcard) {
 }
 
 /* What a socket for TCP does, so do the connections that it accepts: the system keeps little for
- * each, and gives up on a client that takes nothing, whether or not the server knows it still. */
+ * each, gives up on a client that takes nothing, whether or not the server knows it still, and
+ * keeps a connection back for a while until something comes by it. */
 static void prepare_tcp(int number) {
     set_option(number, IPPROTO_TCP, TCP_NODELAY, 1);
     set_option(number, SOL_SOCKET, SO_SNDBUF, TO_SEND);
     set_option(number, SOL_SOCKET, SO_RCVBUF, TO_READ);
     set_option(number, IPPROTO_TCP, TCP_USER_TIMEOUT, (int)options.idle_timeout * 1000);
+    set_option(number, IPPROTO_TCP, TCP_DEFER_ACCEPT, (int)options.request_timeout);
 }
 
 /* Appends an endpoint. */

@@ -13,13 +13,19 @@ enum {
     LISTENERS = MOST_CONNECTIONS /* the number of the first endpoint among the connections */
 };
 
+/* The neighbourhoods of an address, the widest first: /48, /56 and /64 of IPv6, and of IPv4 /24,
+ * once more /24, and the address itself. The places of neighbours differ in so many last bits. */
+enum { NEIGHBOURHOODS = 3 };
+static const int narrowed_by[NEIGHBOURHOODS] = {16, 8, 0};
+
 typedef struct {
     bool open;
     bool closing; /* no more is answered: what waits is sent, and then the connection is closed */
     bool half_closed;
     int socket;
     uint32_t awaited; /* EPOLLIN or EPOLLOUT */
-    uint32_t crowd;   /* how many connections its address has, with this one */
+    uint64_t place;   /* of its address among all */
+    uint32_t crowds[NEIGHBOURHOODS]; /* how many connections each has, with this one */
     uint64_t accepted, heard; /* when it was accepted, and when its last message was whole */
     uint64_t begun;           /* when the first byte of a message came that isn't whole yet */
     uint64_t closed_at;       /* if it is closing */
@@ -82,27 +88,36 @@ bool make_connections(size_t listeners) {
     return true;
 }
 
-/* Whether two addresses may be one client's: IPv4 as a whole, IPv6 by its first half. */
-static bool are_neighbours(const stun_types_address *a, const stun_types_address *b) {
-    return a->family == b->family && memcmp(a->octets, b->octets, a->family == 4 ? 4 : 8) == 0;
+/* The place of an address: the first half of one of IPv6. No such address begins with the octet
+ * with which places of IPv4 do, since that is for multicast. */
+static uint64_t place_of(const stun_types_address *source) {
+    uint64_t place = 0;
+    if (source->family == 4) {
+        for (int i = 0; i < 3; i++) place = place << 8 | source->octets[i];
+        return UINT64_C(0xFF) << 56 | place << 16 | source->octets[3];
+    }
+    for (int i = 0; i < 8; i++) place = place << 8 | source->octets[i];
+    return place;
 }
 
-/* Counts a connection in for its address, or out. */
-static void count_crowd(connection *changed, bool in) {
-    changed->crowd = 0;
+/* Counts a connection in for its neighbours, or out. */
+static void count_crowds(connection *changed, bool in) {
+    for (int i = 0; i < NEIGHBOURHOODS; i++) changed->crowds[i] = 1;
     for (connection *at = tcp.connections; at < tcp.open_end; at++) {
-        if (at == changed || !at->open || !are_neighbours(&at->source, &changed->source)) continue;
-        if (in) at->crowd++;
-        else at->crowd--;
-        changed->crowd = at->crowd;
+        if (at == changed || !at->open) continue;
+        uint64_t differ = at->place ^ changed->place;
+        for (int i = 0; i < NEIGHBOURHOODS && differ >> narrowed_by[i] == 0; i++) {
+            if (in) at->crowds[i]++;
+            else at->crowds[i]--;
+            changed->crowds[i]++;
+        }
     }
-    if (changed->crowd == 0) changed->crowd = 1;
 }
 
 static void close_connection(connection *closed) {
     close(closed->socket);
     closed->open = false;
-    count_crowd(closed, false);
+    count_crowds(closed, false);
     while (tcp.open_end > tcp.connections && !tcp.open_end[-1].open) tcp.open_end--;
 }
 
@@ -113,14 +128,20 @@ static void reset_connection(connection *closed) {
     close_connection(closed);
 }
 
-/* The connection that is closed for a new one: of the addresses with most connections, that which
- * has been idle longest. */
+/* Whether a connection is needed less than another: it is of a fuller neighbourhood, compared from
+ * the widest on, or of ones as full, and has been idle longer. */
+static bool is_needed_less(const connection *a, const connection *b) {
+    for (int i = 0; i < NEIGHBOURHOODS; i++) {
+        if (a->crowds[i] != b->crowds[i]) return a->crowds[i] > b->crowds[i];
+    }
+    return a->heard < b->heard;
+}
+
+/* The connection that is closed for a new one. */
 static connection *find_least_needed(void) {
     connection *least = tcp.connections;
     for (connection *at = tcp.connections; at < tcp.open_end; at++) {
-        if (at->crowd > least->crowd || (at->crowd == least->crowd && at->heard < least->heard)) {
-            least = at;
-        }
+        if (is_needed_less(at, least)) least = at;
     }
     return least;
 }
@@ -251,12 +272,13 @@ static bool enter(int socket, const struct sockaddr_storage *from) {
     memset(place, 0, sizeof *place);
     place->socket = socket;
     place->source = source;
+    place->place = place_of(&source);
     place->awaited = EPOLLIN;
     place->accepted = place->heard = tcp.now;
     if (!control(EPOLL_CTL_ADD, socket, EPOLLIN, (size_t)(place - tcp.connections))) return false;
     place->open = true;
     if (place >= tcp.open_end) tcp.open_end = place + 1;
-    count_crowd(place, true);
+    count_crowds(place, true);
     return true;
 }
 

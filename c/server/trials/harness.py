@@ -1,5 +1,7 @@
 """What the trials of the server share: a server that runs, its workers and its clients."""
+import concurrent.futures
 import contextlib
+import ctypes
 import os
 import pathlib
 import platform
@@ -7,6 +9,7 @@ import queue
 import random
 import re
 import resource
+import shutil
 import signal
 import socket
 import subprocess
@@ -16,6 +19,7 @@ import threading
 from steps import PATIENCE, REQUEST, Skipped, Wrong, check, run
 
 LOAD = {"clients": 20, "requests": 200}
+IPV6_FREEBIND = 78  # (Python doesn't have it)
 
 
 def free_port(addresses):
@@ -112,8 +116,15 @@ class Server:
         return sorted(counts)
 
     def connect(self, source="127.0.0.1"):
-        where = ("127.0.0.1", int(self.port))
-        return socket.create_connection(where, PATIENCE, (source, 0))
+        """A connection from an address, which needn't be this machine's if packets find it."""
+        six = ":" in source
+        stream = socket.socket(socket.AF_INET6 if six else socket.AF_INET, socket.SOCK_STREAM)
+        stream.settimeout(PATIENCE)
+        if six:
+            stream.setsockopt(socket.IPPROTO_IPV6, IPV6_FREEBIND, 1)
+        stream.bind((source, 0))
+        stream.connect(("::1" if six else "127.0.0.1", int(self.port)))
+        return stream
 
 
 def expect(counted, **wanted):
@@ -189,14 +200,16 @@ def ask_once(server, address="127.0.0.1"):
 
 def read_replies(stream, count):
     """The transaction IDs of the success responses that a stream brings."""
-    data = b""
-    while len(data) < 48 * count:
+    six = stream.family == socket.AF_INET6
+    length, data = 60 if six else 48, b""
+    while len(data) < length * count:
         more = stream.recv(65536)
         check(more, f"the stream ended after {len(data)} bytes")
         data += more
-    replies = [data[at : at + 48] for at in range(0, len(data), 48)]
-    right = all(reply[:8] == bytes.fromhex("0101001C2112A442") for reply in replies)
-    check(right and len(data) == 48 * count, "the replies are others")
+    replies = [data[at : at + length] for at in range(0, len(data), length)]
+    begins = bytes.fromhex("010100282112A442" if six else "0101001C2112A442")
+    right = all(reply[:8] == begins for reply in replies)
+    check(right and len(data) == length * count, "the replies are others")
     return [reply[8:20] for reply in replies]
 
 
@@ -220,6 +233,19 @@ def is_closed(stream, seconds=PATIENCE):
 
 
 # ---- Processes
+
+
+def in_own_network(function, *given):
+    """Runs a function in a network of its own, in which 2001:db8::/32 is this machine's too."""
+    def run_there():
+        if ctypes.CDLL(None).unshare(0x40000000) != 0 or not shutil.which("ip"):
+            raise Skipped("it takes the right to make a network, and ip")
+        for words in ("link set lo up", "-6 route add local 2001:db8::/32 dev lo"):
+            status, _, told = run(["ip", *words.split()])
+            check(status == 0, f"ip {words}: {told}")
+        function(*given)
+    with concurrent.futures.ThreadPoolExecutor(1) as own:
+        own.submit(run_there).result()
 
 
 @contextlib.contextmanager
