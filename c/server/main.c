@@ -18,6 +18,8 @@
  * The status is 0 if it ran, 1 if it couldn't begin, and 2 if the arguments are wrong. */
 #include "server.h"
 
+#include <fcntl.h>
+
 server_options options = {
     .processes = 1,
     .max_connections = 1024,
@@ -155,10 +157,19 @@ static int run(const socket_address *addresses, size_t count, uint32_t passed) {
     return supervise(&opened, rates) ? 0 : 1;
 }
 
+/* Opens what isn't open of standard input, output and error: no socket is to have their numbers. */
+static void open_standard(void) {
+    int opened;
+    do opened = open("/dev/null", O_RDWR);
+    while (opened >= 0 && opened <= STDERR_FILENO);
+    if (opened >= 0) close(opened);
+}
+
 int main(int count, char **arguments) {
     static socket_address addresses[MOST_WORKERS];
     static char line[1024];
     int option;
+    open_standard();
     setvbuf(stderr, line, _IOLBF, sizeof line); /* each line is written at once */
     while ((option = getopt(count, arguments, "+:tj:U:o:hV")) != -1) {
         if (option == 'h') return print_help();

@@ -57,33 +57,6 @@ int close_off_system(void) {
 #define MACHINE AUDIT_ARCH_AARCH64
 #endif
 
-/* The system calls of serving, those of UDP first, since the list is tried from its start. */
-static const int allowed[] = {
-    SYS_recvmmsg, SYS_sendmmsg,
-#ifdef SYS_epoll_wait
-    SYS_epoll_wait,
-#endif
-    SYS_epoll_pwait, SYS_recvfrom, SYS_sendto, SYS_epoll_ctl, SYS_accept4, SYS_shutdown,
-    SYS_close, SYS_clock_gettime,
-#ifdef SYS_poll
-    SYS_poll,
-#endif
-    SYS_ppoll, SYS_rt_sigreturn, SYS_restart_syscall, SYS_exit_group
-};
-
-/* Those of which one argument, an integer, has to be a number. */
-static const struct {
-    int call, argument;
-    uint32_t number;
-} restricted[] = {
-    {SYS_setsockopt, 2, SO_LINGER},
-};
-
-enum {
-    CALLS = sizeof allowed / sizeof *allowed,
-    RESTRICTED = sizeof restricted / sizeof *restricted
-};
-
 bool can_filter(void) {
 #ifdef MACHINE
     uint32_t action = SECCOMP_RET_KILL_PROCESS;
@@ -95,58 +68,97 @@ bool can_filter(void) {
 
 #ifdef MACHINE
 
-static struct sock_filter load(size_t offset) {
-    return (struct sock_filter)BPF_STMT(BPF_LD | BPF_W | BPF_ABS, (uint32_t)offset);
+/* Steps that read a call, each for what the one before left it. */
+typedef struct {
+    struct sock_filter steps[96];
+    unsigned short count;
+} program;
+
+static void load(program *to, size_t offset) {
+    to->steps[to->count++] =
+        (struct sock_filter)BPF_STMT(BPF_LD | BPF_W | BPF_ABS, (uint32_t)offset);
 }
 
-/* Where the lower half of an argument is; both machines have it first. */
-static size_t argument_at(int argument) {
-    return offsetof(struct seccomp_data, args) + 8 * (size_t)argument;
+/* Leaves out so many steps if what was loaded is another number. */
+static void unless_equal(program *to, uint32_t number, uint8_t steps) {
+    to->steps[to->count++] =
+        (struct sock_filter)BPF_JUMP(BPF_JMP | BPF_JEQ | BPF_K, number, 0, steps);
 }
 
-/* Leaves out so many steps if what was loaded is a number, and so many if it isn't. */
-static struct sock_filter if_equal_skip(uint32_t number, uint8_t if_so, uint8_t otherwise) {
-    return (struct sock_filter)BPF_JUMP(BPF_JMP | BPF_JEQ | BPF_K, number, if_so, otherwise);
+static void end_by(program *to, uint32_t action) {
+    to->steps[to->count++] = (struct sock_filter)BPF_STMT(BPF_RET | BPF_K, action);
 }
 
-/* The next step is for what was loaded if it is a number, or if it is another. */
-static struct sock_filter if_equal(uint32_t number) { return if_equal_skip(number, 0, 1); }
+static void allow(program *to, int call) {
+    unless_equal(to, (uint32_t)call, 1);
+    end_by(to, SECCOMP_RET_ALLOW);
+}
 
-static struct sock_filter if_different(uint32_t number) { return if_equal_skip(number, 1, 0); }
+/* Allows a call of which one argument, an integer, is a number. (Both machines have the lower half
+ * of an argument first.) */
+static void allow_if(program *to, int call, int argument, int number) {
+    unless_equal(to, (uint32_t)call, 4);
+    load(to, offsetof(struct seccomp_data, args) + 8 * (size_t)argument);
+    unless_equal(to, (uint32_t)number, 1);
+    end_by(to, SECCOMP_RET_ALLOW);
+    end_by(to, SECCOMP_RET_KILL_PROCESS);
+}
 
-static struct sock_filter end_by(uint32_t action) {
-    return (struct sock_filter)BPF_STMT(BPF_RET | BPF_K, action);
+/* What a worker for UDP does: it sends by its own socket alone. */
+static void allow_udp(program *to, int own) {
+    allow(to, SYS_recvmmsg);
+    allow_if(to, SYS_sendmmsg, 0, own);
+}
+
+/* What a worker with connections does: it sends to no address, and opens no connection by that. */
+static void allow_tcp(program *to) {
+    static const int calls[] = {
+#ifdef SYS_epoll_wait
+        SYS_epoll_wait,
+#endif
+        SYS_epoll_pwait, SYS_recvfrom, SYS_epoll_ctl, SYS_accept4
+    };
+    for (size_t i = 0; i < sizeof calls / sizeof *calls; i++) allow(to, calls[i]);
+    allow_if(to, SYS_sendto, 5, 0);
+    allow_if(to, SYS_shutdown, 1, SHUT_WR);
+    allow_if(to, SYS_setsockopt, 2, SO_LINGER);
+}
+
+static void allow_both(program *to) {
+    static const int calls[] = {
+        SYS_clock_gettime, SYS_close,
+#ifdef SYS_poll
+        SYS_poll,
+#endif
+        SYS_ppoll, SYS_rt_sigreturn, SYS_restart_syscall, SYS_exit_group
+    };
+    for (size_t i = 0; i < sizeof calls / sizeof *calls; i++) allow(to, calls[i]);
 }
 
 /* SPEC_ALLOW: the processor may speculate as before. Older systems would slow the process down,
  * against code in it that reads its memory; it holds no secrets. */
-bool filter_calls(void) {
-    struct sock_filter steps[5 + 2 * CALLS + 5 * RESTRICTED];
-    unsigned short count = 0;
-    steps[count++] = load(offsetof(struct seccomp_data, arch));
-    steps[count++] = if_different(MACHINE);
-    steps[count++] = end_by(SECCOMP_RET_KILL_PROCESS);
-    steps[count++] = load(offsetof(struct seccomp_data, nr));
-    for (int i = 0; i < CALLS; i++) {
-        steps[count++] = if_equal((uint32_t)allowed[i]);
-        steps[count++] = end_by(SECCOMP_RET_ALLOW);
-    }
-    for (int i = 0; i < RESTRICTED; i++) {
-        steps[count++] = if_equal_skip((uint32_t)restricted[i].call, 0, 4);
-        steps[count++] = load(argument_at(restricted[i].argument));
-        steps[count++] = if_equal(restricted[i].number);
-        steps[count++] = end_by(SECCOMP_RET_ALLOW);
-        steps[count++] = end_by(SECCOMP_RET_KILL_PROCESS);
-    }
-    steps[count++] = end_by(SECCOMP_RET_KILL_PROCESS);
-    struct sock_fprog program = {count, steps};
+bool filter_calls(int own) {
+    program made = {.count = 0};
+    load(&made, offsetof(struct seccomp_data, arch));
+    unless_equal(&made, MACHINE, 1);
+    made.steps[made.count++] = (struct sock_filter)BPF_STMT(BPF_JMP | BPF_JA, 1);
+    end_by(&made, SECCOMP_RET_KILL_PROCESS);
+    load(&made, offsetof(struct seccomp_data, nr));
+    if (own >= 0) allow_udp(&made, own);
+    else allow_tcp(&made);
+    allow_both(&made);
+    end_by(&made, SECCOMP_RET_KILL_PROCESS);
+    struct sock_fprog filter = {made.count, made.steps};
     return prctl(PR_SET_NO_NEW_PRIVS, 1, 0, 0, 0) == 0 &&
            syscall(SYS_seccomp, SECCOMP_SET_MODE_FILTER, SECCOMP_FILTER_FLAG_SPEC_ALLOW,
-                   &program) == 0;
+                   &filter) == 0;
 }
 
 #else
 
-bool filter_calls(void) { return false; }
+bool filter_calls(int own) {
+    (void)own;
+    return false;
+}
 
 #endif

@@ -85,9 +85,10 @@ bool become_user(const char *name);
 int close_off_system(void);
 
 /* Whether the system filters system calls (seccomp), and whether it does so from now on: then a
- * call that serving doesn't make ends the process. */
+ * call that serving doesn't make ends the process. own: the socket by which a worker for UDP sends;
+ * -1: it has connections. */
 bool can_filter(void);
-bool filter_calls(void);
+bool filter_calls(int own);
 
 /* ---- Counts (counts.c) ----------------------------------------------------------------------- */
 

@@ -102,17 +102,22 @@ static void close_others(const worker *as) {
     }
 }
 
-/* Runs as a worker, which ends with its supervisor. */
+/* Runs as a worker, which ends with its supervisor. It prints nothing once it serves: what is then
+ * open under the standard numbers is a client's. */
 static void work(const worker *as, tally *mine, pid_t supervisor) {
     prctl(PR_SET_PDEATHSIG, SIGKILL);
     if (getppid() != supervisor) _exit(1);
     heed_signals();
     close_others(as);
     if (as->from == NULL && !begin_tcp(group.endpoints, mine)) _exit(1);
-    if (options.sandbox && can_filter() && !filter_calls()) {
+    close(STDIN_FILENO);
+    close(STDOUT_FILENO);
+    int own = as->from != NULL ? as->from->socket : -1;
+    if (options.sandbox && can_filter() && !filter_calls(own)) {
         cannot("seccomp");
         _exit(1);
     }
+    close(STDERR_FILENO);
     if (as->from != NULL) serve_udp(as->from, group.rates, mine);
     else serve_tcp();
     _exit(0);

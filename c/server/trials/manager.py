@@ -59,8 +59,8 @@ def passed_on(programs):
         for number in ["33", "0", "x", "", "-1"]:
             news = f"os.environ.update(LISTEN_FDS='{number}', LISTEN_PID=str(os.getpid()))"
             status, _, told = run([*after(news), programs["server"], "-j", "2"])
-            right = status == 1 and told.startswith(f"stun-server: LISTEN_FDS={number}: ") and "32" in told
-            check(right, f"LISTEN_FDS={number}: status {status}: {told}")
+            right = told.startswith(f"stun-server: LISTEN_FDS={number}: ") and "32" in told
+            check(status == 1 and right, f"LISTEN_FDS={number}: status {status}: {told}")
         with socket.socket() as deaf:
             command = [sys.executable, "-c", PASS_ON, "1", str(deaf.fileno())]
             status, _, told = run([*command, programs["server"]], pass_fds=[deaf.fileno()])

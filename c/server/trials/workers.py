@@ -1,5 +1,6 @@
 """Trials of the server's processes: they are replaced, and confined."""
 import os
+import pathlib
 import pwd
 import resource
 import shutil
@@ -146,6 +147,23 @@ def granted_rights(programs):
                 has_rights(programs, server, user, groups)
 
 
+def own_files(programs):
+    """A worker has its own sockets and no other file, though the server was started with fewer files
+    than usual."""
+    for command in ((), after("os.close(0); os.close(1)")):
+        with Server(programs["server"], "-t", command=command) as server:
+            for worker in server.workers():
+                def files():
+                    return {os.readlink(it).split(":")[0] for it in
+                            pathlib.Path(f"/proc/{worker}/fd").iterdir()}
+                wait_until(lambda: files() <= {"socket", "anon_inode"}, f"it has {files()}")
+            wait_until(lambda: server.sockets() == [1, 1], f"they have {server.sockets()}")
+            ask_once(server)
+            ask(programs["client"], "127.0.0.1", server.port, "-s")
+            expect(server.end(), udp_received=1, udp_sent=1, tcp_accepted=1, tcp_received=1,
+                   tcp_sent=1)
+
+
 def sandbox(programs):
     """Workers are confined as far as the system can do so, and the server says how far."""
     status, out, told = run([programs["sandbox"]], PATIENCE)
@@ -153,12 +171,14 @@ def sandbox(programs):
     lines = [line.split() for line in out.splitlines()]
     version, can_filter = int(lines[0][1]), lines[0][3] == "1"
     met = {(kind, name): int(error) for kind, name, error in lines[1:]}
-    check(len(met) == 21, out)
+    check(len(met) == 4 * 13, out)
+    allowed = {("udp", "send-by-own"), ("tcp", "send-back"), ("udp", "close"), ("tcp", "close")}
     closed = {"open-file", "make-file", "start-program"} if version >= 1 else set()
     closed |= {"signal-parent"} if version >= 6 else set()
     for (kind, name), error in met.items():
-        if kind == "both" and can_filter:
-            check(error == (0 if name == "close" else -signal.SIGSYS), f"{kind} {name}: {error}")
+        if kind in ("udp", "tcp") and can_filter:
+            wanted = 0 if (kind, name) in allowed else -signal.SIGSYS
+            check(error == wanted, f"{kind} {name}: {error}")
         else:
             refused = kind != "none" and name in closed
             check(error > 0 if refused else error == 0, f"{kind} {name}: {error}")
