@@ -47,7 +47,8 @@ static const struct {
     {"rate", &options.rate, 0, 1000000, "answers a second over UDP to one /24 of IPv4 or /56 of"
                                         " IPv6; 0: any"},
     {"software", &options.software, 0, 1, "1: replies have a SOFTWARE"},
-    {"sandbox", &options.sandbox, 0, 1, "1: processes are confined by seccomp and Landlock"},
+    {"sandbox", &options.sandbox, 0, 2, "1: processes are confined by seccomp and Landlock, if the"
+                                        " system can; 2: or the server doesn't begin"},
 };
 
 bool cannot(const char *what) {

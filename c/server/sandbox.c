@@ -5,6 +5,7 @@
 #include <linux/filter.h>
 #include <linux/seccomp.h>
 #include <stddef.h>
+#include <sys/mman.h>
 #include <sys/prctl.h>
 #include <sys/socket.h>
 #include <sys/syscall.h>
@@ -122,6 +123,7 @@ static void allow_tcp(program *to) {
     allow_if(to, SYS_sendto, 5, 0);
     allow_if(to, SYS_shutdown, 1, SHUT_WR);
     allow_if(to, SYS_setsockopt, 2, SO_LINGER);
+    allow_if(to, SYS_madvise, 2, MADV_DONTNEED);
 }
 
 static void allow_both(program *to) {

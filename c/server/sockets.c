@@ -4,6 +4,10 @@
 #include <fcntl.h>
 #include <netinet/tcp.h>
 
+#ifndef IPV6_MULTICAST_ALL
+#define IPV6_MULTICAST_ALL 29
+#endif
+
 enum {
     QUEUE = 4 << 20, /* bytes that may wait in a socket for UDP, if the system allows them */
     /* of a connection; the system takes twice as much */
@@ -27,13 +31,20 @@ static bool is_wildcard(const struct sockaddr_storage *at) {
     return IN6_IS_ADDR_UNSPECIFIED(&six.sin6_addr);
 }
 
-/* Lets a socket for UDP wait for a second at most, and show to which address a datagram was sent if
- * the socket stands for several. */
+/* Lets a socket for UDP wait for a second at most. If it stands for several addresses, it shows to
+ * which a datagram was sent, and receives nothing of groups that others have joined. (One for IPv6
+ * may receive over IPv4 too.) */
 static bool prepare_udp(int number, int family, bool wildcard) {
     const struct timeval second = {1, 0};
     set_option(number, SOL_SOCKET, SO_RCVBUF, QUEUE);
-    if (wildcard && family == AF_INET) set_option(number, IPPROTO_IP, IP_PKTINFO, 1);
-    if (wildcard && family == AF_INET6) set_option(number, IPPROTO_IPV6, IPV6_RECVPKTINFO, 1);
+    if (wildcard) {
+        set_option(number, IPPROTO_IP, IP_PKTINFO, 1);
+        set_option(number, IPPROTO_IP, IP_MULTICAST_ALL, 0);
+    }
+    if (wildcard && family == AF_INET6) {
+        set_option(number, IPPROTO_IPV6, IPV6_RECVPKTINFO, 1);
+        set_option(number, IPPROTO_IPV6, IPV6_MULTICAST_ALL, 0);
+    }
     return setsockopt(number, SOL_SOCKET, SO_RCVTIMEO, &second, sizeof second) == 0 &&
            setsockopt(number, SOL_SOCKET, SO_SNDTIMEO, &second, sizeof second) == 0;
 }

@@ -263,6 +263,10 @@ static void print_start(int landlock) {
     fprintf(stderr, landlock > 0 ? "%d\n" : "none\n", landlock);
 }
 
+static void print_warnings(void) {
+    if (getuid() == 0) fprintf(stderr, "event=warning reason=runs-as-root\n");
+}
+
 static void print_now(void) {
     uint64_t uptime = (milliseconds() - group.began) / SECOND;
     print_counts(group.tallies, group.count, group.endpoints, uptime, group.died.all,
@@ -310,9 +314,14 @@ bool supervise(const endpoints *from, rate_table *rates) {
     group.began = milliseconds();
     if (!plan_workers()) return false;
     int landlock = options.sandbox ? close_off_system() : 0;
+    if (options.sandbox == 2 && (landlock == 0 || !can_filter())) {
+        fprintf(stderr, "stun-server: sandbox=2: the system has no seccomp or no Landlock\n");
+        return false;
+    }
     print_endpoints(from);
     for (size_t i = 0; i < group.count; i++) start(&group.workers[i]);
     print_start(landlock);
+    print_warnings();
     bool ended = look_after();
     notify("STOPPING=1");
     end_workers();

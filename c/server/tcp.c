@@ -6,7 +6,7 @@
 #include <sys/resource.h>
 
 enum {
-    PIECE = 4096,    /* bytes read at once */
+    PIECE = 4096,    /* bytes read at once, and of a page */
     REPLIES = 65536, /* bytes of replies that wait to be sent */
     SECOND = 1000,
     CLOSING_TIME = 2000, /* both in milliseconds */
@@ -23,6 +23,7 @@ typedef struct {
     bool closing; /* no more is answered: what waits is sent, and then the connection is closed */
     bool half_closed;
     int socket;
+    bool large; /* it has written more than a piece of its bytes */
     uint32_t awaited; /* EPOLLIN or EPOLLOUT */
     uint64_t place;   /* of its address among all */
     uint32_t crowds[NEIGHBOURHOODS]; /* how many connections each has, with this one */
@@ -37,7 +38,7 @@ typedef struct {
 
 /* The bytes of a connection, kept apart so that looking through the table is fast. */
 typedef struct {
-    uint8_t message[STUN_TYPES_GREATEST_MESSAGE];
+    _Alignas(PIECE) uint8_t message[STUN_TYPES_GREATEST_MESSAGE];
     uint8_t piece[PIECE];
     uint8_t replies[REPLIES];
 } connection_bytes;
@@ -47,7 +48,7 @@ static struct {
     connection *open_end; /* no connection from here on is open */
     connection_bytes *bytes;
     int poller;
-    bool accepting;
+    bool paused[MOST_ENDPOINTS]; /* listeners from which nothing is accepted for a while */
     uint64_t now; /* when the events that are served were got */
     const endpoints *endpoints;
     tally *mine;
@@ -115,6 +116,8 @@ static void count_crowds(connection *changed, bool in) {
 }
 
 static void close_connection(connection *closed) {
+    connection_bytes *bytes = &tcp.bytes[closed - tcp.connections];
+    if (closed->large) (void)madvise(bytes, sizeof *bytes, MADV_DONTNEED);
     close(closed->socket);
     closed->open = false;
     count_crowds(closed, false);
@@ -183,12 +186,14 @@ static void answer_piece(connection *of, connection_bytes *bytes) {
         stun_types_stream_push(&of->stream, bytes->message, sizeof bytes->message,
                                bytes->piece + of->piece_at, of->piece_end - of->piece_at, &taken);
     of->piece_at += taken;
+    of->large |= of->stream.pending > PIECE;
     if (answer.code != STUN_TYPES_OK) of->closing = true;
     if (pending == 0) of->begun = tcp.now;
     if (answer.code != STUN_TYPES_OK || of->stream.message == 0) return;
     size_t length = reply_to(bytes->message, of->stream.message, &of->source,
                              bytes->replies + of->replies_end);
     of->replies_end += length;
+    of->large |= of->replies_end > PIECE;
     of->heard = tcp.now;
     count(tcp.mine, TCP_RECEIVED, 1);
     count(tcp.mine, length > 0 ? TCP_SENT : TCP_UNANSWERED, 1);
@@ -282,25 +287,29 @@ static bool enter(int socket, const struct sockaddr_storage *from) {
     return true;
 }
 
-/* Waits for connections, or for none. */
-static void accept_more(bool more) {
-    tcp.accepting = more;
+static void pause_listener(size_t number) {
+    tcp.paused[number] = true;
+    control(EPOLL_CTL_DEL, tcp.endpoints->all[number].socket, 0, LISTENERS + number);
+}
+
+static void resume_listeners(void) {
     for (size_t i = 0; i < tcp.endpoints->count; i++) {
-        const endpoint *at = &tcp.endpoints->all[i];
-        if (at->stream) control(EPOLL_CTL_MOD, at->socket, more ? EPOLLIN : 0, LISTENERS + i);
+        if (!tcp.paused[i]) continue;
+        tcp.paused[i] = false;
+        control(EPOLL_CTL_ADD, tcp.endpoints->all[i].socket, EPOLLIN, LISTENERS + i);
     }
 }
 
-/* Accepts a connection, and closes it at once if it can't be served. If the system has none to
- * give, the worker tries again a second later. */
-static void accept_one(const endpoint *by) {
+/* Accepts a connection, and closes it at once if it can't be served. If the listener gives none,
+ * since files are scarce or it listens no more, the worker tries again a second later. */
+static void accept_one(size_t number) {
     struct sockaddr_storage from;
     socklen_t length = sizeof from;
-    int socket = accept4(by->socket, (struct sockaddr *)&from, &length,
+    int socket = accept4(tcp.endpoints->all[number].socket, (struct sockaddr *)&from, &length,
                          SOCK_NONBLOCK | SOCK_CLOEXEC);
     if (socket < 0) {
-        bool scarce = errno == EMFILE || errno == ENFILE || errno == ENOBUFS || errno == ENOMEM;
-        if (scarce) accept_more(false);
+        bool passes = errno == EAGAIN || errno == EINTR || errno == ECONNABORTED;
+        if (!passes) pause_listener(number);
     } else if (enter(socket, &from)) {
         count(tcp.mine, TCP_ACCEPTED, 1);
     } else {
@@ -337,14 +346,14 @@ static void close_overdue(void) {
         half_close(at);
         if (!await(at, EPOLLIN)) reset_connection(at);
     }
-    if (!tcp.accepting) accept_more(true);
+    resume_listeners();
 }
 
 /* ---- The run --------------------------------------------------------------------------------- */
 
 static void serve_event(const struct epoll_event *event) {
     size_t number = (size_t)event->data.u64;
-    if (number >= LISTENERS) accept_one(&tcp.endpoints->all[number - LISTENERS]);
+    if (number >= LISTENERS) accept_one(number - LISTENERS);
     else if (tcp.connections[number].open) serve_connection(&tcp.connections[number]);
 }
 
@@ -359,7 +368,7 @@ bool begin_tcp(const endpoints *of, tally *mine) {
             return cannot("no epoll");
         }
     }
-    return tcp.accepting = true;
+    return true;
 }
 
 void serve_tcp(void) {

@@ -48,17 +48,26 @@ static void make_all_ready(void) {
     }
 }
 
-/* Leaves it to the system by which interface the reply goes; it keeps the address it comes from. */
-static void forget_interface(struct msghdr *header) {
+/* Whether a datagram was sent to an address of this machine, and not to everybody's: such a one of
+ * IPv4 isn't the address that a reply would come from. Leaves it to the system by which interface
+ * the reply goes; it keeps the address it comes from. */
+static bool take_target(struct msghdr *header) {
     struct cmsghdr *at = CMSG_FIRSTHDR(header);
+    struct in_pktinfo four;
+    struct in6_pktinfo six;
     for (; at != NULL; at = CMSG_NXTHDR(header, at)) {
         if (at->cmsg_level == IPPROTO_IP && at->cmsg_type == IP_PKTINFO) {
+            memcpy(&four, CMSG_DATA(at), sizeof four);
+            if (four.ipi_spec_dst.s_addr != four.ipi_addr.s_addr) return false;
             memset(CMSG_DATA(at) + offsetof(struct in_pktinfo, ipi_ifindex), 0, sizeof(int));
         }
         if (at->cmsg_level == IPPROTO_IPV6 && at->cmsg_type == IPV6_PKTINFO) {
+            memcpy(&six, CMSG_DATA(at), sizeof six);
+            if (IN6_IS_ADDR_MULTICAST(&six.ipi6_addr)) return false;
             memset(CMSG_DATA(at) + offsetof(struct in6_pktinfo, ipi6_ifindex), 0, sizeof(int));
         }
     }
+    return true;
 }
 
 /* Addresses the reply to datagram i, which has been written. */
@@ -66,7 +75,6 @@ static void address_reply(int i, int owed, size_t length) {
     struct msghdr *from = &received[i].msg_hdr, *to = &replies[owed].msg_hdr;
     replies_at[owed].iov_base = reply_rooms[owed];
     replies_at[owed].iov_len = length;
-    if (many_targets) forget_interface(from);
     to->msg_name = from->msg_name;
     to->msg_namelen = from->msg_namelen;
     to->msg_control = from->msg_control;
@@ -77,7 +85,8 @@ static void address_reply(int i, int owed, size_t length) {
 static bool answer_datagram(int i, int owed, uint64_t now, tally *mine) {
     stun_types_address source;
     size_t length = 0;
-    if (address_of(&sources[i], &source)) {
+    if (address_of(&sources[i], &source) &&
+        (!many_targets || take_target(&received[i].msg_hdr))) {
         length = reply_to(datagrams[i], received[i].msg_len, &source, reply_rooms[owed]);
     }
     if (length == 0 || (limits != NULL && !may_answer(limits, &source, now))) {

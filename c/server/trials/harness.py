@@ -168,8 +168,8 @@ if system.prctl(38, 1, 0, 0, 0) != 0 or system.prctl(22, 2, program) != 0:
 
 def refusing(name, place, allowed):
     """Statements after which the system refuses a call."""
-    numbers = {"x86_64": {"seccomp": 317, "prlimit64": 302},
-               "aarch64": {"seccomp": 277, "prlimit64": 261}}
+    numbers = {"x86_64": {"seccomp": 317, "prlimit64": 302, "landlock_create_ruleset": 444},
+               "aarch64": {"seccomp": 277, "prlimit64": 261, "landlock_create_ruleset": 444}}
     if platform.machine() not in numbers:
         raise Skipped("the system calls of this machine have other numbers")
     call = numbers[platform.machine()][name]
@@ -240,7 +240,7 @@ def in_own_network(function, *given):
     def run_there():
         if ctypes.CDLL(None).unshare(0x40000000) != 0 or not shutil.which("ip"):
             raise Skipped("it takes the right to make a network, and ip")
-        for words in ("link set lo up", "-6 route add local 2001:db8::/32 dev lo"):
+        for words in ("link set lo multicast on up", "-6 route add multicast ff00::/8 dev lo", "-6 route add local 2001:db8::/32 dev lo"):
             status, _, told = run(["ip", *words.split()])
             check(status == 0, f"ip {words}: {told}")
         function(*given)

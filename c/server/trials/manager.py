@@ -11,7 +11,7 @@ import sys
 import tempfile
 import time
 
-from harness import Server, after, ask, ask_once, expect, free_port, processor_ticks
+from harness import Server, after, ask, ask_once, expect, free_port, in_own_network, processor_ticks
 from steps import PATIENCE, Skipped, check, run, wait_until
 
 HERE = pathlib.Path(__file__).resolve().parent.parent
@@ -47,6 +47,11 @@ def passed_on(programs):
             before = processor_ticks(server)
             time.sleep(0.5)
             check(processor_ticks(server) - before < 10, "it turns without a pause")
+            # a listener that is shut down by who opened it
+            tcp.shutdown(socket.SHUT_RDWR)
+            before = processor_ticks(server)
+            time.sleep(1)
+            check(processor_ticks(server) - before < 10, "it turns without a pause: no listener")
             expect(server.end(), udp_received=1, udp_sent=1, tcp_accepted=1, tcp_received=1,
                    tcp_sent=1)
         words = ["127.0.0.1", free_port(["127.0.0.1"])]
@@ -126,10 +131,20 @@ UNIT_COMMAND = re.search(r"^ExecStart=(.*)$", UNIT, re.M)[1].split()
 
 
 def unit_command(programs):
-    """The command of the unit runs."""
-    status, _, told = run([programs["server"], *UNIT_COMMAND[1:-2], "-V"])
-    right = UNIT_COMMAND[0] == "/usr/local/bin/stun-server" and status == 0
-    check(right, f"status {status}: {told}")
+    """The very command of the unit serves, at its port in a network of its own."""
+    in_own_network(run_unit, programs)
+
+
+def run_unit(programs):
+    check(UNIT_COMMAND[0] == "/usr/local/bin/stun-server", f"it runs {UNIT_COMMAND[0]}")
+    with news_of() as (manager, news):
+        with Server(programs["server"], *UNIT_COMMAND[1:], at=(), env=news) as server:
+            check(manager.recv(200) == b"READY=1", "it isn't ready first")
+            check(manager.recv(200) == b"WATCHDOG=1", "it doesn't say that it lives")
+            for address in ("127.0.0.1", "::1"):
+                ask(programs["client"], address, "3478")
+                ask(programs["client"], address, "3478", "-s")
+            server.end()
 
 
 def unit_file(programs):

@@ -9,7 +9,7 @@ import threading
 import time
 
 from harness import (Server, after, ask, ask_on, expect, in_own_network, is_closed, many_files,
-                     read_replies, refusing)
+                     read_replies, refusing, status_of)
 from steps import PATIENCE, REQUEST, Skipped, Wrong, check, run, wait_until
 
 
@@ -133,6 +133,25 @@ def displaced(programs):
         for stream in [*few[1:], many[0], *many[3:], *new]:
             ask_on(stream)
         expect(server.end(), tcp_accepted=11, tcp_displaced=3, tcp_received=20, tcp_sent=20)
+
+
+def worker_memory(server):
+    """How many bytes of memory the process with the connections has for itself."""
+    sizes = [int(status_of(worker)["RssAnon"][0]) for worker in server.workers()]
+    return 1024 * max(sizes)
+
+
+def half_messages(programs):
+    """Memory that messages took which didn't become whole is the system's again when their
+    connections end."""
+    with Server(programs["server"], "-t") as server:
+        with contextlib.ExitStack() as all_of:
+            for _ in range(200):
+                stream = all_of.enter_context(server.connect())
+                stream.sendall(b"\0\1\xff\xfc" + REQUEST[4:] + bytes(65000))
+            wait_until(lambda: worker_memory(server) > 12_000_000, "it doesn't read the messages")
+        wait_until(lambda: worker_memory(server) < 5_000_000, "memory stays")
+        server.end()
 
 
 def crowded(programs):

@@ -1,11 +1,12 @@
 """Trials of the server over UDP."""
 import contextlib
 import select
+import socket
 import struct
 import time
 import zlib
 
-from harness import LOAD, Server, ask, ask_once, asking_socket, expect, put_load
+from harness import LOAD, Server, ask, ask_once, asking_socket, expect, in_own_network, put_load
 from steps import REQUEST, check
 
 INDICATION = bytes.fromhex("001100002112A442") + bytes(12)
@@ -40,6 +41,39 @@ def unanswered(programs):
             check(right, "no 420 to the longest request")
         ask_once(server)
         expect(server.end(), udp_received=7, udp_sent=2, udp_unanswered=5)
+
+
+def send_to_all(address, port):
+    """Sends a request to an address that is everybody's, by a socket that it returns."""
+    six = ":" in address
+    asking = socket.socket(socket.AF_INET6 if six else socket.AF_INET, socket.SOCK_DGRAM)
+    if six:
+        asking.setsockopt(socket.IPPROTO_IPV6, socket.IPV6_MULTICAST_IF, socket.if_nametoindex("lo"))
+    else:
+        own = socket.inet_aton("127.0.0.1")
+        asking.setsockopt(socket.SOL_SOCKET, socket.SO_BROADCAST, 1)
+        asking.setsockopt(socket.IPPROTO_IP, socket.IP_MULTICAST_IF, own)
+        if address.startswith("224."):
+            group = socket.inet_aton(address) + own
+            asking.setsockopt(socket.IPPROTO_IP, socket.IP_ADD_MEMBERSHIP, group)
+    asking.sendto(REQUEST + bytes(12), (address, int(port)))
+    return asking
+
+
+def to_everybody(programs):
+    """A request to a broadcast or multicast address gets no reply, whoever is in that group."""
+    in_own_network(ask_everybody, programs)
+
+
+def ask_everybody(programs):
+    for bound, everybody in [("0.0.0.0", ["127.255.255.255", "224.0.0.251"]),
+                             ("::", ["127.255.255.255", "224.0.0.251", "ff02::1", "ff01::1"])]:
+        with Server(programs["server"], at=(bound,)) as server, contextlib.ExitStack() as all_of:
+            asking = [all_of.enter_context(send_to_all(it, server.port)) for it in everybody]
+            ask_once(server)
+            counted = server.end()
+            check(counted["udp_sent"] == 1, f"it answers a request to everybody: {counted}")
+            check(not select.select(asking, [], [], 0)[0], "a reply came")
 
 
 def attributes_of(message):

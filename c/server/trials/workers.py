@@ -147,6 +147,36 @@ def granted_rights(programs):
                 has_rights(programs, server, user, groups)
 
 
+def required(programs):
+    """With -o sandbox=2 the server doesn't begin without its sandbox, and with 1 it says what is
+    missing."""
+    with Server(programs["server"], "-o", "sandbox=2") as server:
+        check(server.started["seccomp"] == "on", str(server.started))
+        ask_once(server)
+        server.end()
+    for name, place, allowed, missing in [("seccomp", 0, 3, "seccomp"),
+                                          ("landlock_create_ruleset", 2, 1, "landlock")]:
+        command = after(refusing(name, place, allowed))
+        with Server(programs["server"], command=command) as server:
+            check(server.started[missing] == "none", str(server.started))
+            server.end()
+        words = ["-o", "sandbox=2", "127.0.0.1", free_port(["127.0.0.1"])]
+        status, out, told = run([*command, programs["server"], *words])
+        check(status == 1 and "sandbox=2" in told, f"status {status}: {out}{told}")
+
+
+def as_root(programs):
+    """A server with root's rights says so, and one without doesn't."""
+    if os.geteuid() != 0:
+        raise Skipped("it takes root")
+    with Server(programs["server"]) as server:
+        check(server.wait_for("warning")["reason"] == "runs-as-root", "another warning")
+        server.end()
+    with Server(programs["server"], "-U", "nobody") as server:
+        server.end()
+        check(not server.others, f"it says more: {server.others}")
+
+
 def own_files(programs):
     """A worker has its own sockets and no other file, though the server was started with fewer files
     than usual."""
