@@ -1,6 +1,7 @@
 /* What a worker can't do, even if somebody else's code ran in it: the kernel refuses it. */
 #include "server.h"
 
+#include <fcntl.h>
 #include <linux/audit.h>
 #include <linux/filter.h>
 #include <linux/seccomp.h>
@@ -14,6 +15,7 @@
 
 #ifndef SYS_landlock_create_ruleset
 #define SYS_landlock_create_ruleset 444
+#define SYS_landlock_add_rule 445
 #define SYS_landlock_restrict_self 446
 #endif
 
@@ -38,14 +40,28 @@ static ruleset rules_in(int version) {
     return rules;
 }
 
-int close_off_system(void) {
+/* Lets the files in a folder be read. */
+static bool allow_folder(int made, const char *folder) {
+    enum { BENEATH = 1, READ_FILE = 1u << 2 };
+    struct __attribute__((packed)) {
+        uint64_t allowed;
+        int32_t folder;
+    } rule = {READ_FILE, open(folder, O_PATH | O_CLOEXEC)};
+    if (rule.folder < 0) return false;
+    bool added = syscall(SYS_landlock_add_rule, made, BENEATH, &rule, 0) == 0;
+    close(rule.folder);
+    return added;
+}
+
+int close_off_system(const char *folder) {
     enum { ASK_VERSION = 1 };
     int version = (int)syscall(SYS_landlock_create_ruleset, NULL, 0, ASK_VERSION);
     if (prctl(PR_SET_NO_NEW_PRIVS, 1, 0, 0, 0) != 0 || version < 1) return 0;
     ruleset rules = rules_in(version);
     int made = (int)syscall(SYS_landlock_create_ruleset, &rules, size_in(version), 0);
     if (made < 0) return 0;
-    bool closed = syscall(SYS_landlock_restrict_self, made, 0) == 0;
+    bool closed = (folder == NULL || allow_folder(made, folder)) &&
+                  syscall(SYS_landlock_restrict_self, made, 0) == 0;
     close(made);
     return closed ? version : 0;
 }

@@ -56,8 +56,14 @@ static void prepare_tcp(int number) {
     set_option(number, IPPROTO_TCP, TCP_NODELAY, 1);
     set_option(number, SOL_SOCKET, SO_SNDBUF, TO_SEND);
     set_option(number, SOL_SOCKET, SO_RCVBUF, TO_READ);
-    set_option(number, IPPROTO_TCP, TCP_USER_TIMEOUT, (int)options.idle_timeout * 1000);
-    set_option(number, IPPROTO_TCP, TCP_DEFER_ACCEPT, (int)options.request_timeout);
+    set_option(number, IPPROTO_TCP, TCP_USER_TIMEOUT, (int)setting(IDLE_TIMEOUT) * 1000);
+    set_option(number, IPPROTO_TCP, TCP_DEFER_ACCEPT, (int)setting(REQUEST_TIMEOUT));
+}
+
+void prepare_listeners(const endpoints *of) {
+    for (size_t i = 0; i < of->count; i++) {
+        if (of->all[i].stream) prepare_tcp(of->all[i].socket);
+    }
 }
 
 /* Appends an endpoint. */

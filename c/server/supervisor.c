@@ -2,6 +2,7 @@
  * nothing from clients. */
 #include "server.h"
 
+#include <libgen.h>
 #include <sys/mman.h>
 #include <sys/prctl.h>
 #include <sys/wait.h>
@@ -15,8 +16,11 @@ enum {
     MOST_MISSED = 2     /* looks, one a second, at which a worker that lives may not have turned */
 };
 
+enum { FOR_UDP, FOR_TCP, FOR_REPORTS };
+
 typedef struct {
-    const endpoint *from; /* it receives datagrams there; NULL: it has all connections */
+    int kind;
+    const endpoint *from; /* over UDP; otherwise NULL */
     pid_t process;        /* 0: none; -1: it could not be started */
     uint64_t started, ended;
     uint64_t born;   /* the beats when it started */
@@ -36,11 +40,12 @@ typedef struct {
 } death_list;
 
 static struct {
-    worker workers[MOST_WORKERS + 1];
+    worker workers[MOST_WORKERS + 2];
     size_t count;
-    tally *tallies; /* one for each worker */
+    tally *tallies; /* one for each worker, and the supervisor's own */
     const endpoints *endpoints;
     rate_table *rates;
+    int reports; /* -1: there are none */
     uint64_t began;
     death_list died, hung;
 } group = {.died = {.event = "worker-died"}, .hung = {.event = "worker-hung"}};
@@ -92,13 +97,23 @@ static void heed_signals(void) {
     sigprocmask(SIG_UNBLOCK, &signals, NULL);
 }
 
-/* Closes the sockets that a worker doesn't use: it has one over UDP, or all over TCP. */
+/* Closes the sockets that a worker doesn't use: it has one over UDP, all over TCP, or that for
+ * reports. */
 static void close_others(const worker *as) {
     const endpoint *end = group.endpoints->all + group.endpoints->count;
     close_notify();
     for (const endpoint *at = group.endpoints->all; at < end; at++) {
-        bool is_used = as->from == NULL ? at->stream : at == as->from;
+        bool is_used = as->kind == FOR_TCP ? at->stream : at == as->from;
         if (!is_used) close(at->socket);
+    }
+    if (as->kind != FOR_REPORTS && group.reports >= 0) close(group.reports);
+}
+
+static void serve(const worker *as, tally *mine) {
+    if (as->kind == FOR_UDP) serve_udp(as->from, group.rates, mine);
+    if (as->kind == FOR_TCP) serve_tcp();
+    if (as->kind == FOR_REPORTS) {
+        serve_reports(group.reports, group.tallies, group.count + 1, group.began, mine);
     }
 }
 
@@ -109,17 +124,18 @@ static void work(const worker *as, tally *mine, pid_t supervisor) {
     if (getppid() != supervisor) _exit(1);
     heed_signals();
     close_others(as);
-    if (as->from == NULL && !begin_tcp(group.endpoints, mine)) _exit(1);
+    protect_settings();
+    if (as->kind == FOR_TCP && !begin_tcp(group.endpoints, mine)) _exit(1);
+    if (setting(SANDBOX) && options.file != NULL) close_off_system(NULL);
     close(STDIN_FILENO);
     close(STDOUT_FILENO);
     int own = as->from != NULL ? as->from->socket : -1;
-    if (options.sandbox && can_filter() && !filter_calls(own)) {
+    if (setting(SANDBOX) && can_filter() && !filter_calls(own)) {
         cannot("seccomp");
         _exit(1);
     }
     close(STDERR_FILENO);
-    if (as->from != NULL) serve_udp(as->from, group.rates, mine);
-    else serve_tcp();
+    serve(as, mine);
     _exit(0);
 }
 
@@ -139,7 +155,7 @@ static void start(worker *started) {
     started->process = fork();
     if (started->process == 0) work(started, mine, supervisor);
     if (started->process < 0 && !has_failed) {
-        fprintf(stderr, "event=worker-not-started error=%d\n", errno);
+        say(FAILURE, "event=worker-not-started error=%d\n", errno);
     }
 }
 
@@ -162,8 +178,8 @@ static void print_deaths(death_list *of) {
     uint64_t now = milliseconds();
     int number = WIFSIGNALED(of->status) ? WTERMSIG(of->status) : WEXITSTATUS(of->status);
     if (of->unprinted == 0 || (of->printed_at > 0 && now - of->printed_at < SECOND)) return;
-    fprintf(stderr, "event=%s process=%ld %s=%d deaths=%u\n", of->event, (long)of->process,
-            WIFSIGNALED(of->status) ? "signal" : "status", number, of->unprinted);
+    say(FAILURE, "event=%s process=%ld %s=%d deaths=%u\n", of->event, (long)of->process,
+        WIFSIGNALED(of->status) ? "signal" : "status", number, of->unprinted);
     of->unprinted = 0;
     of->printed_at = now;
 }
@@ -200,7 +216,7 @@ static bool is_hopeless(void) {
         if (at->deaths < MOST_DEATHS) continue;
         group.died.printed_at = 0;
         print_deaths(&group.died);
-        fprintf(stderr, "event=gave-up deaths=%u\n", (unsigned)at->deaths);
+        say(FAILURE, "event=gave-up deaths=%u\n", (unsigned)at->deaths);
         return true;
     }
     return false;
@@ -214,7 +230,7 @@ static void end_hung(void) {
         if (at->process < 1) continue;
         at->missed = beats == at->beats ? at->missed + 1 : 0;
         at->beats = beats;
-        if (at->missed < options.hang_timeout) continue;
+        if (at->missed < setting(HANG_TIMEOUT)) continue;
         at->hung = true;
         kill(at->process, SIGKILL);
     }
@@ -257,33 +273,45 @@ static void end_workers(void) {
 /* ---- The run --------------------------------------------------------------------------------- */
 
 static void print_start(int landlock) {
-    fprintf(stderr, "event=started process=%ld workers=%zu uid=%ld seccomp=%s landlock=",
-            (long)getpid(), group.count, (long)getuid(),
-            options.sandbox && can_filter() ? "on" : "none");
-    fprintf(stderr, landlock > 0 ? "%d\n" : "none\n", landlock);
+    char version[16] = "none";
+    if (landlock > 0) snprintf(version, sizeof version, "%d", landlock);
+    say(NEWS, "event=started process=%ld workers=%zu uid=%ld seccomp=%s landlock=%s\n",
+        (long)getpid(), group.count, (long)getuid(),
+        setting(SANDBOX) && can_filter() ? "on" : "none", version);
+    if (getuid() == 0) say(WARNING, "event=warning reason=runs-as-root\n");
 }
 
-static void print_warnings(void) {
-    if (getuid() == 0) fprintf(stderr, "event=warning reason=runs-as-root\n");
+/* Counts what the supervisor alone knows. */
+static void count_own(void) {
+    tally *own = &group.tallies[group.count];
+    set_count(own, UDP_DROPPED, dropped_by_all(group.endpoints));
+    set_count(own, WORKERS_DIED, group.died.all);
+    set_count(own, WORKERS_HUNG, group.hung.all);
 }
 
 static void print_now(void) {
-    uint64_t uptime = (milliseconds() - group.began) / SECOND;
-    print_counts(group.tallies, group.count, group.endpoints, uptime, group.died.all,
-                 group.hung.all);
+    count_own();
+    print_counts(group.tallies, group.count + 1, (milliseconds() - group.began) / SECOND);
 }
 
-/* Plans a worker for each socket over UDP, as many as it is to have, and one for all others. */
+static void plan(int kind, const endpoint *from) {
+    group.workers[group.count].kind = kind;
+    group.workers[group.count++].from = from;
+}
+
+/* Plans a worker for each socket over UDP, as many as it is to have, one for all over TCP, and one
+ * for reports. */
 static bool plan_workers(void) {
     const endpoint *end = group.endpoints->all + group.endpoints->count;
     bool tcp = false;
     for (const endpoint *at = group.endpoints->all; at < end; at++) {
         uint32_t workers = at->stream ? 0 : at->workers;
-        for (uint32_t i = 0; i < workers; i++) group.workers[group.count++].from = at;
+        for (uint32_t i = 0; i < workers; i++) plan(FOR_UDP, at);
         tcp |= at->stream;
     }
-    if (tcp) group.workers[group.count++].from = NULL;
-    group.tallies = shared_memory(sizeof *group.tallies * group.count);
+    if (tcp) plan(FOR_TCP, NULL);
+    if (group.reports >= 0) plan(FOR_REPORTS, NULL);
+    group.tallies = shared_memory(sizeof *group.tallies * (group.count + 1));
     return group.tallies != NULL;
 }
 
@@ -297,34 +325,45 @@ static bool look_after(void) {
         bool waits = start_missing() || !is_ready;
         int number = sigtimedwait(&signals, NULL, waits ? &moment : &second);
         if (number == SIGTERM || number == SIGINT) return true;
+        if (number == SIGHUP && read_settings_again()) prepare_listeners(group.endpoints);
         if (number == SIGHUP || number == SIGUSR1) print_now();
         note_dead();
         if (is_hopeless()) return false;
         if (!is_ready && (is_ready = all_serve())) notify("READY=1");
         if (milliseconds() - looked < SECOND) continue;
         looked = milliseconds();
+        count_own();
         end_hung();
         if (is_ready && all_serve()) notify_alive();
     }
 }
 
-bool supervise(const endpoints *from, rate_table *rates) {
+/* Closes off the system, but for the folder of the settings. Returns Landlock's version, or 0. */
+static int close_off(void) {
+    char path[4096] = "";
+    if (!setting(SANDBOX)) return 0;
+    if (options.file == NULL) return close_off_system(NULL);
+    if (strlen(options.file) < sizeof path) memcpy(path, options.file, strlen(options.file));
+    return close_off_system(dirname(path));
+}
+
+bool supervise(const endpoints *from, rate_table *rates, int reports) {
     group.endpoints = from;
     group.rates = rates;
+    group.reports = reports;
     group.began = milliseconds();
     if (!plan_workers()) return false;
-    int landlock = options.sandbox ? close_off_system() : 0;
-    if (options.sandbox == 2 && (landlock == 0 || !can_filter())) {
+    int landlock = close_off();
+    if (setting(SANDBOX) == 2 && (landlock == 0 || !can_filter())) {
         fprintf(stderr, "stun-server: sandbox=2: the system has no seccomp or no Landlock\n");
         return false;
     }
     print_endpoints(from);
     for (size_t i = 0; i < group.count; i++) start(&group.workers[i]);
     print_start(landlock);
-    print_warnings();
     bool ended = look_after();
     notify("STOPPING=1");
     end_workers();
-    print_now();
+    if (setting(LOG_LEVEL) >= NEWS) print_now();
     return ended;
 }

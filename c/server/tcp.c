@@ -59,14 +59,14 @@ static struct {
 /* As many connections as the process may have: it asks the system for as many files as it may. */
 static size_t most_connections(size_t other_files) {
     struct rlimit limit, more;
-    rlim_t wanted = options.max_connections + other_files;
+    rlim_t wanted = setting(MAX_CONNECTIONS) + other_files;
     if (getrlimit(RLIMIT_NOFILE, &limit) != 0) return 1;
     if (limit.rlim_cur < wanted) {
         more = limit;
         more.rlim_cur = wanted < limit.rlim_max ? wanted : limit.rlim_max;
         if (setrlimit(RLIMIT_NOFILE, &more) == 0) limit = more;
     }
-    if (limit.rlim_cur >= wanted) return options.max_connections;
+    if (limit.rlim_cur >= wanted) return setting(MAX_CONNECTIONS);
     return limit.rlim_cur > other_files ? (size_t)limit.rlim_cur - other_files : 1;
 }
 
@@ -85,7 +85,7 @@ bool make_connections(size_t listeners) {
     if (tcp.connections == NULL || tcp.bytes == NULL) return cannot("no memory");
     tcp.open_end = tcp.connections;
     tcp.end = tcp.connections + most;
-    if (most < options.max_connections) fprintf(stderr, "event=few-files connections=%zu\n", most);
+    if (most < setting(MAX_CONNECTIONS)) say(WARNING, "event=few-files connections=%zu\n", most);
     return true;
 }
 
@@ -326,9 +326,9 @@ static bool is_over(uint64_t since, uint32_t seconds) {
 
 /* Why a connection is to be closed, as the count that goes up for it; COUNTS: it isn't. */
 static int overdue(const connection *of) {
-    if (of->stream.pending > 0 && is_over(of->begun, options.request_timeout)) return TCP_SLOW;
-    if (is_over(of->heard, options.idle_timeout)) return TCP_IDLE;
-    if (is_over(of->accepted, options.max_age)) return TCP_AGED;
+    if (of->stream.pending > 0 && is_over(of->begun, setting(REQUEST_TIMEOUT))) return TCP_SLOW;
+    if (is_over(of->heard, setting(IDLE_TIMEOUT))) return TCP_IDLE;
+    if (is_over(of->accepted, setting(MAX_AGE))) return TCP_AGED;
     return COUNTS;
 }
 

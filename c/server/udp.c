@@ -25,7 +25,7 @@ static union {
 } targets[BATCH];
 static bool many_targets;
 
-static rate_table *limits; /* NULL: there is no limit */
+static rate_table *limits;
 
 static void make_ready(int i) {
     struct msghdr *header = &received[i].msg_hdr;
@@ -81,18 +81,27 @@ static void address_reply(int i, int owed, size_t length) {
     to->msg_controllen = from->msg_controllen;
 }
 
+/* Whether a reply may be sent, now, by a rate. Of those over the limit one in `slip` may, whoever's
+ * it is: nobody is silenced by requests that others forge in the name of the prefix. */
+static bool is_within(const stun_types_address *source, uint32_t rate, uint64_t now, tally *mine) {
+    static uint32_t over;
+    uint32_t slip = setting(SLIP);
+    if (may_answer(limits, source, rate, now)) return true;
+    bool slips = slip > 0 && ++over % slip == 0;
+    count(mine, slips ? UDP_SLIPPED : UDP_LIMITED, 1);
+    return slips;
+}
+
 /* Makes the reply to datagram i, as reply number `owed`. False: it gets none. */
-static bool answer_datagram(int i, int owed, uint64_t now, tally *mine) {
+static bool answer_datagram(int i, int owed, uint32_t rate, uint64_t now, tally *mine) {
     stun_types_address source;
     size_t length = 0;
     if (address_of(&sources[i], &source) &&
         (!many_targets || take_target(&received[i].msg_hdr))) {
         length = reply_to(datagrams[i], received[i].msg_len, &source, reply_rooms[owed]);
     }
-    if (length == 0 || (limits != NULL && !may_answer(limits, &source, now))) {
-        count(mine, length == 0 ? UDP_UNANSWERED : UDP_LIMITED, 1);
-        return false;
-    }
+    if (length == 0) count(mine, UDP_UNANSWERED, 1);
+    if (length == 0 || (rate > 0 && !is_within(&source, rate, now, mine))) return false;
     address_reply(i, owed, length);
     return true;
 }
@@ -122,8 +131,9 @@ static void serve_batch(int socket, tally *mine) {
         if (errno != EINTR && errno != EAGAIN) poll(NULL, 0, 10);
         return;
     }
-    uint64_t now = limits != NULL ? nanoseconds() : 0;
-    for (int i = 0; i < got; i++) owed += answer_datagram(i, owed, now, mine);
+    uint32_t rate = setting(RATE);
+    uint64_t now = rate > 0 ? nanoseconds() : 0;
+    for (int i = 0; i < got; i++) owed += answer_datagram(i, owed, rate, now, mine);
     count(mine, UDP_RECEIVED, (uint64_t)got);
     send_replies(socket, owed, mine);
     for (int i = 0; i < got; i++) make_ready(i);

@@ -12,9 +12,11 @@ import resource
 import shutil
 import signal
 import socket
+import struct
 import subprocess
 import sys
 import threading
+import zlib
 
 from steps import PATIENCE, REQUEST, Skipped, Wrong, check, run
 
@@ -198,6 +200,20 @@ def ask_once(server, address="127.0.0.1"):
         check(asking.recv(2048)[:2] == b"\1\1", "no success response")
 
 
+def attributes_of(message):
+    """The types of a message's attributes; its length and its FINGERPRINT have to be right."""
+    check(int.from_bytes(message[2:4], "big") == len(message) - 20, "its length is wrong")
+    types, at = [], 20
+    while at < len(message):
+        kind, length = struct.unpack(">HH", message[at : at + 4])
+        if kind == 0x8028:
+            check(int.from_bytes(message[at + 4 :], "big") == zlib.crc32(message[:at]) ^ 0x5354554E,
+                  "its FINGERPRINT is wrong")
+        types.append(kind)
+        at += 4 + (length + 3) // 4 * 4
+    return types
+
+
 def read_replies(stream, count):
     """The transaction IDs of the success responses that a stream brings."""
     six = stream.family == socket.AF_INET6
@@ -240,7 +256,8 @@ def in_own_network(function, *given):
     def run_there():
         if ctypes.CDLL(None).unshare(0x40000000) != 0 or not shutil.which("ip"):
             raise Skipped("it takes the right to make a network, and ip")
-        for words in ("link set lo multicast on up", "-6 route add multicast ff00::/8 dev lo", "-6 route add local 2001:db8::/32 dev lo"):
+        for words in ("link set lo multicast on up", "-6 route add multicast ff00::/8 dev lo",
+                      "-6 route add local 2001:db8::/32 dev lo"):
             status, _, told = run(["ip", *words.split()])
             check(status == 0, f"ip {words}: {told}")
         function(*given)

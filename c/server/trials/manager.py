@@ -12,6 +12,7 @@ import tempfile
 import time
 
 from harness import Server, after, ask, ask_once, expect, free_port, in_own_network, processor_ticks
+from operators import report
 from steps import PATIENCE, Skipped, check, run, wait_until
 
 HERE = pathlib.Path(__file__).resolve().parent.parent
@@ -127,6 +128,7 @@ def watched(programs):
 
 
 UNIT = (HERE / "stun-server.service").read_text()
+UNIT_SETTINGS = "/usr/local/etc/stun-server.conf"
 UNIT_COMMAND = re.search(r"^ExecStart=(.*)$", UNIT, re.M)[1].split()
 
 
@@ -137,13 +139,16 @@ def unit_command(programs):
 
 def run_unit(programs):
     check(UNIT_COMMAND[0] == "/usr/local/bin/stun-server", f"it runs {UNIT_COMMAND[0]}")
+    check(UNIT_SETTINGS in UNIT_COMMAND, "it has no settings")
     with news_of() as (manager, news):
-        with Server(programs["server"], *UNIT_COMMAND[1:], at=(), env=news) as server:
+        words = [str(HERE / "stun-server.conf") if it == UNIT_SETTINGS else it for it in UNIT_COMMAND]
+        with Server(programs["server"], *words[1:], at=(), env=news) as server:
             check(manager.recv(200) == b"READY=1", "it isn't ready first")
             check(manager.recv(200) == b"WATCHDOG=1", "it doesn't say that it lives")
             for address in ("127.0.0.1", "::1"):
                 ask(programs["client"], address, "3478")
                 ask(programs["client"], address, "3478", "-s")
+            check(report(("127.0.0.1", 9478))["stun_server_tcp_sent_total"] == 2, "another report")
             server.end()
 
 

@@ -86,7 +86,7 @@ static int outcome(int sandbox, int (*try)(void)) {
     int status = 0;
     pid_t child = fork();
     if (child == 0) {
-        if (sandbox >= LANDLOCK) close_off_system();
+        if (sandbox >= LANDLOCK) close_off_system(NULL);
         if (sandbox >= UDP) filter_calls(sandbox == UDP ? OWN : -1);
         _exit(try() >= 0 ? 0 : errno);
     }
@@ -98,7 +98,7 @@ int main(void) {
     static const char *const sandboxes[] = {"none", "landlock", "udp", "tcp"};
     int version = 0;
     pid_t child = fork();
-    if (child == 0) _exit(close_off_system());
+    if (child == 0) _exit(close_off_system(NULL));
     waitpid(child, &version, 0);
     printf("landlock %d filter %d\n", WEXITSTATUS(version), can_filter());
     fflush(stdout);

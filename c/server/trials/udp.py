@@ -6,7 +6,8 @@ import struct
 import time
 import zlib
 
-from harness import LOAD, Server, ask, ask_once, asking_socket, expect, in_own_network, put_load
+from harness import (LOAD, Server, ask, ask_once, asking_socket, attributes_of, expect,
+                     in_own_network, put_load)
 from steps import REQUEST, check
 
 INDICATION = bytes.fromhex("001100002112A442") + bytes(12)
@@ -76,20 +77,6 @@ def ask_everybody(programs):
             check(not select.select(asking, [], [], 0)[0], "a reply came")
 
 
-def attributes_of(message):
-    """The types of a message's attributes; its length and its FINGERPRINT have to be right."""
-    check(int.from_bytes(message[2:4], "big") == len(message) - 20, "its length is wrong")
-    types, at = [], 20
-    while at < len(message):
-        kind, length = struct.unpack(">HH", message[at : at + 4])
-        if kind == 0x8028:
-            check(int.from_bytes(message[at + 4 :], "big") == zlib.crc32(message[:at]) ^ 0x5354554E,
-                  "its FINGERPRINT is wrong")
-        types.append(kind)
-        at += 4 + (length + 3) // 4 * 4
-    return types
-
-
 def software(programs):
     """Replies have a SOFTWARE, or none if it is switched off; all else is in them."""
     def ends(message):
@@ -129,7 +116,8 @@ def burst(sockets, other):
 def limited(programs):
     """A prefix of IPv4 has as many answers as -o rate says, at once and in a second, and no more for
     having been quiet; another one isn't hindered by it."""
-    with Server(programs["server"], "-o", "rate=20") as server, contextlib.ExitStack() as all_of:
+    options = ["-o", "rate=20", "-o", "slip=0"]
+    with Server(programs["server"], *options) as server, contextlib.ExitStack() as all_of:
         near = [all_of.enter_context(asking_socket(server, f"127.0.0.{i}")) for i in (1, 200)]
         far = all_of.enter_context(asking_socket(server, "127.0.1.1"))
         sent = 0
