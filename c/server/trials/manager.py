@@ -15,7 +15,6 @@ from harness import Server, after, ask, ask_once, expect, free_port, in_own_netw
 from operators import report
 from steps import PATIENCE, Skipped, check, run, wait_until
 
-HERE = pathlib.Path(__file__).resolve().parent.parent
 
 # puts sockets at the numbers that a program looks for, and starts that program
 PASS_ON = """
@@ -127,22 +126,17 @@ def watched(programs):
             server.end()
 
 
-UNIT = (HERE / "stun-server.service").read_text()
-UNIT_SETTINGS = "/usr/local/etc/stun-server.conf"
-UNIT_COMMAND = re.search(r"^ExecStart=(.*)$", UNIT, re.M)[1].split()
-
-
 def unit_command(programs):
-    """The very command of the unit serves, at its port in a network of its own."""
+    """The very command of the unit serves and reports, at its ports, in a network of its own."""
     in_own_network(run_unit, programs)
 
 
 def run_unit(programs):
-    check(UNIT_COMMAND[0] == "/usr/local/bin/stun-server", f"it runs {UNIT_COMMAND[0]}")
-    check(UNIT_SETTINGS in UNIT_COMMAND, "it has no settings")
+    unit = pathlib.Path(programs["unit"]).read_text()
+    command = re.search(r"^ExecStart=(.*)$", unit, re.M)[1].split()
+    check(command[0] == programs["server"], f"it runs {command[0]}")
     with news_of() as (manager, news):
-        words = [str(HERE / "stun-server.conf") if it == UNIT_SETTINGS else it for it in UNIT_COMMAND]
-        with Server(programs["server"], *words[1:], at=(), env=news) as server:
+        with Server(*command, at=(), env=news) as server:
             check(manager.recv(200) == b"READY=1", "it isn't ready first")
             check(manager.recv(200) == b"WATCHDOG=1", "it doesn't say that it lives")
             for address in ("127.0.0.1", "::1"):
@@ -156,9 +150,5 @@ def unit_file(programs):
     """The unit says what systemd understands."""
     if not shutil.which("systemd-analyze"):
         raise Skipped("systemd-analyze isn't on this machine")
-    with tempfile.TemporaryDirectory(prefix="server-") as folder:
-        os.chmod(folder, 0o755)
-        tried = pathlib.Path(folder) / "stun-server.service"
-        tried.write_text(UNIT.replace(UNIT_COMMAND[0], programs["server"]))
-        status, out, told = run(["systemd-analyze", "verify", "--man=no", str(tried)], 60)
+    status, out, told = run(["systemd-analyze", "verify", "--man=no", programs["unit"]], 60)
     check(status == 0 and out + told == "", f"status {status}: {out}{told}")
