@@ -85,7 +85,9 @@ def over_tcp(programs):
 def full_table(programs):
     """Sixteen addresses have 64 connections each, all that there are; one more client is served, as
     often as it likes, and none of its connections is closed for another."""
-    with many_files(), Server(programs["server"], "-t") as server, contextlib.ExitStack() as all_of:
+    options = ["-t", "-o", "idle-timeout=600"]
+    with many_files(), contextlib.ExitStack() as all_of:
+        server = all_of.enter_context(Server(programs["server"], *options))
         for i in range(16 * 64):
             ask_on(all_of.enter_context(server.connect(f"127.0.0.{1 + i % 16}")))
         others = []
@@ -144,7 +146,7 @@ def worker_memory(server):
 def half_messages(programs):
     """Memory that messages took which didn't become whole is the system's again when their
     connections end."""
-    with Server(programs["server"], "-t") as server:
+    with Server(programs["server"], "-t", "-o", "request-timeout=60") as server:
         with contextlib.ExitStack() as all_of:
             for _ in range(200):
                 stream = all_of.enter_context(server.connect())
