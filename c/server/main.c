@@ -63,6 +63,12 @@ static int print_version(void) {
 
 /* ---- Arguments ------------------------------------------------------------------------------- */
 
+/* Whether a text is what reports are asked for by: a path, with a slash in it, or a port. */
+static bool is_place(const char *text) {
+    uint32_t port;
+    return strchr(text, '/') != NULL || read_number(text, 1, 65535, &port);
+}
+
 static bool read_option(int option, const char *value) {
     switch (option) {
     case 't': return options.tcp = true;
@@ -70,7 +76,7 @@ static bool read_option(int option, const char *value) {
     case 'U': return *(options.user = value) != 0;
     case 'o': return read_setting(value);
     case 'c': return *(options.file = value) != 0;
-    case 'm': return *(options.reports = value) != 0;
+    case 'm': return is_place(options.reports = value);
     default: return false;
     }
 }

@@ -13,8 +13,9 @@ def wrong_arguments(programs):
     words = [[], ["127.0.0.1"], ["127.0.0.1", "1", "::1"], ["-x", "::1", "1"], ["-j", "0", "::1", "1"],
              ["-j", "+2", "::1", "1"], ["-j", "33", "::1", "1", "127.0.0.1", "1"],
              ["-o", "rate", "::1", "1"], ["-o", "rate=", "::1", "1"], ["-o", "age=1", "::1", "1"],
-             ["-o", "max-connections=0", "::1", "1"], ["-U", "", "::1", "1"], ["example.org", "1"],
-             ["010.0.0.1", "1"]]
+             ["-o", "max-connections=0", "::1", "1"], ["-U", "", "::1", "1"], ["-c", "", "::1", "1"],
+             *(["-m", where, "::1", "1"] for where in ("", "0", "70000", "reports")),
+             ["example.org", "1"], ["010.0.0.1", "1"]]
     for command in commands + [[programs["server"], *options] for options in words]:
         status, out, told = run(command)
         right = status == 2 and out == "" and told.startswith("usage: ")
