@@ -1,13 +1,14 @@
 /* Reads the address in a response, and writes and validates a signed request. The programs
  * messages.cc, .py, .go and .rs do the same, and print the same. */
+#include <arpa/inet.h>
 #include <stdio.h>
 #include <stun_types.h>
 
-static const uint8_t RESPONSE[32] = {
+static const uint8_t RESPONSE[] = {
     0x01, 0x01, 0x00, 0x0c, 0x21, 0x12, 0xa4, 0x42, 0xb7, 0xe7, 0xa7, 0x01, 0xbc, 0x34, 0xd6, 0x86,
     0xfa, 0x87, 0xdf, 0xae, 0x00, 0x20, 0x00, 0x08, 0x00, 0x01, 0xa1, 0x47, 0xe1, 0x12, 0xa6, 0x43};
 
-/* Prints the address that the response reports, 192.0.2.1:32853. */
+/* Prints the address that the response reports: 192.0.2.1:32853, or [2001:db8::1]:32853. */
 static stun_types_answer show_address(const uint8_t *bytes, size_t length) {
     stun_types_attribute found;
     stun_types_address address;
@@ -19,8 +20,10 @@ static stun_types_answer show_address(const uint8_t *bytes, size_t length) {
     }
     a = stun_types_read_xor_address(bytes, length, &found, &address);
     if (a.code) return a;
-    const uint8_t *ip = address.octets;
-    printf("%d.%d.%d.%d:%d\n", ip[0], ip[1], ip[2], ip[3], address.port);
+    char ip[INET6_ADDRSTRLEN] = "";
+    int is_six = address.family == 6;
+    inet_ntop(is_six ? AF_INET6 : AF_INET, address.octets, ip, sizeof ip);
+    printf(is_six ? "[%s]:%d\n" : "%s:%d\n", ip, address.port);
     return a;
 }
 

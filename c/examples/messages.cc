@@ -1,4 +1,5 @@
 // Reads the address in a response, and writes and validates a signed request, as messages.c does.
+#include <arpa/inet.h>
 #include <cstdio>
 #include <stdexcept>
 #include <string>
@@ -54,8 +55,10 @@ static std::vector<uint8_t> signed_request(const std::string &user, const Key &k
 
 int main() try {
     auto address = address_in(response);
-    auto ip = address.octets;
-    std::printf("%d.%d.%d.%d:%d\n", ip[0], ip[1], ip[2], ip[3], address.port);
+    const bool is_six = address.family == 6;
+    char ip[INET6_ADDRSTRLEN] = "";
+    inet_ntop(is_six ? AF_INET6 : AF_INET, address.octets, ip, sizeof ip);
+    std::printf(is_six ? "[%s]:%d\n" : "%s:%d\n", ip, address.port);
     Key key("wonderland");
     auto request = signed_request("alice", key);
     const stun_types_policy both{};

@@ -69,8 +69,10 @@ def address_in(stun, message):
     if not stun.stun_types_find(message, size, STUN_TYPES_ATTRIBUTE_XOR_MAPPED_ADDRESS, found):
         raise ValueError("the response reports no address")
     stun.stun_types_read_xor_address(message, size, found, address)
-    octets = bytes(address.octets)[: 4 if address.family == 4 else 16]
-    return f"{ipaddress.ip_address(octets)}:{address.port}"
+    octets = bytes(address.octets)
+    if address.family == 6:
+        return f"[{ipaddress.IPv6Address(octets)}]:{address.port}"
+    return f"{ipaddress.IPv4Address(octets[:4])}:{address.port}"
 
 
 def signed_request(stun, user, key):

@@ -1,4 +1,6 @@
 // Reads the address in a response, and writes and validates a signed request, as messages.c does.
+//
+//     rustc --edition 2021 messages.rs -L PREFIX/lib && LD_LIBRARY_PATH=PREFIX/lib ./messages
 
 /// The structs, numbers and calls of stun_types.h, named as there.
 #[rustfmt::skip]
@@ -39,6 +41,7 @@ mod stun {
         pub fn stun_types_validate_by_policy(bytes: *const u8, length: usize, policy: *const Policy, key: *const Key, validated: *mut Validated) -> Answer;
     }
 }
+use std::net::{IpAddr, SocketAddr};
 use stun::*;
 
 const RESPONSE: &[u8] = b"\x01\x01\x00\x0c\x21\x12\xa4\x42\xb7\xe7\xa7\x01\xbc\x34\xd6\x86\
@@ -67,7 +70,11 @@ fn address_in(message: &[u8]) -> Result<String, String> {
     }
     check(unsafe { stun_types_read_xor_address(bytes, size, &found, &mut address) })?;
     let [a, b, c, d, ..] = address.octets;
-    Ok(format!("{a}.{b}.{c}.{d}:{}", address.port))
+    let ip: IpAddr = match address.family {
+        6 => address.octets.into(),
+        _ => [a, b, c, d].into(),
+    };
+    Ok(SocketAddr::new(ip, address.port).to_string())
 }
 
 fn signed_request(user: &str, key: &Key) -> Result<Vec<u8>, String> {

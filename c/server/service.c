@@ -15,7 +15,7 @@ bool count_passed(uint32_t *count) {
     *count = 0;
     if (text == NULL || of == NULL || !read_number(of, 1, UINT32_MAX, &process)) return true;
     if (process != (uint32_t)getpid() || read_number(text, 1, most, count)) return true;
-    fprintf(stderr, "server: LISTEN_FDS=%s: it takes 1 to %u sockets with -j %u\n", text, most,
+    fprintf(stderr, "stun-server: LISTEN_FDS=%s: it takes 1 to %u sockets with -j %u\n", text, most,
             (unsigned)options.processes);
     return false;
 }

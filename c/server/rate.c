@@ -58,11 +58,11 @@ static place *find_place(rate_table *table, uint64_t prefix) {
     return quiet;
 }
 
-bool may_answer(rate_table *table, const stun_types_address *source, uint64_t now) {
+bool may_answer(rate_table *table, const stun_types_address *source, uint32_t rate, uint64_t now) {
     place *of = find_place(table, prefix_of(source));
     uint64_t until = atomic_load_explicit(&of->paid_until, memory_order_relaxed);
     if (until < now) until = now;
-    until += SECOND / options.rate;
+    until += SECOND / rate;
     if (until > now + SECOND) return false;
     atomic_store_explicit(&of->paid_until, until, memory_order_relaxed);
     return true;

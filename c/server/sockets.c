@@ -4,7 +4,16 @@
 #include <fcntl.h>
 #include <netinet/tcp.h>
 
-enum { QUEUE = 4 << 20 }; /* bytes that may wait in a socket for UDP, if the system allows them */
+#ifndef IPV6_MULTICAST_ALL
+#define IPV6_MULTICAST_ALL 29
+#endif
+
+enum {
+    QUEUE = 4 << 20, /* bytes that may wait in a socket for UDP, if the system allows them */
+    /* of a connection; the system takes twice as much */
+    TO_SEND = 64 << 10,
+    TO_READ = 16 << 10
+};
 
 /* Sets an option of a socket that it can serve without. */
 static void set_option(int number, int level, int name, int value) {
@@ -22,15 +31,39 @@ static bool is_wildcard(const struct sockaddr_storage *at) {
     return IN6_IS_ADDR_UNSPECIFIED(&six.sin6_addr);
 }
 
-/* Lets a socket for UDP wait for a second at most, and show to which address a datagram was sent if
- * the socket stands for several. */
+/* Lets a socket for UDP wait for a second at most. If it stands for several addresses, it shows to
+ * which a datagram was sent, and receives nothing of groups that others have joined. (One for IPv6
+ * may receive over IPv4 too.) */
 static bool prepare_udp(int number, int family, bool wildcard) {
     const struct timeval second = {1, 0};
     set_option(number, SOL_SOCKET, SO_RCVBUF, QUEUE);
-    if (wildcard && family == AF_INET) set_option(number, IPPROTO_IP, IP_PKTINFO, 1);
-    if (wildcard && family == AF_INET6) set_option(number, IPPROTO_IPV6, IPV6_RECVPKTINFO, 1);
+    if (wildcard) {
+        set_option(number, IPPROTO_IP, IP_PKTINFO, 1);
+        set_option(number, IPPROTO_IP, IP_MULTICAST_ALL, 0);
+    }
+    if (wildcard && family == AF_INET6) {
+        set_option(number, IPPROTO_IPV6, IPV6_RECVPKTINFO, 1);
+        set_option(number, IPPROTO_IPV6, IPV6_MULTICAST_ALL, 0);
+    }
     return setsockopt(number, SOL_SOCKET, SO_RCVTIMEO, &second, sizeof second) == 0 &&
            setsockopt(number, SOL_SOCKET, SO_SNDTIMEO, &second, sizeof second) == 0;
+}
+
+/* What a socket for TCP does, so do the connections that it accepts: the system keeps little for
+ * each, gives up on a client that takes nothing, whether or not the server knows it still, and
+ * keeps a connection back for a while until something comes by it. */
+static void prepare_tcp(int number) {
+    set_option(number, IPPROTO_TCP, TCP_NODELAY, 1);
+    set_option(number, SOL_SOCKET, SO_SNDBUF, TO_SEND);
+    set_option(number, SOL_SOCKET, SO_RCVBUF, TO_READ);
+    set_option(number, IPPROTO_TCP, TCP_USER_TIMEOUT, (int)setting(IDLE_TIMEOUT) * 1000);
+    set_option(number, IPPROTO_TCP, TCP_DEFER_ACCEPT, (int)setting(REQUEST_TIMEOUT));
+}
+
+void prepare_listeners(const endpoints *of) {
+    for (size_t i = 0; i < of->count; i++) {
+        if (of->all[i].stream) prepare_tcp(of->all[i].socket);
+    }
 }
 
 /* Appends an endpoint. */
@@ -40,8 +73,7 @@ static bool append(endpoints *to, const struct sockaddr_storage *at, endpoint ma
         return false;
     }
     made.wildcard = is_wildcard(at);
-    /* (what it accepts has this option too) */
-    if (made.stream) set_option(made.socket, IPPROTO_TCP, TCP_NODELAY, 1);
+    if (made.stream) prepare_tcp(made.socket);
     if (!made.stream && !prepare_udp(made.socket, at->ss_family, made.wildcard)) return false;
     to->all[to->count++] = made;
     return true;
@@ -72,7 +104,7 @@ bool open_address(endpoints *to, const socket_address *at) {
     if (opened) return true;
     stun_types_address address;
     int error = errno;
-    fprintf(stderr, "server: ");
+    fprintf(stderr, "stun-server: ");
     if (address_of(&at->bytes, &address)) print_address(stderr, &address);
     fprintf(stderr, ": %s\n", strerror(error));
     return false;
@@ -113,7 +145,7 @@ static bool take_open(endpoints *to, int number) {
 
 bool take_socket(endpoints *to, int number) {
     if (take_open(to, number)) return true;
-    fprintf(stderr, "server: the socket with number %d can't be served: %s\n", number,
+    fprintf(stderr, "stun-server: the socket with number %d can't be served: %s\n", number,
             strerror(errno));
     return false;
 }

@@ -25,7 +25,7 @@ static union {
 } targets[BATCH];
 static bool many_targets;
 
-static rate_table *limits; /* NULL: there is no limit */
+static rate_table *limits;
 
 static void make_ready(int i) {
     struct msghdr *header = &received[i].msg_hdr;
@@ -48,17 +48,26 @@ static void make_all_ready(void) {
     }
 }
 
-/* Leaves it to the system by which interface the reply goes; it keeps the address it comes from. */
-static void forget_interface(struct msghdr *header) {
+/* Whether a datagram was sent to an address of this machine, and not to everybody's: such a one of
+ * IPv4 isn't the address that a reply would come from. Leaves it to the system by which interface
+ * the reply goes; it keeps the address it comes from. */
+static bool take_target(struct msghdr *header) {
     struct cmsghdr *at = CMSG_FIRSTHDR(header);
+    struct in_pktinfo four;
+    struct in6_pktinfo six;
     for (; at != NULL; at = CMSG_NXTHDR(header, at)) {
         if (at->cmsg_level == IPPROTO_IP && at->cmsg_type == IP_PKTINFO) {
+            memcpy(&four, CMSG_DATA(at), sizeof four);
+            if (four.ipi_spec_dst.s_addr != four.ipi_addr.s_addr) return false;
             memset(CMSG_DATA(at) + offsetof(struct in_pktinfo, ipi_ifindex), 0, sizeof(int));
         }
         if (at->cmsg_level == IPPROTO_IPV6 && at->cmsg_type == IPV6_PKTINFO) {
+            memcpy(&six, CMSG_DATA(at), sizeof six);
+            if (IN6_IS_ADDR_MULTICAST(&six.ipi6_addr)) return false;
             memset(CMSG_DATA(at) + offsetof(struct in6_pktinfo, ipi6_ifindex), 0, sizeof(int));
         }
     }
+    return true;
 }
 
 /* Addresses the reply to datagram i, which has been written. */
@@ -66,24 +75,33 @@ static void address_reply(int i, int owed, size_t length) {
     struct msghdr *from = &received[i].msg_hdr, *to = &replies[owed].msg_hdr;
     replies_at[owed].iov_base = reply_rooms[owed];
     replies_at[owed].iov_len = length;
-    if (many_targets) forget_interface(from);
     to->msg_name = from->msg_name;
     to->msg_namelen = from->msg_namelen;
     to->msg_control = from->msg_control;
     to->msg_controllen = from->msg_controllen;
 }
 
+/* Whether a reply may be sent, now, by a rate. Of those over the limit one in `slip` may, whoever's
+ * it is: nobody is silenced by requests that others forge in the name of the prefix. */
+static bool is_within(const stun_types_address *source, uint32_t rate, uint64_t now, tally *mine) {
+    static uint32_t over;
+    uint32_t slip = setting(SLIP);
+    if (may_answer(limits, source, rate, now)) return true;
+    bool slips = slip > 0 && ++over % slip == 0;
+    count(mine, slips ? UDP_SLIPPED : UDP_LIMITED, 1);
+    return slips;
+}
+
 /* Makes the reply to datagram i, as reply number `owed`. False: it gets none. */
-static bool answer_datagram(int i, int owed, uint64_t now, tally *mine) {
+static bool answer_datagram(int i, int owed, uint32_t rate, uint64_t now, tally *mine) {
     stun_types_address source;
     size_t length = 0;
-    if (address_of(&sources[i], &source)) {
+    if (address_of(&sources[i], &source) &&
+        (!many_targets || take_target(&received[i].msg_hdr))) {
         length = reply_to(datagrams[i], received[i].msg_len, &source, reply_rooms[owed]);
     }
-    if (length == 0 || (limits != NULL && !may_answer(limits, &source, now))) {
-        count(mine, length == 0 ? UDP_UNANSWERED : UDP_LIMITED, 1);
-        return false;
-    }
+    if (length == 0) count(mine, UDP_UNANSWERED, 1);
+    if (length == 0 || (rate > 0 && !is_within(&source, rate, now, mine))) return false;
     address_reply(i, owed, length);
     return true;
 }
@@ -113,8 +131,9 @@ static void serve_batch(int socket, tally *mine) {
         if (errno != EINTR && errno != EAGAIN) poll(NULL, 0, 10);
         return;
     }
-    uint64_t now = limits != NULL ? nanoseconds() : 0;
-    for (int i = 0; i < got; i++) owed += answer_datagram(i, owed, now, mine);
+    uint32_t rate = setting(RATE);
+    uint64_t now = rate > 0 ? nanoseconds() : 0;
+    for (int i = 0; i < got; i++) owed += answer_datagram(i, owed, rate, now, mine);
     count(mine, UDP_RECEIVED, (uint64_t)got);
     send_replies(socket, owed, mine);
     for (int i = 0; i < got; i++) make_ready(i);

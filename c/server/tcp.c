@@ -6,20 +6,27 @@
 #include <sys/resource.h>
 
 enum {
-    PIECE = 4096,    /* bytes read at once */
+    PIECE = 4096,    /* bytes read at once, and of a page */
     REPLIES = 65536, /* bytes of replies that wait to be sent */
     SECOND = 1000,
     CLOSING_TIME = 2000, /* both in milliseconds */
     LISTENERS = MOST_CONNECTIONS /* the number of the first endpoint among the connections */
 };
 
+/* The neighbourhoods of an address, the widest first: /48, /56 and /64 of IPv6, and of IPv4 /24,
+ * once more /24, and the address itself. The places of neighbours differ in so many last bits. */
+enum { NEIGHBOURHOODS = 3 };
+static const int narrowed_by[NEIGHBOURHOODS] = {16, 8, 0};
+
 typedef struct {
     bool open;
     bool closing; /* no more is answered: what waits is sent, and then the connection is closed */
     bool half_closed;
     int socket;
+    bool large; /* it has written more than a piece of its bytes */
     uint32_t awaited; /* EPOLLIN or EPOLLOUT */
-    uint32_t crowd;   /* how many connections its address has, with this one */
+    uint64_t place;   /* of its address among all */
+    uint32_t crowds[NEIGHBOURHOODS]; /* how many connections each has, with this one */
     uint64_t accepted, heard; /* when it was accepted, and when its last message was whole */
     uint64_t begun;           /* when the first byte of a message came that isn't whole yet */
     uint64_t closed_at;       /* if it is closing */
@@ -31,7 +38,7 @@ typedef struct {
 
 /* The bytes of a connection, kept apart so that looking through the table is fast. */
 typedef struct {
-    uint8_t message[STUN_TYPES_GREATEST_MESSAGE];
+    _Alignas(PIECE) uint8_t message[STUN_TYPES_GREATEST_MESSAGE];
     uint8_t piece[PIECE];
     uint8_t replies[REPLIES];
 } connection_bytes;
@@ -41,7 +48,7 @@ static struct {
     connection *open_end; /* no connection from here on is open */
     connection_bytes *bytes;
     int poller;
-    bool accepting;
+    bool paused[MOST_ENDPOINTS]; /* listeners from which nothing is accepted for a while */
     uint64_t now; /* when the events that are served were got */
     const endpoints *endpoints;
     tally *mine;
@@ -52,14 +59,14 @@ static struct {
 /* As many connections as the process may have: it asks the system for as many files as it may. */
 static size_t most_connections(size_t other_files) {
     struct rlimit limit, more;
-    rlim_t wanted = options.max_connections + other_files;
+    rlim_t wanted = setting(MAX_CONNECTIONS) + other_files;
     if (getrlimit(RLIMIT_NOFILE, &limit) != 0) return 1;
     if (limit.rlim_cur < wanted) {
         more = limit;
         more.rlim_cur = wanted < limit.rlim_max ? wanted : limit.rlim_max;
         if (setrlimit(RLIMIT_NOFILE, &more) == 0) limit = more;
     }
-    if (limit.rlim_cur >= wanted) return options.max_connections;
+    if (limit.rlim_cur >= wanted) return setting(MAX_CONNECTIONS);
     return limit.rlim_cur > other_files ? (size_t)limit.rlim_cur - other_files : 1;
 }
 
@@ -78,42 +85,66 @@ bool make_connections(size_t listeners) {
     if (tcp.connections == NULL || tcp.bytes == NULL) return cannot("no memory");
     tcp.open_end = tcp.connections;
     tcp.end = tcp.connections + most;
-    if (most < options.max_connections) fprintf(stderr, "event=few-files connections=%zu\n", most);
+    if (most < setting(MAX_CONNECTIONS)) say(WARNING, "event=few-files connections=%zu\n", most);
     return true;
 }
 
-/* Whether two addresses may be one client's: IPv4 as a whole, IPv6 by its first half. */
-static bool are_neighbours(const stun_types_address *a, const stun_types_address *b) {
-    return a->family == b->family && memcmp(a->octets, b->octets, a->family == 4 ? 4 : 8) == 0;
+/* The place of an address: the first half of one of IPv6. No such address begins with the octet
+ * with which places of IPv4 do, since that is for multicast. */
+static uint64_t place_of(const stun_types_address *source) {
+    uint64_t place = 0;
+    if (source->family == 4) {
+        for (int i = 0; i < 3; i++) place = place << 8 | source->octets[i];
+        return UINT64_C(0xFF) << 56 | place << 16 | source->octets[3];
+    }
+    for (int i = 0; i < 8; i++) place = place << 8 | source->octets[i];
+    return place;
 }
 
-/* Counts a connection in for its address, or out. */
-static void count_crowd(connection *changed, bool in) {
-    changed->crowd = 0;
+/* Counts a connection in for its neighbours, or out. */
+static void count_crowds(connection *changed, bool in) {
+    for (int i = 0; i < NEIGHBOURHOODS; i++) changed->crowds[i] = 1;
     for (connection *at = tcp.connections; at < tcp.open_end; at++) {
-        if (at == changed || !at->open || !are_neighbours(&at->source, &changed->source)) continue;
-        if (in) at->crowd++;
-        else at->crowd--;
-        changed->crowd = at->crowd;
+        if (at == changed || !at->open) continue;
+        uint64_t differ = at->place ^ changed->place;
+        for (int i = 0; i < NEIGHBOURHOODS && differ >> narrowed_by[i] == 0; i++) {
+            if (in) at->crowds[i]++;
+            else at->crowds[i]--;
+            changed->crowds[i]++;
+        }
     }
-    if (changed->crowd == 0) changed->crowd = 1;
 }
 
 static void close_connection(connection *closed) {
+    connection_bytes *bytes = &tcp.bytes[closed - tcp.connections];
+    if (closed->large) (void)madvise(bytes, sizeof *bytes, MADV_DONTNEED);
     close(closed->socket);
     closed->open = false;
-    count_crowd(closed, false);
+    count_crowds(closed, false);
     while (tcp.open_end > tcp.connections && !tcp.open_end[-1].open) tcp.open_end--;
 }
 
-/* The connection that is closed for a new one: of the addresses with most connections, that which
- * has been idle longest. */
+/* Closes a connection, and has the system drop what its client hasn't taken. */
+static void reset_connection(connection *closed) {
+    const struct linger none = {1, 0};
+    (void)setsockopt(closed->socket, SOL_SOCKET, SO_LINGER, &none, sizeof none);
+    close_connection(closed);
+}
+
+/* Whether a connection is needed less than another: it is of a fuller neighbourhood, compared from
+ * the widest on, or of ones as full, and has been idle longer. */
+static bool is_needed_less(const connection *a, const connection *b) {
+    for (int i = 0; i < NEIGHBOURHOODS; i++) {
+        if (a->crowds[i] != b->crowds[i]) return a->crowds[i] > b->crowds[i];
+    }
+    return a->heard < b->heard;
+}
+
+/* The connection that is closed for a new one. */
 static connection *find_least_needed(void) {
     connection *least = tcp.connections;
     for (connection *at = tcp.connections; at < tcp.open_end; at++) {
-        if (at->crowd > least->crowd || (at->crowd == least->crowd && at->heard < least->heard)) {
-            least = at;
-        }
+        if (is_needed_less(at, least)) least = at;
     }
     return least;
 }
@@ -125,7 +156,7 @@ static connection *free_place(void) {
     }
     if (tcp.open_end < tcp.end) return tcp.open_end;
     connection *least = find_least_needed();
-    close_connection(least);
+    reset_connection(least);
     count(tcp.mine, TCP_DISPLACED, 1);
     return least;
 }
@@ -155,12 +186,14 @@ static void answer_piece(connection *of, connection_bytes *bytes) {
         stun_types_stream_push(&of->stream, bytes->message, sizeof bytes->message,
                                bytes->piece + of->piece_at, of->piece_end - of->piece_at, &taken);
     of->piece_at += taken;
+    of->large |= of->stream.pending > PIECE;
     if (answer.code != STUN_TYPES_OK) of->closing = true;
     if (pending == 0) of->begun = tcp.now;
     if (answer.code != STUN_TYPES_OK || of->stream.message == 0) return;
     size_t length = reply_to(bytes->message, of->stream.message, &of->source,
                              bytes->replies + of->replies_end);
     of->replies_end += length;
+    of->large |= of->replies_end > PIECE;
     of->heard = tcp.now;
     count(tcp.mine, TCP_RECEIVED, 1);
     count(tcp.mine, length > 0 ? TCP_SENT : TCP_UNANSWERED, 1);
@@ -244,34 +277,39 @@ static bool enter(int socket, const struct sockaddr_storage *from) {
     memset(place, 0, sizeof *place);
     place->socket = socket;
     place->source = source;
+    place->place = place_of(&source);
     place->awaited = EPOLLIN;
     place->accepted = place->heard = tcp.now;
     if (!control(EPOLL_CTL_ADD, socket, EPOLLIN, (size_t)(place - tcp.connections))) return false;
     place->open = true;
     if (place >= tcp.open_end) tcp.open_end = place + 1;
-    count_crowd(place, true);
+    count_crowds(place, true);
     return true;
 }
 
-/* Waits for connections, or for none. */
-static void accept_more(bool more) {
-    tcp.accepting = more;
+static void pause_listener(size_t number) {
+    tcp.paused[number] = true;
+    control(EPOLL_CTL_DEL, tcp.endpoints->all[number].socket, 0, LISTENERS + number);
+}
+
+static void resume_listeners(void) {
     for (size_t i = 0; i < tcp.endpoints->count; i++) {
-        const endpoint *at = &tcp.endpoints->all[i];
-        if (at->stream) control(EPOLL_CTL_MOD, at->socket, more ? EPOLLIN : 0, LISTENERS + i);
+        if (!tcp.paused[i]) continue;
+        tcp.paused[i] = false;
+        control(EPOLL_CTL_ADD, tcp.endpoints->all[i].socket, EPOLLIN, LISTENERS + i);
     }
 }
 
-/* Accepts a connection, and closes it at once if it can't be served. If the system has none to
- * give, the worker tries again a second later. */
-static void accept_one(const endpoint *by) {
+/* Accepts a connection, and closes it at once if it can't be served. If the listener gives none,
+ * since files are scarce or it listens no more, the worker tries again a second later. */
+static void accept_one(size_t number) {
     struct sockaddr_storage from;
     socklen_t length = sizeof from;
-    int socket = accept4(by->socket, (struct sockaddr *)&from, &length,
+    int socket = accept4(tcp.endpoints->all[number].socket, (struct sockaddr *)&from, &length,
                          SOCK_NONBLOCK | SOCK_CLOEXEC);
     if (socket < 0) {
-        bool scarce = errno == EMFILE || errno == ENFILE || errno == ENOBUFS || errno == ENOMEM;
-        if (scarce) accept_more(false);
+        bool passes = errno == EAGAIN || errno == EINTR || errno == ECONNABORTED;
+        if (!passes) pause_listener(number);
     } else if (enter(socket, &from)) {
         count(tcp.mine, TCP_ACCEPTED, 1);
     } else {
@@ -288,9 +326,9 @@ static bool is_over(uint64_t since, uint32_t seconds) {
 
 /* Why a connection is to be closed, as the count that goes up for it; COUNTS: it isn't. */
 static int overdue(const connection *of) {
-    if (of->stream.pending > 0 && is_over(of->begun, options.request_timeout)) return TCP_SLOW;
-    if (is_over(of->heard, options.idle_timeout)) return TCP_IDLE;
-    if (is_over(of->accepted, options.max_age)) return TCP_AGED;
+    if (of->stream.pending > 0 && is_over(of->begun, setting(REQUEST_TIMEOUT))) return TCP_SLOW;
+    if (is_over(of->heard, setting(IDLE_TIMEOUT))) return TCP_IDLE;
+    if (is_over(of->accepted, setting(MAX_AGE))) return TCP_AGED;
     return COUNTS;
 }
 
@@ -299,23 +337,23 @@ static void close_overdue(void) {
     for (connection *at = tcp.connections; at < tcp.open_end; at++) {
         if (!at->open) continue;
         if (at->half_closed) {
-            if (tcp.now >= at->closed_at) close_connection(at);
+            if (tcp.now >= at->closed_at) reset_connection(at);
             continue;
         }
         int why = overdue(at);
         if (why == COUNTS) continue;
         count(tcp.mine, why, 1);
         half_close(at);
-        if (!await(at, EPOLLIN)) close_connection(at);
+        if (!await(at, EPOLLIN)) reset_connection(at);
     }
-    if (!tcp.accepting) accept_more(true);
+    resume_listeners();
 }
 
 /* ---- The run --------------------------------------------------------------------------------- */
 
 static void serve_event(const struct epoll_event *event) {
     size_t number = (size_t)event->data.u64;
-    if (number >= LISTENERS) accept_one(&tcp.endpoints->all[number - LISTENERS]);
+    if (number >= LISTENERS) accept_one(number - LISTENERS);
     else if (tcp.connections[number].open) serve_connection(&tcp.connections[number]);
 }
 
@@ -330,7 +368,7 @@ bool begin_tcp(const endpoints *of, tally *mine) {
             return cannot("no epoll");
         }
     }
-    return tcp.accepting = true;
+    return true;
 }
 
 void serve_tcp(void) {

@@ -26,5 +26,5 @@ size_t reply_to(const uint8_t *message, size_t length, const stun_types_address 
     stun_types_answer answer = stun_types_binding_reply(message, length, source, room,
                                                         STUN_TYPES_GREATEST_REPLY, &written);
     if (answer.code != STUN_TYPES_OK || written == 0) return 0;
-    return options.software ? written : without_software(room, written);
+    return setting(SOFTWARE) ? written : without_software(room, written);
 }

@@ -1,8 +1,9 @@
 /* A STUN server: it returns to each client the address that its request came from, over UDP and
  * TCP. docs/guide/SERVER.md says how to run it.
  *
- *     cc -std=c11 -O2 -I c FILES libstun_types_c.a liblibc_c.a -o server
- *     ./server [-t] [-j PROCESSES] [-U USER] [-o NAME=NUMBER].. ADDRESS PORT [ADDRESS PORT]..
+ *     cc -std=c11 -O2 -I c FILES libstun_types_c.a liblibc_c.a -o stun-server
+ *     ./stun-server [-t] [-j PROCESSES] [-U USER] [-m PATH|PORT] [-c FILE] [-o NAME=NUMBER]..
+ *         ADDRESS PORT [ADDRESS PORT]..
  *
  * ADDRESS is an IPv4 or IPv6 address of this machine. 0.0.0.0 stands for all its IPv4 addresses,
  * and :: for all of both families. -h explains the options. A server that is started with open
@@ -10,53 +11,28 @@
  *
  * Each address has as many processes over UDP as -j says, and all TCP connections have one. A
  * process over them replaces one that dies or hangs. Whatever a client sends or doesn't read, the
- * others are served. Nothing is allocated after the start.
+ * others are served. The workers allocate nothing.
  *
- * Standard output says where it listens. Standard error has a line for each event, and one with the
- * counts at SIGHUP, at SIGUSR1 and at the end, which SIGTERM and SIGINT bring.
+ * Standard output says where it listens. Standard error has a line for each event, and one with
+ * the counts at SIGHUP, at SIGUSR1 and at the end, which SIGTERM and SIGINT bring. At SIGHUP the
+ * file of settings is read again.
  *
- * The status is 0 if it ran, 1 if it couldn't begin, and 2 if the arguments are wrong. */
+ * The status is 0 if it ran, 1 if it couldn't begin or gave up, and 2 if the arguments are wrong. */
 #include "server.h"
 
-server_options options = {
-    .processes = 1,
-    .max_connections = 1024,
-    .idle_timeout = 30,
-    .request_timeout = 5,
-    .max_age = 600,
-    .hang_timeout = 10,
-    .rate = 0,
-    .software = 1,
-    .sandbox = 1,
-};
+#include <fcntl.h>
 
-/* The options that -o sets. */
-static const struct {
-    const char *name;
-    uint32_t *value, least, most;
-    const char *meaning;
-} settings[] = {
-    {"max-connections", &options.max_connections, 1, MOST_CONNECTIONS, "TCP connections at once"},
-    {"idle-timeout", &options.idle_timeout, 1, 86400, "seconds from one whole message to the next"},
-    {"request-timeout", &options.request_timeout, 1, 86400, "seconds from a message's first byte"
-                                                            " to its last"},
-    {"max-age", &options.max_age, 1, 864000, "seconds that a connection may last"},
-    {"hang-timeout", &options.hang_timeout, 2, 86400, "seconds until a hung process is replaced"},
-    {"rate", &options.rate, 0, 1000000, "answers a second over UDP to one /24 of IPv4 or /56 of"
-                                        " IPv6; 0: any"},
-    {"software", &options.software, 0, 1, "1: replies have a SOFTWARE"},
-    {"sandbox", &options.sandbox, 0, 1, "1: processes are confined by seccomp and Landlock"},
-};
+server_options options = {.processes = 1};
 
 bool cannot(const char *what) {
-    fprintf(stderr, "server: %s: %s\n", what, strerror(errno));
+    fprintf(stderr, "stun-server: %s: %s\n", what, strerror(errno));
     return false;
 }
 
 static int print_usage(FILE *to) {
-    fprintf(to, "usage: server [-t] [-j PROCESSES] [-U USER] [-o NAME=NUMBER].. ADDRESS PORT "
-                "[ADDRESS PORT]..\n"
-                "       server -h | -V\n");
+    fprintf(to, "usage: stun-server [-t] [-j PROCESSES] [-U USER] [-m PATH|PORT] [-c FILE] "
+                "[-o NAME=NUMBER].. ADDRESS PORT [ADDRESS PORT]..\n"
+                "       stun-server -h | -V\n");
     return to == stdout ? 0 : 2;
 }
 
@@ -68,39 +44,29 @@ static int print_help(void) {
            "-t                 serve TCP too\n"
            "-j PROCESSES       1 to %d for each address over UDP; 1 unless it is given\n"
            "-U USER            run with this user's rights once the sockets are open\n"
+           "-m PATH or PORT    say the counts by this UNIX socket or port of 127.0.0.1, over HTTP\n"
+           "-c FILE            read settings from lines NAME NUMBER, and again at SIGHUP\n"
            "-o NAME=NUMBER     set one of these (least to most, default):\n",
            MOST_WORKERS);
-    for (size_t i = 0; i < sizeof settings / sizeof *settings; i++) {
-        printf("   %-16s%s (%u to %u, %u)\n", settings[i].name, settings[i].meaning,
-               (unsigned)settings[i].least, (unsigned)settings[i].most,
-               (unsigned)*settings[i].value);
-    }
+    print_settings();
     return fflush(stdout) == 0 ? 0 : 1;
 }
 
 static int print_version(void) {
 #ifdef STUN_TYPES_VERSION_TEXT
-    printf("server of stun_types %s\n", STUN_TYPES_VERSION_TEXT);
+    printf("stun-server of stun_types %s\n", STUN_TYPES_VERSION_TEXT);
 #else
-    printf("server of stun_types\n");
+    printf("stun-server of stun_types\n");
 #endif
     return fflush(stdout) == 0 ? 0 : 1;
 }
 
 /* ---- Arguments ------------------------------------------------------------------------------- */
 
-/* Reads NAME=NUMBER. */
-static bool read_setting(const char *text) {
-    const char *equals = strchr(text, '=');
-    if (equals == NULL) return false;
-    size_t length = (size_t)(equals - text);
-    for (size_t i = 0; i < sizeof settings / sizeof *settings; i++) {
-        if (strlen(settings[i].name) != length || memcmp(text, settings[i].name, length) != 0) {
-            continue;
-        }
-        return read_number(equals + 1, settings[i].least, settings[i].most, settings[i].value);
-    }
-    return false;
+/* Whether a text is what reports are asked for by: a path, with a slash in it, or a port. */
+static bool is_place(const char *text) {
+    uint32_t port;
+    return strchr(text, '/') != NULL || read_number(text, 1, 65535, &port);
 }
 
 static bool read_option(int option, const char *value) {
@@ -109,6 +75,8 @@ static bool read_option(int option, const char *value) {
     case 'j': return read_number(value, 1, MOST_WORKERS, &options.processes);
     case 'U': return *(options.user = value) != 0;
     case 'o': return read_setting(value);
+    case 'c': return *(options.file = value) != 0;
+    case 'm': return is_place(options.reports = value);
     default: return false;
     }
 }
@@ -145,22 +113,35 @@ static bool open_all(endpoints *opened, const socket_address *addresses, size_t 
 static int run(const socket_address *addresses, size_t count, uint32_t passed) {
     static endpoints opened;
     sigset_t signals = awaited_signals();
-    rate_table *rates = NULL;
+    rate_table *rates;
+    int reports = -1;
     sigprocmask(SIG_BLOCK, &signals, NULL);
     signal(SIGPIPE, SIG_IGN);
     signal(SIGCHLD, SIG_DFL); /* (ignored, as it may be inherited, it hides dead workers) */
+    if (options.file != NULL && !read_settings(options.file)) return 1;
     if (!open_all(&opened, addresses, count, passed)) return 1;
-    if (options.rate > 0 && (rates = make_rate_table()) == NULL) return 1;
+    if (options.reports != NULL && (reports = open_reports(options.reports)) < 0) return 1;
+    if ((rates = make_rate_table()) == NULL) return 1;
     if (options.user != NULL && !become_user(options.user)) return 1;
-    return supervise(&opened, rates) ? 0 : 1;
+    return supervise(&opened, rates, reports) ? 0 : 1;
+}
+
+/* Opens what isn't open of standard input, output and error: no socket is to have their numbers. */
+static void open_standard(void) {
+    int opened;
+    do opened = open("/dev/null", O_RDWR);
+    while (opened >= 0 && opened <= STDERR_FILENO);
+    if (opened >= 0) close(opened);
 }
 
 int main(int count, char **arguments) {
     static socket_address addresses[MOST_WORKERS];
     static char line[1024];
     int option;
+    open_standard();
     setvbuf(stderr, line, _IOLBF, sizeof line); /* each line is written at once */
-    while ((option = getopt(count, arguments, "+:tj:U:o:hV")) != -1) {
+    if (!make_settings()) return 1;
+    while ((option = getopt(count, arguments, "+:tj:U:o:c:m:hV")) != -1) {
         if (option == 'h') return print_help();
         if (option == 'V') return print_version();
         if (!read_option(option, optarg)) return print_usage(stderr);

@@ -38,7 +38,7 @@ bool become_user(const char *name) {
     errno = 0;
     const struct passwd *user = getpwnam(name);
     if (user == NULL || user->pw_uid == 0 || user->pw_gid == 0) {
-        fprintf(stderr, "server: -U %s: %s\n", name,
+        fprintf(stderr, "stun-server: -U %s: %s\n", name,
                 user != NULL ? "that is root" : errno != 0 ? strerror(errno) : "no such user");
         return false;
     }
@@ -46,6 +46,6 @@ bool become_user(const char *name) {
     gid_t gid = user->pw_gid;
     if (!change_to(uid, gid)) return cannot("-U");
     if (is_user(uid, gid)) return true;
-    fprintf(stderr, "server: -U %s: rights are left\n", name);
+    fprintf(stderr, "stun-server: -U %s: rights are left\n", name);
     return false;
 }

@@ -1,0 +1,173 @@
+"""Checks of what c/release makes, for c/run_installed: it is made twice, installed and removed, and
+used with a PATH that has no `rt`, from C, C++, Python, Go and Rust."""
+import os
+import pathlib
+import re
+import shlex
+import shutil
+import sys
+
+from checks import C99, HERE, STRICT, TOP, skipped, stop
+from installation import (checked, compare, expected, installed, language, names_of, pc_flags, said_by,
+                          tree, version)
+
+
+def without_kit():
+    """A PATH in which there is no `rt`."""
+    folders = os.environ.get("PATH", os.defpath).split(os.pathsep)
+    path = os.pathsep.join(it for it in folders if it and not (pathlib.Path(it) / "rt").exists())
+    if shutil.which("rt", path=path):
+        stop("every PATH has rt")
+    return path
+
+
+def check_release(compiler, given, folder):
+    """A release, made twice, and then unpacked and used."""
+    name = f"stun_types-{version()[0]}-x86_64-linux-gnu"
+    with checked("c/release, twice the same bytes") as wrong:
+        wrong += release_twice(name, given, folder)
+    clean = folder / "clean"
+    clean.mkdir()
+    with checked("what a release holds") as wrong:
+        said_by(["tar", "-xzf", folder / "first" / f"{name}.tar.gz", "-C", clean])
+        check_content(wrong, clean / name, given[1].parent.parent)
+    if (clean / name).is_dir():
+        use_release(compiler, clean / name, clean)
+        check_lines(clean / name, clean)
+        check_removal(name, folder)
+
+
+def release_twice(name, given, folder):
+    """Makes a release into `first`, and one under other circumstances: how they differ."""
+    others, wrong = folder / "other names", []
+    others.mkdir()
+    said_by([HERE / "release", folder / "first", *given])
+    # (the archive elsewhere and newer, another time zone, mask, language and temporary folder)
+    moved = shutil.copy(given[0], others / "moved.a")
+    variables = {"TZ": "Asia/Tokyo", "LC_ALL": "C.UTF-8", "TMPDIR": str(others)}
+    again = {**os.environ, **variables, "PREFIX": "/x", "DESTDIR": "/y", "LIBDIR": "z"}
+    said_by([HERE / "release", folder / "again", moved, given[1]], env=again, umask=0o077)
+    first, second = tree(folder / "first"), tree(folder / "again")
+    compare(wrong, first, [f"{name}.tar.gz", f"{name}.tar.gz.sha256"])
+    wrong += [f"{it} differs" for it in first if first[it] != second.get(it)]
+    said_by(["sha256sum", "-c", f"{name}.tar.gz.sha256"], cwd=folder / "first")
+    return wrong
+
+
+def check_content(wrong, root, kit):
+    """The files of an unpacked release, their checksums, and what its text names."""
+    documents = root / "share/doc/stun_types"
+    examples = [f"examples/{it.name}" for it in sorted((HERE / "examples").glob("messages.*"))]
+    more = ["RELEASE.txt", "SHA256SUMS", "uninstall", *examples]
+    more = [f"share/doc/stun_types/{it}" for it in more]
+    compare(wrong, tree(root), [*installed(), *more])
+    sums = (documents / "SHA256SUMS").read_text().splitlines()
+    said_by(["sha256sum", "-c", "share/doc/stun_types/SHA256SUMS"], cwd=root)
+    files = {path for path in tree(root) if not (root / path).is_symlink()}
+    compare(wrong, [line[66:] for line in sums], files - {"share/doc/stun_types/SHA256SUMS"})
+    text = (documents / "RELEASE.txt").read_text()
+    git = ["git", "-c", "safe.directory=*", "-C", TOP]
+    in_git = (TOP / ".git").exists() and shutil.which("git")
+    commit = said_by([*git, "rev-parse", "HEAD"]).strip() if in_git else "no git repository"
+    said = said_by(["readelf", "-p", ".comment", root / "lib/libstun_types.so"])
+    logic = re.findall(r"rattle logic=(\w+)", said) or ["a logic"]
+    needed = sorted(names_of(root / "lib/libstun_types.a")[1])
+    for it in (version()[0], (kit / "KIT-ID").read_text().strip(), *logic, commit, *needed):
+        if not re.search(rf"(?<!\w){re.escape(it)}(?!\w)", text):
+            wrong.append(f"RELEASE.txt doesn't name {it}")
+    wrong += [f"RELEASE.txt has {it}" for it in re.findall(r"@\w*@", text)]
+
+
+# Responses of RFC 5769, sections 2.2 and 2.3: that of the examples, and one with an address of IPv6.
+FOUR = "0101000c2112a442b7e7a701bc34d686fa87dfae002000080001a147e112a643"
+SIX = ("010100182112a442b7e7a701bc34d686fa87dfae002000140002a147"
+       "0113a9faa5d3f179bc25f4b5bed2b9d9")
+SIX_PRINTED = "[2001:db8:1234:5678:11:2233:4455:6677]:32853"
+
+
+def with_six(folder, path):
+    """A copy of an example in which the response has an address of IPv6."""
+    text, before = path.read_text(), r"(0x|\\x|)"
+    pairs = [FOUR[at : at + 2] for at in range(0, len(FOUR), 2)]
+    found = re.search(before + r"[^0-9a-f]*?(?:0x|\\x|)".join(pairs), text)
+    octets = [found[1] + SIX[at : at + 2] for at in range(0, len(SIX), 2)]
+    joined = (", " if found[1] == "0x" else "").join(octets)
+    changed = folder / "of six" / path.name
+    changed.parent.mkdir(exist_ok=True)
+    changed.write_text(text[: found.start()] + joined + text[found.end() :])
+    return changed
+
+
+def check_removal(name, folder):
+    """What RELEASE.txt says of installing a release and removing it leaves nothing."""
+    with checked("a release, installed and removed") as wrong:
+        text = (folder / "clean" / name / "share/doc/stun_types/RELEASE.txt").read_text()
+        for prefix in (folder / "plain", folder / "with spaces"):
+            prefix.mkdir()
+            lines = re.findall(r"^    (.*/usr/local.*) && ldconfig$", text, re.M)
+            for line in lines:
+                quoted = line.replace("/usr/local", shlex.quote(str(prefix)))
+                said_by(["sh", "-c", quoted], cwd=folder / "first")
+                if line is lines[0] and not (prefix / "include/stun_types.h").is_file():
+                    wrong.append("it isn't installed")
+            wrong += [f"{it} is left" for it in tree(prefix)]
+            if len(lines) != 2:
+                wrong.append(f"RELEASE.txt has {lines}")
+
+
+def check_lines(root, folder):
+    """The lines of RELEASE.txt for C compile and run in a folder whose path has a space."""
+    with checked("the lines of RELEASE.txt, in a path with a space") as wrong:
+        moved = folder / "a space"
+        shutil.copytree(root, moved, symlinks=True)
+        shutil.copy(root / "share/doc/stun_types/examples/messages.c", moved / "app.c")
+        text = (root / "share/doc/stun_types/RELEASE.txt").read_text()
+        export = re.search(r"^    (export .*)$", text, re.M)[1]
+        for line in re.findall(r"^    ((?:eval )?cc app.c .*)$", text, re.M):
+            if "pkg-config" in line and not shutil.which("pkg-config"):
+                continue
+            if said_by(["sh", "-c", f"{export}\n{line} && ./a.out"], cwd=moved) != expected():
+                wrong.append(f"{line} makes something else")
+
+
+def use_release(compiler, root, folder):
+    """Compiles and runs the examples of an unpacked release, as if there were no kit."""
+    path = without_kit()
+    source = root / "share/doc/stun_types/examples"
+    environment = {**os.environ, "PATH": path, "LD_LIBRARY_PATH": str(root / "lib")}
+    environment["PKG_CONFIG_PATH"] = str(root / "lib/pkgconfig")
+    flags = pc_flags(root)
+    cc = shutil.which(compiler[0], path=path)
+    cxx = next((it for it in ("c++", "g++", "clang++") if shutil.which(it, path=path)), None)
+    rustc = language("rustc", path, "--version")
+    go = language("go", path, "version") if shutil.which("pkg-config", path=path) else None
+    archive = [f"-I{root}/include", root / "lib/libstun_types.a"]
+    c99 = [cc, *compiler[1:], *C99]
+    ways = [
+        ("C, shared", cc, c99, [source / "messages.c", *flags]),
+        ("C, static", cc, c99, [source / "messages.c", *archive]),
+        ("C++", cxx, [cxx, "-std=c++11", *STRICT], [source / "messages.cc", *flags]),
+        ("Go", go, [go, "build"], [source / "messages.go"]),
+        ("Rust", rustc, [rustc, "--edition", "2021"], [source / "messages.rs", "-L", root / "lib"]),
+    ]
+    for name, tool, builds, given in ways:
+        if not tool:
+            skipped(f"a release from {name}", f"{name} isn't on this machine")
+            continue
+        with checked(f"a release from {name}") as wrong:
+            made = folder / f"messages from {name}"
+            said_by([*builds, "-o", made, *given], cwd=folder, env=environment)
+            needs = {**environment, "LD_LIBRARY_PATH": ""} if name == "C, static" else environment
+            if said_by([made], env=needs, cwd=folder) != expected():
+                wrong.append("it prints something else")
+        with checked(f"a release from {name}, an address of IPv6") as wrong:
+            of_six = with_six(folder, next(it for it in given if pathlib.Path(it).parent == source))
+            said_by([*builds, "-o", made, of_six, *given[1:]], cwd=folder, env=environment)
+            if said_by([made], env=needs, cwd=folder).splitlines()[0] != SIX_PRINTED:
+                wrong.append("it prints something else")
+    with checked("a release from Python") as wrong:
+        of_six = with_six(folder, source / "messages.py")
+        said = said_by([sys.executable, source / "messages.py"], env=environment, cwd=folder)
+        six = said_by([sys.executable, of_six], env=environment, cwd=folder)
+        if said != expected() or six.splitlines()[0] != SIX_PRINTED:
+            wrong.append("it prints something else")

@@ -1,0 +1,113 @@
+/* Tries what the sandbox of the server forbids, and what it allows. c/server/run runs it.
+ *
+ *     cc -std=c11 -I c c/server/trials/sandbox.c c/server/sandbox.c -o sandbox
+ *     ./sandbox
+ *
+ * The first line has the version of Landlock, 0 for none, and whether system calls can be filtered.
+ * Then each attempt has a line for a process without a sandbox, for one with Landlock, and for one
+ * with both as a worker over UDP has them, and over TCP: the error that it met, 0 for none, or -31
+ * if SIGSYS ended the process. */
+#include "../server.h"
+
+#include <fcntl.h>
+#include <sys/wait.h>
+
+enum { OWN = 77 }; /* the number of a socket, which isn't open */
+
+static int open_file(void) { return open("/etc/passwd", O_RDONLY | O_CLOEXEC); }
+
+static int make_file(void) { return open("/tmp", O_TMPFILE | O_RDWR | O_CLOEXEC, 0600); }
+
+static int make_socket(void) { return socket(AF_INET, SOCK_DGRAM | SOCK_CLOEXEC, 0); }
+
+static int start_process(void) {
+    pid_t started = fork();
+    if (started == 0) _exit(0);
+    return started;
+}
+
+static int start_program(void) { return execl("/bin/sh", "sh", "-c", ":", (char *)NULL); }
+
+static int signal_parent(void) { return kill(getppid(), 0); }
+
+/* Sends nothing on a socket that isn't there, which is an error, unless it may not be tried. */
+static int send_by(int number) {
+    struct mmsghdr none = {.msg_len = 0};
+    return sendmmsg(number, &none, 1, 0) == -1 && errno == EBADF ? 0 : -1;
+}
+
+static int send_by_own(void) { return send_by(OWN); }
+
+static int send_by_other(void) { return send_by(OWN + 1); }
+
+static int send_back(void) {
+    return send(OWN, "", 1, MSG_NOSIGNAL) == -1 && errno == EBADF ? 0 : -1;
+}
+
+static int send_to(void) {
+    struct sockaddr_in to = {.sin_family = AF_INET};
+    return sendto(OWN, "", 1, MSG_FASTOPEN, (const struct sockaddr *)&to, sizeof to) == -1 &&
+                   errno == EBADF
+               ? 0
+               : -1;
+}
+
+static int end_listener(void) {
+    return shutdown(OWN, SHUT_RD) == -1 && errno == EBADF ? 0 : -1;
+}
+
+static int reuse_address(void) {
+    int on = 1;
+    return setsockopt(OWN, SOL_SOCKET, SO_REUSEADDR, &on, sizeof on) == -1 && errno == EBADF ? 0
+                                                                                            : -1;
+}
+
+static int close_none(void) { return close(-1) == -1 && errno == EBADF ? 0 : -1; }
+
+/* The last are what a worker does: over UDP, over TCP, and either. */
+static const struct {
+    const char *name;
+    int (*try)(void);
+} attempts[] = {
+    {"open-file", open_file},         {"make-file", make_file},
+    {"make-socket", make_socket},     {"start-process", start_process},
+    {"start-program", start_program}, {"signal-parent", signal_parent},
+    {"send-by-other", send_by_other}, {"send-to", send_to},
+    {"end-listener", end_listener},   {"reuse-address", reuse_address},
+    {"send-by-own", send_by_own},     {"send-back", send_back},
+    {"close", close_none},
+};
+
+enum { NO_SANDBOX, LANDLOCK, UDP, TCP };
+
+/* Makes an attempt in a process of its own. Returns its error, or below 0 the signal that ended
+ * that. */
+static int outcome(int sandbox, int (*try)(void)) {
+    int status = 0;
+    pid_t child = fork();
+    if (child == 0) {
+        if (sandbox >= LANDLOCK) close_off_system(NULL);
+        if (sandbox >= UDP) filter_calls(sandbox == UDP ? OWN : -1);
+        _exit(try() >= 0 ? 0 : errno);
+    }
+    waitpid(child, &status, 0);
+    return WIFSIGNALED(status) ? -WTERMSIG(status) : WEXITSTATUS(status);
+}
+
+int main(void) {
+    static const char *const sandboxes[] = {"none", "landlock", "udp", "tcp"};
+    int version = 0;
+    pid_t child = fork();
+    if (child == 0) _exit(close_off_system(NULL));
+    waitpid(child, &version, 0);
+    printf("landlock %d filter %d\n", WEXITSTATUS(version), can_filter());
+    fflush(stdout);
+    for (int sandbox = NO_SANDBOX; sandbox <= TCP; sandbox++) {
+        for (size_t i = 0; i < sizeof attempts / sizeof *attempts; i++) {
+            printf("%s %s %d\n", sandboxes[sandbox], attempts[i].name,
+                   outcome(sandbox, attempts[i].try));
+            fflush(stdout);
+        }
+    }
+    return 0;
+}

@@ -1,0 +1,108 @@
+"""What c/examples/run and c/server/run share: steps, which pass, fail or are skipped, and what they are
+run over."""
+import contextlib
+import pathlib
+import shutil
+import subprocess
+import tempfile
+import time
+
+HERE = pathlib.Path(__file__).resolve().parent
+TOP = HERE.parent
+ARCHIVE = TOP / "crates/stun_types_c/out/libstun_types_c.a"
+REQUEST = bytes.fromhex("000100002112A442")  # and a transaction ID
+PATIENCE = 20  # seconds, for what takes a moment on an idle machine
+
+passed = failed = 0
+wanted = ""  # trials without this in their names aren't run
+
+
+class Wrong(Exception):
+    """What isn't as it should be."""
+
+
+class Skipped(Exception):
+    """Why a step isn't tried on this machine."""
+
+
+def skip(name, why):
+    print(f"{name}: skipped, {why}", flush=True)
+
+
+def check(holds, told):
+    if not holds:
+        raise Wrong(told)
+
+
+@contextlib.contextmanager
+def step(name):
+    """A step: it passes if nothing is wrong in it. If it is skipped, it counts as neither."""
+    global passed, failed
+    began = time.monotonic()
+    try:
+        yield
+    except Skipped as why:
+        skip(name, why)
+    except (Wrong, OSError, ValueError, KeyError, subprocess.SubprocessError) as error:
+        failed += 1
+        print(f"{name}: {type(error).__name__}: {error}", flush=True)
+    else:
+        passed += 1
+        print(f"{name}: right, {time.monotonic() - began:.1f} s", flush=True)
+
+
+def trial(name, function, *given):
+    """A step that is one function, if its name is wanted."""
+    if wanted in name:
+        with step(name):
+            function(*given)
+
+
+def run(command, seconds=10, **how):
+    """Status, standard output and standard error of a command."""
+    ran = subprocess.run(command, capture_output=True, text=True, timeout=seconds,
+                         stdin=subprocess.DEVNULL, errors="replace", **how)
+    return ran.returncode, ran.stdout, ran.stderr
+
+
+def wait_until(holds, what):
+    """Waits until something holds, and returns what it is."""
+    end = time.monotonic() + PATIENCE
+    while not (found := holds()):
+        check(time.monotonic() < end, f"after {PATIENCE} s: {what}")
+        time.sleep(0.02)
+    return found
+
+
+def build(compiler, *words):
+    """Compiles sources, if the compiler has no complaint."""
+    command = [compiler, "-O2", "-I", HERE, *words]
+    status, out, told = run(list(map(str, command)), 60)
+    check(status == 0, (out + told)[:2000])
+
+
+# ---- A run
+
+
+def kit_library():
+    """The kit's library for programs in C."""
+    told = subprocess.run(["rt", "doc"], capture_output=True, text=True, timeout=20, check=True)
+    return pathlib.Path(told.stdout.strip()).parent / "c/liblibc_c.a"
+
+
+def run_over(given, folder_name, run_all):
+    """Runs `run_all(compiler, folder, archives)` over the archives that the arguments name, or those of
+    this tree and of `rt`. Returns the status of the script."""
+    given = [pathlib.Path(word).resolve() for word in given]
+    archives = [given[0] if given else ARCHIVE, given[1] if len(given) > 1 else kit_library()]
+    compiler = shutil.which("gcc") or shutil.which("cc")
+    missing = [] if compiler else ["no C compiler (gcc or cc) was found: nothing was built or run"]
+    missing += [f"there is no library {it}" for it in archives if not it.is_file()]
+    if missing:
+        print("\n".join(missing) + "\n0 passed, 1 failed")
+        return 1
+    began = time.monotonic()
+    with tempfile.TemporaryDirectory(prefix=folder_name) as name:
+        run_all(compiler, pathlib.Path(name), archives)
+    print(f"{time.monotonic() - began:.0f} s\n{passed} passed, {failed} failed")
+    return 1 if failed or not passed else 0
