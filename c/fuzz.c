@@ -31,9 +31,9 @@ static void check_any(source *from) {
 }
 
 static void (*const subjects[])(source *from)
-    = {check_any,    check_changed,      check_changed, check_changed, check_writing,     check_writing,
-       check_stream, check_channel_data, check_numbers, check_keys,    check_credentials, check_challenges,
-       check_nonces, check_transactions};
+    = {check_any,         check_changed,    check_changed,      check_changed,     check_writing,
+       check_writing,     check_stream,     check_channel_data, check_numbers,     check_keys,
+       check_credentials, check_challenges, check_nonces,       check_transactions};
 
 int LLVMFuzzerTestOneInput(const uint8_t *data, size_t size) {
     source from;

@@ -18,7 +18,8 @@ static model_text take_user(source *from) {
 /* The key for a challenge: by the algorithm, and in the realm, that it asks for. If there is none, the
    key stays. */
 static void check_key_for(stun_types_key *key, model_key *expected, const uint8_t *response,
-                          size_t length, number_list supported, model_text user, model_text password) {
+                          size_t length, number_list supported, model_text user,
+                          model_text password) {
     const model_knowledge knowledge = {supported.all, supported.count, false, false, {NULL, 0}};
     stun_types_challenge asked;
     uint8_t bytes[MODEL_KEY];
@@ -26,11 +27,13 @@ static void check_key_for(stun_types_key *key, model_key *expected, const uint8_
     stun_types_integrity algorithm;
     stun_types_answer fault = model_challenge(response, length, &knowledge, &asked);
     if (fault.code == STUN_TYPES_OK) {
-        const model_text texts[] = {user, {response + asked.realm_at, asked.realm_length}, password};
+        const model_text texts[]
+            = {user, {response + asked.realm_at, asked.realm_length}, password};
         fault = model_long_term_key(texts, asked.password_algorithm, expected);
     }
-    HOLDS(is_same(stun_types_key_for(key, response, length, supported.all, supported.count, user.bytes,
-                                     user.length, password.bytes, password.length), fault));
+    HOLDS(is_same(stun_types_key_for(key, response, length, supported.all, supported.count,
+                                     user.bytes, user.length, password.bytes, password.length),
+                  fault));
     HOLDS(stun_types_key_bytes(key, bytes, sizeof bytes, &written, &algorithm).code
           == (expected->is_there ? (uint32_t)STUN_TYPES_OK : (uint32_t)STUN_TYPES_NO_KEY));
     if (!expected->is_there) return;
@@ -89,10 +92,12 @@ static void check_exchange(source *from) {
     number_list supported = take_numbers(from, true), algorithms = take_numbers(from, true);
     bool is_wrong = how / 16 % 8 == 7 && password.length != 1, is_fingered = how >= 128;
     uint64_t now = take_four(from);
-    uint8_t nonce[STUN_TYPES_NONCE_LENGTH], *asks = place(600), *request = place(900), *reply = place(300);
+    uint8_t nonce[STUN_TYPES_NONCE_LENGTH], *asks = place(600), *request = place(900),
+                                            *reply = place(300);
     size_t nonce_length = 0, asks_length = 0, length = 0, written = 0, place_of = 99;
     stun_types_id id;
-    stun_types_key client_key = stun_types_key_none(), keys[2] = {STUN_TYPES_NO_KEY_YET, STUN_TYPES_NO_KEY_YET};
+    stun_types_key client_key = stun_types_key_none(),
+                   keys[2] = {STUN_TYPES_NO_KEY_YET, STUN_TYPES_NO_KEY_YET};
     stun_types_nonce_state state = STUN_TYPES_NONCE_UNKNOWN;
     stun_types_authentication *decided = NEW(stun_types_authentication);
     stun_types_transaction transactions[2];
@@ -104,33 +109,38 @@ static void check_exchange(source *from) {
     start(&first, 0x0003, id.bytes);
     if ((features & 1) == 0) algorithms.count = 0;
     if (stun_types_make_nonce(&pairs[SECRET].key, features, 600, now, client, nonce, sizeof nonce,
-                              &nonce_length).code != STUN_TYPES_OK
+                              &nonce_length)
+                .code
+            != STUN_TYPES_OK
         || stun_types_refuse_long_term(first.bytes, first.length, (stun_types_code)401, realm,
                                        strlen(realm), nonce, nonce_length, algorithms.all,
-                                       algorithms.count, asks, 600, &asks_length).code != STUN_TYPES_OK
+                                       algorithms.count, asks, 600, &asks_length)
+                   .code
+               != STUN_TYPES_OK
         || stun_types_key_for(&client_key, asks, asks_length, supported.all, supported.count,
-                              user.bytes, user.length, password.bytes, password.length).code
+                              user.bytes, user.length, password.bytes, password.length)
+                   .code
                != STUN_TYPES_OK)
         return;
     id.bytes[0] ^= 1;
     SUCCEEDS(stun_types_begin(request, 900, 0x0003, &id, &length));
     SUCCEEDS(stun_types_answer_challenge(request, 900, &length, asks, asks_length, supported.all,
-                                      supported.count, user.bytes, user.length, &client_key,
-                                      is_fingered));
+                                         supported.count, user.bytes, user.length, &client_key,
+                                         is_fingered));
     memset(transactions, 0, sizeof transactions);
-    SUCCEEDS(stun_types_transaction_begin(&transactions[1], request, length, &schedule, STUN_TYPES_UDP,
-                                       STUN_TYPES_LONG_TERM, &client_key, 5));
+    SUCCEEDS(stun_types_transaction_begin(&transactions[1], request, length, &schedule,
+                                          STUN_TYPES_UDP, STUN_TYPES_LONG_TERM, &client_key, 5));
     SUCCEEDS(stun_types_transaction_poll(&transactions[1], 5, &action));
     /* the server, which keeps the keys of the user */
     SUCCEEDS(stun_types_key_long_term(&keys[0], user.bytes, user.length, realm, strlen(realm),
-                                   is_wrong ? "\x7F" : (const char *)password.bytes,
-                                   is_wrong ? 1 : password.length, STUN_TYPES_PASSWORD_MD5));
+                                      is_wrong ? "\x7F" : (const char *)password.bytes,
+                                      is_wrong ? 1 : password.length, STUN_TYPES_PASSWORD_MD5));
     SUCCEEDS(stun_types_key_long_term(&keys[1], user.bytes, user.length, realm, strlen(realm),
-                                   is_wrong ? "\x7F" : (const char *)password.bytes,
-                                   is_wrong ? 1 : password.length, STUN_TYPES_PASSWORD_SHA256));
+                                      is_wrong ? "\x7F" : (const char *)password.bytes,
+                                      is_wrong ? 1 : password.length, STUN_TYPES_PASSWORD_SHA256));
     HOLDS(stun_types_find(request, length, 0x0015, &found));
     SUCCEEDS(stun_types_judge_nonce(&pairs[SECRET].key, features, 600, now + how, client,
-                                 request + found.value_at, found.length, &state));
+                                    request + found.value_at, found.length, &state));
     HOLDS(state == STUN_TYPES_NONCE_VALID);
     answer = stun_types_authenticate_long_term(request, length, &strict, state, algorithms.all,
                                                algorithms.count, &keys[0], &keys[1], decided);
@@ -142,11 +152,14 @@ static void check_exchange(source *from) {
         HOLDS(decided->kind == STUN_TYPES_ACCEPTED);
         HOLDS(decided->reply_algorithm
               == (algorithms.count > 0 ? STUN_TYPES_INTEGRITY_SHA256 : STUN_TYPES_INTEGRITY_SHA1));
-        SUCCEEDS(stun_types_begin_reply(reply, 300, request, length, STUN_TYPES_CLASS_SUCCESS, &written));
-        SUCCEEDS(stun_types_finish_reply(reply, 300, &written, decided, &keys[0], &keys[1], is_fingered));
-        HOLDS(stun_types_transactions_find(transactions, 2, reply, written, &place_of) && place_of == 1);
-        SUCCEEDS(stun_types_transaction_receive(&transactions[1], &client_key, reply, written, NULL, 0,
-                                             received));
+        SUCCEEDS(stun_types_begin_reply(reply, 300, request, length, STUN_TYPES_CLASS_SUCCESS,
+                                        &written));
+        SUCCEEDS(stun_types_finish_reply(reply, 300, &written, decided, &keys[0], &keys[1],
+                                         is_fingered));
+        HOLDS(stun_types_transactions_find(transactions, 2, reply, written, &place_of)
+              && place_of == 1);
+        SUCCEEDS(stun_types_transaction_receive(&transactions[1], &client_key, reply, written, NULL,
+                                                0, received));
         HOLDS(received->kind == STUN_TYPES_TAKEN_SUCCESS
               && received->algorithm == decided->reply_algorithm);
     }

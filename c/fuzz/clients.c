@@ -16,16 +16,19 @@ static void check_response(const uint8_t *bytes, size_t length, const model_list
     unsigned type;
     bool is_unknown = false, is_response;
     start(&request, 0x0001, length >= 20 ? bytes + 8 : no_id);
-    SUCCEEDS(stun_types_transaction_begin(&transaction, request.bytes, 20, &schedule, STUN_TYPES_UDP,
-                                       STUN_TYPES_UNPROTECTED, &pairs[PASSWORD].key, 7));
+    SUCCEEDS(stun_types_transaction_begin(&transaction, request.bytes, 20, &schedule,
+                                          STUN_TYPES_UDP, STUN_TYPES_UNPROTECTED,
+                                          &pairs[PASSWORD].key, 7));
     SUCCEEDS(stun_types_transaction_poll(&transaction, 7, &action));
     HOLDS(action.kind == STUN_TYPES_SEND_NOW);
-    SUCCEEDS(stun_types_transaction_receive(&transaction, &pairs[PASSWORD].key, bytes, length, &none, 0, &told));
-    SUCCEEDS(stun_types_transaction_receive(&transaction, &pairs[PASSWORD].key, bytes, length, &none, 0, &again));
+    SUCCEEDS(stun_types_transaction_receive(&transaction, &pairs[PASSWORD].key, bytes, length,
+                                            &none, 0, &told));
+    SUCCEEDS(stun_types_transaction_receive(&transaction, &pairs[PASSWORD].key, bytes, length,
+                                            &none, 0, &again));
     HOLDS(again.kind == STUN_TYPES_NOT_FOR_THIS);
     type = length >= 2 ? model_number(bytes) : 0;
-    is_response =
-        model_parse(bytes, length).code == STUN_TYPES_OK && (type == 0x0101 || type == 0x0111);
+    is_response = model_parse(bytes, length).code == STUN_TYPES_OK
+                  && (type == 0x0101 || type == 0x0111);
     HOLDS((told.kind == STUN_TYPES_NOT_FOR_THIS) == !is_response);
     SUCCEEDS(stun_types_transaction_poll(&transaction, 8, &action));
     HOLDS((action.kind == STUN_TYPES_ENDED) == is_response);
@@ -54,12 +57,14 @@ static stun_types_answer answered(text *wanted, size_t size, const uint8_t *resp
                                   const model_key *key, bool is_fingered) {
     const model_text names[] = {user, {response + asked->realm_at, asked->realm_length}};
     const uint8_t choice[4] = {0, (uint8_t)asked->password_algorithm, 0, 0};
-    const unsigned types[] = {asked->anonymous != 0 ? 0x001E : 0x0006, 0x0014, 0x0015, 0x8002, 0x001D};
+    const unsigned types[]
+        = {asked->anonymous != 0 ? 0x001E : 0x0006, 0x0014, 0x0015, 0x8002, 0x001D};
     uint8_t hash[32];
     model_text values[5];
     size_t count = asked->algorithms_at == 0 ? 3 : 5, i;
     stun_types_answer fault = FINE;
-    if (!model_is_utf8(user.bytes, user.length)) return model_answer(STUN_TYPES_INVALID_DATA, 0, 0, 0);
+    if (!model_is_utf8(user.bytes, user.length))
+        return model_answer(STUN_TYPES_INVALID_DATA, 0, 0, 0);
     if (user.length > 513) return model_answer(STUN_TYPES_TOO_LARGE, 0, 513, user.length);
     if (!key->is_there) return model_answer(STUN_TYPES_NO_KEY, 0, 0, 0);
     if (!model_serves(key, asked->integrity_algorithm)) return BAD_ARGUMENT;

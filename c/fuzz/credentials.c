@@ -44,12 +44,13 @@ static void check_finishing(const text *request, const stun_types_authentication
     *written = wanted.length;
     answer = stun_types_finish_reply(room, size, written, authentication, &key->key,
                                      &sha256_key->key, is_fingered);
-    expected = finished(&wanted, size, authentication, &key->model, &sha256_key->model, is_fingered);
+    expected
+        = finished(&wanted, size, authentication, &key->model, &sha256_key->model, is_fingered);
     HOLDS(is_same(answer, expected) && *written == wanted.length);
     HOLDS(memcmp(room, wanted.bytes, *written) == 0 && is_filled(room + *written, size - *written));
     if (answer.code == STUN_TYPES_OK) {
-        const pair *used = authentication->password_algorithm == STUN_TYPES_PASSWORD_SHA256 ? sha256_key
-                                                                                            : key;
+        const pair *used
+            = authentication->password_algorithm == STUN_TYPES_PASSWORD_SHA256 ? sha256_key : key;
         stun_types_validated told;
         SUCCEEDS(stun_types_validate(room, *written, &used->key, &told));
         HOLDS(told.algorithm == authentication->reply_algorithm);
@@ -57,12 +58,16 @@ static void check_finishing(const text *request, const stun_types_authentication
 }
 
 static const stun_types_authentication *any_authentication(source *from) {
-    static const uint32_t algorithms[] = {STUN_TYPES_INTEGRITY_SHA1, STUN_TYPES_INTEGRITY_SHA256, 0, 1};
+    static const uint32_t algorithms[]
+        = {STUN_TYPES_INTEGRITY_SHA1, STUN_TYPES_INTEGRITY_SHA256, 0, 1};
     stun_types_authentication any;
     unsigned how = take(from);
     memset(&any, 0, sizeof any);
-    any.kind = (stun_types_authentication_kind)(how % 8 == 7 ? take_four(from) : how % 4 == 3 ? 2 : 1);
-    any.reply_algorithm = (stun_types_integrity)algorithms[how / 8 % 8 == 7 ? take(from) % 4 : how / 8 % 2];
+    any.kind = (stun_types_authentication_kind)(how % 8 == 7   ? take_four(from)
+                                                : how % 4 == 3 ? 2
+                                                               : 1);
+    any.reply_algorithm
+        = (stun_types_integrity)algorithms[how / 8 % 8 == 7 ? take(from) % 4 : how / 8 % 2];
     any.password_algorithm = (stun_types_password)(how / 64 == 3 ? take_four(from) : how / 64);
     any.algorithm = (stun_types_integrity)take(from);
     any.reserved = how % 32 == 31 ? take(from) : 0;
@@ -76,7 +81,9 @@ static void refused(text *wanted, const text *request, uint32_t code, const mode
                     number_list algorithms) {
     static model_list shown;
     uint8_t value[4 + 16], list[64];
-    const char *reason = code == 400 ? "Bad Request" : code == 401 ? "Unauthenticated" : "Stale Nonce";
+    const char *reason = code == 400   ? "Bad Request"
+                         : code == 401 ? "Unauthenticated"
+                                       : "Stale Nonce";
     start(wanted, model_number(request->bytes) | 0x0110, request->bytes + 8);
     value[0] = value[1] = 0;
     value[2] = 4;
@@ -95,7 +102,8 @@ static void refused(text *wanted, const text *request, uint32_t code, const mode
 
 /* Why a text is no REALM or NONCE. */
 static stun_types_answer text_fault(model_text one) {
-    if (!model_is_utf8(one.bytes, one.length)) return model_answer(STUN_TYPES_INVALID_DATA, 0, 0, 0);
+    if (!model_is_utf8(one.bytes, one.length))
+        return model_answer(STUN_TYPES_INVALID_DATA, 0, 0, 0);
     if (one.length > 763) return model_answer(STUN_TYPES_TOO_LARGE, 0, 763, one.length);
     return FINE;
 }
@@ -124,23 +132,26 @@ static stun_types_answer demand_fault(const model_text *carried, number_list alg
     return promises == (algorithms.count != 0) ? FINE : BAD_ARGUMENT;
 }
 
-static void check_refusing(const text *request, const uint8_t *bytes, uint32_t often, source *from) {
+static void check_refusing(const text *request, const uint8_t *bytes, uint32_t often,
+                           source *from) {
     static const uint32_t codes[] = {400, 401, 438};
     static text wanted;
     unsigned how = take(from);
     bool is_short = how % 4 == 0;
     uint32_t code = how / 4 % 4 == 0 ? often : how == 255 ? take_four(from) : codes[how / 16 % 3];
-    const model_text carried[] = {take_long_text(from, "realm"), take_long_text(from, "obMatJos2gAAAx")};
+    const model_text carried[]
+        = {take_long_text(from, "realm"), take_long_text(from, "obMatJos2gAAAx")};
     number_list algorithms = take_numbers(from, true);
     size_t size = how / 64 == 3 ? take(from) : 2000, *written = NEW(size_t);
     uint8_t *room = place(size);
     stun_types_answer fault = model_parse(request->bytes, request->length), answer;
-    answer = is_short ? stun_types_refuse_short_term(bytes, request->length, (stun_types_code)code,
-                                                     room, size, written)
-                      : stun_types_refuse_long_term(bytes, request->length, (stun_types_code)code,
-                                                    carried[0].bytes, carried[0].length,
-                                                    carried[1].bytes, carried[1].length,
-                                                    algorithms.all, algorithms.count, room, size, written);
+    answer = is_short
+                 ? stun_types_refuse_short_term(bytes, request->length, (stun_types_code)code, room,
+                                                size, written)
+                 : stun_types_refuse_long_term(bytes, request->length, (stun_types_code)code,
+                                               carried[0].bytes, carried[0].length,
+                                               carried[1].bytes, carried[1].length, algorithms.all,
+                                               algorithms.count, room, size, written);
     if (fault.code == STUN_TYPES_OK && (model_number(request->bytes) & 0x0110) != 0)
         fault = model_answer(STUN_TYPES_NOT_A_REQUEST, 0, 0, 0);
     if (fault.code == STUN_TYPES_OK && code != 400 && code != 401 && (is_short || code != 438))
@@ -148,7 +159,8 @@ static void check_refusing(const text *request, const uint8_t *bytes, uint32_t o
     if (fault.code == STUN_TYPES_OK && !is_short) fault = demand_fault(carried, algorithms);
     if (fault.code == STUN_TYPES_OK) {
         refused(&wanted, request, code, is_short ? NULL : carried, algorithms);
-        if (wanted.length > size) fault = model_answer(STUN_TYPES_TOO_SMALL, 0, wanted.length, size);
+        if (wanted.length > size)
+            fault = model_answer(STUN_TYPES_TOO_SMALL, 0, wanted.length, size);
     }
     HOLDS(is_same(answer, fault));
     if (fault.code != STUN_TYPES_OK) {
@@ -175,15 +187,15 @@ static void check_long_term(const text *request, const uint8_t *bytes, source *f
     login.sha256 = &sha256->model;
     again = NEW(stun_types_authentication);
     answer = model_long_term(request->bytes, request->length, policy, &login, &expected);
-    HOLDS(is_same(stun_types_authenticate_long_term(bytes, request->length, policy,
-                                                    (stun_types_nonce_state)login.nonce_state,
-                                                    algorithms.all, algorithms.count, &md5->key,
-                                                    &sha256->key, told), answer));
+    HOLDS(is_same(stun_types_authenticate_long_term(
+                      bytes, request->length, policy, (stun_types_nonce_state)login.nonce_state,
+                      algorithms.all, algorithms.count, &md5->key, &sha256->key, told),
+                  answer));
     HOLDS(memcmp(told, &expected, sizeof expected) == 0);
-    HOLDS(is_same(stun_types_authenticate_long_term(bytes, request->length, policy,
-                                                    (stun_types_nonce_state)login.nonce_state,
-                                                    algorithms.all, algorithms.count, &md5->key,
-                                                    &sha256->key, again), answer));
+    HOLDS(is_same(stun_types_authenticate_long_term(
+                      bytes, request->length, policy, (stun_types_nonce_state)login.nonce_state,
+                      algorithms.all, algorithms.count, &md5->key, &sha256->key, again),
+                  answer));
     HOLDS(memcmp(told, again, sizeof *told) == 0);
     check_finishing(request, told, md5, sha256, from);
     check_refusing(request, bytes, told->error_code, from);
@@ -193,8 +205,9 @@ static void check_short_term(const text *request, const uint8_t *bytes, source *
     const stun_types_policy *policy = take_policy(from);
     const pair *key = take_pair(from, PASSWORD);
     stun_types_authentication *told = NEW(stun_types_authentication), expected;
-    HOLDS(is_same(stun_types_authenticate_short_term(bytes, request->length, policy, &key->key, told),
-                  model_short_term(request->bytes, request->length, policy, &key->model, &expected)));
+    HOLDS(
+        is_same(stun_types_authenticate_short_term(bytes, request->length, policy, &key->key, told),
+                model_short_term(request->bytes, request->length, policy, &key->model, &expected)));
     HOLDS(memcmp(told, &expected, sizeof expected) == 0);
     check_finishing(request, told, key, &pairs[NO_KEY], from);
 }

@@ -96,7 +96,17 @@ typedef struct {
     model_key model;
 } pair;
 
-enum { NO_KEY, PASSWORD, PASSWORD_SHA1, PASSWORD_SHA256, LOGIN_MD5, LOGIN_SHA256, LONG_KEY, SECRET, PAIRS };
+enum {
+    NO_KEY,
+    PASSWORD,
+    PASSWORD_SHA1,
+    PASSWORD_SHA256,
+    LOGIN_MD5,
+    LOGIN_SHA256,
+    LONG_KEY,
+    SECRET,
+    PAIRS
+};
 extern pair pairs[PAIRS];
 
 /* They are made once, and freed at the end of a program. */

@@ -35,7 +35,7 @@ void broken(const char *file, int line, const char *property) {
 
 bool is_same(stun_types_answer one, stun_types_answer other) {
     return one.code == other.code && one.type == other.type && one.expected == other.expected
-        && one.actual == other.actual;
+           && one.actual == other.actual;
 }
 
 static bool holds_only(const void *bytes, size_t length, uint8_t byte) {
@@ -79,7 +79,8 @@ void release_places(size_t first) {
         if (rest > BESIDE) rest = BESIDE;
         HOLDS(is_filled(side == GUARD_BEHIND || length == 0 ? start - rest : start + length, rest));
         if (length == 0) continue;
-        if (places[place_count].is_read) HOLDS(memcmp(start, places[place_count].copy, length) == 0);
+        if (places[place_count].is_read)
+            HOLDS(memcmp(start, places[place_count].copy, length) == 0);
         memset(start, FILL, length);
     }
 }
@@ -160,8 +161,7 @@ model_text take_text(source *from, const char *often) {
     model_text told;
     if (how % 8 == 7) {
         told.length = take(from) % TEXT_MOST;
-        for (i = 0; i < told.length; i++)
-            bytes[i] = (uint8_t)(i < 12 ? take(from) : 'a' + i % 26);
+        for (i = 0; i < told.length; i++) bytes[i] = (uint8_t)(i < 12 ? take(from) : 'a' + i % 26);
     } else {
         told.length = strlen(word);
         memcpy(bytes, word, told.length);
@@ -181,7 +181,8 @@ const stun_types_address *take_address(source *from) {
 }
 
 const stun_types_policy *take_policy(source *from) {
-    static const uint32_t algorithms[] = {0, STUN_TYPES_INTEGRITY_SHA1, STUN_TYPES_INTEGRITY_SHA256};
+    static const uint32_t algorithms[]
+        = {0, STUN_TYPES_INTEGRITY_SHA1, STUN_TYPES_INTEGRITY_SHA256};
     stun_types_policy policy;
     unsigned how = take(from);
     memset(&policy, 0, sizeof policy);

@@ -17,8 +17,8 @@ static void make(pair *one, const void *bytes, size_t length, stun_types_integri
 
 /* That of `user`, `realm` and `pass`. */
 static void make_login(pair *one, stun_types_password algorithm) {
-    const model_text texts[] = {{(const uint8_t *)"user", 4}, {(const uint8_t *)"realm", 5},
-                                {(const uint8_t *)"pass", 4}};
+    const model_text texts[] = {
+        {(const uint8_t *)"user", 4}, {(const uint8_t *)"realm", 5}, {(const uint8_t *)"pass", 4}};
     one->key = stun_types_key_none();
     SUCCEEDS(stun_types_key_long_term(&one->key, "user", 4, "realm", 5, "pass", 4, algorithm));
     HOLDS(model_long_term_key(texts, algorithm, &one->model).code == STUN_TYPES_OK);

@@ -36,7 +36,8 @@ static void make_key(stun_types_key *key, model_key *expected, source *from) {
     static const uint32_t algorithms[]
         = {STUN_TYPES_INTEGRITY_ANY, STUN_TYPES_INTEGRITY_SHA1, STUN_TYPES_INTEGRITY_SHA256};
     unsigned how = take(from);
-    model_text texts[3] = {take_text(from, "user"), take_text(from, "realm"), take_text(from, "pass")};
+    model_text texts[3]
+        = {take_text(from, "user"), take_text(from, "realm"), take_text(from, "pass")};
     uint32_t algorithm;
     stun_types_answer answer, fault = FINE;
     if (how % 4 < 2) {
@@ -93,8 +94,8 @@ static void check_copies(const stun_types_key *key, const model_key *expected, s
 static void check_signing(const stun_types_key *key, const model_key *expected, source *from) {
     static const uint8_t id[12] = {3, 1, 4};
     static text message;
-    stun_types_integrity algorithm
-        = take(from) % 2 == 0 ? STUN_TYPES_INTEGRITY_SHA1 : STUN_TYPES_INTEGRITY_SHA256;
+    stun_types_integrity algorithm = take(from) % 2 == 0 ? STUN_TYPES_INTEGRITY_SHA1
+                                                         : STUN_TYPES_INTEGRITY_SHA256;
     stun_types_validated *told = NEW(stun_types_validated), wanted;
     uint8_t *room = place(100);
     size_t written = 28;
@@ -119,7 +120,8 @@ static void check_signing(const stun_types_key *key, const model_key *expected, 
 static void check_texts(source *from) {
     static const uint8_t id[12] = {2, 7, 1};
     static text message;
-    model_text texts[3] = {take_text(from, "user"), take_text(from, "realm"), take_text(from, "pass")};
+    model_text texts[3]
+        = {take_text(from, "user"), take_text(from, "realm"), take_text(from, "pass")};
     model_key password = {true, 0, 0, {0}}, md5, sha256;
     stun_types_validated *told = NEW(stun_types_validated), wanted;
     const uint8_t *bytes;
@@ -135,7 +137,10 @@ static void check_texts(source *from) {
     if (how % 4 == 1 || how % 4 == 2)
         sign(&message, STUN_TYPES_INTEGRITY_SHA1, how / 4 % 4 == 0 ? &password : &md5);
     if (how % 4 >= 2)
-        sign(&message, STUN_TYPES_INTEGRITY_SHA256, how / 4 % 4 == 0 ? &password : how / 4 % 4 == 1 ? &md5 : &sha256);
+        sign(&message, STUN_TYPES_INTEGRITY_SHA256,
+             how / 4 % 4 == 0   ? &password
+             : how / 4 % 4 == 1 ? &md5
+                                : &sha256);
     if (how / 16 == 15) change(&message, from);
     bytes = give(message.bytes, message.length);
     HOLDS(is_same(stun_types_validate_short_term(bytes, message.length, texts[2].bytes,
@@ -153,7 +158,8 @@ static void check_texts(source *from) {
     }
     HOLDS(is_same(stun_types_validate_long_term(bytes, message.length, texts[0].bytes,
                                                 texts[0].length, texts[1].bytes, texts[1].length,
-                                                texts[2].bytes, texts[2].length, told), answer));
+                                                texts[2].bytes, texts[2].length, told),
+                  answer));
     HOLDS(memcmp(told, &wanted, sizeof wanted) == 0);
 }
 
@@ -161,8 +167,8 @@ static void check_userhash(source *from) {
     model_text texts[2] = {take_text(from, "user"), take_text(from, "realm")};
     stun_types_hash *hash = NEW(stun_types_hash);
     uint8_t wanted[32];
-    stun_types_answer answer
-        = stun_types_userhash(texts[0].bytes, texts[0].length, texts[1].bytes, texts[1].length, hash);
+    stun_types_answer answer = stun_types_userhash(texts[0].bytes, texts[0].length, texts[1].bytes,
+                                                   texts[1].length, hash);
     if (model_is_utf8(texts[0].bytes, texts[0].length)
         && model_is_utf8(texts[1].bytes, texts[1].length)) {
         HOLDS(is_same(answer, FINE));

@@ -87,8 +87,8 @@ stun_types_answer ended(text *wanted, size_t size, stun_types_integrity algorith
 /* ---- messages that are right, and changed */
 
 void seed(text *message, unsigned which) {
-    static const uint8_t id[12] = {0xB7, 0xE7, 0xA7, 1,    0xBC, 0x34,
-                                   0xD6, 0x86, 0xFA, 0x87, 0xDF, 0xAE};
+    static const uint8_t id[12]
+        = {0xB7, 0xE7, 0xA7, 1, 0xBC, 0x34, 0xD6, 0x86, 0xFA, 0x87, 0xDF, 0xAE};
     static const uint8_t v4[] = {0, 1, 0xA1, 0x47, 0xE1, 0x12, 0xA6, 0x43};
     static const uint8_t v6[20] = {0, 2, 0xA1, 0x47, 1, 0x13, 0xA9, 0xFA};
     static const uint8_t priority[] = {0x6E, 0, 1, 0xFF}, unknown[] = {0, 0x1D, 0x7F, 0xFF};
@@ -160,7 +160,8 @@ void change(text *message, source *from) {
         case 5: shift(message, at / 4 * 4, 0, 4); break;
         case 6:
             if (message->length >= 20)
-                sign(message, take(from) % 2 == 0 ? STUN_TYPES_INTEGRITY_SHA1 : STUN_TYPES_INTEGRITY_SHA256,
+                sign(message,
+                     take(from) % 2 == 0 ? STUN_TYPES_INTEGRITY_SHA1 : STUN_TYPES_INTEGRITY_SHA256,
                      &pairs[PASSWORD].model);
             break;
         default:
@@ -190,8 +191,10 @@ static const char *const NONCES[] = {"obMatJos2AAAAx", "obMatJos2gAAAx", "obMatJ
 
 /* Adds NONCE, and PASSWORD-ALGORITHMS and PASSWORD-ALGORITHM as it promises them or not. */
 static void take_nonce(text *message, source *from, bool is_request) {
-    static const uint8_t lists[][8] = {{0, 2, 0, 0, 0, 1, 0, 0}, {0, 1, 0, 0, 0, 2, 0, 0},
-                                       {0, 3, 0, 0, 0, 2, 0, 0}, {0, 1, 0, 4, 0, 2, 0, 0}};
+    static const uint8_t lists[][8] = {{0, 2, 0, 0, 0, 1, 0, 0},
+                                       {0, 1, 0, 0, 0, 2, 0, 0},
+                                       {0, 3, 0, 0, 0, 2, 0, 0},
+                                       {0, 1, 0, 4, 0, 2, 0, 0}};
     unsigned how = take(from), list = take(from);
     const char *nonce = NONCES[how % COUNT(NONCES)];
     if (how % 16 != 15) append(message, 0x0015, nonce, strlen(nonce));
@@ -208,9 +211,11 @@ void take_request(text *message, source *from) {
     unsigned how = take(from), type = take(from);
     take_bytes(from, id, 4);
     memcpy(id + 4, "12345678", 8);
-    start(message, type % 32 == 31 ? take_two(from) & 0x3FFF : types[type % 4 * (type / 4 % 2)], id);
+    start(message, type % 32 == 31 ? take_two(from) & 0x3FFF : types[type % 4 * (type / 4 % 2)],
+          id);
     if (how % 8 != 7) append(message, 0x0006, "user", 4);
-    if (how % 8 >= 6) append(message, 0x001E, hash, model_digest(STUN_TYPES_PASSWORD_SHA256, names, 2, hash));
+    if (how % 8 >= 6)
+        append(message, 0x001E, hash, model_digest(STUN_TYPES_PASSWORD_SHA256, names, 2, hash));
     if (how / 8 % 4 != 3) append(message, 0x0014, "realm", 5);
     if (how / 32 != 7) take_nonce(message, from, true);
     take_ending(message, from);

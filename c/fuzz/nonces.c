@@ -18,8 +18,8 @@ static void check_judged(const model_server *server, const stun_types_key *secre
 static uint32_t judged(const model_server *server, const stun_types_key *secret, uint64_t now,
                        const stun_types_address *client, model_text nonce) {
     stun_types_nonce_state state = (stun_types_nonce_state)99;
-    SUCCEEDS(stun_types_judge_nonce(secret, server->features, server->window, now, client, nonce.bytes,
-                                 nonce.length, &state));
+    SUCCEEDS(stun_types_judge_nonce(secret, server->features, server->window, now, client,
+                                    nonce.bytes, nonce.length, &state));
     return state;
 }
 
@@ -31,22 +31,27 @@ static void check_window(const model_server *server, const pair *secret, uint64_
     HOLDS(judged(server, &secret->key, now, server->client, nonce) == STUN_TYPES_NONCE_VALID);
     HOLDS(judged(server, &secret->key, end, server->client, nonce) == STUN_TYPES_NONCE_VALID);
     if (end < UINT64_MAX)
-        HOLDS(judged(server, &secret->key, end + 1, server->client, nonce) == STUN_TYPES_NONCE_STALE);
+        HOLDS(judged(server, &secret->key, end + 1, server->client, nonce)
+              == STUN_TYPES_NONCE_STALE);
     if (now > 0)
-        HOLDS(judged(server, &secret->key, now - 1, server->client, nonce) == STUN_TYPES_NONCE_STALE);
+        HOLDS(judged(server, &secret->key, now - 1, server->client, nonce)
+              == STUN_TYPES_NONCE_STALE);
     other.port ^= (uint16_t)(1 << take(from) % 16);
     HOLDS(judged(server, &secret->key, now, &other, nonce) == STUN_TYPES_NONCE_UNKNOWN);
     other = *server->client;
     other.octets[take(from) % (other.family == 4 ? 4 : 16)] ^= (uint8_t)(1 << take(from) % 8);
     HOLDS(judged(server, &secret->key, now, &other, nonce) == STUN_TYPES_NONCE_UNKNOWN);
     HOLDS(judged(server, &pairs[secret == &pairs[SECRET] ? LONG_KEY : SECRET].key, now,
-                 server->client, nonce) == STUN_TYPES_NONCE_UNKNOWN);
+                 server->client, nonce)
+          == STUN_TYPES_NONCE_UNKNOWN);
 }
 
 void check_nonces(source *from) {
     unsigned how = take(from);
     const pair *secret = &pairs[how % 4 == 0 ? how / 4 % PAIRS : SECRET];
-    size_t size = how / 32 % 4 != 0 ? LENGTH : how / 128 == 0 ? LENGTH + take(from) % 8 : take(from) % LENGTH;
+    size_t size = how / 32 % 4 != 0 ? LENGTH
+                  : how / 128 == 0  ? LENGTH + take(from) % 8
+                                    : take(from) % LENGTH;
     size_t *written = NEW(size_t);
     uint8_t *room = place(size), made[LENGTH];
     model_server server;
@@ -58,8 +63,8 @@ void check_nonces(source *from) {
     server.window = take(from) % 8 == 0 ? take_eight(from) : take(from) * 8u;
     server.client = take_address(from);
     now = take(from) % 8 == 0 ? take_eight(from) : take_two(from);
-    answer = stun_types_make_nonce(&secret->key, server.features, server.window, now,
-                                   server.client, room, size, written);
+    answer = stun_types_make_nonce(&secret->key, server.features, server.window, now, server.client,
+                                   room, size, written);
     fault = model_server_fault(&server);
     if (fault.code == STUN_TYPES_OK && size < LENGTH)
         HOLDS(is_same(answer, model_answer(STUN_TYPES_TOO_SMALL, 0, LENGTH, size)));
@@ -76,7 +81,9 @@ void check_nonces(source *from) {
         check_window(&server, secret, now, nonce, from);
     }
     /* one that is changed or cut, of this server or of one with other features, at any time */
-    if (take(from) % 2 == 0) made[take(from) % LENGTH] = (uint8_t)"0aA=\xFF" "9f"[take(from) % 7];
+    if (take(from) % 2 == 0)
+        made[take(from) % LENGTH] = (uint8_t) "0aA=\xFF"
+                                              "9f"[take(from) % 7];
     if (take(from) % 8 == 0) server.features = take_below(from, 4, 16);
     nonce.length = take(from) % 16 == 0 ? take(from) % LENGTH : LENGTH;
     nonce.bytes = copy_of(made, nonce.length);

@@ -24,8 +24,8 @@ static void check_code_text(source *from) {
 }
 
 static void check_known_types(source *from) {
-    static const uint16_t known[] = {0x0001, 0x0006, 0x0008, 0x0009, 0x000A, 0x0014,
-                                     0x0015, 0x001C, 0x001D, 0x001E, 0x0020};
+    static const uint16_t known[]
+        = {0x0001, 0x0006, 0x0008, 0x0009, 0x000A, 0x0014, 0x0015, 0x001C, 0x001D, 0x001E, 0x0020};
     size_t room = take(from) % 16, i;
     uint16_t *types = place(room * sizeof *types);
     HOLDS(stun_types_known_types(types, room) == COUNT(known));
@@ -39,7 +39,8 @@ static void check_message_type(source *from) {
     for (bit = 0; bit < 12; bit++)
         type |= (method >> bit & 1) << (bit < 4 ? bit : bit < 7 ? bit + 1 : bit + 2);
     type |= (class_number & 1) << 4 | (class_number >> 1 & 1) << 8;
-    HOLDS(stun_types_message_type((stun_types_class)class_number, (stun_types_method)method) == type);
+    HOLDS(stun_types_message_type((stun_types_class)class_number, (stun_types_method)method)
+          == type);
 }
 
 static void check_macros(void) {

@@ -5,7 +5,7 @@
 
 static bool is_same_attribute(const stun_types_attribute *one, const stun_types_attribute *other) {
     return one->value_at == other->value_at && one->type == other->type
-        && one->length == other->length;
+           && one->length == other->length;
 }
 
 /* Walks: from the beginning, from any cursor, and in one pass into any room. */
@@ -42,7 +42,8 @@ static void check_walk(const uint8_t *bytes, size_t length, const model_list *sh
 }
 
 /* The first attribute of each type that is shown, and of any other type. */
-static void check_finding(const uint8_t *bytes, size_t length, const model_list *shown, source *from) {
+static void check_finding(const uint8_t *bytes, size_t length, const model_list *shown,
+                          source *from) {
     stun_types_attribute *told = NEW(stun_types_attribute);
     uint16_t type = (uint16_t)take_two(from);
     const stun_types_attribute *wanted = model_find(shown, type);
@@ -58,13 +59,15 @@ static void check_finding(const uint8_t *bytes, size_t length, const model_list 
 }
 
 /* Those that must be understood and aren't: by a list that has some of what is shown. */
-static void check_unknown(const uint8_t *bytes, size_t length, const model_list *shown, source *from) {
+static void check_unknown(const uint8_t *bytes, size_t length, const model_list *shown,
+                          source *from) {
     uint16_t all[8], *types;
     const uint16_t *supported;
     size_t count = take(from) % 8, room = take(from) % 16, unknown = 0, told, i, j;
     for (i = 0; i < count; i++)
-        all[i] = shown->count > 0 && take(from) % 2 == 0 ? shown->all[take(from) % shown->count].type
-                                                         : (uint16_t)take_two(from);
+        all[i] = shown->count > 0 && take(from) % 2 == 0
+                     ? shown->all[take(from) % shown->count].type
+                     : (uint16_t)take_two(from);
     supported = copy_of(all, count * sizeof *all);
     types = place(room * sizeof *types);
     told = stun_types_unknown_types(bytes, length, supported, count, types, room);
@@ -101,9 +104,11 @@ static void check_text(const uint8_t *bytes, size_t length, stun_types_answer pa
 static void check_validation(const uint8_t *bytes, size_t length, source *from) {
     static const stun_types_policy lax = {STUN_TYPES_INTEGRITY_ANY, 16, 0, 0};
     const stun_types_policy *policy = take_policy(from);
-    const pair *one = &pairs[take_below(from, PAIRS, 256) % PAIRS];
-    stun_types_validated *told = NEW(stun_types_validated), *other = NEW(stun_types_validated), expected;
-    stun_types_answer answer = model_validate(bytes, length, &lax, &pairs[PASSWORD].model, &expected);
+    const pair *one = &pairs[take(from) % PAIRS];
+    stun_types_validated *told = NEW(stun_types_validated), *other = NEW(stun_types_validated),
+                         expected;
+    stun_types_answer answer
+        = model_validate(bytes, length, &lax, &pairs[PASSWORD].model, &expected);
     HOLDS(is_same(stun_types_validate(bytes, length, &pairs[PASSWORD].key, told), answer));
     HOLDS(memcmp(told, &expected, sizeof expected) == 0);
     if (length % 8 == 0) {
@@ -143,4 +148,3 @@ void check_read(const uint8_t *original, size_t length, source *from) {
     check_clients(bytes, length, &shown, from);
     HOLDS(length == 0 || memcmp(bytes, original, length) == 0);
 }
-

@@ -8,7 +8,8 @@ static void check_short_term(const uint8_t *bytes, size_t length, source *from) 
     const pair *one = &pairs[take(from) % 4 != 0 ? PASSWORD : take(from) % PAIRS];
     stun_types_authentication *told = NEW(stun_types_authentication), expected;
     stun_types_answer answer = model_short_term(bytes, length, policy, &one->model, &expected);
-    HOLDS(is_same(stun_types_authenticate_short_term(bytes, length, policy, &one->key, told), answer));
+    HOLDS(is_same(stun_types_authenticate_short_term(bytes, length, policy, &one->key, told),
+                  answer));
     HOLDS(memcmp(told, &expected, sizeof expected) == 0);
 }
 
@@ -20,7 +21,8 @@ static bool replied(text *wanted, const uint8_t *bytes, size_t length, const mod
     stun_types_address written = *source_address;
     uint8_t value[20] = {0};
     size_t count = 0, i;
-    if (model_parse(bytes, length).code != STUN_TYPES_OK || model_number(bytes) != 0x0001) return false;
+    if (model_parse(bytes, length).code != STUN_TYPES_OK || model_number(bytes) != 0x0001)
+        return false;
     for (i = 0; i < shown->count; i++) {
         if (shown->all[i].type >= 0x8000) continue;
         types[2 * count] = (uint8_t)(shown->all[i].type >> 8);
@@ -42,7 +44,8 @@ static bool replied(text *wanted, const uint8_t *bytes, size_t length, const mod
     return true;
 }
 
-static void check_reply(const uint8_t *bytes, size_t length, const model_list *shown, source *from) {
+static void check_reply(const uint8_t *bytes, size_t length, const model_list *shown,
+                        source *from) {
     static text wanted;
     const stun_types_address *source_address = take_address(from);
     unsigned how = take(from);
@@ -74,9 +77,11 @@ static void check_beginning(const uint8_t *bytes, size_t length, source *from) {
     if (fault.code == STUN_TYPES_OK && (model_number(bytes) & 0x0110) != 0)
         fault = model_answer(STUN_TYPES_NOT_A_REQUEST, 0, 0, 0);
     if (fault.code == STUN_TYPES_OK && class_number != 2 && class_number != 3) fault = BAD_ARGUMENT;
-    if (fault.code == STUN_TYPES_OK && size < 20) fault = model_answer(STUN_TYPES_TOO_SMALL, 0, 20, size);
-    HOLDS(is_same(stun_types_begin_reply(room, size, bytes, length, (stun_types_class)class_number,
-                                         written), fault));
+    if (fault.code == STUN_TYPES_OK && size < 20)
+        fault = model_answer(STUN_TYPES_TOO_SMALL, 0, 20, size);
+    HOLDS(is_same(
+        stun_types_begin_reply(room, size, bytes, length, (stun_types_class)class_number, written),
+        fault));
     if (fault.code != STUN_TYPES_OK) {
         HOLDS(is_filled(room, size) && is_filled(written, sizeof *written));
         return;

@@ -93,4 +93,3 @@ void check_channel_data(source *from) {
             is_same(answer, model_answer(STUN_TYPES_TRUNCATED, 0, cut < 4 ? 4 : 4 + length, cut)));
     }
 }
-

@@ -113,8 +113,7 @@ static void end_one(size_t at, unsigned how) {
     else if (how % 4 == 1)
         HOLDS(is_same(stun_types_transaction_fail(&all[at]),
                       model_end(&expected[at], STUN_TYPES_TRANSPORT_FAILED)));
-    else
-        HOLDS(is_same(stun_types_transaction_stop_sending(&all[at]), model_stop(&expected[at])));
+    else HOLDS(is_same(stun_types_transaction_stop_sending(&all[at]), model_stop(&expected[at])));
 }
 
 /* ---- what only looks */

@@ -6,24 +6,26 @@
 /* What is said of an attribute before its value is read. */
 static stun_types_answer place_fault(size_t length, const stun_types_attribute *attribute) {
     return attribute->value_at > length || attribute->length > length - attribute->value_at
-             ? BAD_ARGUMENT
-             : FINE;
+               ? BAD_ARGUMENT
+               : FINE;
 }
 
 static bool is_same_address(const stun_types_address *one, const stun_types_address *other) {
     return one->family == other->family && one->port == other->port
-        && memcmp(one->octets, other->octets, other->family == 4 ? 4 : 16) == 0;
+           && memcmp(one->octets, other->octets, other->family == 4 ? 4 : 16) == 0;
 }
 
 static void check_addresses(const uint8_t *bytes, size_t length,
                             const stun_types_attribute *attribute, const uint8_t *value) {
     stun_types_address *told = NEW(stun_types_address), expected;
     stun_types_answer fault = place_fault(length, attribute), header = model_header(bytes, length);
-    stun_types_answer answer = stun_types_read_address(bytes, length, attribute, told), wanted = fault;
+    stun_types_answer answer = stun_types_read_address(bytes, length, attribute, told),
+                      wanted = fault;
     if (wanted.code == STUN_TYPES_OK && model_is_xored(attribute->type)) wanted = BAD_ARGUMENT;
     if (wanted.code == STUN_TYPES_OK) wanted = model_address(value, attribute->length, &expected);
     HOLDS(is_same(answer, wanted));
-    HOLDS(answer.code == STUN_TYPES_OK ? is_same_address(told, &expected) : is_filled(told, sizeof *told));
+    HOLDS(answer.code == STUN_TYPES_OK ? is_same_address(told, &expected)
+                                       : is_filled(told, sizeof *told));
     memset(told, FILL, sizeof *told);
     answer = stun_types_read_xor_address(bytes, length, attribute, told);
     wanted = fault;
@@ -32,7 +34,8 @@ static void check_addresses(const uint8_t *bytes, size_t length,
     if (wanted.code == STUN_TYPES_OK) wanted = model_address(value, attribute->length, &expected);
     HOLDS(is_same(answer, wanted));
     if (answer.code == STUN_TYPES_OK) model_xor(bytes, &expected);
-    HOLDS(answer.code == STUN_TYPES_OK ? is_same_address(told, &expected) : is_filled(told, sizeof *told));
+    HOLDS(answer.code == STUN_TYPES_OK ? is_same_address(told, &expected)
+                                       : is_filled(told, sizeof *told));
 }
 
 static void check_errors(const uint8_t *bytes, size_t length, const stun_types_attribute *attribute,
@@ -43,7 +46,8 @@ static void check_errors(const uint8_t *bytes, size_t length, const stun_types_a
     if (wanted.code == STUN_TYPES_OK) wanted = model_error(value, attribute->length, &expected);
     HOLDS(is_same(stun_types_read_error(bytes, length, attribute, code, at, reason), wanted));
     if (wanted.code == STUN_TYPES_OK)
-        HOLDS(*code == expected && *at == attribute->value_at + 4 && *reason == attribute->length - 4u);
+        HOLDS(*code == expected && *at == attribute->value_at + 4
+              && *reason == attribute->length - 4u);
     else
         HOLDS(is_filled(code, sizeof *code) && is_filled(at, sizeof *at)
               && is_filled(reason, sizeof *reason));
@@ -73,11 +77,10 @@ static stun_types_answer read_number(const uint8_t *bytes, size_t length,
                                      const stun_types_attribute *attribute, unsigned width,
                                      uint64_t *number) {
     void *room = place(width);
-    stun_types_answer answer
-        = width == 1   ? stun_types_read_u8(bytes, length, attribute, room)
-          : width == 2 ? stun_types_read_u16(bytes, length, attribute, room)
-          : width == 4 ? stun_types_read_u32(bytes, length, attribute, room)
-                       : stun_types_read_u64(bytes, length, attribute, room);
+    stun_types_answer answer = width == 1   ? stun_types_read_u8(bytes, length, attribute, room)
+                               : width == 2 ? stun_types_read_u16(bytes, length, attribute, room)
+                               : width == 4 ? stun_types_read_u32(bytes, length, attribute, room)
+                                            : stun_types_read_u64(bytes, length, attribute, room);
     if (answer.code != STUN_TYPES_OK) HOLDS(is_filled(room, width));
     else
         *number = width == 1   ? *(uint8_t *)room
@@ -108,8 +111,8 @@ static void check_numbers_of(const uint8_t *bytes, size_t length,
 void check_values(const uint8_t *bytes, size_t length, const stun_types_attribute *attribute,
                   source *from) {
     const uint8_t *value = place_fault(length, attribute).code == STUN_TYPES_OK
-                             ? bytes + attribute->value_at
-                             : bytes;
+                               ? bytes + attribute->value_at
+                               : bytes;
     size_t used = places_used();
     check_addresses(bytes, length, attribute, value);
     check_errors(bytes, length, attribute, value);
@@ -121,8 +124,9 @@ void check_values(const uint8_t *bytes, size_t length, const stun_types_attribut
 void check_outside(const uint8_t *bytes, size_t length, source *from) {
     stun_types_attribute any;
     memset(&any, 0, sizeof any);
-    any.value_at = take(from) % 3 == 0 ? SIZE_MAX - take(from)
-                   : take(from) % 2 == 0 && length != 0 ? take_two(from) % length : take_two(from);
+    any.value_at = take(from) % 3 == 0                  ? SIZE_MAX - take(from)
+                   : take(from) % 2 == 0 && length != 0 ? take_two(from) % length
+                                                        : take_two(from);
     any.type = (uint16_t)(take(from) % 2 == 0 ? take_two(from) : take(from) % 0x40);
     any.length = (uint16_t)(take(from) % 2 == 0 ? take_two(from) : take(from) % 24);
     check_values(bytes, length, copy_of(&any, sizeof any), from);

@@ -42,7 +42,9 @@ static void add_address(writing *one, source *from, bool is_xored) {
     const stun_types_address *address = take_address(from);
     stun_types_address written = *address;
     uint8_t value[20] = {0};
-    unsigned type = take(from) % 4 == 3 ? types[take(from) % COUNT(types)] : is_xored ? 0x0020 : 0x0001;
+    unsigned type = take(from) % 4 == 3 ? types[take(from) % COUNT(types)]
+                    : is_xored          ? 0x0020
+                                        : 0x0001;
     size_t octets = address->family == 6 ? 16 : 4;
     stun_types_answer answer, fault = FINE;
     answer = is_xored ? stun_types_add_xor_address(one->room, one->size, &one->written,
@@ -80,35 +82,37 @@ static void add_error(writing *one, source *from) {
     check_added(one, answer, 0x0009, value, 4 + length, fault);
 }
 
+/* Any number by any width, for a type of the table, one of the other types, or any. */
 static void add_number(writing *one, source *from) {
-    static const uint16_t known[] = {0x7FFF, 0x000C, 0x000D, 0x0017, 0x0019, 0x8029, 0x0006, 0x8028};
-    static const unsigned widths[] = {0, 2, 4, 1, 1, 8, 99, 0}, zeros[] = {0, 2, 0, 3, 3, 0, 0, 0};
-    unsigned which = take(from) % COUNT(known), width = 1u << take(from) % 4, type = known[which], i;
+    static const uint16_t types[] = {0x0017, 0x0019, 0x8000, 0x0018, 0x000C, 0x0027,
+                                     0x0024, 0x000D, 0x002A, 0x0003, 0x8025, 0x8029,
+                                     0x802A, 0x0022, 0x8004, 0x0006, 0x8028, 0x001C};
+    unsigned how = take(from), known, width = 1u << how % 4, i;
+    uint16_t type = how / 32 == 7 ? (uint16_t)take_two(from) : types[how / 4 % COUNT(types)];
     uint64_t number = 0;
     uint8_t value[16] = {0};
     stun_types_answer answer, fault = FINE;
+    known = model_width(type);
+    if (how / 64 != 3 && known != 0 && known != MODEL_NO_NUMBER) width = known;
     for (i = 0; i < width; i++) {
-        value[i] = (uint8_t)(which == 1 && i == 0 && take(from) % 4 != 0 ? 0x40 : take(from));
+        value[i] = (uint8_t)take(from);
+        if (i == 0 && value[0] % 2 == 0) value[0] = type == 0x000C ? 0x40 : value[0] / 2 % 4;
         number = number << 8 | value[i];
     }
-    if (width == 1)
-        answer = stun_types_add_u8(one->room, one->size, &one->written, known[which],
-                                   (uint8_t)number);
-    else if (width == 2)
-        answer = stun_types_add_u16(one->room, one->size, &one->written, known[which],
-                                    (uint16_t)number);
-    else if (width == 4)
-        answer = stun_types_add_u32(one->room, one->size, &one->written, known[which],
-                                    (uint32_t)number);
-    else answer = stun_types_add_u64(one->room, one->size, &one->written, known[which], number);
-    if (widths[which] != 0 && widths[which] != width)
-        fault = model_answer(STUN_TYPES_BAD_ARGUMENT, 0, 0, 0);
+    answer = width == 1
+                 ? stun_types_add_u8(one->room, one->size, &one->written, type, (uint8_t)number)
+             : width == 2
+                 ? stun_types_add_u16(one->room, one->size, &one->written, type, (uint16_t)number)
+             : width == 4
+                 ? stun_types_add_u32(one->room, one->size, &one->written, type, (uint32_t)number)
+                 : stun_types_add_u64(one->room, one->size, &one->written, type, number);
+    if (model_is_ending(type)) fault = model_answer(STUN_TYPES_ENDING_TYPE, type, 0, 0);
+    else if (known != 0 && known != width) fault = BAD_ARGUMENT;
     else if (type == 0x000C && (number < 0x4000 || number > 0x4FFF))
         fault = model_answer(STUN_TYPES_OUT_OF_RANGE, 0, 0x4FFF, number);
-    else if (type == 0x0017 && number != 1 && number != 2)
+    else if ((type == 0x0017 && number != 1 && number != 2) || (type == 0x8000 && number != 2))
         fault = model_answer(STUN_TYPES_OUT_OF_RANGE, 0, 2, number);
-    else if (type == 0x8028) fault = model_answer(STUN_TYPES_ENDING_TYPE, 0x8028, 0, 0);
-    check_added(one, answer, type, value, width + zeros[which], fault);
+    check_added(one, answer, type, value, width + model_zeros(type), fault);
 }
 
 static void add_types(writing *one, source *from) {
@@ -143,7 +147,8 @@ static void add_value(writing *one, source *from) {
 
 /* (all these keys have the same bytes, or none) */
 static void add_integrity(writing *one, source *from) {
-    static const uint32_t algorithms[] = {STUN_TYPES_INTEGRITY_SHA1, STUN_TYPES_INTEGRITY_SHA256, 0, 1};
+    static const uint32_t algorithms[]
+        = {STUN_TYPES_INTEGRITY_SHA1, STUN_TYPES_INTEGRITY_SHA256, 0, 1};
     unsigned how = take(from), which = how / 4 % 8;
     uint32_t algorithm = algorithms[how % 4 < 2 || how > 240 ? how % 4 : how % 2];
     const pair *key = &pairs[which > PASSWORD_SHA256 ? PASSWORD : which];
@@ -163,7 +168,8 @@ static void add_integrity(writing *one, source *from) {
 static void add_fingerprint(writing *one) {
     stun_types_answer answer = stun_types_add_fingerprint(one->room, one->size, &one->written);
     uint32_t told = answer.code == STUN_TYPES_OK
-        ? model_fingerprint(one->wanted.bytes, one->wanted.length) : 0;
+                        ? model_fingerprint(one->wanted.bytes, one->wanted.length)
+                        : 0;
     uint8_t value[4];
     value[0] = (uint8_t)(told >> 24);
     value[1] = (uint8_t)(told >> 16);
@@ -216,7 +222,8 @@ static void check_resumed(source *from) {
     memcpy(room, message.bytes, size);
     if (how == 255) message.length = take_two(from);
     *written = message.length;
-    if (message.length > size || !model_is_whole(message.bytes, message.length)) fault = BAD_ARGUMENT;
+    if (message.length > size || !model_is_whole(message.bytes, message.length))
+        fault = BAD_ARGUMENT;
     switch (how / 2 % 4) {
     case 0:
         answer = stun_types_add_fingerprint(room, size, written);
@@ -231,7 +238,8 @@ static void check_resumed(source *from) {
             sign(&message, STUN_TYPES_INTEGRITY_SHA256, &pairs[PASSWORD].model);
         break;
     default:
-        answer = stun_types_add(room, size, written, (uint16_t)type, give((const uint8_t *)"12345678", length), length);
+        answer = stun_types_add(room, size, written, (uint16_t)type,
+                                give((const uint8_t *)"12345678", length), length);
         if (fault.code == STUN_TYPES_OK && model_is_ending(type))
             fault = model_answer(STUN_TYPES_ENDING_TYPE, type, 0, 0);
         if (fault.code == STUN_TYPES_OK) fault = refusal_of(&message, size, type, length);
@@ -287,7 +295,6 @@ static void check_begun(source *from) {
     }
     check_written(&one, from);
 }
-
 
 void check_writing(source *from) {
     if (take(from) % 8 == 0) check_resumed(from);

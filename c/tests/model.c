@@ -74,13 +74,21 @@ static stun_types_answer attribute_fault(const uint8_t *bytes, size_t length, si
     return model_answer(OK, 0, 0, 0);
 }
 
+/* (a message is looked at several times, so the last value is kept) */
 uint32_t model_fingerprint(const uint8_t *bytes, size_t at) {
-    static uint8_t covered[70000];
+    static uint8_t covered[70000], last[70000];
+    static size_t last_at;
+    static uint32_t value;
     size_t stated = at + 8 - 20;
     memcpy(covered, bytes, at);
     covered[2] = (uint8_t)(stated >> 8);
     covered[3] = (uint8_t)stated;
-    return checksum_of(covered, at) ^ 0x5354554E;
+    if (at != last_at || memcmp(covered, last, at) != 0) {
+        value = checksum_of(covered, at) ^ 0x5354554E;
+        memcpy(last, covered, at);
+        last_at = at;
+    }
+    return value;
 }
 
 static stun_types_answer fingerprint_fault(const uint8_t *bytes, size_t at) {

@@ -67,10 +67,13 @@ stun_types_answer model_validate(const uint8_t *bytes, size_t length,
 stun_types_answer model_address(const uint8_t *value, size_t length, stun_types_address *address);
 stun_types_answer model_error(const uint8_t *value, size_t length, uint16_t *code);
 
-/* How many bytes the number in a value of this type has: 0 if a value of any type that the library doesn't
-   know, NO_NUMBER if the value is none. */
+/* How many bytes the number in a value of this type has: MODEL_NO_NUMBER if the value is none, and 0 if
+   the type isn't known, so that a number may have any width. */
 enum { MODEL_NO_NUMBER = 99 };
 unsigned model_width(unsigned type);
+
+/* How many zeros follow it. */
+unsigned model_zeros(unsigned type);
 
 /* What reading a number of so many bytes answers. */
 stun_types_answer model_read_number(unsigned type, unsigned width, const uint8_t *value, size_t length);

@@ -21,12 +21,12 @@ static bool is_challenge(unsigned code) { return code == 401 || code == 438; }
 
 static bool is_text(const uint8_t *bytes, const stun_types_attribute *attribute) {
     return attribute != NULL && attribute->length <= 763
-        && model_is_utf8(bytes + attribute->value_at, attribute->length);
+           && model_is_utf8(bytes + attribute->value_at, attribute->length);
 }
 
 static bool is_same_text(const uint8_t *bytes, const stun_types_attribute *one, model_text other) {
     return one->length == other.length
-        && (other.length == 0 || memcmp(bytes + one->value_at, other.bytes, other.length) == 0);
+           && (other.length == 0 || memcmp(bytes + one->value_at, other.bytes, other.length) == 0);
 }
 
 stun_types_answer model_challenge(const uint8_t *bytes, size_t length,
@@ -52,7 +52,8 @@ stun_types_answer model_challenge(const uint8_t *bytes, size_t length,
     if (!is_text(bytes, realm) || !is_text(bytes, nonce))
         return model_answer(STUN_TYPES_INCOMPLETE, 0, 0, 0);
     for (i = 0; i < knowledge->count; i++) wanted |= knowledge->supported[i];
-    algorithm = list == NULL ? wanted & 1 : model_listed(bytes + list->value_at, list->length, wanted);
+    algorithm = list == NULL ? wanted & 1
+                             : model_listed(bytes + list->value_at, list->length, wanted);
     if (algorithm == 0) return model_answer(STUN_TYPES_NO_ALGORITHM, 0, 0, 0);
     if (code_of(bytes, &shown) == 401 && knowledge->was_tried
         && is_same_text(bytes, realm, knowledge->tried))
@@ -67,8 +68,8 @@ stun_types_answer model_challenge(const uint8_t *bytes, size_t length,
     if (list != NULL) told->algorithms_length = list->length;
     told->password_algorithm = (stun_types_password)algorithm;
     told->anonymous = features >> 1 & 1;
-    told->integrity_algorithm
-        = list == NULL ? STUN_TYPES_INTEGRITY_SHA1 : STUN_TYPES_INTEGRITY_SHA256;
+    told->integrity_algorithm = list == NULL ? STUN_TYPES_INTEGRITY_SHA1
+                                             : STUN_TYPES_INTEGRITY_SHA256;
     return OK;
 }
 
@@ -88,7 +89,7 @@ static bool is_schedule(const stun_types_schedule *schedule) {
     if (schedule->rto == 0 || schedule->requests == 0 || schedule->last_wait == 0) return false;
     if (schedule->requests > 64) return false;
     return schedule->rto
-        <= UINT64_MAX / ((((uint64_t)1 << (schedule->requests - 1)) - 1) + schedule->last_wait);
+           <= UINT64_MAX / ((((uint64_t)1 << (schedule->requests - 1)) - 1) + schedule->last_wait);
 }
 
 static bool is_usage(const stun_types_schedule *schedule) {
@@ -122,13 +123,15 @@ static bool is_signed(uint32_t protection) {
     return protection == STUN_TYPES_SHORT_TERM || protection == STUN_TYPES_LONG_TERM;
 }
 
+/* (a method has 12 bits, but that of a struct may be any that the library has a value for) */
 bool model_is_transaction(const stun_types_transaction *one) {
     return one->reserved == 0 && is_schedule(&one->schedule) && is_usage(&one->schedule)
-        && one->method <= 0xFFF && one->signed_by <= 3 && one->violated <= 1 && one->stopped <= 1
-        && one->end <= STUN_TYPES_TRANSPORT_FAILED && one->transport >= STUN_TYPES_UDP
-        && one->transport <= STUN_TYPES_TCP && one->protection >= STUN_TYPES_SHORT_TERM
-        && one->protection <= STUN_TYPES_UNPROTECTED && is_signed(one->protection) == (one->signed_by != 0)
-        && one->sent <= requests_of(one) && one->last <= one->clock;
+           && one->method < 0xF000 && one->signed_by <= 3 && one->violated <= 1 && one->stopped <= 1
+           && one->end <= STUN_TYPES_TRANSPORT_FAILED && one->transport >= STUN_TYPES_UDP
+           && one->transport <= STUN_TYPES_TCP && one->protection >= STUN_TYPES_SHORT_TERM
+           && one->protection <= STUN_TYPES_UNPROTECTED
+           && is_signed(one->protection) == (one->signed_by != 0) && one->sent <= requests_of(one)
+           && one->last <= one->clock;
 }
 
 /* Why a key isn't that of a request. */
@@ -146,7 +149,7 @@ static stun_types_answer key_fault(uint32_t protection, unsigned signed_by, cons
 /* Which integrity attributes are shown. */
 static unsigned signed_by(const model_list *shown) {
     return (model_find(shown, 0x0008) == NULL ? 0u : 1u)
-        + (model_find(shown, 0x001C) == NULL ? 0u : 2u);
+           + (model_find(shown, 0x001C) == NULL ? 0u : 2u);
 }
 
 static unsigned method_of(unsigned type) {
@@ -230,7 +233,8 @@ stun_types_answer model_end(stun_types_transaction *one, stun_types_end end) {
 }
 
 bool model_round_trip(const stun_types_transaction *one, uint64_t now, uint64_t *time) {
-    if (!model_is_transaction(one) || one->end != STUN_TYPES_ANSWERED || one->sent != 1) return false;
+    if (!model_is_transaction(one) || one->end != STUN_TYPES_ANSWERED || one->sent != 1)
+        return false;
     *time = now > one->last ? now - one->last : 0;
     return true;
 }
@@ -269,14 +273,15 @@ static stun_types_received_kind discarded(const stun_types_transaction *one, con
     if (model_promises(bytes, shown, &features) && model_find(shown, 0x8002) == NULL)
         return STUN_TYPES_DISCARDED_BID_DOWN;
     if (code == 400 && by == 0) return STUN_TYPES_DISCARDED_UNSIGNED;
-    if (one->protection == STUN_TYPES_LONG_TERM && proof == 0) return STUN_TYPES_DISCARDED_NOT_AUTHENTIC;
+    if (one->protection == STUN_TYPES_LONG_TERM && proof == 0)
+        return STUN_TYPES_DISCARDED_NOT_AUTHENTIC;
     return STUN_TYPES_NOT_FOR_THIS;
 }
 
 /* Types that every client understands (RFC 8489, section 18.3), and those that this one does. */
 static bool is_understood(unsigned type, const uint16_t *understood, size_t count) {
-    static const uint16_t own[] = {0x0001, 0x0006, 0x0008, 0x0009, 0x000A, 0x0014,
-                                   0x0015, 0x001C, 0x001D, 0x001E, 0x0020};
+    static const uint16_t own[]
+        = {0x0001, 0x0006, 0x0008, 0x0009, 0x000A, 0x0014, 0x0015, 0x001C, 0x001D, 0x001E, 0x0020};
     size_t i;
     for (i = 0; i < sizeof own / sizeof *own; i++)
         if (own[i] == type) return true;
@@ -297,7 +302,8 @@ stun_types_answer model_receive(stun_types_transaction *one, const model_key *ke
     if (count > 64 || !model_is_transaction(one)) return BAD_ARGUMENT;
     fault = key_fault(one->protection, one->signed_by, key);
     if (fault.code != STUN_TYPES_OK) return fault;
-    if (one->sent == 0 || one->end != 0 || model_parse(bytes, length).code != STUN_TYPES_OK) return OK;
+    if (one->sent == 0 || one->end != 0 || model_parse(bytes, length).code != STUN_TYPES_OK)
+        return OK;
     type = model_number(bytes);
     if ((type & 0x0100) == 0 || method_of(type) != one->method
         || memcmp(bytes + 8, one->id.bytes, 12) != 0)
@@ -324,8 +330,7 @@ stun_types_answer model_receive(stun_types_transaction *one, const model_key *ke
         received->kind = STUN_TYPES_FAILED_NO_ERROR_CODE;
     } else {
         one->end = STUN_TYPES_ANSWERED;
-        received->kind
-            = (type & 0x0010) != 0 ? STUN_TYPES_TAKEN_ERROR : STUN_TYPES_TAKEN_SUCCESS;
+        received->kind = (type & 0x0010) != 0 ? STUN_TYPES_TAKEN_ERROR : STUN_TYPES_TAKEN_SUCCESS;
         received->algorithm = (stun_types_integrity)proof;
     }
     return OK;

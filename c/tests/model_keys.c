@@ -24,13 +24,17 @@ static const uint32_t SINES[64] = {
     0x6fa87e4f, 0xfe2ce6e0, 0xa3014314, 0x4e0811a1, 0xf7537e82, 0xbd3af235, 0x2ad7d2bb, 0xeb86d391};
 
 static void md5_block(uint32_t *state, const uint8_t *block) {
-    static const unsigned shifts[4][4] = {
-        {7, 12, 17, 22}, {5, 9, 14, 20}, {4, 11, 16, 23}, {6, 10, 15, 21}};
+    static const unsigned shifts[4][4]
+        = {{7, 12, 17, 22}, {5, 9, 14, 20}, {4, 11, 16, 23}, {6, 10, 15, 21}};
     uint32_t a = state[0], b = state[1], c = state[2], d = state[3];
     unsigned i;
     for (i = 0; i < 64; i++) {
         unsigned round = i / 16, by = shifts[round][i % 4];
-        unsigned word = (round == 0 ? i : round == 1 ? 5 * i + 1 : round == 2 ? 3 * i + 5 : 7 * i) % 16;
+        unsigned word = (round == 0   ? i
+                         : round == 1 ? 5 * i + 1
+                         : round == 2 ? 3 * i + 5
+                                      : 7 * i)
+                        % 16;
         uint32_t mixed = round == 0   ? (b & c) | (~b & d)
                          : round == 1 ? (d & b) | (~d & c)
                          : round == 2 ? b ^ c ^ d
@@ -138,7 +142,7 @@ stun_types_answer model_server_fault(const model_server *server) {
 static void hexadecimal(const uint8_t *bytes, size_t length, uint8_t *digits) {
     size_t i;
     for (i = 0; i < 2 * length; i++)
-        digits[i] = (uint8_t)"0123456789abcdef"[bytes[i / 2] >> (i % 2 == 0 ? 4 : 0) & 15];
+        digits[i] = (uint8_t) "0123456789abcdef"[bytes[i / 2] >> (i % 2 == 0 ? 4 : 0) & 15];
 }
 
 void model_nonce(const model_server *server, uint64_t time, uint8_t *nonce) {

@@ -27,7 +27,8 @@ uint32_t model_listed(const uint8_t *list, size_t length, unsigned wanted) {
     while (length - at >= 4) {
         unsigned number = model_number(list + at), parameters = model_number(list + at + 2);
         if (length - at < 4 + model_padded(parameters)) return 0;
-        if (parameters == 0 && (number == 1 || number == 2) && (wanted & number) != 0) return number;
+        if (parameters == 0 && (number == 1 || number == 2) && (wanted & number) != 0)
+            return number;
         at += 4 + model_padded(parameters);
     }
     return 0;
@@ -68,8 +69,8 @@ static bool lacks_fingerprint(const model_list *shown, const stun_types_policy *
 }
 
 /* The algorithm of the last integrity attribute that counts, if it is right; or 0. */
-static stun_types_integrity proof(const uint8_t *bytes, size_t length, const stun_types_policy *policy,
-                                  const model_key *key) {
+static stun_types_integrity proof(const uint8_t *bytes, size_t length,
+                                  const stun_types_policy *policy, const model_key *key) {
     stun_types_validated validated;
     stun_types_answer answer = model_validate(bytes, length, policy, key, &validated);
     return answer.code == STUN_TYPES_OK ? validated.algorithm : NONE;
@@ -128,7 +129,7 @@ static uint32_t chosen(const uint8_t *bytes, const model_list *shown, const mode
 
 static bool are_same(const model_key *one, const model_key *other) {
     return one->is_there && other->is_there && one->length == other->length
-        && memcmp(one->bytes, other->bytes, one->length) == 0;
+           && memcmp(one->bytes, other->bytes, one->length) == 0;
 }
 
 stun_types_answer model_long_term(const uint8_t *bytes, size_t length,
