@@ -23,27 +23,26 @@ static uint32_t judged(const model_server *server, const stun_types_key *secret,
     return state;
 }
 
-/* A nonce is valid within its window, for its client alone, and stale before and after. */
+/* A nonce is valid within its window, for its client alone and by its secret, and stale before and
+   after: of these the input chooses. */
 static void check_window(const model_server *server, const pair *secret, uint64_t now,
                          model_text nonce, source *from) {
     stun_types_address other = *server->client;
     uint64_t window = server->window, end = now > UINT64_MAX - window ? UINT64_MAX : now + window;
-    HOLDS(judged(server, &secret->key, now, server->client, nonce) == STUN_TYPES_NONCE_VALID);
-    HOLDS(judged(server, &secret->key, end, server->client, nonce) == STUN_TYPES_NONCE_VALID);
-    if (end < UINT64_MAX)
-        HOLDS(judged(server, &secret->key, end + 1, server->client, nonce)
-              == STUN_TYPES_NONCE_STALE);
-    if (now > 0)
-        HOLDS(judged(server, &secret->key, now - 1, server->client, nonce)
-              == STUN_TYPES_NONCE_STALE);
-    other.port ^= (uint16_t)(1 << take(from) % 16);
-    HOLDS(judged(server, &secret->key, now, &other, nonce) == STUN_TYPES_NONCE_UNKNOWN);
-    other = *server->client;
-    other.octets[take(from) % (other.family == 4 ? 4 : 16)] ^= (uint8_t)(1 << take(from) % 8);
-    HOLDS(judged(server, &secret->key, now, &other, nonce) == STUN_TYPES_NONCE_UNKNOWN);
-    HOLDS(judged(server, &pairs[secret == &pairs[SECRET] ? LONG_KEY : SECRET].key, now,
-                 server->client, nonce)
-          == STUN_TYPES_NONCE_UNKNOWN);
+    unsigned how = take(from);
+    uint64_t at = how % 4 == 0 ? now : how % 4 == 1 ? end : how % 4 == 2 ? end + 1 : now - 1;
+    HOLDS(judged(server, &secret->key, at, server->client, nonce)
+          == (at < now || at > end ? STUN_TYPES_NONCE_STALE : STUN_TYPES_NONCE_VALID));
+    if (how / 4 % 4 == 0) {
+        other.port ^= (uint16_t)(1 << take(from) % 16);
+    } else if (how / 4 % 4 == 1) {
+        other.octets[take(from) % (other.family == 4 ? 4 : 16)] ^= (uint8_t)(1 << take(from) % 8);
+    } else if (how / 4 % 4 == 2) {
+        other.family ^= 4 ^ 6;
+    } else {
+        secret = &pairs[secret == &pairs[SECRET] ? LONG_KEY : SECRET];
+    }
+    HOLDS(judged(server, &secret->key, at, &other, nonce) == STUN_TYPES_NONCE_UNKNOWN);
 }
 
 void check_nonces(source *from) {

@@ -165,14 +165,27 @@ bool model_serves(const model_key *key, uint32_t algorithm) {
     return key->algorithm == STUN_TYPES_INTEGRITY_ANY || key->algorithm == algorithm;
 }
 
+/* (kept as the value of a FINGERPRINT is) */
 void model_hmac(const uint8_t *bytes, size_t at, size_t value_length, uint32_t algorithm,
                 const model_key *key, uint8_t *hmac) {
-    static uint8_t covered[70000];
+    static uint8_t covered[70000], last[70000], value[32];
+    static size_t last_at;
+    static uint32_t last_algorithm;
+    static model_key last_key;
     size_t stated = at + 4 + model_padded(value_length) - 20;
     memcpy(covered, bytes, at);
     covered[2] = (uint8_t)(stated >> 8);
     covered[3] = (uint8_t)stated;
-    model_hmac_of(algorithm, key, covered, at, hmac);
+    if (at != last_at || algorithm != last_algorithm || key->length != last_key.length
+        || memcmp(key->bytes, last_key.bytes, key->length) != 0 || memcmp(covered, last, at) != 0) {
+        model_hmac_of(algorithm, key, covered, at, value);
+        memcpy(last, covered, at);
+        last_at = at;
+        last_algorithm = algorithm;
+        last_key.length = key->length;
+        memcpy(last_key.bytes, key->bytes, key->length);
+    }
+    memcpy(hmac, value, algorithm == STUN_TYPES_INTEGRITY_SHA1 ? 20 : 32);
 }
 
 static stun_types_answer hmac_fault(unsigned type, size_t length) {
