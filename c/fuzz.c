@@ -7,8 +7,8 @@
  * unless an argument says otherwise, the same in each run) and ends with a line 'N passed, M
  * failed'.
  *
- * The first byte of an input says what it is: a message to be read, one that is known to be right and is
- * changed, a run of adds, a stream that is cut, ChannelData, numbers, keys, nonces, a request with
+ * The first byte of an input says what it is: a message to be read, one that is right and is changed,
+ * a run of adds, a stream that is cut, ChannelData, numbers, keys, nonces, a request with
  * credentials, a challenge, or calls of transactions. What the library answers is compared with
  * tests/model.h and its kin, which follow docs/PROTOCOL.md. Slices end at a page that may not be
  * touched. */

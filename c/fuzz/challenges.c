@@ -1,4 +1,4 @@
-/* A client with long-term credentials: challenges, the key, the answer; and both sides with one another. */
+/* A client with long-term credentials: challenges, the key, the answer; and both sides at work. */
 #include <string.h>
 
 #include "fuzz.h"
@@ -75,13 +75,29 @@ static void check_response_as_challenge(source *from) {
 
 /* ---- both sides */
 
+/* What the server decides, by the keys of these texts, is what the model does. */
+static void check_decision(const uint8_t *request, size_t length, number_list algorithms,
+                           const model_text *texts, const stun_types_authentication *decided) {
+    static const stun_types_policy strict = STUN_TYPES_POLICY_BOTH;
+    static model_key md5, sha256;
+    model_login login = {STUN_TYPES_NONCE_VALID, NULL, 0, &md5, &sha256};
+    stun_types_authentication expected;
+    HOLDS(is_same(model_long_term_key(texts, STUN_TYPES_PASSWORD_MD5, &md5), FINE));
+    HOLDS(is_same(model_long_term_key(texts, STUN_TYPES_PASSWORD_SHA256, &sha256), FINE));
+    login.algorithms = algorithms.all;
+    login.count = algorithms.count;
+    HOLDS(is_same(model_long_term(request, length, &strict, &login, &expected), FINE));
+    HOLDS(memcmp(decided, &expected, sizeof expected) == 0);
+}
+
 /* A server asks for credentials, a client answers, the server accepts, and the client takes the reply:
    whatever the user, the password, the realm and the lists are. If the client has the wrong password,
    the server refuses. */
 static void check_exchange(source *from) {
     static const stun_types_policy strict = STUN_TYPES_POLICY_BOTH;
     static const stun_types_schedule schedule = STUN_TYPES_SCHEDULE;
-    static const model_text user = {(const uint8_t *)"us\xC3\xA9r", 5};
+    static const model_text user = {(const uint8_t *)"us\xC3\xA9r", 5},
+                            other = {(const uint8_t *)"\x7F", 1};
     static const char *const realms[] = {"realm", "", "example.org", "r:e:a:l:m"};
     static text first;
     const stun_types_address *client = take_address(from);
@@ -104,7 +120,9 @@ static void check_exchange(source *from) {
     stun_types_received *received = NEW(stun_types_received);
     stun_types_action action;
     stun_types_attribute found;
-    stun_types_answer answer;
+    model_text texts[3];
+    size_t i;
+    texts[0] = user;
     take_bytes(from, id.bytes, sizeof id.bytes);
     start(&first, 0x0003, id.bytes);
     if ((features & 1) == 0) algorithms.count = 0;
@@ -132,19 +150,21 @@ static void check_exchange(source *from) {
                                           STUN_TYPES_UDP, STUN_TYPES_LONG_TERM, &client_key, 5));
     SUCCEEDS(stun_types_transaction_poll(&transactions[1], 5, &action));
     /* the server, which keeps the keys of the user */
-    SUCCEEDS(stun_types_key_long_term(&keys[0], user.bytes, user.length, realm, strlen(realm),
-                                      is_wrong ? "\x7F" : (const char *)password.bytes,
-                                      is_wrong ? 1 : password.length, STUN_TYPES_PASSWORD_MD5));
-    SUCCEEDS(stun_types_key_long_term(&keys[1], user.bytes, user.length, realm, strlen(realm),
-                                      is_wrong ? "\x7F" : (const char *)password.bytes,
-                                      is_wrong ? 1 : password.length, STUN_TYPES_PASSWORD_SHA256));
+    texts[1].bytes = (const uint8_t *)realm;
+    texts[1].length = strlen(realm);
+    texts[2] = is_wrong ? other : password;
+    for (i = 0; i < 2; i++)
+        SUCCEEDS(stun_types_key_long_term(&keys[i], user.bytes, user.length, realm, strlen(realm),
+                                          texts[2].bytes, texts[2].length,
+                                          i == 0 ? STUN_TYPES_PASSWORD_MD5
+                                                 : STUN_TYPES_PASSWORD_SHA256));
     HOLDS(stun_types_find(request, length, 0x0015, &found));
     SUCCEEDS(stun_types_judge_nonce(&pairs[SECRET].key, features, 600, now + how, client,
                                     request + found.value_at, found.length, &state));
     HOLDS(state == STUN_TYPES_NONCE_VALID);
-    answer = stun_types_authenticate_long_term(request, length, &strict, state, algorithms.all,
-                                               algorithms.count, &keys[0], &keys[1], decided);
-    HOLDS(answer.code == STUN_TYPES_OK);
+    SUCCEEDS(stun_types_authenticate_long_term(request, length, &strict, state, algorithms.all,
+                                               algorithms.count, &keys[0], &keys[1], decided));
+    check_decision(request, length, algorithms, texts, decided);
     HOLDS(stun_types_find(request, length, features >= 2 ? 0x001E : 0x0006, &found));
     if (is_wrong) {
         HOLDS(decided->kind == STUN_TYPES_REFUSED && decided->error_code == 401);

@@ -180,7 +180,7 @@ static void check_long_term(const text *request, const uint8_t *bytes, source *f
     stun_types_authentication *told = NEW(stun_types_authentication), *again, expected;
     model_login login;
     stun_types_answer answer;
-    login.nonce_state = take_below(from, 3, 16);
+    login.nonce_state = take_below(from, 4, 16);
     login.algorithms = algorithms.all;
     login.count = algorithms.count;
     login.md5 = &md5->model;

@@ -129,7 +129,7 @@ void sign(text *message, stun_types_integrity algorithm, const model_key *key);
 void sign_cut(text *message, stun_types_integrity algorithm, const model_key *key, size_t length);
 void finger(text *message);
 
-/* Why an attribute with a value of so many bytes isn't added to whole attributes in a slice of a size. */
+/* Why an attribute with a value of so many bytes isn't added to whole ones in a slice of a size. */
 stun_types_answer refusal_of(const text *written, size_t size, unsigned type, size_t length);
 
 /* Signs it, and adds a FINGERPRINT, until one of both is refused; and what is answered then. */
@@ -155,8 +155,8 @@ void check_outside(const uint8_t *bytes, size_t length, source *from);
 void check_servers(const uint8_t *bytes, size_t length, const model_list *shown, source *from);
 void check_clients(const uint8_t *bytes, size_t length, const model_list *shown, source *from);
 
-/* Reads a challenge as the model does: whether it is one. Answers it: adds what it asks for to a message,
-   in a slice of a size. */
+/* Reads a challenge as the model does: whether it is one. Answers it: adds what it asks for to a
+   message, in a slice of a size. */
 bool check_challenge(const uint8_t *bytes, size_t length, const model_knowledge *knowledge);
 void check_answer(text *wanted, size_t size, const uint8_t *response, size_t length,
                   number_list supported, model_text user, const pair *key, bool is_fingered);

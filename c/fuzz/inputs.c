@@ -202,7 +202,10 @@ number_list take_numbers(source *from, bool are_passwords) {
     unsigned how = take(from);
     number_list told;
     size_t i;
-    told.count = how % 16 == 15 ? take(from) % COUNT(all) : how % 16 == 14 ? 17 : how % 4;
+    told.count = how % 16 == 15   ? take(from) % COUNT(all)
+                 : how % 16 == 14 ? 16u + how / 16 % 2
+                 : how % 16 == 13 ? 64u + how / 16 % 2
+                                  : how % 4;
     for (i = 0; i < told.count; i++)
         all[i] = (uint16_t)(are_passwords && how % 8 != 7 ? 1 + take(from) % 2 : take_two(from));
     told.all = copy_of(all, told.count * sizeof *all);

@@ -5,7 +5,7 @@
 
 static const stun_types_policy LAX = {STUN_TYPES_INTEGRITY_ANY, 16, 0, 0};
 
-/* That the key holds what the model says: its bytes are written in each room that has enough for them. */
+/* That the key holds what the model says: its bytes are written in each room that has enough. */
 static void check_held(const stun_types_key *key, const model_key *expected, source *from) {
     unsigned how = take(from);
     size_t size = how % 2 == 0 ? expected->length : expected->length + how % 8 - 4;
@@ -115,8 +115,8 @@ static void check_signing(const stun_types_key *key, const model_key *expected, 
     HOLDS((told->algorithm == algorithm) == (fault.code == STUN_TYPES_OK));
 }
 
-/* Validations by texts: by a password, and by a user, a realm and a password, whose key by SHA-256 checks
-   a MESSAGE-INTEGRITY-SHA256, and that by MD5 a MESSAGE-INTEGRITY. */
+/* Validations by texts: by a password, and by a user, a realm and a password, whose key by SHA-256
+   checks a MESSAGE-INTEGRITY-SHA256, and that by MD5 a MESSAGE-INTEGRITY. */
 static void check_texts(source *from) {
     static const uint8_t id[12] = {2, 7, 1};
     static text message;

@@ -225,14 +225,17 @@ void take_response(text *message, source *from, unsigned method, const uint8_t *
     static const uint8_t address[] = {0, 1, 0xA1, 0x47, 0xE1, 0x12, 0xA6, 0x43};
     static const uint8_t codes[][2] = {{4, 1}, {4, 38}, {4, 0}, {3, 0}, {4, 20}, {5, 0}, {7, 0}};
     unsigned how = take(from), type = take(from);
-    uint8_t error[6] = {0, 0, 0, 0, 'n', 'o'};
+    uint8_t error[6] = {0, 0, 0, 0, 'n', 'o'}, realm[764];
+    memset(realm, 'r', sizeof realm);
     start(message, (type % 4 == 0 ? 0x0101u : 0x0111u) | method, id);
     if (type % 16 == 15) start(message, take_two(from) & 0x3FFF, id);
     memcpy(error + 2, codes[how / 8 % COUNT(codes)], 2);
     if (how % 8 != 7 && type % 4 != 0) append(message, 0x0009, error, sizeof error);
     if (how % 8 != 6) append(message, 0x0020, address, sizeof address);
+    if (how % 32 == 30) append(message, 0x0014, realm, 763 + type / 16 % 2);
     if (type / 16 % 4 != 3) append(message, 0x0014, "realm", 5);
     if (type / 16 % 4 != 2) take_nonce(message, from, false);
-    if (how % 32 == 31) append(message, take_two(from), "12345678", 8);
+    if (how % 32 == 31)
+        append(message, type < 128 ? 0x7FFE + type % 4 : take_two(from), "12345678", 8);
     take_ending(message, from);
 }

@@ -24,6 +24,10 @@ static const stun_types_schedule *take_schedule(source *from) {
     if (how % 4 == 2) one.last_wait = how / 16 == 6 ? take_four(from) : 1 + take(from) % 20;
     if (how / 4 % 4 == 1) one.min_hmac_length = 16 + take(from) % 5 * 4;
     if (how / 4 % 4 == 2) one.fingerprint = take(from);
+    /* the greatest that there is for so many requests, and the next one */
+    if (how % 64 == 54)
+        one.rto = UINT64_MAX / (((uint64_t)1 << (one.requests - 1) % 64) - 1 + one.last_wait)
+                  + take(from) % 2;
     if (how == 250) one.reserved = take(from);
     if (how == 251) one.min_hmac_length = take(from);
     return copy_of(&one, sizeof one);

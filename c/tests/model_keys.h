@@ -34,8 +34,8 @@ typedef struct {
     const stun_types_address *client;
 } model_server;
 
-/* Why a server makes no nonces. The nonce that is made at a time, of STUN_TYPES_NONCE_LENGTH bytes. What
-   it knows at a time of a nonce. */
+/* Why a server makes no nonces. The nonce that is made at a time, of STUN_TYPES_NONCE_LENGTH bytes.
+   What it knows at a time of a nonce. */
 stun_types_answer model_server_fault(const model_server *server);
 void model_nonce(const model_server *server, uint64_t time, uint8_t *nonce);
 uint32_t model_nonce_state(const model_server *server, uint64_t now, model_text nonce);
