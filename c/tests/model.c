@@ -3,6 +3,7 @@
 #include <stdlib.h>
 #include <string.h>
 
+#include "model_keys.h"
 #include "reference.h"
 
 static const uint8_t COOKIE[4] = {0x21, 0x12, 0xA4, 0x42};
@@ -73,13 +74,21 @@ static stun_types_answer attribute_fault(const uint8_t *bytes, size_t length, si
     return model_answer(OK, 0, 0, 0);
 }
 
+/* (a message is looked at several times, so the last value is kept) */
 uint32_t model_fingerprint(const uint8_t *bytes, size_t at) {
-    static uint8_t covered[70000];
+    static uint8_t covered[70000], last[70000];
+    static size_t last_at;
+    static uint32_t value;
     size_t stated = at + 8 - 20;
     memcpy(covered, bytes, at);
     covered[2] = (uint8_t)(stated >> 8);
     covered[3] = (uint8_t)stated;
-    return checksum_of(covered, at) ^ 0x5354554E;
+    if (at != last_at || memcmp(covered, last, at) != 0) {
+        value = checksum_of(covered, at) ^ 0x5354554E;
+        memcpy(last, covered, at);
+        last_at = at;
+    }
+    return value;
 }
 
 static stun_types_answer fingerprint_fault(const uint8_t *bytes, size_t at) {
@@ -117,6 +126,16 @@ stun_types_answer model_parse(const uint8_t *bytes, size_t length) {
     return fault;
 }
 
+bool model_is_whole(const uint8_t *bytes, size_t length) {
+    size_t at = 20;
+    if (model_header(bytes, length).code != OK || length_fault(bytes, length).code != OK) return false;
+    while (at < length) {
+        if (attribute_fault(bytes, length, at).code != OK) return false;
+        at += 4 + model_padded(model_number(bytes + at + 2));
+    }
+    return true;
+}
+
 void model_shown(const uint8_t *bytes, size_t length, model_list *shown) {
     size_t at = 20;
     int rank = 0;
@@ -135,14 +154,38 @@ void model_shown(const uint8_t *bytes, size_t length, model_list *shown) {
     }
 }
 
+const stun_types_attribute *model_find(const model_list *shown, unsigned type) {
+    size_t i;
+    for (i = 0; i < shown->count; i++)
+        if (shown->all[i].type == type) return &shown->all[i];
+    return NULL;
+}
+
+bool model_serves(const model_key *key, uint32_t algorithm) {
+    return key->algorithm == STUN_TYPES_INTEGRITY_ANY || key->algorithm == algorithm;
+}
+
+/* (kept as the value of a FINGERPRINT is) */
 void model_hmac(const uint8_t *bytes, size_t at, size_t value_length, uint32_t algorithm,
-                const char *password, uint8_t *hmac) {
-    static uint8_t covered[70000];
+                const model_key *key, uint8_t *hmac) {
+    static uint8_t covered[70000], last[70000], value[32];
+    static size_t last_at;
+    static uint32_t last_algorithm;
+    static model_key last_key;
     size_t stated = at + 4 + model_padded(value_length) - 20;
     memcpy(covered, bytes, at);
     covered[2] = (uint8_t)(stated >> 8);
     covered[3] = (uint8_t)stated;
-    hmac_of(algorithm == STUN_TYPES_INTEGRITY_SHA1 ? 1 : 2, password, covered, at, hmac);
+    if (at != last_at || algorithm != last_algorithm || key->length != last_key.length
+        || memcmp(key->bytes, last_key.bytes, key->length) != 0 || memcmp(covered, last, at) != 0) {
+        model_hmac_of(algorithm, key, covered, at, value);
+        memcpy(last, covered, at);
+        last_at = at;
+        last_algorithm = algorithm;
+        last_key.length = key->length;
+        memcpy(last_key.bytes, key->bytes, key->length);
+    }
+    memcpy(hmac, value, algorithm == STUN_TYPES_INTEGRITY_SHA1 ? 20 : 32);
 }
 
 static stun_types_answer hmac_fault(unsigned type, size_t length) {
@@ -153,25 +196,56 @@ static stun_types_answer hmac_fault(unsigned type, size_t length) {
                         0);
 }
 
-stun_types_answer model_validate(const uint8_t *bytes, size_t length, const char *password,
-                                 uint32_t *algorithm) {
-    static model_list shown;
+bool model_is_hmac_length(uint32_t length) {
+    return length == 0 || (length >= 16 && length <= 32 && length % 4 == 0);
+}
+
+bool model_is_policy(const stun_types_policy *policy) {
+    return policy->reserved == 0 && model_is_hmac_length(policy->min_hmac_length)
+        && (policy->algorithm == STUN_TYPES_INTEGRITY_ANY
+            || policy->algorithm == STUN_TYPES_INTEGRITY_SHA1
+            || policy->algorithm == STUN_TYPES_INTEGRITY_SHA256);
+}
+
+/* Whether the HMAC of an integrity attribute is right under a key, and long enough. */
+static stun_types_answer checked(const uint8_t *bytes, const stun_types_attribute *attribute,
+                                 const stun_types_policy *policy, const model_key *key) {
+    size_t least = policy->min_hmac_length == 0 ? 32 : policy->min_hmac_length;
     uint8_t hmac[32];
-    size_t i;
+    stun_types_answer fault = hmac_fault(attribute->type, attribute->length);
+    if (fault.code != OK) return fault;
+    model_hmac(bytes, attribute->value_at - 4, attribute->length, attribute->type, key, hmac);
+    if (memcmp(hmac, bytes + attribute->value_at, attribute->length) != 0)
+        return model_answer(STUN_TYPES_INTEGRITY_FAILED, 0, 0, 0);
+    if (attribute->type == STUN_TYPES_INTEGRITY_SHA256 && attribute->length < least)
+        return model_answer(STUN_TYPES_HMAC_TOO_SHORT, 0, least, attribute->length);
+    return model_answer(OK, 0, 0, 0);
+}
+
+stun_types_answer model_validate(const uint8_t *bytes, size_t length,
+                                 const stun_types_policy *policy, const model_key *key,
+                                 stun_types_validated *validated) {
+    static model_list shown;
+    uint32_t algorithm = policy->algorithm;
     const stun_types_attribute *last = NULL;
     stun_types_answer fault = model_parse(bytes, length);
+    memset(validated, 0, sizeof *validated);
     if (fault.code != OK) return fault;
+    if (!model_is_policy(policy)) return model_answer(STUN_TYPES_BAD_ARGUMENT, 0, 0, 0);
+    if (!key->is_there) return model_answer(STUN_TYPES_NO_KEY, 0, 0, 0);
     model_shown(bytes, length, &shown);
-    for (i = 0; i < shown.count; i++)
-        if (shown.all[i].type == 0x0008 || shown.all[i].type == 0x001C) last = &shown.all[i];
+    if (policy->fingerprint != 0 && model_find(&shown, 0x8028) == NULL)
+        return model_answer(STUN_TYPES_MISSING_ATTRIBUTE, 0x8028, 0, 0);
+    if (algorithm == STUN_TYPES_INTEGRITY_ANY) algorithm = key->algorithm;
+    if (!model_serves(key, algorithm)) return model_answer(STUN_TYPES_BAD_ARGUMENT, 0, 0, 0);
+    if (algorithm != STUN_TYPES_INTEGRITY_SHA1) last = model_find(&shown, 0x001C);
+    if (algorithm != STUN_TYPES_INTEGRITY_SHA256 && last == NULL) last = model_find(&shown, 0x0008);
     if (last == NULL) return model_answer(STUN_TYPES_MISSING_ATTRIBUTE, 0x0008, 0, 0);
-    fault = hmac_fault(last->type, last->length);
+    fault = checked(bytes, last, policy, key);
     if (fault.code != OK) return fault;
-    *algorithm = last->type == 0x0008 ? STUN_TYPES_INTEGRITY_SHA1 : STUN_TYPES_INTEGRITY_SHA256;
-    model_hmac(bytes, last->value_at - 4, last->length, *algorithm, password, hmac);
-    if (memcmp(hmac, bytes + last->value_at, last->length) != 0)
-        return model_answer(STUN_TYPES_INTEGRITY_FAILED, 0, 0, 0);
-    return model_answer(OK, 0, 0, 0);
+    validated->algorithm = (stun_types_integrity)last->type;
+    validated->hmac_length = last->length;
+    return fault;
 }
 
 stun_types_answer model_address(const uint8_t *value, size_t length, stun_types_address *address) {

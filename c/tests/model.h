@@ -24,24 +24,59 @@ stun_types_answer model_header(const uint8_t *bytes, size_t length);
 stun_types_answer model_framed(const uint8_t *bytes, size_t length, size_t *message_length);
 stun_types_answer model_parse(const uint8_t *bytes, size_t length);
 
+/* Whether they are a header and whole attributes after it, as its length field counts them, in any
+   order. */
+bool model_is_whole(const uint8_t *bytes, size_t length);
+
 /* What is shown. */
 void model_shown(const uint8_t *bytes, size_t length, model_list *shown);
+
+/* The first attribute of a type that is shown, or NULL. */
+const stun_types_attribute *model_find(const model_list *shown, unsigned type);
 
 /* The value of a FINGERPRINT at an offset. */
 uint32_t model_fingerprint(const uint8_t *bytes, size_t at);
 
-/* The HMAC under a password that an integrity attribute with a value of so many bytes has at an
-   offset; an algorithm is STUN_TYPES_INTEGRITY_SHA1 or STUN_TYPES_INTEGRITY_SHA256. */
-void model_hmac(const uint8_t *bytes, size_t at, size_t value_length, uint32_t algorithm,
-                const char *password, uint8_t *hmac);
+/* A key: its bytes, and the integrity algorithm that it was made for, or STUN_TYPES_INTEGRITY_ANY. */
+enum { MODEL_KEY = 1024 };
+typedef struct {
+    bool is_there;
+    uint32_t algorithm;
+    size_t length;
+    uint8_t bytes[MODEL_KEY];
+} model_key;
 
-/* What a validation with the key of a password answers. */
-stun_types_answer model_validate(const uint8_t *bytes, size_t length, const char *password,
-                                 uint32_t *algorithm);
+/* Whether a key works with an integrity algorithm. */
+bool model_serves(const model_key *key, uint32_t algorithm);
+
+/* The HMAC that an integrity attribute with a value of so many bytes has at an offset; an algorithm is
+   STUN_TYPES_INTEGRITY_SHA1 or STUN_TYPES_INTEGRITY_SHA256. */
+void model_hmac(const uint8_t *bytes, size_t at, size_t value_length, uint32_t algorithm,
+                const model_key *key, uint8_t *hmac);
+
+/* Whether a policy, or a length that it asks for, means something. */
+bool model_is_policy(const stun_types_policy *policy);
+bool model_is_hmac_length(uint32_t length);
+
+/* What a validation by a policy and with a key answers. */
+stun_types_answer model_validate(const uint8_t *bytes, size_t length,
+                                 const stun_types_policy *policy, const model_key *key,
+                                 stun_types_validated *validated);
 
 /* What reading a value answers. The address is as it is written, without a XOR. */
 stun_types_answer model_address(const uint8_t *value, size_t length, stun_types_address *address);
 stun_types_answer model_error(const uint8_t *value, size_t length, uint16_t *code);
+
+/* How many bytes the number in a value of this type has: MODEL_NO_NUMBER if the value is none, and 0 if
+   the type isn't known, so that a number may have any width. */
+enum { MODEL_NO_NUMBER = 99 };
+unsigned model_width(unsigned type);
+
+/* How many zeros follow it. */
+unsigned model_zeros(unsigned type);
+
+/* What reading a number of so many bytes answers. */
+stun_types_answer model_read_number(unsigned type, unsigned width, const uint8_t *value, size_t length);
 
 /* The address that is written if this one is to be XORed, and the other way round. */
 void model_xor(const uint8_t *bytes, stun_types_address *address);

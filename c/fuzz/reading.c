@@ -1,0 +1,148 @@
+/* Reading: what is said of any bytes. */
+#include <string.h>
+
+#include "fuzz.h"
+
+static bool is_same_attribute(const stun_types_attribute *one, const stun_types_attribute *other) {
+    return one->value_at == other->value_at && one->type == other->type
+           && one->length == other->length;
+}
+
+/* Walks: from the beginning, from any cursor, and in one pass into any room. */
+static void check_walk(const uint8_t *bytes, size_t length, const model_list *shown, source *from) {
+    static stun_types_attribute listed[MODEL_ATTRIBUTES];
+    stun_types_cursor cursor = stun_types_cursor_first();
+    stun_types_attribute *told = NEW(stun_types_attribute), *few;
+    size_t i, j, room = take(from) % 8;
+    HOLDS(stun_types_attributes(bytes, length, listed, MODEL_ATTRIBUTES) == shown->count);
+    few = place(room * sizeof *few);
+    HOLDS(stun_types_attributes(bytes, length, few, room) == shown->count);
+    for (i = 0; i < shown->count; i++) {
+        HOLDS(stun_types_next(bytes, length, &cursor, told));
+        HOLDS(is_same_attribute(told, &shown->all[i]) && is_same_attribute(&listed[i], told));
+        if (i < room) HOLDS(is_same_attribute(&few[i], told));
+    }
+    if (i < room) HOLDS(is_filled(few + i, (room - i) * sizeof *few));
+    for (j = 0; j < 2; j++) {
+        memset(told, FILL, sizeof *told);
+        HOLDS(!stun_types_next(bytes, length, &cursor, told));
+        HOLDS(cursor.index == shown->count && is_filled(told, sizeof *told));
+    }
+    cursor = stun_types_cursor_first();
+    cursor.index = take(from) % 8 != 7 ? i - take(from) % (i + 1) : (size_t)take_eight(from);
+    cursor.reserved = take(from) % 8 == 7 ? (uint8_t)take(from) : 0;
+    j = cursor.index;
+    if (stun_types_next(bytes, length, &cursor, told)) {
+        HOLDS(j < shown->count && is_same_attribute(told, &shown->all[j]) && cursor.index == j + 1);
+        HOLDS(cursor.reserved == 0);
+    } else {
+        HOLDS(j >= shown->count || cursor.reserved != 0);
+        HOLDS(cursor.index == j && is_filled(told, sizeof *told));
+    }
+}
+
+/* The first attribute of each type that is shown, and of any other type. */
+static void check_finding(const uint8_t *bytes, size_t length, const model_list *shown,
+                          source *from) {
+    stun_types_attribute *told = NEW(stun_types_attribute);
+    uint16_t type = (uint16_t)take_two(from);
+    const stun_types_attribute *wanted = model_find(shown, type);
+    bool is_there = stun_types_find(bytes, length, type, told);
+    size_t i;
+    HOLDS(is_there == (wanted != NULL));
+    HOLDS(is_there ? is_same_attribute(told, wanted) : is_filled(told, sizeof *told));
+    for (i = 0; i < shown->count && i < 16; i++) {
+        HOLDS(stun_types_find(bytes, length, shown->all[i].type, told));
+        HOLDS(is_same_attribute(told, model_find(shown, shown->all[i].type)));
+        check_values(bytes, length, &shown->all[i], from);
+    }
+}
+
+/* Those that must be understood and aren't: by a list that has some of what is shown. */
+static void check_unknown(const uint8_t *bytes, size_t length, const model_list *shown,
+                          source *from) {
+    uint16_t all[8], *types;
+    const uint16_t *supported;
+    size_t count = take(from) % 8, room = take(from) % 16, unknown = 0, told, i, j;
+    for (i = 0; i < count; i++)
+        all[i] = shown->count > 0 && take(from) % 2 == 0
+                     ? shown->all[take(from) % shown->count].type
+                     : (uint16_t)take_two(from);
+    supported = copy_of(all, count * sizeof *all);
+    types = place(room * sizeof *types);
+    told = stun_types_unknown_types(bytes, length, supported, count, types, room);
+    for (i = 0; i < shown->count; i++) {
+        for (j = 0; j < count && all[j] != shown->all[i].type;) j++;
+        if (shown->all[i].type >= 0x8000 || j < count) continue;
+        if (unknown < room) HOLDS(types[unknown] == shown->all[i].type);
+        unknown++;
+    }
+    HOLDS(told == unknown);
+    if (unknown < room) HOLDS(is_filled(types + unknown, (room - unknown) * sizeof *types));
+}
+
+/* A text of a message is found in each room that has at least its length, and cut in each other. */
+static void check_text(const uint8_t *bytes, size_t length, stun_types_answer parsed,
+                       unsigned cut) {
+    static char whole[PRINTED_MOST];
+    size_t written = 0, part = 0, room;
+    char *cut_text;
+    stun_types_answer answer = stun_types_print(bytes, length, whole, sizeof whole, &written);
+    HOLDS(is_same(answer, parsed));
+    if (answer.code != STUN_TYPES_OK) return;
+    HOLDS(written > 2 && memcmp(whole, "Message(class: ", 15) == 0);
+    HOLDS(memcmp(whole + written - 2, "])", 2) == 0);
+    HOLDS(model_is_utf8((const uint8_t *)whole, written));
+    room = cut % 2 == 0 ? written : cut % written;
+    cut_text = (char *)big_place(PRINTED, room);
+    answer = stun_types_print(bytes, length, cut_text, room, &part);
+    if (room == written) HOLDS(answer.code == STUN_TYPES_OK && part == written);
+    else HOLDS(is_same(answer, model_answer(STUN_TYPES_TOO_SMALL, 0, written, room)));
+    HOLDS(memcmp(cut_text, whole, room) == 0);
+}
+
+static void check_validation(const uint8_t *bytes, size_t length, source *from) {
+    static const stun_types_policy lax = {STUN_TYPES_INTEGRITY_ANY, 16, 0, 0};
+    const stun_types_policy *policy = take_policy(from);
+    const pair *one = &pairs[take(from) % PAIRS];
+    stun_types_validated *told = NEW(stun_types_validated), *other = NEW(stun_types_validated);
+    stun_types_validated expected;
+    stun_types_answer answer = model_validate(bytes, length, policy, &one->model, &expected);
+    HOLDS(is_same(stun_types_validate_by_policy(bytes, length, policy, &one->key, told), answer));
+    HOLDS(memcmp(told, &expected, sizeof expected) == 0);
+    answer = model_validate(bytes, length, &lax, &pairs[PASSWORD].model, &expected);
+    HOLDS(is_same(stun_types_validate(bytes, length, &pairs[PASSWORD].key, told), answer));
+    HOLDS(memcmp(told, &expected, sizeof expected) == 0);
+    if (length % 8 != 0) return;
+    HOLDS(is_same(stun_types_validate_short_term(bytes, length, "pass", 4, other), answer));
+    HOLDS(memcmp(told, other, sizeof *told) == 0);
+}
+
+void check_read(const uint8_t *original, size_t length, source *from) {
+    static model_list shown;
+    const uint8_t *bytes = give(original, length);
+    size_t told = 99, expected = 99;
+    stun_types_header header;
+    stun_types_answer parsed = model_parse(bytes, length), answer;
+    model_shown(bytes, length, &shown);
+    HOLDS(is_same(stun_types_parse(bytes, length), parsed));
+    answer = model_framed(bytes, length, &expected);
+    HOLDS(is_same(stun_types_framed_length(bytes, length, &told), answer));
+    HOLDS(told == expected);
+    answer = model_header(bytes, length);
+    HOLDS(is_same(stun_types_read_header(bytes, length, &header), answer));
+    if (answer.code == STUN_TYPES_OK) {
+        HOLDS(header.type == model_number(bytes) && header.length == model_number(bytes + 2));
+        HOLDS(stun_types_message_type(header.message_class, header.method) == header.type);
+        HOLDS(memcmp(header.id.bytes, bytes + 8, 12) == 0);
+    }
+    check_walk(bytes, length, &shown, from);
+    check_finding(bytes, length, &shown, from);
+    check_unknown(bytes, length, &shown, from);
+    check_outside(bytes, length, from);
+    check_text(bytes, length, parsed, take_two(from));
+    check_validation(bytes, length, from);
+    check_servers(bytes, length, &shown, from);
+    check_clients(bytes, length, &shown, from);
+    HOLDS(length == 0 || memcmp(bytes, original, length) == 0);
+}
