@@ -235,7 +235,7 @@ static draft begun(const stun_types_id *id) {
 /* Answers with the value of the only attribute of a message, or why it wasn't added. */
 static void answer_value(const draft *message, stun_types_answer result) {
     stun_types_attribute attribute;
-    stun_types_cursor cursor = {0, 0};
+    stun_types_cursor cursor = STUN_TYPES_CURSOR;
     if (!is_taken(result)) {
         CHECK(message->written == 20);
         return;

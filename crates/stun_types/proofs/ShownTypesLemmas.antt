@@ -1,5 +1,5 @@
 -- The types of the attributes that an iterator over a message has yielded.
-use Rattle.std.proofs.Common.{◌≡◌, ℕ, zero, suc, ◌<◌, Bool, true, false, cond, List, [], ◌∷◌, ◌++◌, length, get_or, take, drop, map, refl, sym, ap, ◌∙◌, arith}
+use Rattle.std.proofs.Common.{◌≡◌, ℕ, Bool, true, false, cond, List, [], ◌∷◌, ◌++◌, map, refl, ap, ◌∙◌}
 use Rattle.std.specs.List.{filter}
 use Rattle.std.proofs.lemmas.List.{map-append, append-nil}
 use Rattle.std.proofs.lemmas.List.Elements.{filter-append}
@@ -29,26 +29,6 @@ views_types (a ∷ attributes) = ap (λ (ts : List AttributeType). record { 0 = 
 -- all items are yielded
 pub all_types : (d : List ℕ) (items : List (ℕ × RawAttribute)) → map item_view items ≡ borrowed (shown d) → map item_type items ≡ shown_types d
 all_types d items e = items_types items ∙ ap (map view_type) e ∙ views_types (shown d)
-
--- the types that are shown: those of the items so far, of the next one, and others
-pub record SoFar (d : List ℕ) (items : List (ℕ × RawAttribute)) (type : AttributeType) : Type 0 where
-  pub others : List AttributeType
-  pub whole : shown_types d ≡ map item_type items ++ type ∷ others
-
-split_at : {A : Type 0} (xs : List A) (n : ℕ) (x : A) → n < length xs → xs ≡ take n xs ++ get_or xs n x ∷ drop (suc n) xs
-split_at [] n x within = absurd (omega (arith, within))
-split_at (y ∷ xs) zero x within = refl
-split_at (y ∷ xs) (suc n) x within = ap (λ (l : List _). y ∷ l) (split_at xs n x (omega (arith, within)))
-
-pub so_far : (d : List ℕ) (items : List (ℕ × RawAttribute)) (item : ℕ × RawAttribute) → map item_view items ≡ take (length items) (borrowed (shown d))
-    → length items < length (borrowed (shown d)) → item_view item ≡ get_or (borrowed (shown d)) (length items) (item_view item) → SoFar d items (item_type item)
-so_far d items item front within is =
-    let all = borrowed (shown d) in
-    let split : all ≡ map item_view items ++ item_view item ∷ drop (suc (length items)) all = split_at all (length items) (item_view item) within ∙ rw (front, ← is) refl in
-    record {
-      others = map view_type (drop (suc (length items)) all);
-      whole = sym (views_types (shown d)) ∙ ap (map view_type) split ∙ map-append view_type (map item_view items) (item_view item ∷ drop (suc (length items)) all) ∙ ap (λ (ts : List AttributeType). ts ++ item_type item ∷ map view_type (drop (suc (length items)) all)) (sym (items_types items));
-    }
 
 -- ---- The types that pass a test
 
