@@ -107,7 +107,8 @@ def check_removal(name, folder):
             lines = re.findall(r"^    (.*/usr/local.*) && ldconfig$", text, re.M)
             for line in lines:
                 quoted = line.replace("/usr/local", shlex.quote(str(prefix)))
-                said_by(["sh", "-c", quoted], cwd=folder / "first")
+                elsewhere = {**os.environ, "PREFIX": "/nowhere", "DESTDIR": "/nowhere"}
+                said_by(["sh", "-c", quoted], cwd=folder / "first", env=elsewhere)
                 if line is lines[0] and not (prefix / "include/stun_types.h").is_file():
                     wrong.append("it isn't installed")
             wrong += [f"{it} is left" for it in tree(prefix)]

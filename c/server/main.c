@@ -17,7 +17,7 @@
  * the counts at SIGHUP, at SIGUSR1 and at the end, which SIGTERM and SIGINT bring. At SIGHUP the
  * file of settings is read again.
  *
- * The status is 0 if it ran, 1 if it couldn't begin or gave up, and 2 if the arguments are wrong. */
+ * The status is 0 if it ran, 1 if it couldn't begin or gave up, 2 if the arguments are wrong. */
 #include "server.h"
 
 #include <fcntl.h>

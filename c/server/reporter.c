@@ -59,33 +59,33 @@ int open_reports(const char *where) {
 }
 
 /* Waits for a second at most until something can be read. */
-static bool can_read(int socket) {
+static bool can_read(int socket, tally *mine) {
     struct pollfd waits = {.fd = socket, .events = POLLIN};
+    raise_by(&mine->beats, 1);
     return poll(&waits, 1, SECOND) > 0;
 }
 
 /* Answers a request, and waits until the client has read the answer. */
-static void report(int client, const char *text, size_t length) {
+static void report(int client, const char *text, size_t length, tally *mine) {
     char dropped[4096];
-    if (!can_read(client) || recv(client, dropped, sizeof dropped, 0) <= 0) return;
+    if (!can_read(client, mine) || recv(client, dropped, sizeof dropped, 0) <= 0) return;
     if (send(client, text, length, MSG_NOSIGNAL) < 0) return;
     shutdown(client, SHUT_WR);
-    if (can_read(client)) (void)recv(client, dropped, sizeof dropped, 0);
+    if (can_read(client, mine)) (void)recv(client, dropped, sizeof dropped, 0);
 }
 
 void serve_reports(int listener, const tally *tallies, size_t tallies_count, uint64_t began,
                    tally *mine) {
     static char room[COUNTS_ROOM];
     while (!ending) {
-        raise_by(&mine->beats, 1);
-        if (!can_read(listener)) continue;
+        if (!can_read(listener, mine)) continue;
         int client = accept4(listener, NULL, NULL, SOCK_CLOEXEC | SOCK_NONBLOCK);
         if (client < 0) {
             if (errno != EAGAIN) poll(NULL, 0, SECOND);
             continue;
         }
         uint64_t uptime = (milliseconds() - began) / SECOND;
-        report(client, room, write_counts(tallies, tallies_count, uptime, room));
+        report(client, room, write_counts(tallies, tallies_count, uptime, room), mine);
         close(client);
     }
 }

@@ -96,10 +96,10 @@ static void load(program *to, size_t offset) {
         (struct sock_filter)BPF_STMT(BPF_LD | BPF_W | BPF_ABS, (uint32_t)offset);
 }
 
-/* Leaves out so many steps if what was loaded is another number. */
-static void unless_equal(program *to, uint32_t number, uint8_t steps) {
-    to->steps[to->count++] =
-        (struct sock_filter)BPF_JUMP(BPF_JMP | BPF_JEQ | BPF_K, number, 0, steps);
+/* Leaves out so many steps if what was loaded is a number, and so many if it is another. */
+static void compare(program *to, int number, uint8_t if_equal, uint8_t otherwise) {
+    to->steps[to->count++] = (struct sock_filter)BPF_JUMP(BPF_JMP | BPF_JEQ | BPF_K,
+                                                          (uint32_t)number, if_equal, otherwise);
 }
 
 static void end_by(program *to, uint32_t action) {
@@ -107,18 +107,25 @@ static void end_by(program *to, uint32_t action) {
 }
 
 static void allow(program *to, int call) {
-    unless_equal(to, (uint32_t)call, 1);
+    compare(to, call, 0, 1);
     end_by(to, SECCOMP_RET_ALLOW);
 }
 
-/* Allows a call of which one argument, an integer, is a number. (Both machines have the lower half
+enum { REQUIRED = 3 }; /* steps */
+
+/* Ends the process unless an argument, an integer, is a number. (Both machines have the lower half
  * of an argument first.) */
-static void allow_if(program *to, int call, int argument, int number) {
-    unless_equal(to, (uint32_t)call, 4);
+static void require(program *to, int argument, int number) {
     load(to, offsetof(struct seccomp_data, args) + 8 * (size_t)argument);
-    unless_equal(to, (uint32_t)number, 1);
-    end_by(to, SECCOMP_RET_ALLOW);
+    compare(to, number, 1, 0);
     end_by(to, SECCOMP_RET_KILL_PROCESS);
+}
+
+/* Allows a call of which one argument is a number. */
+static void allow_if(program *to, int call, int argument, int number) {
+    compare(to, call, 0, REQUIRED + 1);
+    require(to, argument, number);
+    end_by(to, SECCOMP_RET_ALLOW);
 }
 
 /* What a worker for UDP does: it sends by its own socket alone. */
@@ -138,8 +145,11 @@ static void allow_tcp(program *to) {
     for (size_t i = 0; i < sizeof calls / sizeof *calls; i++) allow(to, calls[i]);
     allow_if(to, SYS_sendto, 5, 0);
     allow_if(to, SYS_shutdown, 1, SHUT_WR);
-    allow_if(to, SYS_setsockopt, 2, SO_LINGER);
     allow_if(to, SYS_madvise, 2, MADV_DONTNEED);
+    compare(to, SYS_setsockopt, 0, 2 * REQUIRED + 1);
+    require(to, 1, SOL_SOCKET);
+    require(to, 2, SO_LINGER);
+    end_by(to, SECCOMP_RET_ALLOW);
 }
 
 static void allow_both(program *to) {
@@ -158,8 +168,7 @@ static void allow_both(program *to) {
 bool filter_calls(int own) {
     program made = {.count = 0};
     load(&made, offsetof(struct seccomp_data, arch));
-    unless_equal(&made, MACHINE, 1);
-    made.steps[made.count++] = (struct sock_filter)BPF_STMT(BPF_JMP | BPF_JA, 1);
+    compare(&made, (int)MACHINE, 1, 0);
     end_by(&made, SECCOMP_RET_KILL_PROCESS);
     load(&made, offsetof(struct seccomp_data, nr));
     if (own >= 0) allow_udp(&made, own);

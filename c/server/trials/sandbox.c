@@ -62,6 +62,17 @@ static int reuse_address(void) {
                                                                                             : -1;
 }
 
+/* (in TCP's level this is another option) */
+static int set_congestion(void) {
+    return setsockopt(OWN, IPPROTO_TCP, SO_LINGER, "reno", 4) == -1 && errno == EBADF ? 0 : -1;
+}
+
+static int set_linger(void) {
+    const struct linger none = {1, 0};
+    return setsockopt(OWN, SOL_SOCKET, SO_LINGER, &none, sizeof none) == -1 && errno == EBADF ? 0
+                                                                                              : -1;
+}
+
 static int close_none(void) { return close(-1) == -1 && errno == EBADF ? 0 : -1; }
 
 /* The last are what a worker does: over UDP, over TCP, and either. */
@@ -74,7 +85,8 @@ static const struct {
     {"start-program", start_program}, {"signal-parent", signal_parent},
     {"send-by-other", send_by_other}, {"send-to", send_to},
     {"end-listener", end_listener},   {"reuse-address", reuse_address},
-    {"send-by-own", send_by_own},     {"send-back", send_back},
+    {"set-congestion", set_congestion}, {"send-by-own", send_by_own},
+    {"send-back", send_back},         {"set-linger", set_linger},
     {"close", close_none},
 };
 

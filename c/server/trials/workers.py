@@ -201,8 +201,9 @@ def sandbox(programs):
     lines = [line.split() for line in out.splitlines()]
     version, can_filter = int(lines[0][1]), lines[0][3] == "1"
     met = {(kind, name): int(error) for kind, name, error in lines[1:]}
-    check(len(met) == 4 * 13, out)
-    allowed = {("udp", "send-by-own"), ("tcp", "send-back"), ("udp", "close"), ("tcp", "close")}
+    check(len(met) == 4 * 15, out)
+    allowed = {("udp", "send-by-own"), ("tcp", "send-back"), ("tcp", "set-linger"),
+               ("udp", "close"), ("tcp", "close")}
     closed = {"open-file", "make-file", "start-program"} if version >= 1 else set()
     closed |= {"signal-parent"} if version >= 6 else set()
     for (kind, name), error in met.items():
