@@ -38,14 +38,10 @@ bool is_same(stun_types_answer one, stun_types_answer other) {
            && one.actual == other.actual;
 }
 
-static bool holds_only(const void *bytes, size_t length, uint8_t byte) {
+bool is_filled(const void *bytes, size_t length) {
     const uint8_t *all = bytes;
-    return length == 0 || (all[0] == byte && memcmp(all, all + 1, length - 1) == 0);
+    return length == 0 || (all[0] == FILL && memcmp(all, all + 1, length - 1) == 0);
 }
-
-bool is_zero(const void *bytes, size_t length) { return holds_only(bytes, length, 0); }
-
-bool is_filled(const void *bytes, size_t length) { return holds_only(bytes, length, FILL); }
 
 /* ---- an input */
 
