@@ -308,13 +308,18 @@ STUN_TYPES_NODISCARD STUN_TYPES_NONNULL((3))
 stun_types_answer stun_types_read_header(const uint8_t *bytes, size_t length,
                                          stun_types_header *header);
 
-/* How far a walk over the attributes has come: it begins as STUN_TYPES_CURSOR. */
+/* How far a walk over the attributes of a message has come: it begins as STUN_TYPES_CURSOR. */
 typedef struct {
-    size_t index; /* how many attributes it has yielded */
-    uint64_t reserved;
+    size_t index;      /* how many attributes it has yielded */
+    size_t offset;     /* of the header that follows the last of them */
+    size_t length;     /* of the message that the last one was in */
+    uint64_t id_begin; /* the first eight bytes of its transaction ID, big-endian */
+    uint32_t id_end;   /* the last four of them */
+    uint16_t last;     /* the type of the last attribute */
+    uint16_t reserved;
 } stun_types_cursor;
 
-#define STUN_TYPES_CURSOR { 0, 0 }
+#define STUN_TYPES_CURSOR { 0, 0, 0, 0, 0, 0, 0 }
 
 /* STUN_TYPES_CURSOR, for languages that read no macros. */
 STUN_TYPES_NODISCARD
@@ -324,10 +329,11 @@ stun_types_cursor stun_types_cursor_first(void);
    MESSAGE-INTEGRITY, MESSAGE-INTEGRITY-SHA256 and FINGERPRINT each, in this order (RFC 8489,
    sections 14.5 to 14.7). False if there are no more, and from then on: cursor and attribute stay
    as they were. The bytes need not parse: they show nothing if they have no header or another
-   length than it states. The cursor may be any: it yields the attribute of its index, and none if
-   `reserved` isn't 0. Each call reads the attributes before the one that it yields, so a walk over
-   16,383 empty attributes, as many as a message can have, reads 134 million headers: of messages that
-   may be long use stun_types_attributes. */
+   length than it states. A call reads one attribute, and a whole walk each attribute once.
+   The cursor may be any, and what is yielded lies within the bytes. With a message of another length
+   or transaction ID than that of the last attribute, it reads as many attributes as it has yielded
+   again, and yields the next one. With other bytes of the same length and ID, it yields what begins
+   at its offset, which may be within a value. It yields none if `reserved` isn't 0. */
 STUN_TYPES_NODISCARD STUN_TYPES_NONNULL((3, 4))
 bool stun_types_next(const uint8_t *bytes, size_t length, stun_types_cursor *cursor,
                      stun_types_attribute *attribute);
@@ -829,7 +835,8 @@ stun_types_answer stun_types_make_nonce(const stun_types_key *secret, uint32_t f
 /* What the server knows of the nonce in a request of this client, for stun_types_authenticate_long_term:
    it is valid; stale, if its window is over or its time is still to come; or unknown, if it was made by
    another secret, for another client or with other features. At most one HMAC is computed. A server
-   that changes its secret keeps the old one for a window, and calls this with both.
+   that changes its secret keeps the old one for a window, and calls this with both. If the call fails,
+   *state is NONCE_UNKNOWN.
    BAD_ARGUMENT, NO_KEY: as above. Allocates: OUT_OF_MEMORY. */
 STUN_TYPES_NODISCARD STUN_TYPES_NONNULL((1, 5, 8))
 stun_types_answer stun_types_judge_nonce(const stun_types_key *secret, uint32_t features,
@@ -1160,9 +1167,14 @@ STUN_TYPES_LAYOUT(attribute_size, sizeof(stun_types_attribute) == 16);
 STUN_TYPES_LAYOUT(attribute_value_at, offsetof(stun_types_attribute, value_at) == 0);
 STUN_TYPES_LAYOUT(attribute_type, offsetof(stun_types_attribute, type) == 8);
 STUN_TYPES_LAYOUT(attribute_length, offsetof(stun_types_attribute, length) == 10);
-STUN_TYPES_LAYOUT(cursor_size, sizeof(stun_types_cursor) == 16);
+STUN_TYPES_LAYOUT(cursor_size, sizeof(stun_types_cursor) == 40);
 STUN_TYPES_LAYOUT(cursor_index, offsetof(stun_types_cursor, index) == 0);
-STUN_TYPES_LAYOUT(cursor_reserved, offsetof(stun_types_cursor, reserved) == 8);
+STUN_TYPES_LAYOUT(cursor_offset, offsetof(stun_types_cursor, offset) == 8);
+STUN_TYPES_LAYOUT(cursor_length, offsetof(stun_types_cursor, length) == 16);
+STUN_TYPES_LAYOUT(cursor_id_begin, offsetof(stun_types_cursor, id_begin) == 24);
+STUN_TYPES_LAYOUT(cursor_id_end, offsetof(stun_types_cursor, id_end) == 32);
+STUN_TYPES_LAYOUT(cursor_last, offsetof(stun_types_cursor, last) == 36);
+STUN_TYPES_LAYOUT(cursor_reserved, offsetof(stun_types_cursor, reserved) == 38);
 STUN_TYPES_LAYOUT(address_size, sizeof(stun_types_address) == 20);
 STUN_TYPES_LAYOUT(address_octets, offsetof(stun_types_address, octets) == 0);
 STUN_TYPES_LAYOUT(address_port, offsetof(stun_types_address, port) == 16);

@@ -657,17 +657,22 @@ static void test_nonces(void) {
             PLAIN(STUN_TYPES_BAD_ARGUMENT));
     ANSWERS(stun_types_make_nonce(no_key(), 3, 600, 7, &client, bytes, 0, written),
             PLAIN(STUN_TYPES_NO_KEY));
+    /* (over memory of ones, and over what a call that succeeded left) */
     ANSWERS(stun_types_judge_nonce(no_key(), 4, 600, 7, &client, "", 0, state),
             PLAIN(STUN_TYPES_BAD_ARGUMENT));
+    CHECK(*state == STUN_TYPES_NONCE_UNKNOWN);
+    *state = STUN_TYPES_NONCE_VALID;
     ANSWERS(stun_types_judge_nonce(no_key(), 3, 600, 7, &other, "", 0, state),
             PLAIN(STUN_TYPES_BAD_ARGUMENT));
+    CHECK(*state == STUN_TYPES_NONCE_UNKNOWN);
+    *state = STUN_TYPES_NONCE_VALID;
     ANSWERS(stun_types_judge_nonce(no_key(), 3, 600, 7, &client, "", 0, state),
             PLAIN(STUN_TYPES_NO_KEY));
+    CHECK(*state == STUN_TYPES_NONCE_UNKNOWN);
     heap_allow(true);
     ANSWERS(stun_types_make_nonce(secret, 3, 600, 7, &client, bytes, 92, written),
             LENGTHS(STUN_TYPES_TOO_SMALL, 93, 92));
     CHECK(is_untouched(bytes, 93) && is_untouched(written, sizeof *written));
-    CHECK(is_untouched(state, sizeof *state));
     ANSWERS(stun_types_make_nonce(secret, 3, 600, 7, &client, bytes, 93, written), OK_ANSWER);
     heap_allow(false);
     CHECK(*written == 93);
@@ -685,6 +690,7 @@ static void test_nonces(void) {
         bytes = room(STUN_TYPES_NONCE_LENGTH);
         written = NEW(size_t);
         state = NEW(stun_types_nonce_state);
+        *state = STUN_TYPES_NONCE_VALID;
         heap_allow(true);
         heap_refuse(number);
         made = stun_types_make_nonce(secret, 3, 600, 7, &client, bytes, 93, written);
@@ -694,7 +700,7 @@ static void test_nonces(void) {
         heap_refuse(number);
         judged = stun_types_judge_nonce(secret, 3, 600, 8, &client, nonce.bytes, 93, state);
         if (judged.code == STUN_TYPES_OK) CHECK(*state == STUN_TYPES_NONCE_VALID);
-        else CHECK(is_untouched(state, sizeof *state) && judged.code == STUN_TYPES_OUT_OF_MEMORY);
+        else CHECK(*state == STUN_TYPES_NONCE_UNKNOWN && judged.code == STUN_TYPES_OUT_OF_MEMORY);
         heap_refuse(0);
         heap_allow(false);
         CHECK(heap_held() == held);

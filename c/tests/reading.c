@@ -1,5 +1,6 @@
 /* Reading with cursors and attributes that no walk gave, and into rooms that are too small. */
 #include <string.h>
+#include <time.h>
 
 #include "check.h"
 #include "tests.h"
@@ -10,21 +11,28 @@
 #define HEADER_5769(length) "0101" length "2112A442 B7E7A701BC34D686FA87DFAE"
 
 /* A cursor that no walk over these bytes left: it yields the attributes from its index on that they
-   show, and no others. */
+   show, and no others; or, if it names their length and their ID, what begins at its offset. */
 static const struct {
     const char *name;
     stun_types_cursor cursor;
     size_t count;
 } cursors[] = {
     {"the first", STUN_TYPES_CURSOR, 2},
-    {"of a message with one attribute", {1, 0}, 1},
-    {"of a message with two", {2, 0}, 0},
-    {"of a message with more", {20, 0}, 0},
-    {"the greatest", {SIZE_MAX, 0}, 0},
-    {"the greatest of 32 bits", {UINT32_MAX, 0}, 0},
-    {"a spare word that isn't 0", {0, 1}, 0},
-    {"a spare word that has the highest bit", {0, UINT64_C(1) << 63}, 0},
-    {"not zeroed", {(size_t)UINT64_C(0xEEEEEEEEEEEEEEEE), UINT64_C(0xEEEEEEEEEEEEEEEE)}, 0},
+    {"of a message with one attribute", {1, 32, 28, 0, 1000, 0x8022, 0}, 1},
+    {"of a message with two", {2, 36, 36, 0, 1000, 0x8029, 0}, 0},
+    {"of a message with more", {20, 100, 100, 0, 1000, 0x8029, 0}, 0},
+    {"of a message with another ID", {1, 24, 32, 1, 1000, 0x8022, 0}, 1},
+    {"of a message whose ID ends otherwise", {1, 24, 32, 0, 1001, 0x8022, 0}, 1},
+    {"of this message, behind the first", {1, 28, 32, 0, 1000, 0x8022, 0}, 1},
+    {"of this message, at its end", {2, 32, 32, 0, 1000, 0x8029, 0}, 0},
+    {"of this message, behind its end", {1, 33, 32, 0, 1000, 0x8022, 0}, 1},
+    {"of this message, in its header", {1, 19, 32, 0, 1000, 0, 0}, 1},
+    {"of this message, behind a FINGERPRINT", {1, 28, 32, 0, 1000, 0x8028, 0}, 0},
+    {"the greatest", {SIZE_MAX, 0, 0, 0, 0, 0, 0}, 0},
+    {"the greatest of 32 bits", {UINT32_MAX, 0, 0, 0, 0, 0, 0}, 0},
+    {"a spare word that isn't 0", {0, 0, 0, 0, 0, 0, 1}, 0},
+    {"a spare word that has the highest bit", {0, 0, 0, 0, 0, 0, 0x8000}, 0},
+    {"not zeroed", {SIZE_MAX, SIZE_MAX, SIZE_MAX, UINT64_MAX, UINT32_MAX, UINT16_MAX, UINT16_MAX}, 0},
 };
 
 static void test_cursors(void) {
@@ -57,7 +65,35 @@ static void test_cursors(void) {
     {
         const stun_types_cursor first = STUN_TYPES_CURSOR;
         const stun_types_cursor other = stun_types_cursor_first();
-        CHECK(first.index == other.index && first.reserved == other.reserved);
+        CHECK(memcmp(&first, &other, sizeof first) == 0);
+        CHECK(is_zero(&first, sizeof first));
+    }
+    row("stun_types_next, a cursor of these bytes", "an offset within a value");
+    {
+        /* (a value whose bytes are the header of an attribute) */
+        slice bytes = hex(HEADER("0008") "80220004 80290000");
+        stun_types_cursor *cursor = NEW(stun_types_cursor);
+        stun_types_attribute *attribute = NEW(stun_types_attribute);
+        *cursor = (stun_types_cursor){1, 24, 28, 0, 1000, 0, 0};
+        CHECK(stun_types_next(bytes.bytes, bytes.length, cursor, attribute));
+        CHECK(attribute->value_at == 28 && attribute->type == 0x8029 && attribute->length == 0);
+        CHECK(!stun_types_next(bytes.bytes, bytes.length, cursor, attribute));
+    }
+    row("stun_types_next, a walk", "as many attributes as a message can have");
+    {
+        enum { MOST = 16383 };
+        clock_t began;
+        uint8_t *message = room(20 + 4 * MOST);
+        stun_types_cursor *cursor = NEW(stun_types_cursor);
+        stun_types_attribute *attribute = NEW(stun_types_attribute);
+        memcpy(message, hex(HEADER("FFFC")).bytes, 20);
+        for (i = 0; i < MOST; i++) memcpy(message + 20 + 4 * i, "\x80\x22\0\0", 4);
+        memset(cursor, 0, sizeof *cursor);
+        began = clock();
+        for (count = 0; stun_types_next(message, 20 + 4 * MOST, cursor, attribute); count++) {}
+        CHECK(count == MOST && attribute->value_at == 20 + 4 * MOST);
+        /* (a millisecond; half a second is less than a tenth of what it takes to walk anew) */
+        CHECK(2 * (clock() - began) < CLOCKS_PER_SEC);
     }
 }
 

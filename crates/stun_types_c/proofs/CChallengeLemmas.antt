@@ -8,7 +8,7 @@ use Rattle.stun_grammar.specs.Numbers.{IsBytes}
 use Rattle.stun_types.specs.LookingUp.{nth}
 use Rattle.stun_values.specs.TextValues.{text_max, text_fault}
 use Rattle.stun_values.specs.declared.algorithm.PasswordAlgorithmValue.{PasswordAlgorithmValue}
-use Rattle.stun_authentication.specs.Challenges.{CChallenge, challenge_of, by_list, by_texts, by_algorithm, by_credentials, selected, repeats, lost_list, is_bid_down, text_of, text_in, list_of}
+use Rattle.stun_authentication.specs.Challenges.{Asked, challenge_of, by_list, by_texts, by_algorithm, by_credentials, selected, repeats, lost_list, is_bid_down, text_of, text_in, list_of}
 use Rattle.stun_authentication.specs.declared.challenge.NoRetry.TheVariants.{NotAChallenge, BidDown, Incomplete, NoAlgorithm, SameCredentials}
 use Rattle.stun_authentication.specs.Codes.{is_challenge}
 use Rattle.stun_authentication.specs.Cookies.{security_features, is_anonymous}
@@ -38,18 +38,18 @@ text_value : (most : ℕ) (o : Option (List ℕ)) (text : List ℕ) → option_a
 text_value most None text h = h
 text_value most (Some value) text h = ap (λ (v : List ℕ). Some v) (whole_text (is_some (text_fault most value)) value text h)
 
-record IsOf (d : List ℕ) (asked : CChallenge) : Type 0 where
+record IsOf (d : List ℕ) (asked : Asked) : Type 0 where
   realm : text_of text_max REALM d ≡ Some asked.realm
   nonce : text_of text_max NONCE d ≡ Some asked.nonce
   list : list_of d ≡ asked.list
 
-by_credentials_of : (tried : Option (List ℕ)) (wanted asked : CChallenge) (d : List ℕ) → by_credentials tried wanted d ≡ Ok asked → wanted ≡ asked
+by_credentials_of : (tried : Option (List ℕ)) (wanted asked : Asked) (d : List ℕ) → by_credentials tried wanted d ≡ Ok asked → wanted ≡ asked
 by_credentials_of tried wanted asked d h =
     let same = unless_ok (repeats tried wanted.realm d) SameCredentials (Ok wanted) asked h in cc same
 
-by_algorithm_of : (supported : List PasswordAlgorithmValue) (tried : Option (List ℕ)) (realm nonce d : List ℕ) (asked : CChallenge) → by_algorithm supported tried realm nonce d ≡ Ok asked → (realm ≡ asked.realm) × (nonce ≡ asked.nonce) × (list_of d ≡ asked.list)
+by_algorithm_of : (supported : List PasswordAlgorithmValue) (tried : Option (List ℕ)) (realm nonce d : List ℕ) (asked : Asked) → by_algorithm supported tried realm nonce d ≡ Ok asked → (realm ≡ asked.realm) × (nonce ≡ asked.nonce) × (list_of d ≡ asked.list)
 by_algorithm_of supported tried realm nonce d asked h =
-    let wanted : PasswordAlgorithmValue → CChallenge = λ a. record {
+    let wanted : PasswordAlgorithmValue → Asked = λ a. record {
       realm = realm;
       nonce = nonce;
       list = list_of d;
@@ -58,9 +58,9 @@ by_algorithm_of supported tried realm nonce d asked h =
     } in
     let chosen = some_ok (λ a. by_credentials tried (wanted a) d) (selected supported (list_of d)) NoAlgorithm asked h in
     let is = by_credentials_of tried (wanted chosen.0) asked d chosen.2 in
-    (ap (λ (a : CChallenge). a.realm) is, ap (λ (a : CChallenge). a.nonce) is, ap (λ (a : CChallenge). a.list) is)
+    (ap (λ (a : Asked). a.realm) is, ap (λ (a : Asked). a.nonce) is, ap (λ (a : Asked). a.list) is)
 
-is_of : (supported : List PasswordAlgorithmValue) (tried seen : Option (List ℕ)) (d : List ℕ) (asked : CChallenge) → challenge_of supported tried seen d ≡ Ok asked → IsOf d asked
+is_of : (supported : List PasswordAlgorithmValue) (tried seen : Option (List ℕ)) (d : List ℕ) (asked : Asked) → challenge_of supported tried seen d ≡ Ok asked → IsOf d asked
 is_of supported tried seen d asked h =
     let listed = if_ok (is_challenge d) NotAChallenge (by_list supported tried seen d) asked h in
     let texts = unless_ok (is_bid_down d || lost_list seen d) BidDown (by_texts supported tried d) asked listed in
@@ -91,7 +91,7 @@ list_stands : (d : List ℕ) (o : Option Shown) → ((x : Shown) → o ≡ Some 
 list_stands d None there = refl
 list_stands d (Some x) there = there x refl
 
-pub asked_there : (supported : List PasswordAlgorithmValue) (tried seen : Option (List ℕ)) (d : List ℕ) (asked : CChallenge) → IsBytes d → challenge_of supported tried seen d ≡ Ok asked → StandsWhereReported d asked (in_c d asked)
+pub asked_there : (supported : List PasswordAlgorithmValue) (tried seen : Option (List ℕ)) (d : List ℕ) (asked : Asked) → IsBytes d → challenge_of supported tried seen d ≡ Ok asked → StandsWhereReported d asked (in_c d asked)
 asked_there supported tried seen d asked bytes h =
     let of = is_of supported tried seen d asked h in
     let there : (type : ℕ) (x : Shown) → nth d type 0 ≡ Some x → slice_range d (x.offset + 4) (x.offset + 4 + length x.value) ≡ x.value = λ type x e. range_there d type x bytes e in

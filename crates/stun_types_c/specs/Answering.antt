@@ -7,7 +7,7 @@ use Rattle.stun_keys.specs.declared.keys.integrity_key.IntegrityKey.{IntegrityKe
 use Rattle.stun_keys.specs.Keys.{IsKey, key_bytes}
 use Rattle.stun_values.specs.TextValues.{username_max}
 use Rattle.stun_authentication.specs.declared.challenge.NoRetry.{NoRetry}
-use Rattle.stun_authentication.specs.Challenges.{CChallenge, challenge_of, signing_algorithm}
+use Rattle.stun_authentication.specs.Challenges.{Asked, challenge_of, signing_algorithm}
 use Rattle.stun_authentication.specs.Requests.{credentials, user_key}
 use Rattle.stun_types_c.specs.declared.call_result.CResult.{CResult}
 use Rattle.stun_types_c.specs.CResults.{plain, counted, parse_result, Refuses}
@@ -19,13 +19,13 @@ use Rattle.stun_types_c.specs.Steps.{Then, AddsEach, Ends}
 use Rattle.stun_types_c.specs.Writing.{Written, serving_answer}
 
 -- what is asked for, or why the request isn't sent again, in C's numbers
-abbrev pub in_answer : Result CChallenge NoRetry → Result CChallenge CResult
+abbrev pub in_answer : Result Asked NoRetry → Result Asked CResult
 in_answer (Ok asked) = Ok asked
 in_answer (Err reason) = Err (retry_answer reason)
 
 -- what d asks for of a client that supports the algorithms of these numbers, or why there is nothing
 -- to answer
-abbrev pub challenge_in : (numbers d : List ℕ) → Result CChallenge CResult
+abbrev pub challenge_in : (numbers d : List ℕ) → Result Asked CResult
 challenge_in numbers d =
     option_map_or (λ supported.
     option_map_or (λ e. Err (parse_result e)) (parse_fault d)
@@ -34,7 +34,7 @@ challenge_in numbers d =
 
 -- a handle holds the key of a user in the realm of the challenge, by the password algorithm that it
 -- asks for
-abbrev pub HoldsAsked : CChallenge → (user password : List ℕ) → CResult
+abbrev pub HoldsAsked : Asked → (user password : List ℕ) → CResult
     → (old new : Option IntegrityKey) → Type 0
 HoldsAsked asked user password result old new =
     WithTexts user asked.realm password
@@ -58,7 +58,7 @@ name_answer name =
     then Some (counted TOO_LARGE username_max (length name)) else None)
 
 -- what the challenge asks for is added for a user, and the request is signed with a key
-abbrev pub AddsAnswer : CChallenge → (name : List ℕ) → (fingerprint : Bool) → (key : List ℕ) → CResult
+abbrev pub AddsAnswer : Asked → (name : List ℕ) → (fingerprint : Bool) → (key : List ℕ) → CResult
     → Written
     → Written → Type 0
 AddsAnswer asked name fingerprint key =

@@ -5,7 +5,6 @@ use Rattle.stun_grammar.specs.Showing.{shown}
 use Rattle.stun_types.specs.Iterating.{shown_behind}
 use Rattle.stun_types_c.specs.declared.attribute.ShownAttribute.{ShownAttribute}
 use Rattle.stun_types_c.specs.declared.attribute.Place.{Place}
-use Rattle.stun_types_c.specs.declared.attribute.Cursor.{Cursor}
 
 -- an attribute in C's form: the offset of its value, its type, and its length
 abbrev pub in_c : Shown → ShownAttribute
@@ -23,19 +22,11 @@ pub record TakesFirst (at : Place) (found : ShownAttribute) (next : Place) (d : 
   pub shows : shown_behind at.last at.offset d ≡ first ∷ shown_behind next.last next.offset d
   pub is_first : found ≡ in_c first
 
--- the attributes that a walk has yet to yield, whatever its cursor: those that d shows, but for as
--- many as it has yielded; none if the cursor's spare word isn't 0
-abbrev pub left : Cursor → List ℕ → List Shown
-left cursor d = if cursor.reserved == 0 then drop cursor.index (shown d) else []
-
--- a step of a walk yields the first attribute that is left, and leaves the others; if none is
--- left, nothing changes
-abbrev pub Steps : Bool → List Shown → List Shown → ShownAttribute → Type 0
-Steps result before after yielded =
-    elim result [
-      | false ↦ before ≡ []
-      | true ↦ (a : Shown) × (before ≡ a ∷ after) × (yielded ≡ in_c a)
-    ]
+-- a place of d behind its header from where on d shows these attributes
+pub record IsPlaceOf (attributes : List Shown) (d : List ℕ) (at : Place) : Type 0 where
+  pub behind : 20 ≤ at.offset
+  pub within : at.offset ≤ length d
+  pub shows : shown_behind at.last at.offset d ≡ attributes
 
 -- attributes in C's form, laid over the first of C's, as many as there is room for
 abbrev pub laid_over : List ShownAttribute → List ShownAttribute → List ShownAttribute

@@ -9,9 +9,9 @@ use Rattle.stun_values.specs.declared.algorithm.PasswordAlgorithmValue.{Password
 use Rattle.stun_values.specs.Algorithms.{algorithm_number}
 use Rattle.stun_authentication.specs.declared.challenge.NoRetry.{NoRetry}
 use Rattle.stun_authentication.specs.declared.challenge.NoRetry.TheVariants.{NotAChallenge, BidDown, Incomplete, NoAlgorithm, SameCredentials}
-use Rattle.stun_authentication.specs.Challenges.{CChallenge, challenge_of, signing_algorithm}
+use Rattle.stun_authentication.specs.Challenges.{Asked, challenge_of, signing_algorithm}
 use Rattle.stun_types_c.specs.declared.call_result.CResult.{CResult}
-use Rattle.stun_types_c.specs.declared.challenges.CChallenge.{CChallenge as CChallengeInC}
+use Rattle.stun_types_c.specs.declared.challenges.CChallenge.{CChallenge}
 use Rattle.stun_types_c.specs.Codes.{OK, INVALID_DATA, BAD_ARGUMENT, NOT_A_CHALLENGE, BID_DOWN, INCOMPLETE, NO_ALGORITHM, SAME_CREDENTIALS}
 use Rattle.stun_types_c.specs.CResults.{plain, parse_result, Refuses}
 use Rattle.stun_types_c.specs.Attributes.{in_c as attribute_in_c}
@@ -31,7 +31,7 @@ abbrev pub value_at : ℕ → List ℕ → ℕ
 value_at type d = option_map_or (λ a. (attribute_in_c a).value_at) (nth d type 0) 0
 
 -- what d asks for, in C's numbers, and where it is in d
-abbrev pub in_c : List ℕ → CChallenge → CChallengeInC
+abbrev pub in_c : List ℕ → Asked → CChallenge
 in_c d asked = record {
   realm_at = value_at REALM d;
   realm_length = length asked.realm;
@@ -46,7 +46,7 @@ in_c d asked = record {
 }
 
 -- what is asked for is in d at the place that is reported to C
-pub record StandsWhereReported (d : List ℕ) (asked : CChallenge) (reported : CChallengeInC) : Type 0 where
+pub record StandsWhereReported (d : List ℕ) (asked : Asked) (reported : CChallenge) : Type 0 where
   pub realm : slice_range d reported.realm_at (reported.realm_at + reported.realm_length) ≡ asked.realm
   pub nonce : slice_range d reported.nonce_at (reported.nonce_at + reported.nonce_length) ≡ asked.nonce
   pub list : MatchOption asked.list (reported.algorithms_at ≡ 0)
@@ -66,7 +66,7 @@ abbrev pub seen_in : (was_seen : Bool) → Option (List ℕ)
 seen_in was_seen = if was_seen then Some [] else None
 
 -- what d asks for is reported, or why the request isn't sent again
-abbrev pub TellsChallenge : List ℕ → Result CChallenge NoRetry → CResult → (old new : CChallengeInC)
+abbrev pub TellsChallenge : List ℕ → Result Asked NoRetry → CResult → (old new : CChallenge)
     → Type 0
 TellsChallenge d reported result old new =
     MatchResult reported
@@ -77,7 +77,7 @@ TellsChallenge d reported result old new =
 -- algorithms
 abbrev pub ReadsFor : List PasswordAlgorithmValue → (tried seen : Option (List ℕ)) → (d : List ℕ)
     → CResult
-    → (old new : CChallengeInC) → Type 0
+    → (old new : CChallenge) → Type 0
 ReadsFor supported tried seen d result old new =
     MatchOption (parse_fault d)
     (TellsChallenge d (challenge_of supported tried seen d) result old new)
@@ -86,7 +86,7 @@ ReadsFor supported tried seen d result old new =
 -- the same by the numbers of the algorithms
 abbrev pub ReadsChallenge : (numbers : List ℕ) → (tried seen : Option (List ℕ)) → (d : List ℕ)
     → CResult
-    → (old new : CChallengeInC) → Type 0
+    → (old new : CChallenge) → Type 0
 ReadsChallenge numbers tried seen d result old new =
     MatchOption (password_algorithms_named numbers)
     (Refuses (plain BAD_ARGUMENT) result old new)

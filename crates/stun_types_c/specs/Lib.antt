@@ -2,6 +2,7 @@ pub mod Codes
 pub mod CResults
 pub mod CodeTexts
 pub mod Attributes
+pub mod Cursors
 pub mod Reading
 pub mod Values
 pub mod Addresses

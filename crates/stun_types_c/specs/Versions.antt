@@ -1,6 +1,6 @@
 -- The version, and what C reads where a schedule, a key and a walk begin.
 use Rattle.std.specs.Prelude.{ℕ, ◌+◌, ◌*◌}
-use Rattle.stun_types_c.specs.declared.attribute.Cursor.{Cursor}
+use Rattle.stun_types_c.specs.declared.cursor.Cursor.{Cursor}
 use Rattle.stun_types_c.specs.declared.transactions.CSchedule.{CSchedule}
 use Rattle.stun_types_c.specs.declared.versions.NoKey.{NoKey}
 
@@ -26,4 +26,12 @@ no_key = record { at = 0; held = 0 }
 
 -- a walk that has yielded nothing
 abbrev pub first : Cursor
-first = record { index = 0; reserved = 0 }
+first = record {
+  index = 0;
+  offset = 0;
+  length = 0;
+  id_begin = 0;
+  id_end = 0;
+  last = 0;
+  reserved = 0;
+}

@@ -1,12 +1,14 @@
 //! Attributes, a walk over them, and a look-up.
 
-ghost use Rattle.std.specs.Prelude.{◌≡◌, ◌≤◌, ◌<◌, [], false, length, Some, None, IfSome, MatchOption, slice_get, slice_set};
+ghost use Rattle.std.specs.Prelude.{◌≡◌, ◌≤◌, ◌<◌, [], false, length, drop, Some, None, MatchOption, slice_set};
 ghost use Rattle.std.specs.Option.{option_map};
 ghost use Rattle.stun_grammar.specs.Showing.{shown};
 ghost use Rattle.stun_types.specs.Iterating.{shown_behind};
 ghost use Rattle.stun_types.specs.LookingUp.{nth};
-ghost use Rattle.stun_types_c.specs.Attributes.{in_c, first_of_type, left, TakesFirst, Steps, Lists, Tells};
+ghost use Rattle.stun_types_c.specs.Attributes.{in_c, first_of_type, TakesFirst, IsPlaceOf, Lists, Tells};
+ghost use Rattle.stun_types_c.specs.Cursors.{left, Steps};
 
+use crate::cursor::Cursor;
 use stun_types::message::MessageHeader;
 use stun_types::message::framed::{check_frame, shown_at};
 
@@ -22,30 +24,18 @@ pub struct ShownAttribute {
     pub length: u16,
 }
 
-/// How far a walk over the attributes has come.
-#[repr(C)]
-#[derive(Clone, Copy, Drop)]
-pub struct Cursor {
-    /// How many attributes it has yielded.
-    pub index: usize,
-    /// 0.
-    pub reserved: u64,
-}
-
 /// Where what is left of a message's attributes begins.
 #[derive(Clone, Copy)]
-struct Place {
+pub(crate) struct Place {
     /// The offset of the next attribute's header.
-    offset: usize,
+    pub(crate) offset: usize,
     /// The type of the attribute before it, or 0.
-    last: u16,
+    pub(crate) last: u16,
 }
 
 /// The beginning of a message's attributes.
 fn start(bytes: &[u8]) -> Option<Place>
-    ensures { MatchOption result (shown bytes.now ≡ [])
-        (λ at. (at.offset ≤ length bytes.now)
-        × (shown_behind at.last at.offset bytes.now ≡ shown bytes.now)) }
+    ensures { MatchOption result (shown bytes.now ≡ []) (IsPlaceOf (shown bytes.now) bytes.now) }
 {
     match check_frame(bytes) {
         Ok(()) => Some(Place {
@@ -77,32 +67,38 @@ fn step(bytes: &[u8], at: Place) -> Option<(ShownAttribute, Place)>
     Some((found, next))
 }
 
-/// The attribute at an index among those that are left.
-fn nth_from(bytes: &[u8], from: Place, index: usize) -> Option<ShownAttribute>
-    requires { from.offset ≤ length bytes.now }
-    ensures found { option_map in_c
-        (slice_get (shown_behind from.last from.offset bytes.now) index) ≡ result }
-    ensures few { IfSome result (λ _. index < length bytes.now) }
+/// What is left of a message's attributes after as many more.
+fn skip(bytes: &[u8], from: Place, count: usize) -> Option<Place>
+    requires behind { 20 ≤ from.offset }
+    requires within { from.offset ≤ length bytes.now }
+    ensures { let skipped = drop count (shown_behind from.last from.offset bytes.now) in
+        MatchOption result (skipped ≡ []) (IsPlaceOf skipped bytes.now) }
 {
     let mut at = from;
-    let mut before = index;
-    while let Some((found, next)) = step(bytes, at) {
-        if before == 0 {
-            return Some(found);
-        }
-        before -= 1;
+    let mut more = count;
+    while more > 0 {
+        let (_, next) = step(bytes, at)?;
         at = next;
+        more -= 1;
     }
-    None
+    Some(at)
 }
 
-/// The attribute at an index among those that a message shows.
-fn nth_shown(bytes: &[u8], index: usize) -> Option<ShownAttribute>
-    ensures found { option_map in_c (slice_get (shown bytes.now) index) ≡ result }
-    ensures few { IfSome result (λ _. index < length bytes.now) }
+/// What a walk has yet to yield of a message: where it has come to, or, if it was on the way
+/// through another one, what comes after as many attributes as it has yielded.
+fn place_left(cursor: &Cursor, bytes: &[u8]) -> Option<Place>
+    requires { cursor.now.reserved ≡ 0 }
+    ensures { MatchOption result (left cursor.now bytes.now ≡ [])
+        (IsPlaceOf (left cursor.now bytes.now) bytes.now) }
 {
-    let at = start(bytes)?;
-    nth_from(bytes, at, index)
+    if cursor.continues(bytes) {
+        return Some(Place {
+            offset: cursor.offset,
+            last: cursor.last,
+        });
+    }
+    let start = start(bytes)?;
+    skip(bytes, start, cursor.index)
 }
 
 /// The next attribute that a message shows; false if there are no more, and from then on.
@@ -120,14 +116,15 @@ pub extern "C" fn stun_types_next(
     if cursor.reserved != 0 {
         return false;
     }
-    match nth_shown(bytes, cursor.index) {
-        Some(found) => {
-            *attribute = found;
-            cursor.index += 1;
-            true
-        }
-        None => false,
-    }
+    let Some(at) = place_left(cursor, bytes) else {
+        return false;
+    };
+    let Some((found, next)) = step(bytes, at) else {
+        return false;
+    };
+    *attribute = found;
+    cursor.move_to(next, bytes);
+    true
 }
 
 /// Puts an attribute after as many others, if there is room for it.

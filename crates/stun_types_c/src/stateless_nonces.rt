@@ -3,6 +3,7 @@
 ghost use Rattle.std.specs.Prelude.{◌≡◌, ◌⊎◌, None, Some, MatchResult};
 ghost use Rattle.stun_keys.specs.Keys.{key_bytes};
 ghost use Rattle.stun_authentication.specs.Nonces.{minting, minting_of};
+ghost use Rattle.stun_authentication.specs.declared.nonces.Freshness.TheVariants.{Unknown};
 ghost use Rattle.stun_types_c.specs.KeyHandles.{shared_key};
 ghost use Rattle.stun_types_c.specs.StatelessNonces.{ByKey, ByMaker, Makes, Judges, secret_answer, state_number};
 ghost use Rattle.stun_types_c.specs.CResults.{plain};
@@ -144,8 +145,9 @@ pub extern "C" fn stun_types_judge_nonce(
     state: &mut u32,
 ) -> CResult
     ensures { ByMaker (Judges now nonce.now) (shared_key secret.now) features window client.now result
-        state.old state.new }
+        (state_number Unknown) state.new }
 {
+    *state = state_number(Freshness::Unknown);
     let Some(features) = features_of(features) else {
         return plain(codes::BAD_ARGUMENT);
     };

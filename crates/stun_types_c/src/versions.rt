@@ -4,7 +4,7 @@
 ghost use Rattle.std.specs.Prelude.{◌≡◌};
 ghost use Rattle.stun_types_c.specs.Versions.{version, default_waits, no_key, first};
 
-use crate::attribute::Cursor;
+use crate::cursor::Cursor;
 use crate::transactions::CSchedule;
 
 /// The number of the version: 1,000,000 for each of its first number, 1,000 for each of its second, and
@@ -57,6 +57,11 @@ pub extern "C" fn stun_types_cursor_first() -> Cursor
 {
     Cursor {
         index: 0,
+        offset: 0,
+        length: 0,
+        id_begin: 0,
+        id_end: 0,
+        last: 0,
         reserved: 0,
     }
 }

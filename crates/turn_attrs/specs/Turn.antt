@@ -1,6 +1,6 @@
 -- Attributes of TURN (RFC 8656, section 18; RFC 6062, section 6.2; RFC 7635, section 6; RFC 8016,
 -- section 3.3). Channels are defined in `Channels`.
-use Rattle.std.specs.Prelude.{◌≡◌, ℕ, ◌+◌, ◌*◌, ◌/◌, ◌%◌, ◌^◌, Bool, List, ◌∷◌, ◌++◌, codes, length, drop, slice_index, Option, Some, None, Result, nat_lt, nat_le, ◌==◌, if◌then◌else◌}
+use Rattle.std.specs.Prelude.{◌≡◌, ℕ, ◌+◌, ◌*◌, ◌/◌, ◌%◌, ◌^◌, Bool, List, ◌∷◌, ◌++◌, codes, length, drop, slice_index, Option, Some, None, Result, Err, IsOkAnd, MatchOption, nat_lt, nat_le, ◌==◌, if◌then◌else◌}
 use Rattle.std.specs.Fmt.{decimal}
 use Rattle.std.specs.Option.{option_or}
 use Rattle.stun_grammar.specs.declared.error.StunParseError.{StunParseError}
@@ -13,6 +13,9 @@ use Rattle.stun_attributes.specs.declared.error_code.ErrorCode.{ErrorCode}
 use Rattle.stun_attributes.specs.ErrorCodes.{error_code, error_reason, IsError}
 use Rattle.stun_attributes.specs.Texts.{text_bytes}
 use Rattle.stun_values.specs.TextValues.{text_fault}
+use Rattle.stun_grammar.specs.Lengths.{exact_fault}
+use Rattle.stun_grammar.specs.Numbers.{number}
+use Rattle.turn_attrs.specs.declared.lifetime.Lifetime.{Lifetime}
 use Rattle.turn_attrs.specs.declared.icmp.IcmpError.{IcmpError}
 use Rattle.turn_attrs.specs.declared.family.Ipv6AddressFamily.{Ipv6AddressFamily}
 use Rattle.turn_attrs.specs.declared.address_error_code.AddressErrorCode.{AddressErrorCode}

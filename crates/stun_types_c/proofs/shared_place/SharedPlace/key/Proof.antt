@@ -17,7 +17,7 @@ use types.Tokens.{shr_bor-open, obor_alter, bor_fracture}
 use contract.Monad.{fact}
 use contract.Running.{tables}
 use denote.Builtin.{RefOf}
-use denote.Copied.{reported_Cuts}
+use denote.Copied.{told_Cuts}
 use denote.Exit.{yes}
 use denote.Laws.{Is, Tells, Copy}
 use denote.Memory.{part_of, part_at, shared_of, cell_raw, raw_all}
@@ -124,7 +124,7 @@ key_spec 𝓤 𝓛 𝓜 𝓡 wired =
     let p = d.at in
     let pb = block_of p in
     let po = count_of p in
-    let halves = Cuts-Halves 𝓛 (Φ 𝓛 κ d b o) (reported_Cuts 𝓛 Place (λ d. word d.at ∷ []) tells (copies 𝓛) d b o) in
+    let halves = Cuts-Halves 𝓛 (Φ 𝓛 κ d b o) (told_Cuts 𝓛 Place (λ d. word d.at ∷ []) tells (copies 𝓛) d b o) in
     qed 𝓛 (((‵ (flft κ q) ⊛ ‵ ftrue) ⊛ ‵ (owns (types_at ended.signature.params z.0.0) z.0.3 z.0.4)) ∷ raw (fact 𝓤 (d.value ≢ None)) ∷ []) ∵
     move ! (1 ∷ []) $ heard ! (d.value ≢ None) (λ holds.
     let key = value_of d.value holds in
