@@ -11,7 +11,7 @@ static void check_judged(const model_server *server, const stun_types_key *secre
     HOLDS(is_same(stun_types_judge_nonce(secret, server->features, server->window, now,
                                          server->client, nonce.bytes, nonce.length, state),
                   fault));
-    if (fault.code != STUN_TYPES_OK) HOLDS(is_filled(state, sizeof *state));
+    if (fault.code != STUN_TYPES_OK) HOLDS(*state == STUN_TYPES_NONCE_UNKNOWN);
     else HOLDS((uint32_t)*state == model_nonce_state(server, now, nonce));
 }
 
