@@ -224,7 +224,8 @@ void take_request(text *message, source *from) {
 void take_response(text *message, source *from, unsigned method, const uint8_t *id) {
     static const uint8_t address[] = {0, 1, 0xA1, 0x47, 0xE1, 0x12, 0xA6, 0x43};
     static const uint8_t codes[][2] = {{4, 1}, {4, 38}, {4, 0}, {3, 0}, {4, 20}, {5, 0}, {7, 0}};
-    static const uint16_t others[] = {0x7FFE, 0x7FFF, 0x8000, 0x0001, 0x000A, 0x001D, 0x001E};
+    static const uint16_t others[]
+        = {0x7FFE, 0x7FFF, 0x8000, 0x0001, 0x0006, 0x000A, 0x001D, 0x001E};
     unsigned how = take(from), type = take(from);
     uint8_t error[6] = {0, 0, 0, 0, 'n', 'o'}, realm[764];
     memset(realm, 'r', sizeof realm);
