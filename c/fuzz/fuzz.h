@@ -22,7 +22,6 @@ void broken(const char *file, int line, const char *property);
 
 #define SUCCEEDS(call) HOLDS(is_same(call, FINE))
 bool is_same(stun_types_answer one, stun_types_answer other);
-bool is_zero(const void *bytes, size_t length);
 extern const stun_types_answer FINE, BAD_ARGUMENT;
 
 /* ---- inputs (inputs.c) */

@@ -38,14 +38,10 @@ bool is_same(stun_types_answer one, stun_types_answer other) {
            && one.actual == other.actual;
 }
 
-static bool holds_only(const void *bytes, size_t length, uint8_t byte) {
+bool is_filled(const void *bytes, size_t length) {
     const uint8_t *all = bytes;
-    return length == 0 || (all[0] == byte && memcmp(all, all + 1, length - 1) == 0);
+    return length == 0 || (all[0] == FILL && memcmp(all, all + 1, length - 1) == 0);
 }
-
-bool is_zero(const void *bytes, size_t length) { return holds_only(bytes, length, 0); }
-
-bool is_filled(const void *bytes, size_t length) { return holds_only(bytes, length, FILL); }
 
 /* ---- an input */
 
@@ -152,11 +148,31 @@ const uint8_t *give(const uint8_t *bytes, size_t length) {
 /* ---- arguments */
 
 model_text take_text(source *from, const char *often) {
+    /* the ends of the ranges of UTF-8 too */
     static const char *const others[]
-        = {"", "user", "realm", "pass", "example.org", "r\xC3\xA9lm", "\xE2\x82", "obMatJos2wAAA!"};
+        = {"",
+           "user",
+           "realm",
+           "pass",
+           "example.org",
+           "obMatJos2wAAA!",
+           "\xE2\x82",
+           "\xC1\xBF",
+           "\xC2\x80",
+           "\xE0\x9F\xBF",
+           "\xE0\xA0\x80",
+           "\xED\x9F\xBF",
+           "\xED\xA0\x80",
+           "\xED\xBF\xBF",
+           "\xEE\x80\x80",
+           "\xF0\x8F\xBF\xBF",
+           "\xF0\x90\x80\x80",
+           "\xF4\x8F\xBF\xBF",
+           "\xF4\x90\x80\x80",
+           "\xF8\x80\x80\x80"};
     uint8_t bytes[TEXT_MOST];
     unsigned how = take(from);
-    const char *word = how % 4 < 2 ? often : others[how / 8 % COUNT(others)];
+    const char *word = how % 4 < 2 ? often : others[how / 4 % COUNT(others)];
     size_t i;
     model_text told;
     if (how % 8 == 7) {

@@ -31,7 +31,7 @@ void append(text *message, unsigned type, const void *value, size_t length) {
 }
 
 void sign_cut(text *message, stun_types_integrity algorithm, const model_key *key, size_t length) {
-    uint8_t hmac[32];
+    uint8_t hmac[40] = {0};
     model_hmac(message->bytes, message->length, length, algorithm, key, hmac);
     append(message, algorithm == STUN_TYPES_INTEGRITY_SHA1 ? 0x0008 : 0x001C, hmac, length);
 }
@@ -93,6 +93,7 @@ void seed(text *message, unsigned which) {
     static const uint8_t v6[20] = {0, 2, 0xA1, 0x47, 1, 0x13, 0xA9, 0xFA};
     static const uint8_t priority[] = {0x6E, 0, 1, 0xFF}, unknown[] = {0, 0x1D, 0x7F, 0xFF};
     static const uint8_t list[] = {0, 2, 0, 0, 0, 1, 0, 0};
+    uint8_t error[768] = {0, 0, 4, 20};
     unsigned i;
     switch (which % 6) {
     case 0: /* a connectivity check */
@@ -123,7 +124,8 @@ void seed(text *message, unsigned which) {
         break;
     case 4: /* an error of unknown attributes */
         start(message, 0x0111, id);
-        append(message, 0x0009, "\0\0\4\x14Unknown", 11);
+        memset(error + 4, 'e', sizeof error - 4);
+        append(message, 0x0009, error, which / 256 % 8 == 7 ? 767 + which / 2048 % 2 : 11);
         append(message, 0x000A, unknown, sizeof unknown);
         sign(message, STUN_TYPES_INTEGRITY_SHA256, &pairs[PASSWORD].model);
         break;
@@ -159,10 +161,12 @@ void change(text *message, source *from) {
         case 4: shift(message, at / 4 * 4, 4, 0); break;
         case 5: shift(message, at / 4 * 4, 0, 4); break;
         case 6:
-            if (message->length >= 20)
-                sign(message,
-                     take(from) % 2 == 0 ? STUN_TYPES_INTEGRITY_SHA1 : STUN_TYPES_INTEGRITY_SHA256,
-                     &pairs[PASSWORD].model);
+            if (message->length < 20) break;
+            how = take(from);
+            if (how % 2 == 0) sign(message, STUN_TYPES_INTEGRITY_SHA1, &pairs[PASSWORD].model);
+            else
+                sign_cut(message, STUN_TYPES_INTEGRITY_SHA256, &pairs[PASSWORD].model,
+                         how / 2 % 4 == 3 ? 16 + how / 8 % 17 : 32);
             break;
         default:
             if (message->length >= 20) finger(message);
@@ -181,7 +185,9 @@ static void take_ending(text *message, source *from) {
     if (how % 4 == 1 || how % 4 == 2) sign(message, STUN_TYPES_INTEGRITY_SHA1, key);
     if (how % 4 == 2 || how % 4 == 3)
         sign_cut(message, STUN_TYPES_INTEGRITY_SHA256, key,
-                 how / 16 % 4 == 3 ? how / 64 * 4 + 16u : 32);
+                 how / 16 % 4 != 3 ? 32
+                 : how / 64 == 3   ? which % 40
+                                   : how / 64 * 4 + 16u);
     if (how / 4 % 2 == 0) finger(message);
     if (how / 8 % 16 == 15) change(message, from);
 }
@@ -224,6 +230,8 @@ void take_request(text *message, source *from) {
 void take_response(text *message, source *from, unsigned method, const uint8_t *id) {
     static const uint8_t address[] = {0, 1, 0xA1, 0x47, 0xE1, 0x12, 0xA6, 0x43};
     static const uint8_t codes[][2] = {{4, 1}, {4, 38}, {4, 0}, {3, 0}, {4, 20}, {5, 0}, {7, 0}};
+    static const uint16_t others[]
+        = {0x7FFE, 0x7FFF, 0x8000, 0x0001, 0x0006, 0x000A, 0x001D, 0x001E};
     unsigned how = take(from), type = take(from);
     uint8_t error[6] = {0, 0, 0, 0, 'n', 'o'}, realm[764];
     memset(realm, 'r', sizeof realm);
@@ -236,6 +244,6 @@ void take_response(text *message, source *from, unsigned method, const uint8_t *
     if (type / 16 % 4 != 3) append(message, 0x0014, "realm", 5);
     if (type / 16 % 4 != 2) take_nonce(message, from, false);
     if (how % 32 == 31)
-        append(message, type < 128 ? 0x7FFE + type % 4 : take_two(from), "12345678", 8);
+        append(message, type < 192 ? others[type % COUNT(others)] : take_two(from), "12345678", 8);
     take_ending(message, from);
 }

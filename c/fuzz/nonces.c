@@ -11,7 +11,7 @@ static void check_judged(const model_server *server, const stun_types_key *secre
     HOLDS(is_same(stun_types_judge_nonce(secret, server->features, server->window, now,
                                          server->client, nonce.bytes, nonce.length, state),
                   fault));
-    if (fault.code != STUN_TYPES_OK) HOLDS(is_filled(state, sizeof *state));
+    if (fault.code != STUN_TYPES_OK) HOLDS(*state == STUN_TYPES_NONCE_UNKNOWN);
     else HOLDS((uint32_t)*state == model_nonce_state(server, now, nonce));
 }
 
@@ -86,6 +86,9 @@ void check_nonces(source *from) {
     if (take(from) % 8 == 0) server.features = take_below(from, 4, 16);
     nonce.length = take(from) % 16 == 0 ? take(from) % LENGTH : LENGTH;
     nonce.bytes = copy_of(made, nonce.length);
-    now = take(from) % 4 == 0 ? take_eight(from) : now + take_two(from) - 0x8000u;
+    how = take(from);
+    if (how % 4 == 0) now = take_eight(from);
+    else if (how % 4 == 1) now += take_two(from) - 0x8000u;
+    else if (how % 4 == 2) now += server.window + how / 4 % 2;
     check_judged(&server, &secret->key, now, nonce, model_server_fault(&server));
 }

@@ -28,17 +28,52 @@ static void check_walk(const uint8_t *bytes, size_t length, const model_list *sh
         HOLDS(!stun_types_next(bytes, length, &cursor, told));
         HOLDS(cursor.index == shown->count && is_filled(told, sizeof *told));
     }
-    cursor = stun_types_cursor_first();
-    cursor.index = take(from) % 8 != 7 ? i - take(from) % (i + 1) : (size_t)take_eight(from);
-    cursor.reserved = take(from) % 8 == 7 ? (uint8_t)take(from) : 0;
-    j = cursor.index;
-    if (stun_types_next(bytes, length, &cursor, told)) {
-        HOLDS(j < shown->count && is_same_attribute(told, &shown->all[j]) && cursor.index == j + 1);
-        HOLDS(cursor.reserved == 0);
-    } else {
-        HOLDS(j >= shown->count || cursor.reserved != 0);
-        HOLDS(cursor.index == j && is_filled(told, sizeof *told));
+}
+
+/* Whether a cursor has come to a place in this message, by its length and its transaction ID. */
+static bool has_come(const stun_types_cursor *cursor, const uint8_t *bytes, size_t length) {
+    uint64_t id = 0;
+    size_t i;
+    if (length < 20 || cursor->length != length) return false;
+    for (i = 8; i < 16; i++) id = id << 8 | bytes[i];
+    return cursor->offset >= 20 && cursor->offset <= length && cursor->id_begin == id
+           && cursor->id_end
+                  == ((uint32_t)model_number(bytes + 16) << 16 | model_number(bytes + 18));
+}
+
+/* Any cursor: one of a walk over this message with a field changed, or any struct. */
+static void check_cursor(const uint8_t *bytes, size_t length, const model_list *shown,
+                         source *from) {
+    stun_types_cursor *cursor = NEW(stun_types_cursor), before;
+    stun_types_attribute *told = NEW(stun_types_attribute), wanted;
+    unsigned how = take(from);
+    size_t steps = shown->count == 0 ? 0 : take(from) % (shown->count + 1);
+    bool is_there;
+    *cursor = stun_types_cursor_first();
+    while (steps-- > 0) HOLDS(stun_types_next(bytes, length, cursor, told));
+    if (how % 4 == 0) ((uint8_t *)cursor)[take(from) % sizeof *cursor] = (uint8_t)take(from);
+    if (how % 4 == 1 && length != 0) cursor->offset = take_two(from) % (length + 2);
+    if (how % 4 == 2) cursor->length = cursor->index = take(from) % 16;
+    if (how % 16 == 15) take_bytes(from, cursor, sizeof *cursor);
+    before = *cursor;
+    memset(told, FILL, sizeof *told);
+    if (before.reserved != 0) is_there = false;
+    else if (has_come(&before, bytes, length))
+        is_there = model_next_shown(bytes, length, before.offset, before.last, &wanted);
+    else {
+        is_there = before.index < shown->count;
+        if (is_there) wanted = shown->all[before.index];
     }
+    HOLDS(stun_types_next(bytes, length, cursor, told) == is_there);
+    if (!is_there) {
+        HOLDS(memcmp(cursor, &before, sizeof before) == 0 && is_filled(told, sizeof *told));
+        return;
+    }
+    HOLDS(is_same_attribute(told, &wanted) && told->length <= length
+          && told->value_at <= length - told->length);
+    HOLDS(cursor->index == before.index + (before.index != SIZE_MAX) && cursor->reserved == 0);
+    HOLDS(has_come(cursor, bytes, length) && cursor->last == wanted.type);
+    HOLDS(cursor->offset == wanted.value_at + model_padded(wanted.length));
 }
 
 /* The first attribute of each type that is shown, and of any other type. */
@@ -137,6 +172,7 @@ void check_read(const uint8_t *original, size_t length, source *from) {
         HOLDS(memcmp(header.id.bytes, bytes + 8, 12) == 0);
     }
     check_walk(bytes, length, &shown, from);
+    check_cursor(bytes, length, &shown, from);
     check_finding(bytes, length, &shown, from);
     check_unknown(bytes, length, &shown, from);
     check_outside(bytes, length, from);

@@ -136,21 +136,32 @@ bool model_is_whole(const uint8_t *bytes, size_t length) {
     return true;
 }
 
+/* Ordinary attributes come before the others, and these in this order. */
+static int rank(unsigned type) {
+    return type == 0x0008 ? 1 : type == 0x001C ? 2 : type == 0x8028 ? 3 : 0;
+}
+
+bool model_next_shown(const uint8_t *bytes, size_t length, size_t at, unsigned last,
+                      stun_types_attribute *attribute) {
+    unsigned type;
+    if (model_header(bytes, length).code != OK || length_fault(bytes, length).code != OK) return false;
+    if (at >= length || attribute_fault(bytes, length, at).code != OK) return false;
+    type = model_number(bytes + at);
+    if (rank(type) < rank(last) || (rank(type) == rank(last) && rank(type) != 0)) return false;
+    attribute->value_at = at + 4;
+    attribute->type = (uint16_t)type;
+    attribute->length = (uint16_t)model_number(bytes + at + 2);
+    return true;
+}
+
 void model_shown(const uint8_t *bytes, size_t length, model_list *shown) {
     size_t at = 20;
-    int rank = 0;
+    unsigned last = 0;
     shown->count = 0;
-    if (model_header(bytes, length).code != OK || length_fault(bytes, length).code != OK) return;
-    while (at < length && attribute_fault(bytes, length, at).code == OK) {
-        unsigned type = model_number(bytes + at);
-        int next = type == 0x0008 ? 1 : type == 0x001C ? 2 : type == 0x8028 ? 3 : 0;
-        if (next < rank || (next == rank && rank != 0)) return;
-        rank = next;
-        shown->all[shown->count].value_at = at + 4;
-        shown->all[shown->count].type = (uint16_t)type;
-        shown->all[shown->count].length = (uint16_t)model_number(bytes + at + 2);
-        shown->count++;
-        at += 4 + model_padded(model_number(bytes + at + 2));
+    while (model_next_shown(bytes, length, at, last, &shown->all[shown->count])) {
+        stun_types_attribute *one = &shown->all[shown->count++];
+        at = one->value_at + model_padded(one->length);
+        last = one->type;
     }
 }
 

@@ -31,6 +31,10 @@ bool model_is_whole(const uint8_t *bytes, size_t length);
 /* What is shown. */
 void model_shown(const uint8_t *bytes, size_t length, model_list *shown);
 
+/* The first attribute that is shown from an offset on, after one of this type; false if there is none. */
+bool model_next_shown(const uint8_t *bytes, size_t length, size_t at, unsigned last,
+                      stun_types_attribute *attribute);
+
 /* The first attribute of a type that is shown, or NULL. */
 const stun_types_attribute *model_find(const model_list *shown, unsigned type);
 
