@@ -22,7 +22,7 @@ pub struct Allocate<'a> {
     retries: Retries,
     /// The realm and the password algorithms of the challenge that the request answers.
     tried: Option<String>,
-    seen: Option<Vec<u8>>,
+    had_algorithms: bool,
 }
 
 /// What a client does after it has received a datagram.
@@ -66,7 +66,7 @@ impl<'a> Allocate<'a> {
             login,
             retries: Retries::default(),
             tried: None,
-            seen: None,
+            had_algorithms: false,
         })
     }
 
@@ -102,8 +102,8 @@ impl<'a> Allocate<'a> {
         now: Duration,
     ) -> Result<bool, AgentError> {
         let tried = self.tried.as_ref().map(|realm| realm.as_str());
-        let seen = self.seen.as_ref().map(|list| list.as_slice());
-        let Ok(challenge) = challenge_of(response, &ALGORITHMS, tried, seen) else {
+        let challenge = challenge_of(response, &ALGORITHMS, tried, self.had_algorithms);
+        let Ok(challenge) = challenge else {
             return Ok(false);
         };
         if !self.retries.take() {
@@ -116,10 +116,7 @@ impl<'a> Allocate<'a> {
         self.transaction = transaction_of(&request, schedule, protection, usage, now)?;
         self.request = request;
         self.tried = Some(String::from_str(alloc, challenge.realm())?);
-        self.seen = match challenge.password_algorithms() {
-            Some(list) => Some(Vec::from_slice(alloc, list)?),
-            None => None,
-        };
+        self.had_algorithms = challenge.password_algorithms().is_some();
         Ok(true)
     }
 }
