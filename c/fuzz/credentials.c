@@ -205,9 +205,15 @@ static void check_short_term(const text *request, const uint8_t *bytes, source *
     const stun_types_policy *policy = take_policy(from);
     const pair *key = take_pair(from, PASSWORD);
     stun_types_authentication *told = NEW(stun_types_authentication), expected;
-    HOLDS(
-        is_same(stun_types_authenticate_short_term(bytes, request->length, policy, &key->key, told),
-                model_short_term(request->bytes, request->length, policy, &key->model, &expected)));
+    stun_types_validated *validated = NEW(stun_types_validated), valid;
+    stun_types_answer answer
+        = model_validate(request->bytes, request->length, policy, &key->model, &valid);
+    HOLDS(is_same(stun_types_validate_by_policy(bytes, request->length, policy, &key->key, validated),
+                  answer));
+    HOLDS(memcmp(validated, &valid, sizeof valid) == 0);
+    answer = model_short_term(request->bytes, request->length, policy, &key->model, &expected);
+    HOLDS(is_same(
+        stun_types_authenticate_short_term(bytes, request->length, policy, &key->key, told), answer));
     HOLDS(memcmp(told, &expected, sizeof expected) == 0);
     check_finishing(request, told, key, &pairs[NO_KEY], from);
 }
