@@ -37,18 +37,22 @@ static void check_finishing(const text *request, const stun_types_authentication
     uint8_t *room = place(size);
     bool is_fingered = how / 8 % 2 == 0;
     stun_types_answer answer, expected;
+    size_t before;
     start(&wanted, 0x0101, request->bytes + 8);
     if (how / 16 % 2 == 0 && size >= 32) append(&wanted, 0x0020, address, sizeof address);
     if (how == 255 && size >= 40) finger(&wanted);
+    before = wanted.length;
     memcpy(room, wanted.bytes, wanted.length);
     *written = wanted.length;
     answer = stun_types_finish_reply(room, size, written, authentication, &key->key,
                                      &sha256_key->key, is_fingered);
     expected
         = finished(&wanted, size, authentication, &key->model, &sha256_key->model, is_fingered);
+    if (expected.code != STUN_TYPES_OK) cut(&wanted, before);
     HOLDS(is_same(answer, expected) && *written == wanted.length);
-    HOLDS(memcmp(room, wanted.bytes, *written) == 0 && is_filled(room + *written, size - *written));
+    HOLDS(memcmp(room, wanted.bytes, *written) == 0);
     if (answer.code == STUN_TYPES_OK) {
+        HOLDS(is_filled(room + *written, size - *written));
         const pair *used
             = authentication->password_algorithm == STUN_TYPES_PASSWORD_SHA256 ? sha256_key : key;
         stun_types_validated told;

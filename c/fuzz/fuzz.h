@@ -120,6 +120,8 @@ typedef struct {
 } text;
 
 void put_length(text *message);
+/* The message as it was when it had this length. */
+void cut(text *message, size_t length);
 void start(text *message, unsigned type, const uint8_t *id);
 void append(text *message, unsigned type, const void *value, size_t length);
 

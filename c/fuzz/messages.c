@@ -8,6 +8,11 @@ void put_length(text *message) {
     message->bytes[3] = (uint8_t)(message->length - 20);
 }
 
+void cut(text *message, size_t length) {
+    message->length = length;
+    put_length(message);
+}
+
 void start(text *message, unsigned type, const uint8_t *id) {
     static const uint8_t cookie[4] = {0x21, 0x12, 0xA4, 0x42};
     message->bytes[0] = (uint8_t)(type >> 8);

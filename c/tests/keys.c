@@ -570,7 +570,7 @@ static void test_policies(void) {
         CHECK(validated->algorithm == STUN_TYPES_INTEGRITY_SHA1);
         heap_allow(true);
         ANSWERS(stun_types_validate_by_policy(bytes.bytes, bytes.length, &sha256, key, validated),
-                answer_of(STUN_TYPES_MISSING_ATTRIBUTE, STUN_TYPES_ATTRIBUTE_MESSAGE_INTEGRITY_SHA256,
+                answer_of(STUN_TYPES_MISSING_ATTRIBUTE, STUN_TYPES_ATTRIBUTE_MESSAGE_INTEGRITY,
                           0, 0));
         heap_allow(false);
         CHECK(is_zero(validated, sizeof *validated));
