@@ -17,16 +17,14 @@ mod kept;
 mod receiving;
 mod sending;
 
+use crate::reading::Id;
 pub use beginning::stun_types_transaction_begin;
+pub(crate) use kept::{millis, moment_of, parts_of};
 pub use receiving::stun_types_transaction_receive;
 pub use sending::{
     stun_types_transaction_cancel, stun_types_transaction_fail, stun_types_transaction_poll,
     stun_types_transaction_stop_sending,
 };
-
-pub(crate) use kept::{millis, moment_of, parts_of};
-
-use crate::reading::Id;
 
 /// When a request is sent again and given up, in milliseconds, and which responses the usage takes.
 #[repr(C)]
