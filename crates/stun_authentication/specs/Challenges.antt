@@ -13,34 +13,25 @@ use Rattle.stun_values.specs.TextValues.{text_max, text_fault}
 use Rattle.stun_authentication.specs.declared.challenge.Challenge.{Challenge}
 use Rattle.stun_authentication.specs.declared.challenge.NoRetry.{NoRetry}
 use Rattle.stun_authentication.specs.declared.challenge.NoRetry.TheVariants.{NotAChallenge, BidDown, Incomplete, NoAlgorithm, SameCredentials}
+use Rattle.stun_authentication.specs.Asking.{Asked, asked_for}
 use Rattle.stun_authentication.specs.Codes.{is_code, response_code, is_challenge}
-use Rattle.stun_authentication.specs.Cookies.{security_features, promises_algorithms, is_anonymous}
+use Rattle.stun_authentication.specs.Cookies.{promises_algorithms}
 use Rattle.stun_authentication.specs.Identities.{value_of}
 use Rattle.stun_authentication.specs.Lists.{numbered, first_listed}
 
--- what a server asks a client's next request to carry: REALM, NONCE, PASSWORD-ALGORITHMS if there
--- is one, the algorithm of the key, and whether the user is named by USERHASH
-pub record Asked : Type 0 where
-  pub realm : List ℕ
-  pub nonce : List ℕ
-  pub list : Option (List ℕ)
+-- how a request is sent again: what it is asked for, and the algorithm of the key, which the client
+-- selects
+pub record Retry : Type 0 where
+  pub asked : Asked
   pub algorithm : PasswordAlgorithmValue
-  pub anonymous : Bool
 
-abbrev pub asked_for : (realm nonce : List ℕ) → (list : Option (List ℕ)) → PasswordAlgorithmValue
-    → (anonymous : Bool) → Asked
-asked_for realm nonce list algorithm anonymous = record {
-  realm = realm;
-  nonce = nonce;
-  list = list;
-  algorithm = algorithm;
-  anonymous = anonymous;
-}
+abbrev pub retry_with : Asked → PasswordAlgorithmValue → Retry
+retry_with asked algorithm = record { asked = asked; algorithm = algorithm }
 
-abbrev pub asked_by : Challenge → Asked
-asked_by c =
-    asked_for c.realm.now c.nonce.now (option_map (λ value. value.now) c.list) c.algorithm
-    c.anonymous
+abbrev pub retry_of : Challenge → Retry
+retry_of c =
+    retry_with (asked_for c.realm.now c.nonce.now (option_map (λ value. value.now) c.list))
+    c.algorithm
 
 -- the algorithm by which the request is signed: SHA-256 alone if there is a list (the last
 -- paragraph), otherwise SHA-1, for a server of RFC 5389
@@ -48,8 +39,8 @@ abbrev pub signing_by : Option (List ℕ) → IntegrityAlgorithm
 signing_by None = Sha1
 signing_by (Some list) = Sha256
 
-abbrev pub signing_algorithm : Asked → IntegrityAlgorithm
-signing_algorithm asked = signing_by asked.list
+abbrev pub signing_algorithm : Retry → IntegrityAlgorithm
+signing_algorithm retry = signing_by retry.asked.list
 
 -- the list of d
 abbrev pub list_of : List ℕ → Option (List ℕ)
@@ -88,38 +79,35 @@ repeats tried realm d =
 -- ---- The rows, the last one first
 
 -- the request is not sent again with the credentials that were refused
-abbrev pub by_credentials : (tried : Option (List ℕ)) → Asked → List ℕ → Result Asked NoRetry
-by_credentials tried asked d =
-    if repeats tried asked.realm d then Err SameCredentials else Ok asked
+abbrev pub by_credentials : (tried : Option (List ℕ)) → Retry → List ℕ → Result Retry NoRetry
+by_credentials tried retry d =
+    if repeats tried retry.asked.realm d then Err SameCredentials else Ok retry
 
 -- an algorithm that is supported
-abbrev pub by_algorithm : List PasswordAlgorithmValue → (tried : Option (List ℕ))
-    → (realm nonce : List ℕ) → List ℕ → Result Asked NoRetry
-by_algorithm supported tried realm nonce d =
-    option_map_or
-    (λ algorithm. by_credentials tried
-    (asked_for realm nonce (list_of d) algorithm (is_anonymous (security_features nonce))) d)
-    (selected supported (list_of d)) (Err NoAlgorithm)
+abbrev pub by_algorithm : List PasswordAlgorithmValue → (tried : Option (List ℕ)) → Asked → List ℕ
+    → Result Retry NoRetry
+by_algorithm supported tried asked d =
+    option_map_or (λ algorithm. by_credentials tried (retry_with asked algorithm) d)
+    (selected supported asked.list) (Err NoAlgorithm)
 
 -- REALM and NONCE, which the request copies (the second paragraph)
 abbrev pub by_texts : List PasswordAlgorithmValue → (tried : Option (List ℕ)) → List ℕ
-    → Result Asked NoRetry
+    → Result Retry NoRetry
 by_texts supported tried d =
     option_map_or (λ realm.
-    option_map_or (λ nonce. by_algorithm supported tried realm nonce d)
+    option_map_or (λ nonce. by_algorithm supported tried (asked_for realm nonce (list_of d)) d)
     (text_of text_max NONCE d) (Err Incomplete))
     (text_of text_max REALM d) (Err Incomplete)
 
 -- a list that was promised, or that the server sent before, is there (the first paragraph)
 abbrev pub by_list : List PasswordAlgorithmValue → (tried : Option (List ℕ))
-    → (had_algorithms : Bool) → List ℕ → Result Asked NoRetry
+    → (had_algorithms : Bool) → List ℕ → Result Retry NoRetry
 by_list supported tried had_algorithms d =
     if is_bid_down d || lost_list had_algorithms d then Err BidDown else by_texts supported tried d
 
--- what d asks a client to carry that supports these algorithms; or why its request isn't sent
--- again. Its credentials were tried in one realm or in none, and the server sent it a list before or
+-- how a client that supports these algorithms sends its request again after d; or why it doesn't. Its credentials were tried in one realm or in none, and the server sent it a list before or
 -- not
 abbrev pub challenge_of : List PasswordAlgorithmValue → (tried : Option (List ℕ))
-    → (had_algorithms : Bool) → List ℕ → Result Asked NoRetry
+    → (had_algorithms : Bool) → List ℕ → Result Retry NoRetry
 challenge_of supported tried had_algorithms d =
     if is_challenge d then by_list supported tried had_algorithms d else Err NotAChallenge

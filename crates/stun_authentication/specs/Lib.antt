@@ -1,5 +1,6 @@
 pub mod Accepted
 pub mod Answers
+pub mod Asking
 pub mod Challenges
 pub mod Codes
 pub mod Cookies

@@ -1,5 +1,6 @@
 -- The error response to a request that is refused (RFC 8489, sections 9.1.3 and 9.2.4).
-use Rattle.std.specs.Prelude.{ℕ, List, [], ◌∷◌, ◌++◌, Option, None, Some, if◌then◌else◌}
+use Rattle.std.specs.Prelude.{ℕ, List, [], ◌∷◌, ◌++◌, Option, None, Some, is_some, if◌then◌else◌}
+use Rattle.std.specs.Option.{option_map}
 use Rattle.stun_grammar.specs.Attributes.{Attribute, canonical}
 use Rattle.stun_grammar.specs.AttributeTypes.{REALM, NONCE, PASSWORD_ALGORITHMS}
 use Rattle.stun_grammar.specs.Headers.{id_field}
@@ -15,6 +16,7 @@ use Rattle.stun_authentication.specs.declared.answer.Refusal.TheVariants.{BadReq
 use Rattle.stun_authentication.specs.declared.demand.Demand.{Demand}
 use Rattle.stun_authentication.specs.declared.demand.Mismatch.{Mismatch}
 use Rattle.stun_authentication.specs.declared.demand.Mismatch.TheVariants.{NoList, NotPromised}
+use Rattle.stun_authentication.specs.Asking.{Asked, asked_for}
 use Rattle.stun_authentication.specs.Answers.{refusal_code, refusal_reason}
 use Rattle.stun_authentication.specs.Cookies.{promises_algorithms}
 use Rattle.stun_authentication.specs.Policies.{is_fingerprinted}
@@ -22,52 +24,57 @@ use Rattle.stun_authentication.specs.Writing.{finished, print_steps, step_sizes,
 
 -- ---- What a client is asked for
 
--- why a nonce isn't sent with these algorithms, or without a list: its cookie says that there is
--- one exactly if there is one (section 9.2.4, the first check)
-abbrev pub mismatch : (nonce : List ℕ) → Option PasswordAlgorithms → Option Mismatch
-mismatch nonce None = if promises_algorithms nonce then Some NoList else None
-mismatch nonce (Some algorithms) = if promises_algorithms nonce then None else Some NotPromised
+-- why a nonce isn't sent with a list, or without one: its cookie says that there is one exactly if
+-- there is one (section 9.2.4, the first check)
+abbrev pub mismatch : Asked → Option Mismatch
+mismatch asked =
+    if promises_algorithms asked.nonce
+    then (if is_some asked.list then None else Some NoList)
+    else (if is_some asked.list then Some NotPromised else None)
 
--- PASSWORD-ALGORITHMS, if there are algorithms
-abbrev pub listed : Option PasswordAlgorithms → List Attribute
-listed None = []
-listed (Some algorithms) =
-    canonical PASSWORD_ALGORITHMS (algorithms_encoding (held_algorithms algorithms)) ∷ []
+-- the value of PASSWORD-ALGORITHMS, if there are algorithms
+abbrev pub listed : Option PasswordAlgorithms → Option (List ℕ)
+listed algorithms = option_map (λ list. algorithms_encoding (held_algorithms list)) algorithms
 
--- what a realm, a nonce and algorithms ask for
-abbrev pub asked_for : (realm nonce : List ℕ) → Option PasswordAlgorithms → List Attribute
-asked_for realm nonce algorithms =
-    canonical REALM realm ∷ canonical NONCE nonce ∷ listed algorithms
+abbrev pub demanded : Demand → Asked
+demanded demand =
+    asked_for (text_bytes demand.realm) (text_bytes demand.nonce) (listed demand.algorithms)
 
--- what a 401 and a 438 ask for
-abbrev pub demanded : Demand → List Attribute
-demanded demand = asked_for (text_bytes demand.realm) (text_bytes demand.nonce) demand.algorithms
+-- PASSWORD-ALGORITHMS, if there is a list
+abbrev pub list_attributes : Option (List ℕ) → List Attribute
+list_attributes None = []
+list_attributes (Some list) = canonical PASSWORD_ALGORITHMS list ∷ []
+
+-- what a 401 and a 438 carry to ask for it
+abbrev pub asked_attributes : Asked → List Attribute
+asked_attributes asked =
+    canonical REALM asked.realm ∷ canonical NONCE asked.nonce ∷ list_attributes asked.list
 
 -- ---- The response
 
 -- what a refusal carries beside its code: a 400 nothing, and under short-term credentials, if
 -- nothing is asked for, no refusal anything
-abbrev pub carried : Refusal → Option Demand → List Attribute
-carried BadRequest demand = []
+abbrev pub carried : Refusal → Option Asked → List Attribute
+carried BadRequest asked = []
 carried Unauthenticated None = []
-carried Unauthenticated (Some demand) = demanded demand
+carried Unauthenticated (Some asked) = asked_attributes asked
 carried StaleNonce None = []
-carried StaleNonce (Some demand) = demanded demand
+carried StaleNonce (Some asked) = asked_attributes asked
 
 -- the attributes of the response, before a FINGERPRINT
-abbrev pub refusal_attributes : Refusal → Option Demand → List Attribute
-refusal_attributes refusal demand =
-    error_attribute (refusal_code refusal) (refusal_reason refusal) ∷ carried refusal demand
+abbrev pub refusal_attributes : Refusal → Option Asked → List Attribute
+refusal_attributes refusal asked =
+    error_attribute (refusal_code refusal) (refusal_reason refusal) ∷ carried refusal asked
 
 -- the response to r, with a FINGERPRINT if r has one
-abbrev pub refusal_of : List ℕ → Refusal → Option Demand → List ℕ
-refusal_of r refusal demand =
+abbrev pub refusal_of : List ℕ → Refusal → Option Asked → List ℕ
+refusal_of r refusal asked =
     let kind = response_type ErrorClass r in
     let id = id_field r in
     message_encoding kind id
-    (finished (is_fingerprinted r) kind id (refusal_attributes refusal demand))
+    (finished (is_fingerprinted r) kind id (refusal_attributes refusal asked))
 
 -- the lengths of the values of its attributes
-abbrev pub refusal_sizes : List ℕ → Refusal → Option Demand → List ℕ
-refusal_sizes r refusal demand =
-    sizes (refusal_attributes refusal demand) ++ step_sizes (print_steps (is_fingerprinted r))
+abbrev pub refusal_sizes : List ℕ → Refusal → Option Asked → List ℕ
+refusal_sizes r refusal asked =
+    sizes (refusal_attributes refusal asked) ++ step_sizes (print_steps (is_fingerprinted r))

@@ -16,7 +16,8 @@ use Rattle.stun_values.specs.declared.algorithm.PasswordAlgorithmValue.{Password
 use Rattle.stun_types.specs.Writers.{Writer}
 use Rattle.stun_values.specs.Algorithms.{algorithm_encoding, integrity_of}
 use Rattle.stun_values.specs.TextValues.{username_max}
-use Rattle.stun_authentication.specs.Challenges.{Asked, signing_algorithm}
+use Rattle.stun_authentication.specs.Asking.{Asked, asks_userhash}
+use Rattle.stun_authentication.specs.Challenges.{Retry, signing_algorithm}
 use Rattle.stun_authentication.specs.Identities.{Who, named, hashed}
 use Rattle.stun_authentication.specs.Writing.{adds, signed, finished, print_steps, Finishes, FinishesBy, FailsBy}
 
@@ -59,6 +60,9 @@ abbrev pub identity : (anonymous : Bool) → (realm name : List ℕ) → Who
 identity false realm name = named name
 identity true realm name = hashed (user_hash name realm)
 
+abbrev pub asked_identity : Asked → (name : List ℕ) → Who
+asked_identity asked name = identity (asks_userhash asked) asked.realm name
+
 -- USERNAME, or USERHASH if the nonce says that it serves
 abbrev pub identity_attribute : Who → Attribute
 identity_attribute (named name) = canonical USERNAME name
@@ -72,39 +76,39 @@ algorithm_attributes (Some list) algorithm =
     ∷ []
 
 -- what the request carries of a challenge, for a user
-abbrev pub credentials : Asked → List ℕ → List Attribute
-credentials asked name =
-    identity_attribute (identity asked.anonymous asked.realm name)
-    ∷ canonical REALM asked.realm ∷ canonical NONCE asked.nonce
-    ∷ algorithm_attributes asked.list asked.algorithm
+abbrev pub credentials : Retry → List ℕ → List Attribute
+credentials retry name =
+    identity_attribute (asked_identity retry.asked name)
+    ∷ canonical REALM retry.asked.realm ∷ canonical NONCE retry.asked.nonce
+    ∷ algorithm_attributes retry.asked.list retry.algorithm
 
 -- the user's key in that realm, by that algorithm (section 9.2.2)
-abbrev pub user_key : Asked → User → List ℕ
-user_key asked user =
-    long_term_key (integrity_of asked.algorithm) user.name asked.realm user.password
+abbrev pub user_key : Retry → User → List ℕ
+user_key retry user =
+    long_term_key (integrity_of retry.algorithm) user.name retry.asked.realm user.password
 
 -- a request with these attributes, and after them what the challenge asks for, signed with a key
-abbrev pub answering_attributes : (fingerprint : Bool) → Asked → (name key : List ℕ) → ℕ → ℕ
+abbrev pub answering_attributes : (fingerprint : Bool) → Retry → (name key : List ℕ) → ℕ → ℕ
     → List Attribute → List Attribute
-answering_attributes fingerprint asked name key kind id before =
+answering_attributes fingerprint retry name key kind id before =
     finished fingerprint kind id
-    (signed kind id (before ++ credentials asked name) (signing_algorithm asked) key)
+    (signed kind id (before ++ credentials retry name) (signing_algorithm retry) key)
 
 -- the same with the user's key
-abbrev pub retried_attributes : (fingerprint : Bool) → Asked → User → ℕ → ℕ → List Attribute
+abbrev pub retried_attributes : (fingerprint : Bool) → Retry → User → ℕ → ℕ → List Attribute
     → List Attribute
-retried_attributes fingerprint asked user kind id before =
-    answering_attributes fingerprint asked user.name (user_key asked user) kind id before
+retried_attributes fingerprint retry user kind id before =
+    answering_attributes fingerprint retry user.name (user_key retry user) kind id before
 
-abbrev pub retried_request : (fingerprint : Bool) → Asked → User → ℕ → ℕ → List Attribute → List ℕ
-retried_request fingerprint asked user kind id before =
-    message_encoding kind id (retried_attributes fingerprint asked user kind id before)
+abbrev pub retried_request : (fingerprint : Bool) → Retry → User → ℕ → ℕ → List Attribute → List ℕ
+retried_request fingerprint retry user kind id before =
+    message_encoding kind id (retried_attributes fingerprint retry user kind id before)
 
 -- the steps by which a request answers a challenge, and is signed with a key
-abbrev pub login_steps : (fingerprint : Bool) → Asked → (name key : List ℕ) → List Step
-login_steps fingerprint asked name key =
-    adds (credentials asked name)
-    ++ sign (signing_algorithm asked) key ∷ print_steps fingerprint
+abbrev pub login_steps : (fingerprint : Bool) → Retry → (name key : List ℕ) → List Step
+login_steps fingerprint retry name key =
+    adds (credentials retry name)
+    ++ sign (signing_algorithm retry) key ∷ print_steps fingerprint
 
 -- why a request can't name a user: no USERNAME has so many bytes (section 14.3)
 abbrev pub name_refusal : List ℕ → Option StunWriteError
@@ -113,21 +117,21 @@ name_refusal name =
 
 -- a challenge is answered with a key for a user, or nothing is written, since the name is too long or
 -- the key was made for the other algorithm
-abbrev pub AnswersWith : Asked → (name : List ℕ) → (made_for : Option IntegrityAlgorithm)
+abbrev pub AnswersWith : Retry → (name : List ℕ) → (made_for : Option IntegrityAlgorithm)
     → (key : List ℕ) → (fingerprint : Bool) → Result (Unit {0}) StunWriteError → (old new : Writer)
     → Type 0
-AnswersWith asked name made_for key fingerprint result old new =
+AnswersWith retry name made_for key fingerprint result old new =
     MatchOption (name_refusal name)
-    (FinishesBy made_for (signing_algorithm asked) result old new
-    (answering_attributes fingerprint asked name key) (login_steps fingerprint asked name key))
+    (FinishesBy made_for (signing_algorithm retry) result old new
+    (answering_attributes fingerprint retry name key) (login_steps fingerprint retry name key))
     (FailsBy result old new)
 
 -- the same with the user's key, which takes memory
-abbrev pub AnswersFor : {T : Type 0} → Asked → User → (fingerprint : Bool)
+abbrev pub AnswersFor : {T : Type 0} → Retry → User → (fingerprint : Bool)
     → Result T StunWriteError → (old new : Writer) → Type 0
-AnswersFor asked user fingerprint result old new =
+AnswersFor retry user fingerprint result old new =
     MatchOption (name_refusal user.name)
-    (Finishes result old new (retried_attributes fingerprint asked user)
-    (login_steps fingerprint asked user.name (user_key asked user))
+    (Finishes result old new (retried_attributes fingerprint retry user)
+    (login_steps fingerprint retry user.name (user_key retry user))
     ⊎ FailsBy result old new OutOfMemory)
     (FailsBy result old new)

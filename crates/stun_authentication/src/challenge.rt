@@ -4,6 +4,7 @@ ghost use Rattle.std.specs.Prelude.{◌≤◌, ◌<◌, ◌^◌, length};
 ghost use Rattle.std.specs.Option.{option_map_or};
 ghost use Rattle.stun_values.specs.TextValues.{text_max};
 
+use crate::security_features;
 use stun_types::attribute::PasswordAlgorithmValue;
 use stun_types::message::IntegrityAlgorithm;
 
@@ -38,7 +39,6 @@ pub struct Challenge<'a> {
     nonce: &'a str,
     list: Option<&'a [u8]>,
     algorithm: PasswordAlgorithmValue,
-    anonymous: bool,
     ghost realm_short: { length realm.now ≤ text_max },
     ghost nonce_short: { length nonce.now ≤ text_max },
     ghost list_short: { option_map_or (λ value. length value.now) list 0 < 2 ^ 16 },
@@ -67,7 +67,8 @@ impl<'a> Challenge<'a> {
     ghost use Rattle.std.specs.Option.{option_map, option_map_or};
     ghost use Rattle.stun_values.specs.TextValues.{text_max};
     ghost use Rattle.stun_grammar.specs.declared.integrity_algorithm.IntegrityAlgorithm.{IntegrityAlgorithm};
-    ghost use Rattle.stun_authentication.specs.Challenges.{asked_by, asked_for, signing_algorithm};
+    ghost use Rattle.stun_authentication.specs.Asking.{asked_for, asks_userhash};
+    ghost use Rattle.stun_authentication.specs.Challenges.{retry_of, retry_with, signing_algorithm};
 
     /// What is asked for by these.
     pub(crate) fn new(
@@ -75,27 +76,25 @@ impl<'a> Challenge<'a> {
         nonce: &'a str,
         list: Option<&'a [u8]>,
         algorithm: PasswordAlgorithmValue,
-        anonymous: bool,
     ) -> Self
         requires realm { length realm.now ≤ text_max }
         requires nonce { length nonce.now ≤ text_max }
         requires list { option_map_or (λ value. length value.now) list 0 < 2 ^ 16 }
-        ensures { asked_by result ≡ asked_for realm.now nonce.now
-            (option_map (λ value. value.now) list.entry) algorithm anonymous }
+        ensures { retry_of result ≡ retry_with
+            (asked_for realm.now nonce.now (option_map (λ value. value.now) list.entry)) algorithm }
     {
         Challenge {
             realm,
             nonce,
             list,
             algorithm,
-            anonymous,
         }
     }
 
     /// Returns the realm, which the REALM of the request copies. It shows the user which name and
     /// password are asked for.
     pub fn realm(&self) -> &'a str
-        ensures realm { result.now ≡ (asked_by self.now).realm }
+        ensures realm { result.now ≡ (retry_of self.now).asked.realm }
         ensures short { length result.now ≤ text_max }
     {
         self.realm
@@ -103,7 +102,7 @@ impl<'a> Challenge<'a> {
 
     /// Returns the nonce, which the NONCE of the request copies.
     pub fn nonce(&self) -> &'a str
-        ensures nonce { result.now ≡ (asked_by self.now).nonce }
+        ensures nonce { result.now ≡ (retry_of self.now).asked.nonce }
         ensures short { length result.now ≤ text_max }
     {
         self.nonce
@@ -112,7 +111,7 @@ impl<'a> Challenge<'a> {
     /// Returns the value of PASSWORD-ALGORITHMS, which the request copies if there is one: it then
     /// has a PASSWORD-ALGORITHM too.
     pub fn password_algorithms(&self) -> Option<&'a [u8]>
-        ensures list { option_map (λ value. value.now) result ≡ (asked_by self.now).list }
+        ensures list { option_map (λ value. value.now) result ≡ (retry_of self.now).asked.list }
         ensures short { option_map_or (λ value. length value.now) result 0 < 2 ^ 16 }
     {
         self.list
@@ -122,22 +121,22 @@ impl<'a> Challenge<'a> {
     /// if there is a PASSWORD-ALGORITHMS: the first one on the list that is supported, and MD5 if
     /// there is no list.
     pub fn password_algorithm(&self) -> PasswordAlgorithmValue
-        ensures { result ≡ (asked_by self.now).algorithm }
+        ensures { result ≡ (retry_of self.now).algorithm }
     {
         self.algorithm
     }
 
     /// Returns `true` if the request names its user by USERHASH, and not by USERNAME.
     pub fn is_anonymous(&self) -> bool
-        ensures { result ≡ (asked_by self.now).anonymous }
+        ensures { result ≡ asks_userhash (retry_of self.now).asked }
     {
-        self.anonymous
+        security_features(self.nonce.as_bytes()).is_some_and(|features| features.username_anonymity)
     }
 
     /// Returns the algorithm by which the request is signed: MESSAGE-INTEGRITY-SHA256 alone if
     /// there is a PASSWORD-ALGORITHMS, otherwise MESSAGE-INTEGRITY alone, for a server of RFC 5389.
     pub fn integrity_algorithm(&self) -> IntegrityAlgorithm
-        ensures { result ≡ signing_algorithm (asked_by self.now) }
+        ensures { result ≡ signing_algorithm (retry_of self.now) }
     {
         match self.list {
             Some(_) => IntegrityAlgorithm::Sha256,

@@ -33,7 +33,8 @@ pub enum Mismatch {
 impl Demand {
     ghost use Rattle.std.specs.Prelude.{◌≡◌, Err, IsOkAnd, MatchOption};
     ghost use Rattle.stun_attributes.specs.Texts.{text_bytes};
-    ghost use Rattle.stun_authentication.specs.Refusing.{mismatch, demanded, asked_for};
+    ghost use Rattle.stun_authentication.specs.Asking.{asked_for};
+    ghost use Rattle.stun_authentication.specs.Refusing.{mismatch, demanded, listed};
 
     /// Returns a demand of this realm, with this nonce, which is valid and was sent to nobody else,
     /// and with these algorithms, the one that the server prefers first; `None` if it knows MD5
@@ -65,9 +66,9 @@ impl Demand {
         nonce: Nonce,
         algorithms: Option<PasswordAlgorithms>,
     ) -> Result<Self, Mismatch>
-        ensures { MatchOption (mismatch (text_bytes nonce) algorithms)
-            (IsOkAnd result (λ made. demanded made
-            ≡ asked_for (text_bytes realm) (text_bytes nonce) algorithms))
+        ensures { let asked = asked_for (text_bytes realm) (text_bytes nonce) (listed algorithms) in
+            MatchOption (mismatch asked)
+            (IsOkAnd result (λ made. demanded made ≡ asked))
             (λ why. result ≡ Err why) }
     {
         let promises = match security_features(nonce.nonce().as_bytes()) {

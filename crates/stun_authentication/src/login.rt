@@ -5,8 +5,8 @@ ghost use Rattle.stun_grammar.specs.Attributes.{canonical};
 ghost use Rattle.stun_grammar.specs.AttributeTypes.{REALM, NONCE};
 ghost use Rattle.stun_keys.specs.Keys.{IsKey, key_algorithm, key_bytes};
 ghost use Rattle.stun_values.specs.TextValues.{username_max};
-ghost use Rattle.stun_authentication.specs.Challenges.{asked_by};
-ghost use Rattle.stun_authentication.specs.Requests.{identity, identity_attribute, algorithm_attributes, credentials, user_key, answering_attributes, login_steps, name_refusal, AnswersWith, AnswersFor};
+ghost use Rattle.stun_authentication.specs.Challenges.{retry_of};
+ghost use Rattle.stun_authentication.specs.Requests.{asked_identity, identity_attribute, algorithm_attributes, credentials, user_key, answering_attributes, login_steps, name_refusal, AnswersWith, AnswersFor};
 ghost use Rattle.stun_authentication.specs.Writing.{Lengthens, Finishes};
 
 use crate::Challenge;
@@ -54,7 +54,7 @@ pub fn key_for(
     password: &str,
 ) -> Result<IntegrityKey, StunWriteError>
     ensures key { IfOk result (IsKey None
-        (user_key (asked_by challenge.now)
+        (user_key (retry_of challenge.now)
         (record { name = name.now; password = password.now }))) }
     ensures err { IfErr result (λ e. e ≡ StunWriteError.OutOfMemory) }
 {
@@ -70,9 +70,9 @@ fn add_identity<B: MessageWrite>(
     write: &mut B,
 ) -> Result<(), StunWriteError>
     requires { length name.now ≤ username_max }
-    ensures { let asked = asked_by challenge.now in
+    ensures { let retry = retry_of challenge.now in
         Lengthens result (B.state write.old) (B.state write.new)
-        (identity_attribute (identity asked.anonymous asked.realm name.now) ∷ []) }
+        (identity_attribute (asked_identity retry.asked name.now) ∷ []) }
 {
     if challenge.is_anonymous() {
         let hash = Userhash::compute(name, challenge.realm());
@@ -86,9 +86,9 @@ fn add_copies<B: MessageWrite>(
     challenge: &Challenge<'_>,
     write: &mut B,
 ) -> Result<(), StunWriteError>
-    ensures { let asked = asked_by challenge.now in
+    ensures { let retry = retry_of challenge.now in
         Lengthens result (B.state write.old) (B.state write.new)
-        (canonical REALM asked.realm ∷ canonical NONCE asked.nonce ∷ []) }
+        (canonical REALM retry.asked.realm ∷ canonical NONCE retry.asked.nonce ∷ []) }
 {
     add_bytes(Realm::TYPE, challenge.realm().as_bytes(), write)?;
     add_bytes(Nonce::TYPE, challenge.nonce().as_bytes(), write)
@@ -99,9 +99,9 @@ fn add_algorithms<B: MessageWrite>(
     challenge: &Challenge<'_>,
     write: &mut B,
 ) -> Result<(), StunWriteError>
-    ensures { let asked = asked_by challenge.now in
+    ensures { let retry = retry_of challenge.now in
         Lengthens result (B.state write.old) (B.state write.new)
-        (algorithm_attributes asked.list asked.algorithm) }
+        (algorithm_attributes retry.asked.list retry.algorithm) }
 {
     let Some(list) = challenge.password_algorithms() else {
         return Ok(());
@@ -120,7 +120,7 @@ fn add_credentials<B: MessageWrite>(
 ) -> Result<(), StunWriteError>
     requires { length name.now ≤ username_max }
     ensures { Lengthens result (B.state write.old) (B.state write.new)
-        (credentials (asked_by challenge.now) name.now) }
+        (credentials (retry_of challenge.now) name.now) }
 {
     add_identity(challenge, name, write)?;
     add_copies(challenge, write)?;
@@ -151,10 +151,10 @@ fn answer_by<B: MessageWrite>(
     write: &mut B,
 ) -> Result<(), StunWriteError>
     requires { length name.now ≤ username_max }
-    ensures { let asked = asked_by challenge.now in let key = key_bytes key.now in
+    ensures { let retry = retry_of challenge.now in let key = key_bytes key.now in
         Finishes result (B.state write.old) (B.state write.new)
-        (answering_attributes fingerprint asked name.now key)
-        (login_steps fingerprint asked name.now key) }
+        (answering_attributes fingerprint retry name.now key)
+        (login_steps fingerprint retry name.now key) }
 {
     add_credentials(challenge, name, write)?;
     sign_and_print(key, challenge.integrity_algorithm(), fingerprint, write)
@@ -215,7 +215,7 @@ pub fn answer_challenge_with_key<B: MessageWrite>(
     fingerprint: bool,
     write: &mut B,
 ) -> Result<(), StunWriteError>
-    ensures { AnswersWith (asked_by challenge.now) name.now (key_algorithm key.now)
+    ensures { AnswersWith (retry_of challenge.now) name.now (key_algorithm key.now)
         (key_bytes key.now) fingerprint result (B.state write.old) (B.state write.new) }
 {
     check_name(name)?;
@@ -285,11 +285,11 @@ pub fn answer_challenge<B: MessageWrite>(
     fingerprint: bool,
     write: &mut B,
 ) -> Result<IntegrityKey, StunWriteError>
-    ensures answer { AnswersFor (asked_by challenge.now)
+    ensures answer { AnswersFor (retry_of challenge.now)
         (record { name = name.now; password = password.now }) fingerprint result
         (B.state write.old) (B.state write.new) }
     ensures key { IfOk result (IsKey None
-        (user_key (asked_by challenge.now)
+        (user_key (retry_of challenge.now)
         (record { name = name.now; password = password.now }))) }
 {
     check_name(name)?;

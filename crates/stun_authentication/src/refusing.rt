@@ -1,7 +1,7 @@
 //! The error response to a request that is refused.
 
 ghost use Rattle.std.specs.Prelude.{◌≡◌, ◌≢◌, ◌∷◌, ◌<◌, ◌^◌, [], length, None, Some, IfOk, OnOk, OnErr, MatchResult};
-ghost use Rattle.std.specs.Option.{option_copied};
+ghost use Rattle.std.specs.Option.{option_map};
 ghost use Rattle.stun_base.specs.MessageTypes.{class_of};
 ghost use Rattle.stun_base.specs.declared.message_type.MessageClass.TheVariants.{Request};
 ghost use Rattle.stun_attributes.specs.ErrorCodes.{error_code, error_reason, IsError};
@@ -18,7 +18,7 @@ ghost use Rattle.stun_values.specs.ErrorValues.{error_value};
 ghost use Rattle.stun_types.specs.Writers.{Allocates, Gains, IsUnchanged, Spends};
 ghost use Rattle.stun_authentication.specs.declared.answer.Refusal.TheVariants.{StaleNonce};
 ghost use Rattle.stun_authentication.specs.Answers.{refusal_code, refusal_reason};
-ghost use Rattle.stun_authentication.specs.Refusing.{demanded, carried, refusal_of, refusal_sizes};
+ghost use Rattle.stun_authentication.specs.Refusing.{demanded, asked_attributes, carried, refusal_of, refusal_sizes};
 ghost use Rattle.stun_authentication.specs.Writing.{Lengthens, FailsFor, no_room};
 
 use crate::writing::{add_one, add_print};
@@ -84,7 +84,8 @@ fn add_algorithms<B: MessageWrite>(
 
 /// Adds what a response asks for: REALM and NONCE, and PASSWORD-ALGORITHMS if there are algorithms.
 fn add_demand<B: MessageWrite>(demand: &Demand, write: &mut B) -> Result<(), StunWriteError>
-    ensures { Lengthens result (B.state write.old) (B.state write.new) (demanded demand.now) }
+    ensures { Lengthens result (B.state write.old) (B.state write.new)
+        (asked_attributes (demanded demand.now)) }
 {
     add_realm(&demand.realm, write)?;
     add_nonce(&demand.nonce, write)?;
@@ -101,7 +102,7 @@ fn add_carried<B: MessageWrite>(
     write: &mut B,
 ) -> Result<(), StunWriteError>
     ensures { Lengthens result (B.state write.old) (B.state write.new)
-        (carried refusal (option_copied demand.entry)) }
+        (carried refusal (option_map (λ one. demanded one.now) demand.entry)) }
 {
     match (refusal, demand) {
         (Refusal::Unauthenticated, Some(demand)) => add_demand(demand, write),
@@ -131,10 +132,10 @@ fn refuse<B: MessageWrite + Drop>(
     requires empty { (B.state write).bytes ≡ [] }
     requires room { Fits (B.state write).greatest 20 }
     ensures text { let r = message_bytes request.now in
-        IfOk result (λ w. (B.state w).bytes ≡ refusal_of r refusal (option_copied demand.entry)) }
+        IfOk result (λ w. (B.state w).bytes ≡ refusal_of r refusal (option_map (λ one. demanded one.now) demand.entry)) }
     ensures answer { let r = message_bytes request.now in
         FailsFor (no_room (B.state write).greatest 20
-        (refusal_sizes r refusal (option_copied demand.entry))) result }
+        (refusal_sizes r refusal (option_map (λ one. demanded one.now) demand.entry))) result }
 {
     let error = error_of(alloc, refusal)?;
     let mut write = Message::builder_error(request, write)?;
@@ -245,10 +246,10 @@ pub fn refuse_long_term<B: MessageWrite + Drop>(
     requires empty { (B.state write).bytes ≡ [] }
     requires room { Fits (B.state write).greatest 20 }
     ensures text { let r = message_bytes request.now in
-        IfOk result (λ w. (B.state w).bytes ≡ refusal_of r refusal (Some demand.now)) }
+        IfOk result (λ w. (B.state w).bytes ≡ refusal_of r refusal (Some (demanded demand.now))) }
     ensures answer { let r = message_bytes request.now in
         FailsFor (no_room (B.state write).greatest 20
-        (refusal_sizes r refusal (Some demand.now))) result }
+        (refusal_sizes r refusal (Some (demanded demand.now)))) result }
 {
     refuse(alloc, request, refusal, Some(demand), write)
 }

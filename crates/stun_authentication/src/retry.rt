@@ -4,7 +4,7 @@
 ghost use Rattle.std.specs.Prelude.{◌≡◌, ◌≤◌, Ok, Err, IfSome, MatchResult, length};
 ghost use Rattle.std.specs.Option.{option_map};
 ghost use Rattle.stun_types.specs.Message.{message_bytes};
-ghost use Rattle.stun_authentication.specs.Challenges.{asked_by, is_bid_down, text_of, selected, repeats, challenge_of};
+ghost use Rattle.stun_authentication.specs.Challenges.{retry_of, is_bid_down, text_of, selected, repeats, challenge_of};
 
 use crate::algorithms::{first_listed, numbered};
 use crate::codes::{is_challenge, response_code};
@@ -140,9 +140,9 @@ pub fn challenge_of<'a>(
     tried: Option<&str>,
     had_algorithms: bool,
 ) -> Result<Challenge<'a>, NoRetry>
-    ensures { let asked = challenge_of supported.now (option_map (λ text. text.now) tried.entry)
+    ensures { let retry = challenge_of supported.now (option_map (λ text. text.now) tried.entry)
         had_algorithms (message_bytes response.now) in
-        MatchResult result (λ challenge. asked ≡ Ok (asked_by challenge)) (λ e. asked ≡ Err e) }
+        MatchResult result (λ challenge. retry ≡ Ok (retry_of challenge)) (λ e. retry ≡ Err e) }
 {
     if !is_challenge(response) {
         return Err(NoRetry::NotAChallenge);
@@ -163,8 +163,5 @@ pub fn challenge_of<'a>(
     if repeats(response, tried, realm) {
         return Err(NoRetry::SameCredentials);
     }
-    let anonymous = security_features(nonce.as_bytes()).is_some_and(
-        |features| features.username_anonymity,
-    );
-    Ok(Challenge::new(realm, nonce, list, algorithm, anonymous))
+    Ok(Challenge::new(realm, nonce, list, algorithm))
 }

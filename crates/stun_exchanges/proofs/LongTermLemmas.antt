@@ -25,16 +25,17 @@ use Rattle.stun_values.specs.Algorithms.{algorithm_encoding, algorithms_encoding
 use Rattle.stun_authentication.specs.declared.answer.Refusal.TheVariants.{Unauthenticated}
 use Rattle.stun_authentication.specs.declared.policy.Policy.{Policy}
 use Rattle.stun_authentication.specs.Answers.{accept, refuse, decided, accepted as accepted_with}
-use Rattle.stun_authentication.specs.Challenges.{signing_by, signing_algorithm, selected}
+use Rattle.stun_authentication.specs.Asking.{Asked, asks_userhash}
+use Rattle.stun_authentication.specs.Challenges.{retry_with, signing_by, signing_algorithm, selected}
 use Rattle.stun_authentication.specs.Cookies.{promises_algorithms}
 use Rattle.stun_authentication.specs.Identities.{Who, named, hashed, value_of, one_of, identity_of}
 use Rattle.stun_authentication.specs.Lookups.{UserKey, Known, valid, unknown}
 use Rattle.stun_authentication.specs.LongTerm.{is_request, is_sent, is_listed, promised, chosen, key_of_user, reply_algorithm, lacks_credentials, shows_one_alone, shows_other_list, chooses_none_listed, rows_of_message, by_key, long_term}
 use Rattle.stun_authentication.specs.Lists.{both, sole_named}
 use Rattle.stun_authentication.specs.Policies.{is_taken, is_signed, proof_of}
-use Rattle.stun_exchanges.specs.Offers.{Offer, offered_list, sent_with, IsOffered, asked_of, Takes, IsShort}
+use Rattle.stun_exchanges.specs.Offers.{offered_list, sent_with, IsOffered, Takes, IsShort}
 use Rattle.stun_exchanges.specs.Premises.{IsOwn, HasRoom, Serves, Works, is_reserved}
-use Rattle.stun_authentication.specs.Requests.{User, identity, identity_attribute, algorithm_attributes, credentials, user_key, retried_attributes, retried_request}
+use Rattle.stun_authentication.specs.Requests.{User, identity, asked_identity, identity_attribute, algorithm_attributes, credentials, user_key, retried_attributes, retried_request}
 use Rattle.stun_authentication.specs.Writing.{signed}
 use Rattle.stun_exchanges.proofs.EndedLemmas.{IsFirst, IsMissing, Ended, ended_none, ended_signed, ended_finished, value_there, value_missing, Signs, signs_here, signs_finished, print_unchecked, signs_validate, signs_found, no_print, print_taken}
 use Rattle.stun_exchanges.proofs.ListsLemmas.{listed_one, named_one, unlisted_is}
@@ -171,8 +172,8 @@ abbrev none_listed : (choice : Option PasswordAlgorithmValue) (list : Option (Li
 none_listed choice list = option_map_or (λ (l : List ℕ). not (option_map_or (λ (a : PasswordAlgorithmValue). is_listed l a) choice false)) list false
 
 processed : IsFirst → (supported : List PasswordAlgorithmValue) (d : List ℕ) (before : List Attribute) (who : Who) (realm nonce : List ℕ) (algorithms : Option (List PasswordAlgorithmValue)) (a : PasswordAlgorithmValue)
-    → Shows d before (parts who realm nonce (option_map (λ xs. algorithms_encoding xs) algorithms) a) → promises_algorithms nonce ≡ is_some algorithms → selected supported (option_map (λ xs. algorithms_encoding xs) algorithms) ≡ Some a
-    → IsProcessed (valid (sent_with algorithms)) d (option_map (λ xs. algorithms_encoding xs) algorithms) a
+    → Shows d before (parts who realm nonce (offered_list algorithms) a) → promises_algorithms nonce ≡ is_some (offered_list algorithms) → selected supported (offered_list algorithms) ≡ Some a
+    → IsProcessed (valid (sent_with algorithms)) d (offered_list algorithms) a
 processed first supported d before who realm nonce None a s agrees takes =
     let promise : option_map_or promises_algorithms (value_of d NONCE) false ≡ false = ap (λ (o : Option (List ℕ)). option_map_or promises_algorithms o false) (nonce_there first d before who realm nonce None a s) ∙ agrees in
     let values = by_values false (value_of d PASSWORD_ALGORITHM) (value_of d PASSWORD_ALGORITHMS) d promise refl refl in
@@ -197,6 +198,13 @@ processed first supported d before who realm nonce (Some xs) a s agrees takes =
       key_by = ap (λ (o : Option PasswordAlgorithmValue). unwrap_or o MD5) choice;
       reply_by = ap reply_algorithm choice;
     }
+
+-- the same of a list that is these algorithms
+processed_as : IsFirst → (supported : List PasswordAlgorithmValue) (d : List ℕ) (before : List Attribute) (who : Who) (realm nonce : List ℕ) (list : Option (List ℕ)) (algorithms : Option (List PasswordAlgorithmValue)) (a : PasswordAlgorithmValue)
+    → list ≡ offered_list algorithms → Shows d before (parts who realm nonce list a) → promises_algorithms nonce ≡ is_some list → selected supported list ≡ Some a → IsProcessed (valid (sent_with algorithms)) d list a
+processed_as first supported d before who realm nonce list algorithms a is =
+    subst (λ (l : Option (List ℕ)). Shows d before (parts who realm nonce l a) → promises_algorithms nonce ≡ is_some l → selected supported l ≡ Some a → IsProcessed (valid (sent_with algorithms)) d l a) (sym is)
+    (processed first supported d before who realm nonce algorithms a)
 
 -- ---- The rows of the server
 
@@ -225,40 +233,40 @@ rows policy realm nonces keys d who reported nonce key xs list algorithm a taken
     ∙ ap (λ (o : Option UserKey). by_key policy (valid xs) (chosen d) o d) found
     ∙ ap (λ (o : Option IntegrityAlgorithm). decided ((not (is_some o), refuse Unauthenticated) ∷ []) (accepted_with (Some key) o (λ _. reply_algorithm (chosen d)))) right
 
-pub accepted : IsFirst → IsMissing → (policy : Policy) (nonces : List ℕ → Known) (keys : Who → List ℕ → PasswordAlgorithmValue → Option UserKey) (offer : Offer) (supported : List PasswordAlgorithmValue) (algorithm : PasswordAlgorithmValue) (user : User) (key : UserKey) (fingerprint : Bool) (kind id : ℕ) (before : List Attribute)
-    → (let asked = asked_of offer algorithm in
-    IsOffered nonces offer → Takes supported offer algorithm → IsShort offer user.name → class_of kind ≡ Request → IsOwn kind id before → HasRoom kind id (retried_attributes fingerprint asked user kind id before)
-    → keys (identity asked.anonymous offer.realm user.name) offer.realm algorithm ≡ Some key → Works (user_key asked user) (signing_algorithm asked) key → Serves policy (signing_algorithm asked) fingerprint
-    → long_term policy offer.realm nonces keys (retried_request fingerprint asked user kind id before) ≡ accept key (signing_algorithm asked) (signing_algorithm asked))
-accepted first missing policy nonces keys offer supported algorithm user key fingerprint kind id before offered takes short class own room known works served =
-    let asked = asked_of offer algorithm in
-    let bytes = user_key asked user in
-    let a = signing_algorithm asked in
-    let who = identity asked.anonymous offer.realm user.name in
-    let list = offered_list offer in
-    let credits = credentials asked user.name in
+pub accepted : IsFirst → IsMissing → (policy : Policy) (nonces : List ℕ → Known) (keys : Who → List ℕ → PasswordAlgorithmValue → Option UserKey) (asked : Asked) (algorithms : Option (List PasswordAlgorithmValue)) (supported : List PasswordAlgorithmValue) (algorithm : PasswordAlgorithmValue) (user : User) (key : UserKey) (fingerprint : Bool) (kind id : ℕ) (before : List Attribute)
+    → (let retry = retry_with asked algorithm in
+    IsOffered nonces asked algorithms → Takes supported asked algorithm → IsShort asked user.name → class_of kind ≡ Request → IsOwn kind id before → HasRoom kind id (retried_attributes fingerprint retry user kind id before)
+    → keys (asked_identity asked user.name) asked.realm algorithm ≡ Some key → Works (user_key retry user) (signing_algorithm retry) key → Serves policy (signing_algorithm retry) fingerprint
+    → long_term policy asked.realm nonces keys (retried_request fingerprint retry user kind id before) ≡ accept key (signing_algorithm retry) (signing_algorithm retry))
+accepted first missing policy nonces keys asked algorithms supported algorithm user key fingerprint kind id before offered takes short class own room known works served =
+    let retry = retry_with asked algorithm in
+    let bytes = user_key retry user in
+    let a = signing_algorithm retry in
+    let who = asked_identity asked user.name in
+    let list = asked.list in
+    let credits = credentials retry user.name in
     let xs = before ++ credits in
-    let all = retried_attributes fingerprint asked user kind id before in
+    let all = retried_attributes fingerprint retry user kind id before in
     let d = message_encoding kind id all in
     let none = none_ends (types before) own.own in
-    let plain : list_any is_ending (types xs) ≡ false = any-append is_ending before credits none (parts_plain who offer.realm offer.nonce list algorithm) in
+    let plain : list_any is_ending (types xs) ≡ false = any-append is_ending before credits none (parts_plain who asked.realm asked.nonce list algorithm) in
     let ended : Ended xs all = ended_finished fingerprint kind id xs (signed kind id xs a bytes) (ended_signed kind id xs xs a bytes (ended_none xs)) in
     let so : IsWritable kind id xs = adds kind id before credits own.writable none
-    (parts_added who offer.realm offer.nonce list algorithm (who_fits asked.anonymous offer.realm user.name short.name_fits) short.realm_fits short.nonce_fits short.list_fits)
+    (parts_added who asked.realm asked.nonce list algorithm (who_fits (asks_userhash asked) asked.realm user.name short.name_fits) short.realm_fits short.nonce_fits short.list_fits)
     (room_down kind id xs ended.more (subst (HasRoom kind id) ended.whole room)) in
     let writable : IsWritable kind id all = once_writable fingerprint kind id xs a bytes so plain room in
     let shows : Shows d before credits = record { more = ended.more; shows = shown-message kind id all writable ∙ ap (placed 20) ended.whole; own = own.own; ending = ended.ending } in
-    let unsigned : has (type_of_algorithm a) (types xs) ≡ false = any-append (λ t. eqb t (type_of_algorithm a)) before credits (own_missing a (types before) own.own) (parts_unsigned a who offer.realm offer.nonce list algorithm) in
+    let unsigned : has (type_of_algorithm a) (types xs) ≡ false = any-append (λ t. eqb t (type_of_algorithm a)) before credits (own_missing a (types before) own.own) (parts_unsigned a who asked.realm asked.nonce list algorithm) in
     let both = in_common policy.algorithm key.made_for a served.counts works.works in
     let wanted = is_checked_type both.served in
     let signs : Signs kind id all wanted a bytes = signs_finished fingerprint kind id (signed kind id xs a bytes) wanted a bytes (print_unchecked both.served) (signs_here kind id xs wanted a bytes unsigned) in
     let hmac = signs_found first kind id all wanted a bytes writable signs in
     let right : verdict wanted (λ _. key.bytes) d ≡ Ok a = ap (λ (k : List ℕ). verdict wanted (λ _. k) d) works.bytes_are ∙ signs_validate kind id all wanted a bytes writable (is_wanted both.served a both.counts) signs in
-    let how = processed first supported d before who offer.realm offer.nonce offer.algorithms algorithm shows offered.agrees takes in
-    rows policy offer.realm nonces keys d who offer.realm offer.nonce key (sent_with offer.algorithms) list algorithm a
+    let how = processed_as first supported d before who asked.realm asked.nonce list algorithms algorithm offered.list_is shows offered.agrees takes in
+    rows policy asked.realm nonces keys d who asked.realm asked.nonce key (sent_with algorithms) list algorithm a
     (print_taken first policy.fingerprint fingerprint kind id (signed kind id xs a bytes) writable (signed_unprinted kind id xs a bytes (no_print (types xs) plain)) served.printed)
     (ap class_of (type-message kind id all writable.type_fits) ∙ class) (is_served policy.algorithm a d served.counts hmac)
-    (who_there first missing d before who offer.realm offer.nonce list algorithm shows) (realm_there first d before who offer.realm offer.nonce list algorithm shows) (nonce_there first d before who offer.realm offer.nonce list algorithm shows)
+    (who_there first missing d before who asked.realm asked.nonce list algorithm shows) (realm_there first d before who asked.realm asked.nonce list algorithm shows) (nonce_there first d before who asked.realm asked.nonce list algorithm shows)
     offered.known how known
     (proof_is policy a d key both.served both.which hmac served.min_hmac_length right)
     ∙ ap (λ (r : IntegrityAlgorithm). accept key a r) how.reply_by

@@ -17,8 +17,8 @@ ghost use Rattle.stun_grammar.specs.ScannedOrder.{has};
 ghost use Rattle.stun_base.specs.declared.message_type.MessageClass.TheVariants.{Request, Error as ErrorClass};
 ghost use Rattle.stun_values.specs.declared.algorithm.PasswordAlgorithmValue.{PasswordAlgorithmValue};
 ghost use Rattle.stun_authentication.specs.declared.answer.Refusal.{Refusal};
-ghost use Rattle.stun_authentication.specs.declared.demand.Demand.{Demand};
-ghost use Rattle.stun_authentication.specs.Challenges.{Asked, challenge_of, signing_algorithm};
+ghost use Rattle.stun_authentication.specs.Asking.{Asked, asked_for};
+ghost use Rattle.stun_authentication.specs.Challenges.{Retry, retry_with, challenge_of, signing_algorithm};
 ghost use Rattle.stun_authentication.specs.Cookies.{promises_algorithms};
 ghost use Rattle.stun_authentication.specs.Identities.{Who, named};
 ghost use Rattle.stun_keys.specs.declared.keys.long_term.LongTermCredentials.{LongTermCredentials};
@@ -37,8 +37,8 @@ ghost use Rattle.stun_transactions.specs.Outcomes.{is_open};
 ghost use Rattle.stun_transactions.specs.Receiving.{content, received_outcome};
 ghost use Rattle.stun_transactions.specs.Beginning.{request_parts};
 ghost use Rattle.stun_exchanges.specs.Example.{IsMet};
-ghost use Rattle.stun_exchanges.specs.Offers.{Offer, IsOffered, sent_with, IsLawful, Takes, IsShort, Retries, asked_of, asks, offer_of, refused, refused_attributes};
-ghost use Rattle.stun_authentication.specs.Requests.{User, user_of, identity, user_key, retried_attributes, retried_request, short_term_attributes, short_term_request};
+ghost use Rattle.stun_exchanges.specs.Offers.{offered_list, IsOffered, sent_with, IsLawful, Takes, IsShort, Retries, asks, refused, refused_attributes};
+ghost use Rattle.stun_authentication.specs.Requests.{User, user_of, asked_identity, user_key, retried_attributes, retried_request, short_term_attributes, short_term_request};
 ghost use Rattle.stun_authentication.specs.Writing.{signed, finished, signed_reply};
 ghost use Rattle.stun_exchanges.specs.Premises.{IsOwn, IsOpen, IsNamed, IsPrinted, HasRoom, Serves, Suits, Works, WorksAs, checked};
 
@@ -46,19 +46,18 @@ use stun_authentication::{cookie_is_read, nonces_are_timed};
 use stun_types::shown_is_found;
 
 /// A 401 or a 438 is read as it was written: `challenge_of` returns of the error response that
-/// `refuse_long_term` writes what the server offers, and the algorithm that the client takes of the
-/// offer.
+/// `refuse_long_term` writes what the server asks for, and the algorithm that the client takes of its
+/// list.
 pub fn challenge_is_read()
-    ensures { (refusal : Refusal) (demand : Demand) (supported : List PasswordAlgorithmValue)
+    ensures { (refusal : Refusal) (asked : Asked) (supported : List PasswordAlgorithmValue)
         (algorithm : PasswordAlgorithmValue) (tried : Option (List ℕ)) (had_algorithms : Bool)
         (fingerprint : Bool) (kind id : ℕ)
-        → let offer = offer_of demand in
-        asks refusal ≡ true → kind < 2 ^ 14 → id < 2 ^ 96 → class_of kind ≡ ErrorClass
-        → IsLawful offer → promises_algorithms offer.nonce ≡ is_some offer.algorithms
-        → Takes supported offer algorithm → Retries tried had_algorithms refusal offer
-        → HasRoom kind id (refused_attributes fingerprint kind id refusal demand)
-        → challenge_of supported tried had_algorithms (refused fingerprint kind id refusal demand)
-        ≡ Ok (asked_of offer algorithm) }
+        → asks refusal ≡ true → kind < 2 ^ 14 → id < 2 ^ 96 → class_of kind ≡ ErrorClass
+        → IsLawful asked → promises_algorithms asked.nonce ≡ is_some asked.list
+        → Takes supported asked algorithm → Retries tried had_algorithms refusal asked
+        → HasRoom kind id (refused_attributes fingerprint kind id refusal asked)
+        → challenge_of supported tried had_algorithms (refused fingerprint kind id refusal asked)
+        ≡ Ok (retry_with asked algorithm) }
 {
     shown_is_found();
 }
@@ -75,41 +74,42 @@ pub fn challenge_is_read()
 pub fn login_is_accepted()
     ensures accepted { (policy : Policy) (nonces : List ℕ → Known)
         (keys : Who → List ℕ → PasswordAlgorithmValue → Option UserKey)
-        (offer : Offer) (supported : List PasswordAlgorithmValue)
+        (asked : Asked) (algorithms : Option (List PasswordAlgorithmValue))
+        (supported : List PasswordAlgorithmValue)
         (algorithm : PasswordAlgorithmValue) (user : User) (key : UserKey) (fingerprint : Bool)
         (kind id : ℕ) (before : List Attribute)
-        → let asked = asked_of offer algorithm in
-        IsOffered nonces offer → Takes supported offer algorithm → IsShort offer user.name
-        → class_of kind ≡ Request → IsOwn kind id before
-        → HasRoom kind id (retried_attributes fingerprint asked user kind id before)
-        → keys (identity asked.anonymous offer.realm user.name) offer.realm algorithm
-        ≡ Some key → Works (user_key asked user) (signing_algorithm asked) key
-        → Serves policy (signing_algorithm asked) fingerprint
-        → long_term policy offer.realm nonces keys
-        (retried_request fingerprint asked user kind id before)
-        ≡ accept key (signing_algorithm asked) (signing_algorithm asked) }
+        → let retry = retry_with asked algorithm in
+        IsOffered nonces asked algorithms → Takes supported asked algorithm
+        → IsShort asked user.name → class_of kind ≡ Request → IsOwn kind id before
+        → HasRoom kind id (retried_attributes fingerprint retry user kind id before)
+        → keys (asked_identity asked user.name) asked.realm algorithm
+        ≡ Some key → Works (user_key retry user) (signing_algorithm retry) key
+        → Serves policy (signing_algorithm retry) fingerprint
+        → long_term policy asked.realm nonces keys
+        (retried_request fingerprint retry user kind id before)
+        ≡ accept key (signing_algorithm retry) (signing_algorithm retry) }
     // the same if the client reads the challenge of the response by which the server refused it
     ensures retried { (policy : Policy) (nonces : List ℕ → Known)
         (keys : Who → List ℕ → PasswordAlgorithmValue → Option UserKey)
-        (refusal : Refusal) (demand : Demand) (supported : List PasswordAlgorithmValue)
+        (refusal : Refusal) (asked : Asked) (algorithms : Option (List PasswordAlgorithmValue))
+        (supported : List PasswordAlgorithmValue)
         (algorithm : PasswordAlgorithmValue) (tried : Option (List ℕ)) (had_algorithms : Bool) (print : Bool)
         (other number : ℕ)
-        (asked : Asked) (user : User) (key : UserKey) (fingerprint : Bool) (kind id : ℕ)
+        (retry : Retry) (user : User) (key : UserKey) (fingerprint : Bool) (kind id : ℕ)
         (before : List Attribute)
-        → let offer = offer_of demand in
-        asks refusal ≡ true → other < 2 ^ 14 → number < 2 ^ 96 → class_of other ≡ ErrorClass
-        → IsLawful offer → IsOffered nonces offer → Takes supported offer algorithm
-        → Retries tried had_algorithms refusal offer
-        → HasRoom other number (refused_attributes print other number refusal demand)
-        → challenge_of supported tried had_algorithms (refused print other number refusal demand) ≡ Ok asked
+        → asks refusal ≡ true → other < 2 ^ 14 → number < 2 ^ 96 → class_of other ≡ ErrorClass
+        → IsLawful asked → IsOffered nonces asked algorithms → Takes supported asked algorithm
+        → Retries tried had_algorithms refusal asked
+        → HasRoom other number (refused_attributes print other number refusal asked)
+        → challenge_of supported tried had_algorithms (refused print other number refusal asked) ≡ Ok retry
         → length user.name < 2 ^ 16 → class_of kind ≡ Request → IsOwn kind id before
-        → HasRoom kind id (retried_attributes fingerprint asked user kind id before)
-        → keys (identity asked.anonymous asked.realm user.name) asked.realm asked.algorithm
-        ≡ Some key → Works (user_key asked user) (signing_algorithm asked) key
-        → Serves policy (signing_algorithm asked) fingerprint
-        → long_term policy offer.realm nonces keys
-        (retried_request fingerprint asked user kind id before)
-        ≡ accept key (signing_algorithm asked) (signing_algorithm asked) }
+        → HasRoom kind id (retried_attributes fingerprint retry user kind id before)
+        → keys (asked_identity retry.asked user.name) retry.asked.realm retry.algorithm
+        ≡ Some key → Works (user_key retry user) (signing_algorithm retry) key
+        → Serves policy (signing_algorithm retry) fingerprint
+        → long_term policy asked.realm nonces keys
+        (retried_request fingerprint retry user kind id before)
+        ≡ accept key (signing_algorithm retry) (signing_algorithm retry) }
     // with a transaction of a request r that was begun with the key, and waits for a response to it
     ensures heard { (a : IntegrityAlgorithm) (fingerprint : Bool) (kind id : ℕ)
         (answer : List Attribute) (r key : List ℕ) (k : IntegrityKey) (plan : Plan) (usage : ResponsePolicy)
@@ -130,12 +130,12 @@ pub fn login_is_accepted()
 /// and password, and it works with both integrity algorithms. Of two users with one
 /// name, or with names of equal hash, the first counts.
 pub fn logins_have_keys()
-    ensures long_term { (logins : Logins) (login : LongTermCredentials) (asked : Asked)
+    ensures long_term { (logins : Logins) (login : LongTermCredentials) (retry : Retry)
         → let user = user_of login in
-        let who = identity asked.anonymous asked.realm user.name in
-        find (is_login who asked.realm) (users_of logins) ≡ Some login → user.password ≢ []
-        → long_term_key_of logins who asked.realm asked.algorithm
-        ≡ Some (key_made None (user_key asked user)) }
+        let who = asked_identity retry.asked user.name in
+        find (is_login who retry.asked.realm) (users_of logins) ≡ Some login → user.password ≢ []
+        → long_term_key_of logins who retry.asked.realm retry.algorithm
+        ≡ Some (key_made None (user_key retry user)) }
     ensures short_term { (logins : Logins) (login : LongTermCredentials)
         → let user = user_of login in
         find (is_login (named user.name) []) (users_of logins) ≡ Some login → user.password ≢ []
@@ -199,7 +199,7 @@ pub fn made_nonces_are_offered()
         → time < 2 ^ 64 → time ≤ now → now ≤ time + minting.window
         → minting.features.password_algorithms ≡ is_some algorithms
         → IsOffered (λ nonce. known_as (sent_with algorithms) (freshness minting now place nonce))
-        (record { realm = realm; nonce = minted minting time place; algorithms = algorithms }) }
+        (asked_for realm (minted minting time place) (offered_list algorithms)) algorithms }
 {
     cookie_is_read();
     nonces_are_timed();

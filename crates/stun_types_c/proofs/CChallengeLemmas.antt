@@ -8,10 +8,10 @@ use Rattle.stun_grammar.specs.Numbers.{IsBytes}
 use Rattle.stun_types.specs.LookingUp.{nth}
 use Rattle.stun_values.specs.TextValues.{text_max, text_fault}
 use Rattle.stun_values.specs.declared.algorithm.PasswordAlgorithmValue.{PasswordAlgorithmValue}
-use Rattle.stun_authentication.specs.Challenges.{Asked, challenge_of, by_list, by_texts, by_algorithm, by_credentials, selected, repeats, lost_list, is_bid_down, text_of, text_in, list_of}
+use Rattle.stun_authentication.specs.Asking.{Asked, asked_for}
+use Rattle.stun_authentication.specs.Challenges.{Retry, retry_with, challenge_of, by_list, by_texts, by_algorithm, by_credentials, selected, repeats, lost_list, is_bid_down, text_of, text_in, list_of}
 use Rattle.stun_authentication.specs.declared.challenge.NoRetry.TheVariants.{NotAChallenge, BidDown, Incomplete, NoAlgorithm, SameCredentials}
 use Rattle.stun_authentication.specs.Codes.{is_challenge}
-use Rattle.stun_authentication.specs.Cookies.{security_features, is_anonymous}
 use Rattle.stun_authentication.specs.Identities.{value_of}
 use Rattle.stun_types_c.specs.Challenges.{value_at, in_c, StandsWhereReported}
 use Rattle.stun_types_c.proofs.StandsLemmas.{range_there}
@@ -43,35 +43,22 @@ record IsOf (d : List ℕ) (asked : Asked) : Type 0 where
   nonce : text_of text_max NONCE d ≡ Some asked.nonce
   list : list_of d ≡ asked.list
 
-by_credentials_of : (tried : Option (List ℕ)) (wanted asked : Asked) (d : List ℕ) → by_credentials tried wanted d ≡ Ok asked → wanted ≡ asked
-by_credentials_of tried wanted asked d h =
-    let same = unless_ok (repeats tried wanted.realm d) SameCredentials (Ok wanted) asked h in cc same
+by_credentials_of : (tried : Option (List ℕ)) (wanted retry : Retry) (d : List ℕ) → by_credentials tried wanted d ≡ Ok retry → wanted ≡ retry
+by_credentials_of tried wanted retry d h =
+    let same = unless_ok (repeats tried wanted.asked.realm d) SameCredentials (Ok wanted) retry h in cc same
 
-by_algorithm_of : (supported : List PasswordAlgorithmValue) (tried : Option (List ℕ)) (realm nonce d : List ℕ) (asked : Asked) → by_algorithm supported tried realm nonce d ≡ Ok asked → (realm ≡ asked.realm) × (nonce ≡ asked.nonce) × (list_of d ≡ asked.list)
-by_algorithm_of supported tried realm nonce d asked h =
-    let wanted : PasswordAlgorithmValue → Asked = λ a. record {
-      realm = realm;
-      nonce = nonce;
-      list = list_of d;
-      algorithm = a;
-      anonymous = is_anonymous (security_features nonce);
-    } in
-    let chosen = some_ok (λ a. by_credentials tried (wanted a) d) (selected supported (list_of d)) NoAlgorithm asked h in
-    let is = by_credentials_of tried (wanted chosen.0) asked d chosen.2 in
-    (ap (λ (a : Asked). a.realm) is, ap (λ (a : Asked). a.nonce) is, ap (λ (a : Asked). a.list) is)
+by_algorithm_of : (supported : List PasswordAlgorithmValue) (tried : Option (List ℕ)) (asked : Asked) (d : List ℕ) (retry : Retry) → by_algorithm supported tried asked d ≡ Ok retry → asked ≡ retry.asked
+by_algorithm_of supported tried asked d retry h =
+    let chosen = some_ok (λ a. by_credentials tried (retry_with asked a) d) (selected supported asked.list) NoAlgorithm retry h in
+    ap (λ (r : Retry). r.asked) (by_credentials_of tried (retry_with asked chosen.0) retry d chosen.2)
 
-is_of : (supported : List PasswordAlgorithmValue) (tried : Option (List ℕ)) (had_algorithms : Bool) (d : List ℕ) (asked : Asked) → challenge_of supported tried had_algorithms d ≡ Ok asked → IsOf d asked
-is_of supported tried had_algorithms d asked h =
-    let listed = if_ok (is_challenge d) NotAChallenge (by_list supported tried had_algorithms d) asked h in
-    let texts = unless_ok (is_bid_down d || lost_list had_algorithms d) BidDown (by_texts supported tried d) asked listed in
-    let realm = some_ok (λ (realm : List ℕ). option_map_or (λ nonce. by_algorithm supported tried realm nonce d) (text_of text_max NONCE d) (Err Incomplete)) (text_of text_max REALM d) Incomplete asked texts in
-    let nonce = some_ok (λ (nonce : List ℕ). by_algorithm supported tried realm.0 nonce d) (text_of text_max NONCE d) Incomplete asked realm.2 in
-    let is = by_algorithm_of supported tried realm.0 nonce.0 d asked nonce.2 in
-    record {
-      realm = realm.1 ∙ ap (λ (t : List ℕ). Some t) is.0;
-      nonce = nonce.1 ∙ ap (λ (t : List ℕ). Some t) is.1;
-      list = is.2;
-    }
+is_of : (supported : List PasswordAlgorithmValue) (tried : Option (List ℕ)) (had_algorithms : Bool) (d : List ℕ) (retry : Retry) → challenge_of supported tried had_algorithms d ≡ Ok retry → IsOf d retry.asked
+is_of supported tried had_algorithms d retry h =
+    let listed = if_ok (is_challenge d) NotAChallenge (by_list supported tried had_algorithms d) retry h in
+    let texts = unless_ok (is_bid_down d || lost_list had_algorithms d) BidDown (by_texts supported tried d) retry listed in
+    let realm = some_ok (λ (realm : List ℕ). option_map_or (λ nonce. by_algorithm supported tried (asked_for realm nonce (list_of d)) d) (text_of text_max NONCE d) (Err Incomplete)) (text_of text_max REALM d) Incomplete retry texts in
+    let nonce = some_ok (λ (nonce : List ℕ). by_algorithm supported tried (asked_for realm.0 nonce (list_of d)) d) (text_of text_max NONCE d) Incomplete retry realm.2 in
+    subst (IsOf d) (by_algorithm_of supported tried (asked_for realm.0 nonce.0 (list_of d)) d retry nonce.2) (record { realm = realm.1; nonce = nonce.1; list = refl })
 
 -- ---- They are at the places that are reported to C
 
@@ -91,12 +78,12 @@ list_stands : (d : List ℕ) (o : Option Shown) → ((x : Shown) → o ≡ Some 
 list_stands d None there = refl
 list_stands d (Some x) there = there x refl
 
-pub asked_there : (supported : List PasswordAlgorithmValue) (tried : Option (List ℕ)) (had_algorithms : Bool) (d : List ℕ) (asked : Asked) → IsBytes d → challenge_of supported tried had_algorithms d ≡ Ok asked → StandsWhereReported d asked (in_c d asked)
-asked_there supported tried had_algorithms d asked bytes h =
-    let of = is_of supported tried had_algorithms d asked h in
+pub asked_there : (supported : List PasswordAlgorithmValue) (tried : Option (List ℕ)) (had_algorithms : Bool) (d : List ℕ) (retry : Retry) → IsBytes d → challenge_of supported tried had_algorithms d ≡ Ok retry → StandsWhereReported d retry (in_c d retry)
+asked_there supported tried had_algorithms d retry bytes h =
+    let of = is_of supported tried had_algorithms d retry h in
     let there : (type : ℕ) (x : Shown) → nth d type 0 ≡ Some x → slice_range d (x.offset + 4) (x.offset + 4 + length x.value) ≡ x.value = λ type x e. range_there d type x bytes e in
     record {
-      realm = stands d (nth d REALM 0) asked.realm (there REALM) (text_value text_max (value_of d REALM) asked.realm of.realm);
-      nonce = stands d (nth d NONCE 0) asked.nonce (there NONCE) (text_value text_max (value_of d NONCE) asked.nonce of.nonce);
+      realm = stands d (nth d REALM 0) retry.asked.realm (there REALM) (text_value text_max (value_of d REALM) retry.asked.realm of.realm);
+      nonce = stands d (nth d NONCE 0) retry.asked.nonce (there NONCE) (text_value text_max (value_of d NONCE) retry.asked.nonce of.nonce);
       list = subst (λ (o : Option (List ℕ)). ListStands d (value_at PASSWORD_ALGORITHMS d) o) of.list (list_stands d (nth d PASSWORD_ALGORITHMS 0) (there PASSWORD_ALGORITHMS));
     }

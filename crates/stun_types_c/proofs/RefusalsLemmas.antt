@@ -3,25 +3,24 @@ use Rattle.std.proofs.Common.{◌≡◌, ℕ, List, Option, None, Some, sym, sub
 use Rattle.std.specs.Prelude.{MatchOption}
 use Rattle.stun_values.specs.declared.algorithm.PasswordAlgorithmValue.{PasswordAlgorithmValue}
 use Rattle.stun_authentication.specs.declared.answer.Refusal.{Refusal}
-use Rattle.stun_authentication.specs.declared.demand.Demand.{Demand}
+use Rattle.stun_authentication.specs.Asking.{Asked}
 use Rattle.stun_types_c.specs.declared.call_result.CResult.{CResult}
 use Rattle.stun_types_c.specs.CResults.{plain, Refuses}
 use Rattle.stun_types_c.specs.Codes.{BAD_ARGUMENT}
 use Rattle.stun_types_c.specs.PasswordAlgorithms.{password_algorithms_named}
-use Rattle.stun_types_c.specs.Refusals.{message_answer, long_term_refusal, demand_answer, IsDemand, WritesRefusal, RefusesDemanding, RefusesLongTerm}
+use Rattle.stun_types_c.specs.Refusals.{message_answer, long_term_refusal, asked_of, asked_answer, WritesRefusal, RefusesAsking, RefusesLongTerm}
 use Rattle.stun_types_c.specs.Writing.{Written}
 
-pub asks : (r : List ℕ) (refusal : Refusal) (realm nonce : List ℕ) (algorithms : List PasswordAlgorithmValue) (demand : Demand) (result : CResult) (old new : Written)
-    → demand_answer realm nonce algorithms ≡ None → IsDemand realm nonce algorithms demand → WritesRefusal r refusal (Some demand) result old new
-    → RefusesDemanding r refusal realm nonce algorithms result old new
-asks r refusal realm nonce algorithms demand result old new fine is written =
-    inl (subst (λ (o : Option CResult). MatchOption o ((demand : Demand) × IsDemand realm nonce algorithms demand × WritesRefusal r refusal (Some demand) result old new) (λ answer. Refuses answer result old new)) (sym fine) (demand, is, written))
+pub asks : (r : List ℕ) (refusal : Refusal) (asked : Asked) (result : CResult) (old new : Written)
+    → asked_answer asked ≡ None → WritesRefusal r refusal (Some asked) result old new → RefusesAsking r refusal asked result old new
+asks r refusal asked result old new fine written =
+    inl (subst (λ (o : Option CResult). MatchOption o (WritesRefusal r refusal (Some asked) result old new) (λ answer. Refuses answer result old new)) (sym fine) written)
 
 -- a request is refused by what C passes
 pub refused : (r : List ℕ) (code : ℕ) (realm nonce numbers : List ℕ) (refusal : Refusal) (algorithms : List PasswordAlgorithmValue) (result : CResult) (old new : Written)
     → message_answer r ≡ None → long_term_refusal code ≡ Some refusal → password_algorithms_named numbers ≡ Some algorithms
-    → RefusesDemanding r refusal realm nonce algorithms result old new → RefusesLongTerm r code realm nonce numbers result old new
+    → RefusesAsking r refusal (asked_of realm nonce algorithms) result old new → RefusesLongTerm r code realm nonce numbers result old new
 refused r code realm nonce numbers refusal algorithms result old new fine named listed written =
-    let by_algorithms = subst (λ (o : Option (List PasswordAlgorithmValue)). MatchOption o (Refuses (plain BAD_ARGUMENT) result old new) (λ algorithms. RefusesDemanding r refusal realm nonce algorithms result old new)) (sym listed) written in
-    let by_code = subst (λ (o : Option Refusal). MatchOption o (Refuses (plain BAD_ARGUMENT) result old new) (λ refusal. MatchOption (password_algorithms_named numbers) (Refuses (plain BAD_ARGUMENT) result old new) (λ algorithms. RefusesDemanding r refusal realm nonce algorithms result old new))) (sym named) by_algorithms in
-    subst (λ (o : Option CResult). MatchOption o (MatchOption (long_term_refusal code) (Refuses (plain BAD_ARGUMENT) result old new) (λ refusal. MatchOption (password_algorithms_named numbers) (Refuses (plain BAD_ARGUMENT) result old new) (λ algorithms. RefusesDemanding r refusal realm nonce algorithms result old new))) (λ answer. Refuses answer result old new)) (sym fine) by_code
+    let by_algorithms = subst (λ (o : Option (List PasswordAlgorithmValue)). MatchOption o (Refuses (plain BAD_ARGUMENT) result old new) (λ algorithms. RefusesAsking r refusal (asked_of realm nonce algorithms) result old new)) (sym listed) written in
+    let by_code = subst (λ (o : Option Refusal). MatchOption o (Refuses (plain BAD_ARGUMENT) result old new) (λ refusal. MatchOption (password_algorithms_named numbers) (Refuses (plain BAD_ARGUMENT) result old new) (λ algorithms. RefusesAsking r refusal (asked_of realm nonce algorithms) result old new))) (sym named) by_algorithms in
+    subst (λ (o : Option CResult). MatchOption o (MatchOption (long_term_refusal code) (Refuses (plain BAD_ARGUMENT) result old new) (λ refusal. MatchOption (password_algorithms_named numbers) (Refuses (plain BAD_ARGUMENT) result old new) (λ algorithms. RefusesAsking r refusal (asked_of realm nonce algorithms) result old new))) (λ answer. Refuses answer result old new)) (sym fine) by_code

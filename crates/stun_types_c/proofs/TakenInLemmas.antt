@@ -20,8 +20,8 @@ use Rattle.stun_types.specs.Resuming.{resume_fault, message_types, after_steps, 
 use Rattle.stun_types.specs.Writers.{Writer}
 use Rattle.stun_values.specs.TextValues.{username_max}
 use Rattle.stun_values.specs.declared.algorithm.PasswordAlgorithmValue.{PasswordAlgorithmValue}
-use Rattle.stun_authentication.specs.Challenges.{Asked, signing_algorithm}
-use Rattle.stun_authentication.specs.Requests.{identity, identity_attribute, algorithm_attributes, answering_attributes, login_steps, name_refusal, AnswersWith}
+use Rattle.stun_authentication.specs.Challenges.{Retry, signing_algorithm}
+use Rattle.stun_authentication.specs.Requests.{asked_identity, identity_attribute, algorithm_attributes, answering_attributes, login_steps, name_refusal, AnswersWith}
 use Rattle.stun_authentication.specs.Writing.{adds, print_steps, signing_refusal, Finishes, FinishesBy, step_type, steps_length, steps_refusal, refusal_by, Lacks, KeepsAttributes, TakesSteps}
 use Rattle.stun_types_c.specs.declared.call_result.CResult.{CResult}
 use Rattle.stun_types_c.specs.CResults.{plain, write_result}
@@ -127,10 +127,10 @@ pub finished_by : (made_for : Option IntegrityAlgorithm) (a : IntegrityAlgorithm
 finished_by made_for a r w after finish steps serving by =
     let done : Finishes r w after finish steps = rw (served made_for a serving) at by in done.takes
 
-pub answered_with : (asked : Asked) (name : List ℕ) (made_for : Option IntegrityAlgorithm) (key : List ℕ) (fingerprint : Bool) (r : Result (Unit {0}) StunWriteError) (w after : Writer)
-    → length name ≤ username_max → serves made_for (signing_algorithm asked) ≡ true → AnswersWith asked name made_for key fingerprint r w after → TakesSteps r w after (login_steps fingerprint asked name key)
-answered_with asked name made_for key fingerprint r w after short serving by =
-    finished_by made_for (signing_algorithm asked) r w after (answering_attributes fingerprint asked name key) (login_steps fingerprint asked name key) serving (rw (named name short) at by)
+pub answered_with : (retry : Retry) (name : List ℕ) (made_for : Option IntegrityAlgorithm) (key : List ℕ) (fingerprint : Bool) (r : Result (Unit {0}) StunWriteError) (w after : Writer)
+    → length name ≤ username_max → serves made_for (signing_algorithm retry) ≡ true → AnswersWith retry name made_for key fingerprint r w after → TakesSteps r w after (login_steps fingerprint retry name key)
+answered_with retry name made_for key fingerprint r w after short serving by =
+    finished_by made_for (signing_algorithm retry) r w after (answering_attributes fingerprint retry name key) (login_steps fingerprint retry name key) serving (rw (named name short) at by)
 
 -- ---- How many steps there are
 
@@ -144,7 +144,7 @@ few None p false x y z s = omega arith
 few (Some list) p true x y z s = omega arith
 few (Some list) p false x y z s = omega arith
 
-pub few_login : (fingerprint : Bool) (asked : Asked) (name key : List ℕ) → length (login_steps fingerprint asked name key) ≤ 16
-few_login fingerprint asked name key =
-    let user = identity_attribute (identity asked.anonymous asked.realm name) in
-    few asked.list asked.algorithm fingerprint (add user.type user.value) (add REALM asked.realm) (add NONCE asked.nonce) (sign (signing_algorithm asked) key)
+pub few_login : (fingerprint : Bool) (retry : Retry) (name key : List ℕ) → length (login_steps fingerprint retry name key) ≤ 16
+few_login fingerprint retry name key =
+    let user = identity_attribute (asked_identity retry.asked name) in
+    few retry.asked.list retry.algorithm fingerprint (add user.type user.value) (add REALM retry.asked.realm) (add NONCE retry.asked.nonce) (sign (signing_algorithm retry) key)

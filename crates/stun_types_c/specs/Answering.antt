@@ -7,7 +7,7 @@ use Rattle.stun_keys.specs.declared.keys.integrity_key.IntegrityKey.{IntegrityKe
 use Rattle.stun_keys.specs.Keys.{IsKey, key_bytes}
 use Rattle.stun_values.specs.TextValues.{username_max}
 use Rattle.stun_authentication.specs.declared.challenge.NoRetry.{NoRetry}
-use Rattle.stun_authentication.specs.Challenges.{Asked, challenge_of, signing_algorithm}
+use Rattle.stun_authentication.specs.Challenges.{Retry, challenge_of, signing_algorithm}
 use Rattle.stun_authentication.specs.Requests.{login_steps, user_key}
 use Rattle.stun_types_c.specs.declared.call_result.CResult.{CResult}
 use Rattle.stun_types_c.specs.CResults.{plain, counted, parse_result, Refuses}
@@ -17,14 +17,14 @@ use Rattle.stun_types_c.specs.Credentials.{texts_refusal, WithTexts}
 use Rattle.stun_types_c.specs.PasswordAlgorithms.{password_algorithms_named}
 use Rattle.stun_types_c.specs.Writing.{Written, serving_answer, TakesIn}
 
--- what is asked for, or why the request isn't sent again, in C's numbers
-abbrev pub in_answer : Result Asked NoRetry → Result Asked CResult
-in_answer (Ok asked) = Ok asked
+-- how the request is sent again, or why it isn't, in C's numbers
+abbrev pub in_answer : Result Retry NoRetry → Result Retry CResult
+in_answer (Ok retry) = Ok retry
 in_answer (Err reason) = Err (retry_answer reason)
 
--- what d asks for of a client that supports the algorithms of these numbers, or why there is nothing
--- to answer
-abbrev pub challenge_in : (numbers d : List ℕ) → Result Asked CResult
+-- how a client that supports the algorithms of these numbers sends its request again after d, or why
+-- it doesn't
+abbrev pub challenge_in : (numbers d : List ℕ) → Result Retry CResult
 challenge_in numbers d =
     option_map_or (λ supported.
     option_map_or (λ e. Err (parse_result e)) (parse_fault d)
@@ -33,12 +33,12 @@ challenge_in numbers d =
 
 -- a handle holds the key of a user in the realm of the challenge, by the password algorithm that it
 -- asks for
-abbrev pub HoldsAsked : Asked → (user password : List ℕ) → CResult
+abbrev pub HoldsAsked : Retry → (user password : List ℕ) → CResult
     → (old new : Option IntegrityKey) → Type 0
-HoldsAsked asked user password result old new =
-    WithTexts user asked.realm password
+HoldsAsked retry user password result old new =
+    WithTexts user retry.asked.realm password
     ((result ≡ plain OK)
-    × IsSomeAnd new (IsKey None (user_key asked (record { name = user; password = password }))))
+    × IsSomeAnd new (IsKey None (user_key retry (record { name = user; password = password }))))
     (λ answer. Refuses answer result old new)
 
 -- the same by what C passes
@@ -46,7 +46,7 @@ abbrev pub HoldsFor : (numbers d user password : List ℕ) → CResult
     → (old new : Option IntegrityKey) → Type 0
 HoldsFor numbers d user password result old new =
     MatchResult (challenge_in numbers d)
-    (λ asked. HoldsAsked asked user password result old new)
+    (λ retry. HoldsAsked retry user password result old new)
     (λ answer. Refuses answer result old new)
 
 -- why a user isn't named: the name is no text, or too long for a USERNAME
@@ -62,11 +62,11 @@ abbrev pub AnswersChallenge : (numbers d name : List ℕ) → (fingerprint : Boo
     → Written → Type 0
 AnswersChallenge numbers d name fingerprint held result old new =
     MatchResult (challenge_in numbers d)
-    (λ asked. MatchOption (name_answer name)
+    (λ retry. MatchOption (name_answer name)
     (MatchOption held
     (Refuses (plain NO_KEY) result old new)
-    (λ key. MatchOption (serving_answer key (signing_algorithm asked))
-    (TakesIn (login_steps fingerprint asked name (key_bytes key)) result old new)
+    (λ key. MatchOption (serving_answer key (signing_algorithm retry))
+    (TakesIn (login_steps fingerprint retry name (key_bytes key)) result old new)
     (λ answer. Refuses answer result old new)))
     (λ answer. Refuses answer result old new))
     (λ answer. Refuses answer result old new)

@@ -9,7 +9,8 @@ use Rattle.stun_values.specs.declared.algorithm.PasswordAlgorithmValue.{Password
 use Rattle.stun_values.specs.Algorithms.{algorithm_number}
 use Rattle.stun_authentication.specs.declared.challenge.NoRetry.{NoRetry}
 use Rattle.stun_authentication.specs.declared.challenge.NoRetry.TheVariants.{NotAChallenge, BidDown, Incomplete, NoAlgorithm, SameCredentials}
-use Rattle.stun_authentication.specs.Challenges.{Asked, challenge_of, signing_algorithm}
+use Rattle.stun_authentication.specs.Asking.{asks_userhash}
+use Rattle.stun_authentication.specs.Challenges.{Retry, challenge_of, signing_algorithm}
 use Rattle.stun_types_c.specs.declared.call_result.CResult.{CResult}
 use Rattle.stun_types_c.specs.declared.challenges.CChallenge.{CChallenge}
 use Rattle.stun_types_c.specs.Codes.{OK, INVALID_DATA, BAD_ARGUMENT, NOT_A_CHALLENGE, BID_DOWN, INCOMPLETE, NO_ALGORITHM, SAME_CREDENTIALS}
@@ -31,25 +32,25 @@ abbrev pub value_at : ℕ → List ℕ → ℕ
 value_at type d = option_map_or (λ a. (attribute_in_c a).value_at) (nth d type 0) 0
 
 -- what d asks for, in C's numbers, and where it is in d
-abbrev pub in_c : List ℕ → Asked → CChallenge
-in_c d asked = record {
+abbrev pub in_c : List ℕ → Retry → CChallenge
+in_c d retry = record {
   realm_at = value_at REALM d;
-  realm_length = length asked.realm;
+  realm_length = length retry.asked.realm;
   nonce_at = value_at NONCE d;
-  nonce_length = length asked.nonce;
+  nonce_length = length retry.asked.nonce;
   algorithms_at = value_at PASSWORD_ALGORITHMS d;
-  algorithms_length = option_map_or (λ list. length list) asked.list 0;
-  password_algorithm = algorithm_number asked.algorithm;
-  anonymous = if asked.anonymous then 1 else 0;
-  integrity_algorithm = number_of (signing_algorithm asked);
+  algorithms_length = option_map_or (λ list. length list) retry.asked.list 0;
+  password_algorithm = algorithm_number retry.algorithm;
+  anonymous = if asks_userhash retry.asked then 1 else 0;
+  integrity_algorithm = number_of (signing_algorithm retry);
   reserved = 0;
 }
 
 -- what is asked for is in d at the place that is reported to C
-pub record StandsWhereReported (d : List ℕ) (asked : Asked) (reported : CChallenge) : Type 0 where
-  pub realm : slice_range d reported.realm_at (reported.realm_at + reported.realm_length) ≡ asked.realm
-  pub nonce : slice_range d reported.nonce_at (reported.nonce_at + reported.nonce_length) ≡ asked.nonce
-  pub list : MatchOption asked.list (reported.algorithms_at ≡ 0)
+pub record StandsWhereReported (d : List ℕ) (retry : Retry) (reported : CChallenge) : Type 0 where
+  pub realm : slice_range d reported.realm_at (reported.realm_at + reported.realm_length) ≡ retry.asked.realm
+  pub nonce : slice_range d reported.nonce_at (reported.nonce_at + reported.nonce_length) ≡ retry.asked.nonce
+  pub list : MatchOption retry.asked.list (reported.algorithms_at ≡ 0)
       (λ list. slice_range d reported.algorithms_at (reported.algorithms_at + reported.algorithms_length) ≡ list)
 
 -- the realm in which the refused request had its credentials, if C says that it had some
@@ -62,11 +63,11 @@ tried_answer tried =
     option_map_or (λ realm. if is_utf8 realm then None else Some (plain INVALID_DATA)) tried None
 
 -- what d asks for is reported, or why the request isn't sent again
-abbrev pub TellsChallenge : List ℕ → Result Asked NoRetry → CResult → (old new : CChallenge)
+abbrev pub TellsChallenge : List ℕ → Result Retry NoRetry → CResult → (old new : CChallenge)
     → Type 0
 TellsChallenge d reported result old new =
     MatchResult reported
-    (λ asked. (result ≡ plain OK) × (new ≡ in_c d asked))
+    (λ retry. (result ≡ plain OK) × (new ≡ in_c d retry))
     (λ reason. (result ≡ retry_answer reason) × (new ≡ old))
 
 -- reading the challenge in d: why it is no message, or the report to a client that supports these

@@ -1,11 +1,9 @@
 -- The error response to a request that a server refuses, and what it says at the beginning of its
 -- nonces (RFC 8489, sections 9.1.3, 9.2, 9.2.4 and 18.1).
-use Rattle.std.specs.Prelude.{◌≡◌, ◌⊎◌, ℕ, ◌+◌, ◌*◌, ◌%◌, Bool, not, List, [], ◌∷◌, ◌++◌, length, drop, Option, None, Some, is_some, MatchOption, nat_lt, ◌==◌, if◌then◌else◌}
+use Rattle.std.specs.Prelude.{◌≡◌, ◌⊎◌, ℕ, ◌+◌, ◌*◌, ◌%◌, Bool, List, [], ◌∷◌, ◌++◌, length, drop, Option, None, Some, is_some, MatchOption, nat_lt, ◌==◌, if◌then◌else◌}
 use Rattle.std.specs.Int.{from_bool}
 use Rattle.std.specs.Option.{option_map, option_map_or, option_or}
 use Rattle.std.specs.Str.{is_utf8}
-use Rattle.stun_grammar.specs.Attributes.{Attribute, canonical}
-use Rattle.stun_grammar.specs.AttributeTypes.{REALM, NONCE, PASSWORD_ALGORITHMS}
 use Rattle.stun_grammar.specs.Headers.{type_field}
 use Rattle.stun_grammar.specs.Parsing.{parse_fault}
 use Rattle.stun_base.specs.MessageTypes.{class_of}
@@ -15,10 +13,10 @@ use Rattle.stun_values.specs.TextValues.{text_max}
 use Rattle.stun_authentication.specs.declared.answer.Refusal.{Refusal}
 use Rattle.stun_authentication.specs.declared.answer.Refusal.TheVariants.{BadRequest, Unauthenticated, StaleNonce}
 use Rattle.stun_authentication.specs.declared.cookie.SecurityFeatures.{SecurityFeatures}
-use Rattle.stun_authentication.specs.declared.demand.Demand.{Demand}
-use Rattle.stun_authentication.specs.Cookies.{cookie, promises_algorithms}
+use Rattle.stun_authentication.specs.Asking.{Asked, asked_for}
+use Rattle.stun_authentication.specs.Cookies.{cookie}
 use Rattle.stun_authentication.specs.LongTerm.{is_request}
-use Rattle.stun_authentication.specs.Refusing.{demanded, refusal_of, refusal_sizes}
+use Rattle.stun_authentication.specs.Refusing.{mismatch, refusal_of, refusal_sizes}
 use Rattle.stun_authentication.specs.Writing.{no_room}
 use Rattle.stun_types_c.specs.declared.call_result.CResult.{CResult}
 use Rattle.stun_types_c.specs.declared.refusals.Cookie.{Cookie}
@@ -51,27 +49,20 @@ text_answer bytes =
     (if nat_lt text_max (length bytes) then Some (counted TOO_LARGE text_max (length bytes)) else None)
     else Some (plain INVALID_DATA)
 
--- whether a list is sent exactly if the nonce promises one
-abbrev pub agrees : (nonce : List ℕ) → List PasswordAlgorithmValue → Bool
-agrees nonce [] = not (promises_algorithms nonce)
-agrees nonce (algorithm ∷ algorithms) = promises_algorithms nonce
-
--- why a realm, a nonce and algorithms ask for nothing
-abbrev pub demand_answer : (realm nonce : List ℕ) → List PasswordAlgorithmValue → Option CResult
-demand_answer realm nonce algorithms =
-    option_or (text_answer realm) (option_or (text_answer nonce)
-    (if agrees nonce algorithms then None else Some (plain BAD_ARGUMENT)))
-
--- PASSWORD-ALGORITHMS, if there are algorithms
-abbrev pub list_attributes : List PasswordAlgorithmValue → List Attribute
-list_attributes [] = []
-list_attributes (algorithm ∷ algorithms) =
-    canonical PASSWORD_ALGORITHMS (algorithms_encoding (algorithm ∷ algorithms)) ∷ []
+-- the value of PASSWORD-ALGORITHMS, if there are algorithms
+abbrev pub list_sent : List PasswordAlgorithmValue → Option (List ℕ)
+list_sent [] = None
+list_sent (algorithm ∷ algorithms) = Some (algorithms_encoding (algorithm ∷ algorithms))
 
 -- what a realm, a nonce and algorithms ask for
-abbrev pub IsDemand : (realm nonce : List ℕ) → List PasswordAlgorithmValue → Demand → Type 0
-IsDemand realm nonce algorithms demand =
-    demanded demand ≡ canonical REALM realm ∷ canonical NONCE nonce ∷ list_attributes algorithms
+abbrev pub asked_of : (realm nonce : List ℕ) → List PasswordAlgorithmValue → Asked
+asked_of realm nonce algorithms = asked_for realm nonce (list_sent algorithms)
+
+-- why it isn't asked for
+abbrev pub asked_answer : Asked → Option CResult
+asked_answer asked =
+    option_or (text_answer asked.realm) (option_or (text_answer asked.nonce)
+    (option_map (λ why. plain BAD_ARGUMENT) (mismatch asked)))
 
 -- ---- The response
 
@@ -92,10 +83,10 @@ Delivers message result old new =
     (λ answer. Refuses answer result old new)
 
 -- the response that refuses r is written, unless an allocation fails
-abbrev pub WritesRefusal : List ℕ → Refusal → Option Demand → CResult → Written → Written → Type 0
-WritesRefusal r refusal demand result old new =
-    MatchOption (no_room None 20 (refusal_sizes r refusal demand))
-    (Delivers (refusal_of r refusal demand) result old new)
+abbrev pub WritesRefusal : List ℕ → Refusal → Option Asked → CResult → Written → Written → Type 0
+WritesRefusal r refusal asked result old new =
+    MatchOption (no_room None 20 (refusal_sizes r refusal asked))
+    (Delivers (refusal_of r refusal asked) result old new)
     (λ e. Refuses (write_result e) result old new)
     ⊎ Refuses (plain OUT_OF_MEMORY) result old new
 
@@ -108,14 +99,11 @@ RefusesShortTerm r code result old new =
     (λ refusal. WritesRefusal r refusal None result old new))
     (λ answer. Refuses answer result old new)
 
--- what asks for something is written, or the call says why nothing is asked for
-abbrev pub RefusesDemanding : List ℕ → Refusal → (realm nonce : List ℕ)
-    → List PasswordAlgorithmValue → CResult → Written
-    → Written → Type 0
-RefusesDemanding r refusal realm nonce algorithms result old new =
-    MatchOption (demand_answer realm nonce algorithms)
-    ((demand : Demand) × IsDemand realm nonce algorithms demand
-    × WritesRefusal r refusal (Some demand) result old new)
+-- a refusal that asks for this is written, or the call returns why it isn't asked for
+abbrev pub RefusesAsking : List ℕ → Refusal → Asked → CResult → Written → Written → Type 0
+RefusesAsking r refusal asked result old new =
+    MatchOption (asked_answer asked)
+    (WritesRefusal r refusal (Some asked) result old new)
     (λ answer. Refuses answer result old new)
     ⊎ Refuses (plain OUT_OF_MEMORY) result old new
 
@@ -129,7 +117,7 @@ RefusesLongTerm r code realm nonce numbers result old new =
     (Refuses (plain BAD_ARGUMENT) result old new)
     (λ refusal. MatchOption (password_algorithms_named numbers)
     (Refuses (plain BAD_ARGUMENT) result old new)
-    (λ algorithms. RefusesDemanding r refusal realm nonce algorithms result old new)))
+    (λ algorithms. RefusesAsking r refusal (asked_of realm nonce algorithms) result old new)))
     (λ answer. Refuses answer result old new)
 
 -- ---- Security features

@@ -3,7 +3,7 @@
 ghost use Rattle.std.specs.Prelude.{◌≡◌, ◌≤◌, true, length, Some, None, Ok, Err, MatchResult};
 ghost use Rattle.stun_keys.specs.Keys.{key_algorithm, key_bytes, serves};
 ghost use Rattle.stun_values.specs.TextValues.{username_max};
-ghost use Rattle.stun_authentication.specs.Challenges.{asked_by, signing_algorithm};
+ghost use Rattle.stun_authentication.specs.Challenges.{retry_of, signing_algorithm};
 ghost use Rattle.stun_authentication.specs.Requests.{login_steps};
 ghost use Rattle.stun_types_c.specs.Answering.{challenge_in, HoldsAsked, HoldsFor, name_answer, AnswersChallenge};
 ghost use Rattle.stun_types_c.specs.KeyHandles.{held_key, shared_key};
@@ -27,7 +27,7 @@ use stun_values::USERNAME_MAX;
 /// The challenge in a response, for a client that supports the algorithms of these numbers.
 fn challenge_in<'a>(response: &'a [u8], supported: &[u16]) -> Result<Challenge<'a>, CResult>
     ensures { MatchResult result
-        (λ challenge. challenge_in supported.now response.now ≡ Ok (asked_by challenge))
+        (λ challenge. challenge_in supported.now response.now ≡ Ok (retry_of challenge))
         (λ answer. challenge_in supported.now response.now ≡ Err answer) }
 {
     let Some(supported) = algorithms_of(supported) else {
@@ -51,7 +51,7 @@ fn hold_key(
     user: &[u8],
     password: &[u8],
 ) -> CResult
-    ensures { HoldsAsked (asked_by challenge.now) user.now password.now result
+    ensures { HoldsAsked (retry_of challenge.now) user.now password.now result
         (held_key key.old) (held_key key.new) }
 {
     let realm = text_in(challenge.realm().as_bytes());
@@ -109,10 +109,10 @@ fn add_answer(
     fingerprint: bool,
 ) -> CResult
     requires short { length name.now ≤ username_max }
-    requires serving { serves (key_algorithm key.now) (signing_algorithm (asked_by challenge.now))
+    requires serving { serves (key_algorithm key.now) (signing_algorithm (retry_of challenge.now))
         ≡ true }
-    ensures { let asked = asked_by challenge.now in
-        TakesIn (login_steps fingerprint asked name.now (key_bytes key.now)) result
+    ensures { let retry = retry_of challenge.now in
+        TakesIn (login_steps fingerprint retry name.now (key_bytes key.now)) result
         (record { slice = room.old; count = written.old })
         (record { slice = room.new; count = written.new }) }
 {

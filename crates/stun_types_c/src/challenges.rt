@@ -2,7 +2,7 @@
 
 ghost use Rattle.std.specs.Prelude.{◌≡◌, Some, None, MatchResult, take};
 ghost use Rattle.std.specs.Option.{option_map};
-ghost use Rattle.stun_authentication.specs.Challenges.{asked_by};
+ghost use Rattle.stun_authentication.specs.Challenges.{retry_of};
 ghost use Rattle.stun_types_c.specs.Challenges.{retry_answer, value_at, in_c, tried_in, tried_answer, ReadsFor, ReadsChallenge};
 
 use crate::attribute::first_shown;
@@ -67,7 +67,7 @@ fn value_at(response: &[u8], atype: u16) -> usize
 
 /// A challenge, as C sees it.
 fn in_c(response: &[u8], challenge: &Challenge<'_>) -> CChallenge
-    ensures { result ≡ in_c response.now (asked_by challenge.now) }
+    ensures { result ≡ in_c response.now (retry_of challenge.now) }
 {
     CChallenge {
         realm_at: value_at(response, REALM),

@@ -3,7 +3,7 @@
 ghost use Rattle.std.specs.Prelude.{◌≡◌, ℕ, Bool, List, Option, Some, Ok, IfSome};
 ghost use Rattle.stun_values.specs.declared.algorithm.PasswordAlgorithmValue.{PasswordAlgorithmValue};
 ghost use Rattle.stun_types.specs.LookingUp.{nth};
-ghost use Rattle.stun_authentication.specs.Challenges.{Asked, challenge_of};
+ghost use Rattle.stun_authentication.specs.Challenges.{Retry, challenge_of};
 ghost use Rattle.stun_types_c.specs.Attributes.{in_c};
 ghost use Rattle.stun_types_c.specs.Challenges.{in_c as asked_in_c, StandsWhereReported};
 ghost use Rattle.stun_types_c.specs.Values.{value_of};
@@ -16,7 +16,7 @@ pub fn found_value_stands_where_it_is_reported(bytes: &[u8])
 
 /// So do the texts and the list that a challenge asks for.
 pub fn asked_texts_stand_where_they_are_reported(response: &[u8])
-    ensures { (supported : List PasswordAlgorithmValue) (tried : Option (List ℕ)) (had_algorithms : Bool) (asked : Asked)
-        → challenge_of supported tried had_algorithms response.now ≡ Ok asked
-        → StandsWhereReported response.now asked (asked_in_c response.now asked) }
+    ensures { (supported : List PasswordAlgorithmValue) (tried : Option (List ℕ)) (had_algorithms : Bool) (retry : Retry)
+        → challenge_of supported tried had_algorithms response.now ≡ Ok retry
+        → StandsWhereReported response.now retry (asked_in_c response.now retry) }
 {}

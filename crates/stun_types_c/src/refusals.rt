@@ -8,10 +8,10 @@ ghost use Rattle.stun_grammar.specs.Headers.{type_field};
 ghost use Rattle.stun_types.specs.Message.{message_bytes};
 ghost use Rattle.stun_attributes.specs.Texts.{text_bytes};
 ghost use Rattle.stun_authentication.specs.Cookies.{security_features};
-ghost use Rattle.stun_authentication.specs.Refusing.{listed};
+ghost use Rattle.stun_authentication.specs.Refusing.{listed, demanded};
 ghost use Rattle.stun_types_c.specs.CResults.{plain};
 ghost use Rattle.stun_types_c.specs.Codes.{OUT_OF_MEMORY};
-ghost use Rattle.stun_types_c.specs.Refusals.{message_answer, short_term_refusal, long_term_refusal, text_answer, demand_answer, list_attributes, IsDemand, Delivers, WritesRefusal, RefusesShortTerm, RefusesDemanding, RefusesLongTerm, features_named, TellsCookie, TellsFeatures};
+ghost use Rattle.stun_types_c.specs.Refusals.{message_answer, short_term_refusal, long_term_refusal, text_answer, list_sent, asked_of, asked_answer, Delivers, WritesRefusal, RefusesShortTerm, RefusesAsking, RefusesLongTerm, features_named, TellsCookie, TellsFeatures};
 
 use crate::call_result::{CResult, counted, parse_result, plain, write_result};
 use crate::codes;
@@ -145,7 +145,7 @@ fn nonce_of(alloc: Global, bytes: &[u8]) -> Result<Nonce, CResult>
 /// The PASSWORD-ALGORITHMS of algorithms, if there are any.
 fn list_of(alloc: Global, algorithms: &AlgorithmList) -> Result<Option<PasswordAlgorithms>, CResult>
     ensures { MatchResult result
-        (λ list. listed list ≡ list_attributes (take algorithms.now.count algorithms.now.all))
+        (λ list. listed list ≡ list_sent (take algorithms.now.count algorithms.now.all))
         (λ answer. answer ≡ plain OUT_OF_MEMORY) }
 {
     if algorithms.as_slice().is_empty() {
@@ -164,11 +164,11 @@ fn demand_of(
     nonce: &[u8],
     algorithms: &AlgorithmList,
 ) -> Result<Demand, CResult>
-    ensures { let sent = take algorithms.now.count algorithms.now.all in
-        let refused = demand_answer realm.now nonce.now sent in
+    ensures { let asked = asked_of realm.now nonce.now
+        (take algorithms.now.count algorithms.now.all) in
         MatchResult result
-        (λ demand. (refused ≡ None) × IsDemand realm.now nonce.now sent demand)
-        (λ answer. (refused ≡ Some answer) ⊎ (answer ≡ plain OUT_OF_MEMORY)) }
+        (λ demand. (asked_answer asked ≡ None) × (demanded demand ≡ asked))
+        (λ answer. (asked_answer asked ≡ Some answer) ⊎ (answer ≡ plain OUT_OF_MEMORY)) }
 {
     let realm = realm_of(alloc, realm)?;
     let nonce = nonce_of(alloc, nonce)?;
@@ -189,7 +189,7 @@ fn refuse_demanding(
     written: &mut usize,
 ) -> CResult
     requires { class_of (type_field (message_bytes message.now)) ≡ Request }
-    ensures { WritesRefusal (message_bytes message.now) refusal (Some demand.now) result
+    ensures { WritesRefusal (message_bytes message.now) refusal (Some (demanded demand.now)) result
         (record { slice = room.old; count = written.old })
         (record { slice = room.new; count = written.new }) }
 {
@@ -211,8 +211,8 @@ fn refuse_asking(
     written: &mut usize,
 ) -> CResult
     requires { class_of (type_field (message_bytes message.now)) ≡ Request }
-    ensures { RefusesDemanding (message_bytes message.now) refusal realm.now nonce.now
-        (take algorithms.now.count algorithms.now.all) result
+    ensures { RefusesAsking (message_bytes message.now) refusal
+        (asked_of realm.now nonce.now (take algorithms.now.count algorithms.now.all)) result
         (record { slice = room.old; count = written.old })
         (record { slice = room.new; count = written.new }) }
 {

@@ -2,7 +2,7 @@ use Rattle.std.proofs.Common.{[], ◌∷◌, Ok, Err, lit<, arith}
 use Rattle.stun_attributes.specs.Texts.{text_bytes}
 use Rattle.stun_grammar.specs.Attributes.{canonical}
 use Rattle.stun_grammar.specs.AttributeTypes.{IsOrdinary, REALM, NONCE}
-use Rattle.stun_authentication.specs.Refusing.{listed}
+use Rattle.stun_authentication.specs.Refusing.{listed, list_attributes}
 use Rattle.stun_authentication.proofs.AddedLemmas.{added, in_turn, failed}
 use Rattle.stun_authentication.proofs.refusing.add_demand.Goals as goal
 
@@ -56,7 +56,7 @@ returns-in_err-add_realm g c =
     let e = c.in_err-add_realm.field-0.0 in
     let r = c.in_err-add_realm.ensures in
     let one = added (Err e) old mid REALM (text_bytes demand.realm) r.gains r.same r.spends r.answer realm_is_ordinary (lit< tt) r.fits in
-    failed c.from_residual.result old mid e (realm ∷ []) (nonce ∷ listed demand.algorithms) one c.from_residual.ensures
+    failed c.from_residual.result old mid e (realm ∷ []) (nonce ∷ list_attributes (listed demand.algorithms)) one c.from_residual.ensures
 
 pub returns-in_err-add_nonce : goal.returns-in_err-add_nonce
 returns-in_err-add_nonce g c =
@@ -73,4 +73,4 @@ returns-in_err-add_nonce g c =
     let one = added (Ok c.in_ok-add_realm.field-0) old mid REALM (text_bytes demand.realm) r.gains r.same r.spends r.answer realm_is_ordinary (lit< tt) r.fits in
     let two = added (Err e) mid new NONCE (text_bytes demand.nonce) n.gains n.same n.spends n.answer nonce_is_ordinary (lit< tt) n.fits in
     let both = in_turn c.in_ok-add_realm.field-0 (Err e) old mid new (realm ∷ []) (nonce ∷ []) one two in
-    failed c.from_residual-in_err-add_nonce.result old new e (realm ∷ nonce ∷ []) (listed demand.algorithms) both c.from_residual-in_err-add_nonce.ensures
+    failed c.from_residual-in_err-add_nonce.result old new e (realm ∷ nonce ∷ []) (list_attributes (listed demand.algorithms)) both c.from_residual-in_err-add_nonce.ensures
