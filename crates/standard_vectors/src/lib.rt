@@ -29,7 +29,7 @@ ghost use Rattle.stun_grammar.specs.Steps.{add, finger};
 ghost use Rattle.stun_grammar.specs.Adding.{room_refusal, add_refusal};
 ghost use Rattle.stun_grammar.specs.Sending.{sent_encoding};
 ghost use Rattle.stun_grammar.specs.Origin.{signed, IsUnsigned, ComesFrom};
-ghost use Rattle.stun_base.specs.declared.message_type.MessageClass.TheVariants.{Request, Indication, Success, Error};
+ghost use Rattle.stun_base.specs.declared.message_class.MessageClass.TheVariants.{Request, Indication, Success, Error};
 ghost use Rattle.stun_base.specs.MessageTypes.{type_of, class_of, method_of};
 ghost use Rattle.stun_values.specs.declared.algorithm.PasswordAlgorithmValue.TheVariants.{MD5, SHA256};
 ghost use Rattle.stun_values.specs.Addresses.{address_in, address_fault, address_value, IsXored};

@@ -12,7 +12,7 @@ use Rattle.stun_grammar.specs.Names.{BINDING}
 use Rattle.stun_grammar.specs.Parsing.{parse_fault}
 use Rattle.stun_grammar.specs.Steps.{Step, add, sign}
 use Rattle.stun_grammar.specs.Sending.{sent_encoding}
-use Rattle.stun_base.specs.declared.message_type.MessageClass.TheVariants.{Request}
+use Rattle.stun_base.specs.declared.message_class.MessageClass.TheVariants.{Request}
 use Rattle.stun_base.specs.declared.transport.TransportType.TheVariants.{Udp}
 use Rattle.stun_base.specs.MessageTypes.{type_of, method_of}
 use Rattle.stun_keys.specs.declared.keys.integrity_key.IntegrityKey.{IntegrityKey}

@@ -2,7 +2,7 @@
 
 ghost use Rattle.std.specs.Prelude.{◌≡◌, None, Some, IfOk, IfErr};
 ghost use Rattle.stun_grammar.specs.Names.{BINDING};
-ghost use Rattle.stun_base.specs.declared.message_type.MessageClass.TheVariants.{Request};
+ghost use Rattle.stun_base.specs.declared.message_class.MessageClass.TheVariants.{Request};
 ghost use Rattle.stun_base.specs.MessageTypes.{type_of};
 ghost use Rattle.stun_types.specs.Message.{message_bytes};
 ghost use Rattle.stun_agent.specs.Binding.{request_by, request, protection_of, IsSent, MapsTo, Tells, IsPolled};

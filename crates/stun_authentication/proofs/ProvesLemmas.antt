@@ -6,8 +6,8 @@ use Rattle.stun_grammar.specs.declared.integrity_algorithm.IntegrityAlgorithm.{I
 use Rattle.stun_grammar.specs.AttributeTypes.{USERNAME, NONCE}
 use Rattle.stun_grammar.specs.Headers.{type_field}
 use Rattle.stun_grammar.specs.Verdicts.{is_checked_type, verdict}
-use Rattle.stun_base.specs.declared.message_type.MessageClass.{MessageClass}
-use Rattle.stun_base.specs.declared.message_type.MessageClass.TheVariants.{Request}
+use Rattle.stun_base.specs.declared.message_class.MessageClass.{MessageClass}
+use Rattle.stun_base.specs.declared.message_class.MessageClass.TheVariants.{Request}
 use Rattle.stun_base.specs.MessageTypes.{class_of, is_response}
 use Rattle.stun_keys.specs.declared.keys.integrity_key.IntegrityKey.{IntegrityKey}
 use Rattle.stun_keys.specs.Keys.{key_algorithm, key_bytes, IsKey}

@@ -2,8 +2,8 @@
 use Rattle.std.specs.Prelude.{ℕ, Bool, false, ◌||◌, List, Option, None, Some, is_some, ◌==◌, if◌then◌else◌, option_and_then}
 use Rattle.stun_grammar.specs.AttributeTypes.{ERROR_CODE}
 use Rattle.stun_grammar.specs.Headers.{type_field}
-use Rattle.stun_base.specs.declared.message_type.MessageClass.{MessageClass}
-use Rattle.stun_base.specs.declared.message_type.MessageClass.TheVariants.{Error as ErrorClass}
+use Rattle.stun_base.specs.declared.message_class.MessageClass.{MessageClass}
+use Rattle.stun_base.specs.declared.message_class.MessageClass.TheVariants.{Error as ErrorClass}
 use Rattle.stun_base.specs.MessageTypes.{class_of}
 use Rattle.stun_values.specs.ErrorValues.{error_fault, reported_code}
 use Rattle.stun_types.specs.LookingUp.{nth}

@@ -8,8 +8,8 @@ use Rattle.stun_grammar.specs.declared.integrity_algorithm.IntegrityAlgorithm.{I
 use Rattle.stun_grammar.specs.declared.integrity_algorithm.IntegrityAlgorithm.TheVariants.{Sha1, Sha256}
 use Rattle.stun_grammar.specs.AttributeTypes.{USERNAME, USERHASH, REALM, NONCE, PASSWORD_ALGORITHM, PASSWORD_ALGORITHMS}
 use Rattle.stun_grammar.specs.Headers.{type_field}
-use Rattle.stun_base.specs.declared.message_type.MessageClass.{MessageClass}
-use Rattle.stun_base.specs.declared.message_type.MessageClass.TheVariants.{Request}
+use Rattle.stun_base.specs.declared.message_class.MessageClass.{MessageClass}
+use Rattle.stun_base.specs.declared.message_class.MessageClass.TheVariants.{Request}
 use Rattle.stun_base.specs.MessageTypes.{class_of}
 use Rattle.stun_values.specs.declared.algorithm.PasswordAlgorithmValue.{PasswordAlgorithmValue}
 use Rattle.stun_values.specs.declared.algorithm.PasswordAlgorithmValue.TheVariants.{MD5}

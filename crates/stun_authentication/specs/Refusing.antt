@@ -5,7 +5,7 @@ use Rattle.stun_grammar.specs.Attributes.{Attribute, canonical}
 use Rattle.stun_grammar.specs.AttributeTypes.{REALM, NONCE, PASSWORD_ALGORITHMS}
 use Rattle.stun_grammar.specs.Headers.{id_field}
 use Rattle.stun_grammar.specs.Writing.{message_encoding}
-use Rattle.stun_base.specs.declared.message_type.MessageClass.TheVariants.{Error as ErrorClass}
+use Rattle.stun_base.specs.declared.message_class.MessageClass.TheVariants.{Error as ErrorClass}
 use Rattle.stun_attributes.specs.declared.password_algorithms.PasswordAlgorithms.{PasswordAlgorithms}
 use Rattle.stun_attributes.specs.PasswordAlgorithms.{held_algorithms}
 use Rattle.stun_attributes.specs.Texts.{text_bytes}

@@ -3,7 +3,7 @@
 ghost use Rattle.std.specs.Prelude.{◌≡◌, ◌≢◌, ◌∷◌, ◌<◌, ◌^◌, [], length, None, Some, IfOk, OnOk, OnErr, MatchResult};
 ghost use Rattle.std.specs.Option.{option_map};
 ghost use Rattle.stun_base.specs.MessageTypes.{class_of};
-ghost use Rattle.stun_base.specs.declared.message_type.MessageClass.TheVariants.{Request};
+ghost use Rattle.stun_base.specs.declared.message_class.MessageClass.TheVariants.{Request};
 ghost use Rattle.stun_attributes.specs.ErrorCodes.{error_code, error_reason, IsError};
 ghost use Rattle.stun_attributes.specs.PasswordAlgorithms.{held_algorithms};
 ghost use Rattle.stun_attributes.specs.Texts.{text_bytes};

@@ -3,8 +3,8 @@ use Rattle.std.specs.Prelude.{ℕ, ◌+◌, ◌*◌, ◌/◌, ◌%◌, Bool, tru
 use Rattle.std.specs.Fmt.{digits}
 use Rattle.stun_grammar.specs.Names.{method_text}
 use Rattle.stun_grammar.specs.Headers.{type_field, length_field, id_field}
-use Rattle.stun_base.specs.declared.message_type.MessageClass.{MessageClass}
-use Rattle.stun_base.specs.declared.message_type.MessageClass.TheVariants.{Request, Indication, Success, Error}
+use Rattle.stun_base.specs.declared.message_class.MessageClass.{MessageClass}
+use Rattle.stun_base.specs.declared.message_class.MessageClass.TheVariants.{Request, Indication, Success, Error}
 
 -- the two bits of the class, at bits 4 and 8
 abbrev pub class_bits : MessageClass → ℕ

@@ -5,7 +5,7 @@ ghost use Rattle.stun_grammar.specs.Numbers.{IsBytes};
 ghost use Rattle.stun_grammar.specs.Attributes.{Attribute};
 ghost use Rattle.stun_grammar.specs.Writing.{message_encoding, IsWritable};
 ghost use Rattle.stun_grammar.specs.Parsing.{parse_fault};
-ghost use Rattle.stun_base.specs.declared.message_type.MessageClass.{MessageClass};
+ghost use Rattle.stun_base.specs.declared.message_class.MessageClass.{MessageClass};
 ghost use Rattle.stun_base.specs.MessageTypes.{type_of, class_of, method_of};
 
 use crate::header::GREATEST_MESSAGE;

@@ -19,8 +19,8 @@ use Rattle.stun_grammar.specs.Steps.{finger}
 use Rattle.stun_grammar.specs.Writing.{message_encoding, IsWritable}
 use Rattle.stun_grammar.proofs.StepsLemmas.{none_writable}
 use Rattle.stun_grammar.proofs.WritingLemmas.{shown-message, type-message}
-use Rattle.stun_base.specs.declared.message_type.MessageClass.{MessageClass}
-use Rattle.stun_base.specs.declared.message_type.MessageClass.TheVariants.{Error as ErrorClass}
+use Rattle.stun_base.specs.declared.message_class.MessageClass.{MessageClass}
+use Rattle.stun_base.specs.declared.message_class.MessageClass.TheVariants.{Error as ErrorClass}
 use Rattle.stun_base.specs.MessageTypes.{class_of}
 use Rattle.stun_values.specs.declared.algorithm.PasswordAlgorithmValue.{PasswordAlgorithmValue}
 use Rattle.stun_values.specs.ErrorValues.{error_value}

@@ -21,8 +21,8 @@ use Rattle.stun_grammar.specs.Writing.{message_encoding, IsWritable}
 use Rattle.stun_grammar.proofs.HeadersLemmas.{framed_length, field_fits}
 use Rattle.stun_grammar.proofs.ParsingLemmas.{parsed_frame}
 use Rattle.stun_grammar.proofs.WritingLemmas.{type-message, id-message, parse-message, shown-message}
-use Rattle.stun_base.specs.declared.message_type.MessageClass.{MessageClass}
-use Rattle.stun_base.specs.declared.message_type.MessageClass.TheVariants.{Request, Success, Error as ErrorClass}
+use Rattle.stun_base.specs.declared.message_class.MessageClass.{MessageClass}
+use Rattle.stun_base.specs.declared.message_class.MessageClass.TheVariants.{Request, Success, Error as ErrorClass}
 use Rattle.stun_base.specs.MessageTypes.{type_of, class_of, method_of, is_response}
 use Rattle.stun_types.specs.LookingUp.{nth}
 use Rattle.stun_values.specs.Addresses.{IsInRange, xored_value}

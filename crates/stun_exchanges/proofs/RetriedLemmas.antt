@@ -4,7 +4,7 @@ use Rattle.std.specs.Prelude.{◌≢◌, ◌==◌, find, option_and_then, if◌t
 use Rattle.std.specs.Option.{option_map}
 use Rattle.std.proofs.lemmas.Bool.{ne_eqb}
 use Rattle.stun_grammar.specs.Attributes.{Attribute}
-use Rattle.stun_base.specs.declared.message_type.MessageClass.TheVariants.{Request, Error as ErrorClass}
+use Rattle.stun_base.specs.declared.message_class.MessageClass.TheVariants.{Request, Error as ErrorClass}
 use Rattle.stun_base.specs.MessageTypes.{class_of}
 use Rattle.stun_keys.specs.declared.keys.long_term.LongTermCredentials.{LongTermCredentials}
 use Rattle.stun_keys.specs.Keys.{login_username, login_password, long_term_key}

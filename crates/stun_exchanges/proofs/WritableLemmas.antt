@@ -21,7 +21,7 @@ use Rattle.stun_grammar.proofs.NumbersLemmas.{IsBytes-take, IsBytes-drop}
 use Rattle.stun_grammar.proofs.ParsingLemmas.{parsed_header}
 use Rattle.stun_grammar.proofs.StepsLemmas.{step_writable, none_writable}
 use Rattle.stun_grammar.proofs.WritingLemmas.{length-message, length-canonical}
-use Rattle.stun_base.specs.declared.message_type.MessageClass.TheVariants.{Success, Error as ErrorClass}
+use Rattle.stun_base.specs.declared.message_class.MessageClass.TheVariants.{Success, Error as ErrorClass}
 use Rattle.stun_values.specs.ErrorValues.{error_value}
 use Rattle.stun_values.specs.TypeLists.{types_encoding}
 use Rattle.stun_values.proofs.ListsLemmas.{length_of_twos}

@@ -7,7 +7,7 @@ use Rattle.stun_grammar.specs.AttributeTypes.{UNKNOWN_ATTRIBUTES}
 use Rattle.stun_grammar.specs.Headers.{type_field, id_field}
 use Rattle.stun_grammar.specs.Names.{BINDING}
 use Rattle.stun_grammar.specs.Parsing.{parse_fault}
-use Rattle.stun_base.specs.declared.message_type.MessageClass.TheVariants.{Request}
+use Rattle.stun_base.specs.declared.message_class.MessageClass.TheVariants.{Request}
 use Rattle.stun_base.specs.MessageTypes.{class_of, method_of}
 use Rattle.stun_types.specs.LookingUp.{nth}
 use Rattle.stun_types.specs.Replies.{is_answer_to, unknown_types}

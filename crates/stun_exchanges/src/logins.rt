@@ -14,7 +14,7 @@ ghost use Rattle.stun_authentication.specs.ShortTerm.{short_term};
 ghost use Rattle.stun_transactions.specs.declared.parts.Mechanism.TheVariants as Mechanism;
 ghost use Rattle.stun_grammar.specs.AttributeTypes.{NONCE};
 ghost use Rattle.stun_grammar.specs.ScannedOrder.{has};
-ghost use Rattle.stun_base.specs.declared.message_type.MessageClass.TheVariants.{Request, Error as ErrorClass};
+ghost use Rattle.stun_base.specs.declared.message_class.MessageClass.TheVariants.{Request, Error as ErrorClass};
 ghost use Rattle.stun_values.specs.declared.algorithm.PasswordAlgorithmValue.{PasswordAlgorithmValue};
 ghost use Rattle.stun_authentication.specs.declared.answer.Refusal.{Refusal};
 ghost use Rattle.stun_authentication.specs.Asking.{Asked, asked_for};

@@ -14,7 +14,7 @@ use Rattle.stun_grammar.specs.Writing.{message_encoding}
 use Rattle.stun_grammar.specs.Adding.{appended, grown_length}
 use Rattle.stun_grammar.proofs.WritingLemmas.{length-canonical, length-message}
 use Rattle.stun_grammar.proofs.AddingLemmas.{appended_length, message_more, fingerprint_length}
-use Rattle.stun_base.specs.declared.message_type.MessageClass.TheVariants.{Success, Error as ErrorClass}
+use Rattle.stun_base.specs.declared.message_class.MessageClass.TheVariants.{Success, Error as ErrorClass}
 use Rattle.stun_values.specs.Addresses.{address_value, IsXored, xored_value}
 use Rattle.stun_values.specs.ErrorValues.{error_value}
 use Rattle.stun_values.specs.TypeLists.{type_encoding, types_encoding}

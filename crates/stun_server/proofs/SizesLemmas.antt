@@ -27,8 +27,8 @@ use Rattle.stun_grammar.proofs.ParsingLemmas.{is_fingerprint}
 use Rattle.stun_grammar.proofs.HeadersLemmas.{frame_there, header_there, framed_length, field_fits}
 use Rattle.stun_grammar.proofs.VerdictsLemmas.{first_none}
 use Rattle.stun_grammar.proofs.AuthenticFingerprintLemmas.{shown_right, right_value}
-use Rattle.stun_base.specs.declared.message_type.MessageClass.{MessageClass}
-use Rattle.stun_base.specs.declared.message_type.MessageClass.TheVariants.{Request, Indication, Success, Error as ErrorClass}
+use Rattle.stun_base.specs.declared.message_class.MessageClass.{MessageClass}
+use Rattle.stun_base.specs.declared.message_class.MessageClass.TheVariants.{Request, Indication, Success, Error as ErrorClass}
 use Rattle.stun_base.specs.MessageTypes.{class_of, method_of}
 use Rattle.stun_types.specs.LookingUp.{nth}
 use Rattle.stun_values.specs.Addresses.{octets, mask, address_value, IsXored, xored_value}

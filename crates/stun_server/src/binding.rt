@@ -4,7 +4,7 @@ ghost use Rattle.std.specs.Prelude.{◌≡◌, None, Some, IfOk, IfErr, MatchOpt
 ghost use Rattle.std.specs.Option.{option_map};
 ghost use Rattle.std.specs.declared.net.socket_addr.SocketAddr.{SocketAddr};
 ghost use Rattle.stun_grammar.specs.Headers.{type_field};
-ghost use Rattle.stun_base.specs.declared.message_type.MessageClass.TheVariants.{Request};
+ghost use Rattle.stun_base.specs.declared.message_class.MessageClass.TheVariants.{Request};
 ghost use Rattle.stun_base.specs.MessageTypes.{class_of};
 ghost use Rattle.stun_types.specs.Message.{message_bytes};
 ghost use Rattle.stun_server.specs.Reply.{binding_reply, reply};

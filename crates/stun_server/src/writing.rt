@@ -5,7 +5,7 @@ ghost use Rattle.stun_grammar.specs.Adding.{appended, grown_length};
 ghost use Rattle.stun_grammar.specs.AttributeTypes.{FINGERPRINT};
 ghost use Rattle.stun_grammar.specs.Fingerprints.{fingerprint_value};
 ghost use Rattle.stun_grammar.specs.Writing.{greatest_length};
-ghost use Rattle.stun_base.specs.declared.message_type.MessageClass.TheVariants.{Success, Error as ErrorClass};
+ghost use Rattle.stun_base.specs.declared.message_class.MessageClass.TheVariants.{Success, Error as ErrorClass};
 ghost use Rattle.stun_types.specs.Message.{message_bytes};
 ghost use Rattle.stun_types.specs.Replies.{unknown_reply, unknown_types};
 ghost use Rattle.stun_server.specs.Reply.{comprehended, success_reply, response, unfinished_reply};

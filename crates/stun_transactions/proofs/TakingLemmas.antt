@@ -10,8 +10,8 @@ use Rattle.stun_grammar.specs.Headers.{type_field}
 use Rattle.stun_grammar.specs.Numbers.{IsBytes}
 use Rattle.stun_grammar.specs.Parsing.{parse_fault}
 use Rattle.stun_grammar.proofs.AcceptingLemmas.{is_authentic_through}
-use Rattle.stun_base.specs.declared.message_type.MessageClass.{MessageClass}
-use Rattle.stun_base.specs.declared.message_type.MessageClass.TheVariants as Class
+use Rattle.stun_base.specs.declared.message_class.MessageClass.{MessageClass}
+use Rattle.stun_base.specs.declared.message_class.MessageClass.TheVariants as Class
 use Rattle.stun_base.specs.declared.transport.TransportType.{TransportType}
 use Rattle.stun_base.specs.declared.transport.TransportType.TheVariants.{Udp, Tcp}
 use Rattle.stun_base.specs.MessageTypes.{class_of}

@@ -6,7 +6,7 @@ use Rattle.stun_grammar.specs.declared.error.StunParseError.TheVariants.{Missing
 use Rattle.stun_grammar.specs.AttributeTypes.{XOR_MAPPED_ADDRESS}
 use Rattle.stun_grammar.specs.Headers.{type_field, id_field}
 use Rattle.stun_grammar.specs.Parsing.{parse_fault}
-use Rattle.stun_base.specs.declared.message_type.MessageClass.TheVariants.{Success}
+use Rattle.stun_base.specs.declared.message_class.MessageClass.TheVariants.{Success}
 use Rattle.stun_base.specs.MessageTypes.{class_of}
 use Rattle.stun_attributes.specs.Reading.{Reads}
 use Rattle.stun_types.specs.LookingUp.{nth}

@@ -6,8 +6,8 @@ use Rattle.stun_grammar.specs.declared.attribute_type.AttributeType.{AttributeTy
 use Rattle.stun_grammar.specs.declared.integrity_algorithm.IntegrityAlgorithm.{IntegrityAlgorithm}
 use Rattle.stun_grammar.specs.Headers.{type_field}
 use Rattle.stun_grammar.specs.Parsing.{parse_fault}
-use Rattle.stun_base.specs.declared.message_type.MessageClass.{MessageClass}
-use Rattle.stun_base.specs.declared.message_type.MessageClass.TheVariants.{Error as ErrorClass}
+use Rattle.stun_base.specs.declared.message_class.MessageClass.{MessageClass}
+use Rattle.stun_base.specs.declared.message_class.MessageClass.TheVariants.{Error as ErrorClass}
 use Rattle.stun_base.specs.declared.transport.TransportType.{TransportType}
 use Rattle.stun_base.specs.declared.transport.TransportType.TheVariants.{Udp, Tcp}
 use Rattle.stun_base.specs.MessageTypes.{class_of}

@@ -20,8 +20,8 @@ use Rattle.stun_grammar.proofs.WritingLemmas.{length-message, type-message, id-m
 use Rattle.stun_grammar.proofs.AddingLemmas.{message_more, encoding_begins}
 use Rattle.stun_grammar.proofs.AddingRefusedLemmas.{accepted_by_any}
 use Rattle.stun_grammar.proofs.StepsLemmas.{step_writable, none_writable}
-use Rattle.stun_base.specs.declared.message_type.MessageClass.{MessageClass}
-use Rattle.stun_base.specs.declared.message_type.MessageClass.TheVariants.{Request, Indication, Success, Error as ErrorClass}
+use Rattle.stun_base.specs.declared.message_class.MessageClass.{MessageClass}
+use Rattle.stun_base.specs.declared.message_class.MessageClass.TheVariants.{Request, Indication, Success, Error as ErrorClass}
 use Rattle.stun_base.specs.MessageTypes.{type_of, class_of, method_of, is_response}
 use Rattle.stun_attributes.specs.declared.error_code.ErrorCode.{ErrorCode}
 use Rattle.stun_values.specs.ErrorValues.{error_value, making_fault}

@@ -16,8 +16,8 @@ use Rattle.stun_grammar.specs.Writing.{message_encoding, IsWritable}
 use Rattle.stun_grammar.specs.Steps.{add}
 use Rattle.stun_grammar.specs.Adding.{numbers, add_refusal}
 use Rattle.stun_types.specs.LookingUp.{nth}
-use Rattle.stun_base.specs.declared.message_type.MessageClass.{MessageClass}
-use Rattle.stun_base.specs.declared.message_type.MessageClass.TheVariants.{Error as ErrorClass}
+use Rattle.stun_base.specs.declared.message_class.MessageClass.{MessageClass}
+use Rattle.stun_base.specs.declared.message_class.MessageClass.TheVariants.{Error as ErrorClass}
 use Rattle.stun_base.specs.MessageTypes.{type_of, class_of, method_of, is_response}
 use Rattle.stun_values.specs.ErrorValues.{error_value, making_fault}
 use Rattle.stun_values.specs.TypeLists.{types_encoding}

@@ -3,8 +3,8 @@ use Rattle.std.specs.Prelude.{◌≡◌, ℕ, List, [], ◌++◌, length, drop, 
 use Rattle.std.specs.Option.{option_map, option_or}
 use Rattle.stun_grammar.specs.Headers.{header_fault, type_field, id_field}
 use Rattle.stun_grammar.specs.Writing.{message_encoding}
-use Rattle.stun_base.specs.declared.message_type.MessageClass.{MessageClass}
-use Rattle.stun_base.specs.declared.message_type.MessageClass.TheVariants.{Success, Error as ErrorClass}
+use Rattle.stun_base.specs.declared.message_class.MessageClass.{MessageClass}
+use Rattle.stun_base.specs.declared.message_class.MessageClass.TheVariants.{Success, Error as ErrorClass}
 use Rattle.stun_base.specs.MessageTypes.{class_of}
 use Rattle.stun_types.specs.Replies.{response_type}
 use Rattle.stun_authentication.specs.LongTerm.{is_request}

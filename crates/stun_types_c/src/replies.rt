@@ -1,7 +1,7 @@
 //! Beginning the reply to a request.
 
 ghost use Rattle.std.specs.Prelude.{◌≡◌, ◌≤◌, length, MatchResult};
-ghost use Rattle.stun_base.specs.declared.message_type.MessageClass.{MessageClass};
+ghost use Rattle.stun_base.specs.declared.message_class.MessageClass.{MessageClass};
 ghost use Rattle.stun_types_c.specs.Replying.{reply_class, request_answer, BeginsReply};
 
 use crate::call_result::{CResult, counted, parse_result, plain};

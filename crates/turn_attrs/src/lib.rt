@@ -18,6 +18,7 @@ mod lifetimes;
 pub mod methods;
 mod protocols;
 mod third_party;
+mod tokens;
 
 pub use address_error_code::AddressErrorCode;
 pub use attribute_types::{KNOWN, known_type};
@@ -26,15 +27,17 @@ pub use channels::Channel;
 pub use family::Ipv6AddressFamily;
 pub use icmp::IcmpError;
 pub use kinds::{
-    AccessToken, AccessTokenKind, AdditionalAddressFamily, AdditionalAddressFamilyKind,
-    ChannelNumber, ChannelNumberKind, ConnectionId, ConnectionIdKind, DataKind, DontFragment,
-    DontFragmentKind, EvenPort, EvenPortKind, Icmp, IcmpKind, MobilityTicket, MobilityTicketKind,
-    PeerData, RequestedAddressFamily, RequestedAddressFamilyKind, RequestedTransport,
-    RequestedTransportKind, ReservationToken, ReservationTokenKind, XorPeerAddress,
-    XorPeerAddressKind, XorRelayedAddress, XorRelayedAddressKind,
+    AdditionalAddressFamily, AdditionalAddressFamilyKind, ChannelNumber, ChannelNumberKind,
+    DataKind, DontFragment, DontFragmentKind, EvenPort, EvenPortKind, Icmp, IcmpKind, PeerData,
+    RequestedAddressFamily, RequestedAddressFamilyKind, RequestedTransport, RequestedTransportKind,
+    XorPeerAddress, XorPeerAddressKind, XorRelayedAddress, XorRelayedAddressKind,
 };
 pub use laws::{address_error_is_read_back, channel_data_is_framed, fields_are_held};
 pub use lifetime::Lifetime;
 pub use lifetimes::{DEFAULT_LIFETIME, allocation_lifetime, refresh_lifetime};
 pub use protocols::{Protocol, protocol_of, stun_begins_low};
 pub use third_party::ThirdPartyAuthorization;
+pub use tokens::{
+    AccessToken, AccessTokenKind, ConnectionId, ConnectionIdKind, MobilityTicket,
+    MobilityTicketKind, ReservationToken, ReservationTokenKind,
+};

@@ -3,7 +3,7 @@
 ghost use Rattle.std.specs.Prelude.{◌≡◌, []};
 ghost use Rattle.stun_grammar.specs.Adding.{Fits};
 ghost use Rattle.stun_base.specs.MessageTypes.{type_of};
-ghost use Rattle.stun_base.specs.declared.message_type.MessageClass.TheVariants.{Request, Indication};
+ghost use Rattle.stun_base.specs.declared.message_class.MessageClass.TheVariants.{Request, Indication};
 ghost use Rattle.stun_base.specs.Drawing.{drawn_id};
 ghost use Rattle.stun_types.specs.Writers.{BeginsMessage, IsBegun, Pushes};
 

@@ -1,6 +1,6 @@
 use Rattle.std.proofs.Common.{◌≡◌, rules}
 use Rattle.stun_grammar.specs.Headers.{type_field}
-use Rattle.stun_base.specs.declared.message_type.MessageClass.TheVariants.{Request}
+use Rattle.stun_base.specs.declared.message_class.MessageClass.TheVariants.{Request}
 use Rattle.stun_base.specs.MessageTypes.{class_of}
 use Rattle.stun_types.specs.Message.{message_bytes}
 use Rattle.stun_server.proofs.ReplyLemmas.{none_to_fault, none_to_class, none_to_method, one_to_binding}

@@ -3,7 +3,7 @@
 ghost use Rattle.std.specs.Prelude.{◌≡◌, ◌≢◌, [], None, Ok, false, is_some, IfOk, IfErr, IfSome, IsSomeAnd, OnErr};
 ghost use Rattle.stun_grammar.specs.Headers.{type_field};
 ghost use Rattle.stun_grammar.specs.Adding.{Fits};
-ghost use Rattle.stun_base.specs.declared.message_type.MessageClass.TheVariants.{Request};
+ghost use Rattle.stun_base.specs.declared.message_class.MessageClass.TheVariants.{Request};
 ghost use Rattle.stun_base.specs.MessageTypes.{class_of};
 ghost use Rattle.stun_types.specs.Writers.{IsUnchanged};
 ghost use Rattle.stun_types.specs.Message.{message_bytes};

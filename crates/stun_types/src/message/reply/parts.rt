@@ -6,7 +6,7 @@ ghost use Rattle.stun_grammar.specs.AttributeTypes.{SOFTWARE, UNKNOWN_ATTRIBUTES
 ghost use Rattle.stun_grammar.specs.Headers.{is_header, type_field};
 ghost use Rattle.stun_grammar.specs.Steps.{add};
 ghost use Rattle.stun_grammar.specs.Adding.{Fits, add_refusal, IsAddAnswer};
-ghost use Rattle.stun_base.specs.declared.message_type.MessageClass.TheVariants.{Request};
+ghost use Rattle.stun_base.specs.declared.message_class.MessageClass.TheVariants.{Request};
 ghost use Rattle.stun_base.specs.MessageTypes.{class_of};
 ghost use Rattle.stun_attributes.specs.Texts.{text_bytes};
 ghost use Rattle.stun_values.specs.TypeLists.{types_encoding};
