@@ -12,6 +12,7 @@ use stun_text::{PrintText, TextSink, put_decimal};
 /// [`AttributeType::value`]: `u16::from(atype)` returns it too, but only in a crate that lists
 /// `stun_grammar`, where this type is declared, in `crates.txt`.
 #[derive(Clone, Copy, Default, PartialEq, Eq, PartialOrd, Ord, Hash)]
+#[repr(C)]
 pub struct AttributeType(pub u16);
 
 impl AttributeType {
