@@ -1,5 +1,5 @@
 """Checks of what c/release makes, for c/run_installed: it is made twice, installed and removed, and
-used with a PATH that has no `rt`, from C, C++, Python, Go and Rust."""
+used with a PATH that has no `rt`, from C, C++, Python, Go and Rust; and made of what isn't proved."""
 import os
 import pathlib
 import re
@@ -35,6 +35,23 @@ def check_release(compiler, given, folder):
         use_release(compiler, clean / name, clean)
         check_lines(clean / name, clean)
         check_removal(name, folder)
+    check_unproved(name, given, folder)
+
+
+def check_unproved(name, given, folder):
+    """A release of an archive with the mark of c/build_unproved says that it isn't proved."""
+    with checked("a release that isn't proved") as wrong:
+        marked, mark = folder / "marked.a", folder / "mark"
+        mark.write_text("not proved: c/build_unproved\0")
+        words = ["--remove-section=.comment", f"--add-section=.comment={mark}"]
+        said_by([os.environ.get("OBJCOPY", "objcopy"), *words, given[0], marked])
+        said_by([HERE / "release", folder / "unproved", marked, given[1]])
+        made = f"{name}-not-proved"
+        said_by(["tar", "-xzf", folder / "unproved" / f"{made}.tar.gz", "-C", folder / "unproved"])
+        text = (folder / "unproved" / made / "share/doc/stun_types/RELEASE.txt").read_text()
+        if "\nNOT PROVED. " not in text or "is proved in Rattle" in text or "Every function" in text:
+            wrong.append("RELEASE.txt doesn't say it")
+        wrong += [f"RELEASE.txt has {it}" for it in re.findall(r"@[\w-]*@", text)]
 
 
 def release_twice(name, given, folder):
@@ -75,7 +92,9 @@ def check_content(wrong, root, kit):
     for it in (version()[0], (kit / "KIT-ID").read_text().strip(), *logic, commit, *needed):
         if not re.search(rf"(?<!\w){re.escape(it)}(?!\w)", text):
             wrong.append(f"RELEASE.txt doesn't name {it}")
-    wrong += [f"RELEASE.txt has {it}" for it in re.findall(r"@\w*@", text)]
+    wrong += [f"RELEASE.txt has {it}" for it in re.findall(r"@[\w-]*@", text)]
+    if "NOT PROVED" in text or "\nEvery function of stun_types.h" not in text:
+        wrong.append("RELEASE.txt doesn't say what is proved")
 
 
 # Responses of RFC 5769, sections 2.2 and 2.3: that of the examples, and one with an address of IPv6.

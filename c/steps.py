@@ -1,4 +1,4 @@
-"""What c/examples/run and c/server/run share: steps, which pass, fail or are skipped, and what they are
+"""What c/examples/run, c/programs/run and c/server/run share: steps, which pass, fail or are skipped, and what they are
 run over."""
 import contextlib
 import pathlib
@@ -79,6 +79,22 @@ def build(compiler, *words):
     command = [compiler, "-O2", "-I", HERE, *words]
     status, out, told = run(list(map(str, command)), 60)
     check(status == 0, (out + told)[:2000])
+
+
+def client_sources(name):
+    """The sources of a program of c/programs."""
+    return [HERE / f"programs/{it}.c" for it in ("options", "connection", "requests", name)]
+
+
+def lint(page):
+    """troff and mandoc, as far as they are on this machine, have nothing to say of a manual page."""
+    words = [["groff", "-man", "-Tutf8", "-ww", "-z"], ["mandoc", "-Tlint", "-Wwarning"]]
+    words = [it for it in words if shutil.which(it[0])]
+    for command in words:
+        status, out, told = run([*command, str(page)])
+        check(status == 0 and out + told == "", out + told)
+    if not words:
+        raise Skipped("neither groff nor mandoc is on this machine")
 
 
 # ---- A run

@@ -42,7 +42,7 @@ def passed_on(programs):
         with server:
             server.port = udp.getsockname()[1]
             ask_once(server)
-            ask(programs["client"], "::1", str(tcp.getsockname()[1]), "-s")
+            ask(programs["client"], "::1", str(tcp.getsockname()[1]), "-t")
             check(server.started["workers"] == "3", str(server.started))
             before = processor_ticks(server)
             time.sleep(0.5)
@@ -141,7 +141,7 @@ def run_unit(programs):
             check(manager.recv(200) == b"WATCHDOG=1", "it doesn't say that it lives")
             for address in ("127.0.0.1", "::1"):
                 ask(programs["client"], address, "3478")
-                ask(programs["client"], address, "3478", "-s")
+                ask(programs["client"], address, "3478", "-t")
             check(report(("127.0.0.1", 9478))["stun_server_tcp_sent_total"] == 2, "another report")
             server.end()
 

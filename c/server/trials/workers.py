@@ -23,7 +23,7 @@ def both_at_once(programs):
         wait_until(lambda: server.sockets() == [1, 1, 1, 1, 2], "workers have sockets of others")
         for address in at:
             ask_once(server, address)
-            ask(programs["client"], address, server.port, "-s")
+            ask(programs["client"], address, server.port, "-t")
         counts = {"udp_received": 2, "udp_sent": 2, "tcp_accepted": 2, "tcp_received": 2, "tcp_sent": 2}
         expect(server.counts(signal.SIGHUP), **counts)
         expect(server.counts(signal.SIGUSR1), **counts)
@@ -46,7 +46,7 @@ def replaced(programs, command=()):
             while left > 0:
                 left -= int(server.wait_for(f"worker-{event}")["deaths"])
             ask(programs["client"], "127.0.0.1", server.port)
-            ask(programs["client"], "127.0.0.1", server.port, "-s")
+            ask(programs["client"], "127.0.0.1", server.port, "-t")
         for worker in server.workers():
             os.kill(worker, signal.SIGSTOP)
         counted = server.end()
@@ -189,7 +189,7 @@ def own_files(programs):
                 wait_until(lambda: files() <= {"socket", "anon_inode"}, f"it has {files()}")
             wait_until(lambda: server.sockets() == [1, 1], f"they have {server.sockets()}")
             ask_once(server)
-            ask(programs["client"], "127.0.0.1", server.port, "-s")
+            ask(programs["client"], "127.0.0.1", server.port, "-t")
             expect(server.end(), udp_received=1, udp_sent=1, tcp_accepted=1, tcp_received=1,
                    tcp_sent=1)
 
