@@ -70,7 +70,7 @@ typedef STUN_TYPES_ENUM(stun_types_status) {
     STUN_TYPES_TRUNCATED = 2,            /* expected, actual: too few bytes */
     STUN_TYPES_TOO_LARGE = 3,            /* expected, actual: too many bytes */
     STUN_TYPES_FINGERPRINT_MISMATCH = 4, /* the FINGERPRINT is wrong */
-    STUN_TYPES_MISSING_ATTRIBUTE = 5,    /* type: the attribute isn't shown */
+    STUN_TYPES_MISSING_ATTRIBUTE = 5,    /* type: there is no such attribute */
     STUN_TYPES_INVALID_DATA = 6,         /* a value isn't what its type asks for */
     STUN_TYPES_INTEGRITY_FAILED = 7,     /* the HMAC is wrong */
     STUN_TYPES_OUT_OF_MEMORY = 8,        /* an allocation failed */
@@ -83,7 +83,7 @@ typedef STUN_TYPES_ENUM(stun_types_status) {
     STUN_TYPES_NOT_PADDED = 15,          /* actual: a length field that is no multiple of 4 */
     STUN_TYPES_NOT_A_REQUEST = 16,       /* the message is no request */
     STUN_TYPES_NOT_SIGNED = 17,          /* the request needs an integrity attribute, for the key */
-    STUN_TYPES_SIGNED = 18,              /* the request shows an integrity attribute, and needs none */
+    STUN_TYPES_SIGNED = 18,              /* the request has an integrity attribute, and needs none */
     STUN_TYPES_NOT_A_CHALLENGE = 19,     /* the response is no 401 and no 438 */
     STUN_TYPES_BID_DOWN = 20,            /* somebody may have taken out PASSWORD-ALGORITHMS */
     STUN_TYPES_INCOMPLETE = 21,          /* REALM or NONCE is missing */
@@ -282,7 +282,7 @@ typedef struct {
     stun_types_id id;
 } stun_types_header;
 
-/* An attribute that a message shows. */
+/* An attribute that a message has: one that stun_types_next yields. */
 typedef struct {
     size_t value_at; /* offset of its value in the message; its header is the four bytes before */
     uint16_t type;
@@ -325,11 +325,12 @@ typedef struct {
 STUN_TYPES_NODISCARD
 stun_types_cursor stun_types_cursor_first(void);
 
-/* The next attribute that the message shows: ordinary ones, and then at most one of
+/* The next attribute of the message: those of other types, and then at most one of
    MESSAGE-INTEGRITY, MESSAGE-INTEGRITY-SHA256 and FINGERPRINT each, in this order (RFC 8489,
-   sections 14.5 to 14.7). False if there are no more, and from then on: cursor and attribute stay
-   as they were. The bytes need not parse: they show nothing if they have no header or another
-   length than it states. A call reads one attribute, and a whole walk each attribute once.
+   sections 14.5 to 14.7). What follows is ignored, and the message doesn't have it. False if there
+   are no more, and from then on: cursor and attribute stay as they were. The bytes need not parse:
+   nothing is yielded if they have no header or another length than it states. A call reads one
+   attribute, and a whole walk each attribute once.
    The cursor may be any, and what is yielded is within the bytes. With a message of another length
    or transaction ID than that of the last attribute, it reads as many attributes as it has yielded
    again, and yields the next one. With other bytes of the same length and ID, it yields what begins
@@ -338,13 +339,13 @@ STUN_TYPES_NODISCARD STUN_TYPES_NONNULL((3, 4))
 bool stun_types_next(const uint8_t *bytes, size_t length, stun_types_cursor *cursor,
                      stun_types_attribute *attribute);
 
-/* All attributes that the message shows, in the order of stun_types_next, in one pass. Returns how many
+/* All attributes that the message has, in the order of stun_types_next, in one pass. Returns how many
    there are, even if that is more than room; the first room of them are written. */
 STUN_TYPES_NODISCARD
 size_t stun_types_attributes(const uint8_t *bytes, size_t length, stun_types_attribute *attributes,
                              size_t room);
 
-/* The first attribute of a type that the message shows; false if there is none, and *attribute
+/* The first attribute of a type that the message has; false if there is none, and *attribute
    stays as it was. */
 STUN_TYPES_NODISCARD STUN_TYPES_NONNULL((4))
 bool stun_types_find(const uint8_t *bytes, size_t length, uint16_t type,
@@ -393,8 +394,8 @@ stun_types_answer stun_types_read_types(const uint8_t *bytes, size_t length,
                                         const stun_types_attribute *attribute, uint16_t *types,
                                         size_t room, size_t *count);
 
-/* The types of attributes that the message shows, that must be understood (below 0x8000) and are
-   none of those supported, in order and as often as they are shown (RFC 8489, section 6.3.1).
+/* The types of attributes that the message has, that must be understood (below 0x8000) and are
+   none of those supported, in order and as often as they occur (RFC 8489, section 6.3.1).
    Returns how many there are, even if that is more than room; the first room are written. */
 STUN_TYPES_NODISCARD
 size_t stun_types_unknown_types(const uint8_t *bytes, size_t length, const uint16_t *supported,
@@ -510,7 +511,7 @@ static inline void stun_types_key_free(stun_types_key *key) {
     stun_types_keys_free(key, key ? 1 : 0);
 }
 
-/* Which messages a usage takes. All zeros take the MESSAGE-INTEGRITY of a message that shows no
+/* Which messages a usage takes. All zeros take the MESSAGE-INTEGRITY of a message that has no
    MESSAGE-INTEGRITY-SHA256: so a message from which somebody has removed the latter counts, if its
    MESSAGE-INTEGRITY is right. They take no HMAC that is cut, and a message without a FINGERPRINT, as
    RFC 8489 has it if no usage says otherwise. */
@@ -525,7 +526,7 @@ typedef struct {
 
 /* MESSAGE-INTEGRITY-SHA256 alone counts, for peers that all know RFC 8489. */
 #define STUN_TYPES_POLICY_SHA256 { STUN_TYPES_INTEGRITY_SHA256, 0, 0, 0 }
-/* Both count, MESSAGE-INTEGRITY-SHA256 if it is shown: for peers of RFC 5389 too. It is all zeros. */
+/* Both count, MESSAGE-INTEGRITY-SHA256 if it is there: for peers of RFC 5389 too. It is all zeros. */
 #define STUN_TYPES_POLICY_BOTH { STUN_TYPES_INTEGRITY_ANY, 0, 0, 0 }
 
 /* What was checked of a message that is valid; all zeros if it isn't. */
@@ -538,14 +539,14 @@ typedef struct {
 
 /* Whether a message is authentic under a key, by a policy (RFC 8489, sections 9.1.3, 9.2.4, 14.5 and
    14.6). It parses the bytes, as stun_types_parse does. Of the integrity attributes that count, and
-   that the key serves, it checks MESSAGE-INTEGRITY-SHA256 if it is shown, otherwise MESSAGE-INTEGRITY.
+   that the key serves, it checks MESSAGE-INTEGRITY-SHA256 if it is there, otherwise MESSAGE-INTEGRITY.
    With an algorithm in the policy and a key for both, it allocates. What follows the attribute that
    was checked, and the length field, are not authentic.
    The errors of stun_types_parse. BAD_ARGUMENT: the policy. NO_KEY. MISSING_ATTRIBUTE, of type
    FINGERPRINT: the usage uses it. BAD_ARGUMENT: the key was made for one algorithm, and the other
-   counts. MISSING_ATTRIBUTE, of type MESSAGE-INTEGRITY: none that counts is shown. TRUNCATED,
-   TOO_LARGE, INVALID_DATA: it has no lawful length. INTEGRITY_FAILED. HMAC_TOO_SHORT: expected is
-   what the policy asks for. Allocates: OUT_OF_MEMORY. */
+   counts. MISSING_ATTRIBUTE, of type MESSAGE-INTEGRITY: none that counts is there. TRUNCATED,
+   TOO_LARGE, INVALID_DATA: it has a length that its type doesn't allow. INTEGRITY_FAILED.
+   HMAC_TOO_SHORT: expected is what the policy asks for. Allocates: OUT_OF_MEMORY. */
 STUN_TYPES_NODISCARD STUN_TYPES_NONNULL((3, 4, 5))
 stun_types_answer stun_types_validate_by_policy(const uint8_t *bytes, size_t length,
                                                 const stun_types_policy *policy,
@@ -557,7 +558,7 @@ stun_types_answer stun_types_validate_by_policy(const uint8_t *bytes, size_t len
    MESSAGE-INTEGRITY-SHA256, a message that has both attributes validates by SHA-1. It allocates
    nothing.
    The errors of stun_types_parse; NO_KEY; MISSING_ATTRIBUTE; TRUNCATED, TOO_LARGE, INVALID_DATA: the
-   attribute has no lawful length; INTEGRITY_FAILED. */
+   attribute has a length that its type doesn't allow; INTEGRITY_FAILED. */
 STUN_TYPES_NODISCARD STUN_TYPES_NONNULL((3, 4))
 stun_types_answer stun_types_validate(const uint8_t *bytes, size_t length,
                                       const stun_types_key *key, stun_types_validated *validated);
@@ -690,7 +691,7 @@ stun_types_answer stun_types_add_fingerprint(uint8_t *room, size_t size, size_t 
 #define STUN_TYPES_GREATEST_REPLY 32840
 
 /* Writes the reply to a datagram that came from source: to a binding request the address that it
-   came from, or 420 if it shows types that must be understood; with a FINGERPRINT if the request has
+   came from, or 420 if it has types that must be understood; with a FINGERPRINT if the request has
    one. *reply_length is 0 if none is owed. A reply is at most 48 bytes longer than its request and at
    most three times as long.
    BAD_ARGUMENT: the family. TOO_SMALL: expected is what the reply takes, and nothing is written. */
