@@ -113,8 +113,8 @@ bool begin_message(stun_types_class message_class, stun_types_method method);
 int open_server(void);
 
 /* Sends a request, with credentials if the server asks for them, until a success response is taken.
- * understood are the types below 0x8000 that the response may have, besides those of RFC 8489. Returns
- * the status; if it isn't STATUS_DONE, the reason was printed. */
+ * understood are the types below 0x8000 that the response may have, besides those of RFC 8489.
+ * Returns the status; if it isn't STATUS_DONE, the reason was printed. */
 int ask(stun_types_method method, write_body *write, const uint16_t *understood, size_t count);
 
 void close_server(void);

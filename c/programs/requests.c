@@ -242,7 +242,8 @@ static stun_types_answer take_challenge(void) {
 
 static bool asks_for_login(const stun_types_received *taken) {
     return asked.user != NULL && !asked.short_term && taken->kind == STUN_TYPES_TAKEN_ERROR &&
-           (taken->number == STUN_TYPES_CODE_UNAUTHORIZED || taken->number == STUN_TYPES_CODE_STALE_NONCE);
+           (taken->number == STUN_TYPES_CODE_UNAUTHORIZED ||
+            taken->number == STUN_TYPES_CODE_STALE_NONCE);
 }
 
 int ask(stun_types_method method, write_body *write, const uint16_t *understood, size_t count) {

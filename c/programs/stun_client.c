@@ -54,7 +54,9 @@ int main(int count, char **arguments) {
     asked.program = "stun-client";
     while ((letter = getopt_long(count, arguments, COMMON_LETTERS "s", words, NULL)) != -1) {
         if (letter == 'h') return print_text(help);
-        if (letter == 'V') return print_text("stun-client of stun_types " STUN_TYPES_VERSION_TEXT "\n");
+        if (letter == 'V') {
+            return print_text("stun-client of stun_types " STUN_TYPES_VERSION_TEXT "\n");
+        }
         if (letter == 's') asked.short_term = true;
         else if (!take_option(letter, optarg)) return usage();
     }

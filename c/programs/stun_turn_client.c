@@ -87,7 +87,8 @@ static int find_peer(void) {
     memset(&address, 0, sizeof address);
     memcpy(&address, found->ai_addr, found->ai_addrlen);
     freeaddrinfo(found);
-    return address_of(&address, &peer) ? STATUS_DONE : say(STATUS_BROKEN, "%s: no address", peer_name.host);
+    if (address_of(&address, &peer)) return STATUS_DONE;
+    return say(STATUS_BROKEN, "%s: no address", peer_name.host);
 }
 
 static bool read_lifetime(uint32_t *seconds) {
