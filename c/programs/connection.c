@@ -20,9 +20,10 @@ int find_host(const target *host, int type, struct addrinfo **found) {
     hints.ai_socktype = type;
     hints.ai_flags = AI_NUMERICSERV;
     int error = getaddrinfo(host->host, host->port, &hints, found);
-    if (error == 0) return DONE;
-    if (error == EAI_SYSTEM) return say(BROKEN, "%s: %s", host->host, strerror(errno));
-    return say(error == EAI_MEMORY ? BROKEN : SILENT, "%s: %s", host->host, gai_strerror(error));
+    if (error == 0) return STATUS_DONE;
+    if (error == EAI_SYSTEM) return say(STATUS_BROKEN, "%s: %s", host->host, strerror(errno));
+    int status = error == EAI_MEMORY ? STATUS_BROKEN : STATUS_SILENT;
+    return say(status, "%s: %s", host->host, gai_strerror(error));
 }
 
 /* Waits until the socket is ready, or the moment has come; whether it is ready. */

@@ -66,29 +66,29 @@ bool take_option(int letter, const char *value) {
 /* Reads the first line of a file, or of standard input. */
 static int read_line(const char *path) {
     FILE *from = strcmp(path, "-") == 0 ? stdin : fopen(path, "re");
-    if (from == NULL) return say(BROKEN, "%s: %s", path, strerror(errno));
+    if (from == NULL) return say(STATUS_BROKEN, "%s: %s", path, strerror(errno));
     bool is_read = fgets(asked.password, sizeof asked.password, from) != NULL;
     bool failed = ferror(from) != 0, ended = feof(from) != 0;
     if (from != stdin) fclose(from);
-    if (failed) return say(BROKEN, "%s: it can't be read", path);
+    if (failed) return say(STATUS_BROKEN, "%s: it can't be read", path);
     size_t length = is_read ? strcspn(asked.password, "\r\n") : 0;
     if (is_read && asked.password[length] == 0 && !ended) {
-        return say(BROKEN, "%s: the first line is too long, or has a zero", path);
+        return say(STATUS_BROKEN, "%s: the first line is too long, or has a zero", path);
     }
     asked.password[length] = 0;
-    return DONE;
+    return STATUS_DONE;
 }
 
 int read_password(void) {
     const char *given = getenv("STUN_PASSWORD");
-    if (asked.user == NULL) return DONE;
+    if (asked.user == NULL) return STATUS_DONE;
     if (asked.password_file != NULL) {
         int status = read_line(asked.password_file);
-        if (status != DONE) return status;
+        if (status != STATUS_DONE) return status;
     } else if (given == NULL) {
-        return say(MISUSED, "a password is needed: --password-file FILE, or STUN_PASSWORD");
+        return say(STATUS_MISUSED, "a password is needed: --password-file FILE, or STUN_PASSWORD");
     } else if (*given != 0 && !keep(asked.password, sizeof asked.password, given, strlen(given))) {
-        return say(MISUSED, "STUN_PASSWORD is too long");
+        return say(STATUS_MISUSED, "STUN_PASSWORD is too long");
     }
-    return asked.password[0] != 0 ? DONE : say(MISUSED, "the password is empty");
+    return asked.password[0] != 0 ? STATUS_DONE : say(STATUS_MISUSED, "the password is empty");
 }

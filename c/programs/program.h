@@ -11,15 +11,7 @@
 #include <unistd.h>
 
 #include "../examples/addresses.h"
-
-/* How a program ends. */
-enum {
-    DONE = 0,
-    REFUSED = 1, /* an error response, or one that can't be used */
-    MISUSED = 2, /* the arguments are wrong */
-    BROKEN = 3,  /* the system refused to read or write, or a request can't be made */
-    SILENT = 4   /* no response in time, none that is authentic, or nobody to ask */
-};
+#include "statuses.h"
 
 enum { MESSAGE_ROOM = STUN_TYPES_GREATEST_MESSAGE, NAME_ROOM = 256, PASSWORD_ROOM = 1024 };
 
@@ -121,8 +113,8 @@ bool begin_message(stun_types_class message_class, stun_types_method method);
 int open_server(void);
 
 /* Sends a request, with credentials if the server asks for them, until a success response is taken.
- * understood are the types below 0x8000 that the response may have, besides those of RFC 8489. Returns
- * the status; if it isn't DONE, the reason was printed. */
+ * understood are the types below 0x8000 that the response may have, besides those of RFC 8489.
+ * Returns the status; if it isn't STATUS_DONE, the reason was printed. */
 int ask(stun_types_method method, write_body *write, const uint16_t *understood, size_t count);
 
 void close_server(void);
@@ -135,5 +127,6 @@ bool find_address(uint16_t type, stun_types_address *address);
 
 /* Flushes standard output. Returns the status. */
 int end_output(void);
+int print_text(const char *text); /* and flushes it */
 
 #endif

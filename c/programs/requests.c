@@ -30,22 +30,33 @@ void show(const char *direction, const message *shown) {
     static char text[TEXT_ROOM];
     size_t length = 0;
     if (!asked.verbose) return;
-    stun_types_answer answer = stun_types_print(shown->bytes, shown->length, text, sizeof text, &length);
-    if (is_fine(answer)) fprintf(stderr, "%s %.*s\n", direction, (int)length, text);
-    else fprintf(stderr, "%s %zu bytes: %s\n", direction, shown->length, stun_types_message_of(answer.code));
+    stun_types_answer answer =
+        stun_types_print(shown->bytes, shown->length, text, sizeof text, &length);
+    if (is_fine(answer)) {
+        fprintf(stderr, "%s %.*s\n", direction, (int)length, text);
+    } else {
+        const char *why = stun_types_message_of(answer.code);
+        fprintf(stderr, "%s %zu bytes: %s\n", direction, shown->length, why);
+    }
 }
 
 int end_output(void) {
-    return fflush(stdout) == 0 && !ferror(stdout) ? DONE : say(BROKEN, "standard output: %s", strerror(errno));
+    if (fflush(stdout) == 0 && !ferror(stdout)) return STATUS_DONE;
+    return say(STATUS_BROKEN, "standard output: %s", strerror(errno));
+}
+
+int print_text(const char *text) {
+    fputs(text, stdout);
+    return end_output();
 }
 
 int open_server(void) {
     key = stun_types_key_none();
     int status = find_host(&asked.server, asked.reliable ? SOCK_STREAM : SOCK_DGRAM, &server.found);
-    if (status != DONE) return status;
+    if (status != STATUS_DONE) return status;
     server.next = server.found;
-    if (connect_next(&server)) return DONE;
-    return say(SILENT, "%s: %s", asked.server.host, strerror(errno));
+    if (connect_next(&server)) return STATUS_DONE;
+    return say(STATUS_SILENT, "%s: %s", asked.server.host, strerror(errno));
 }
 
 void close_server(void) {
@@ -62,7 +73,8 @@ bool begin_message(stun_types_class message_class, stun_types_method method) {
     stun_types_id id;
     uint16_t type = stun_types_message_type(message_class, method);
     if (getrandom(id.bytes, sizeof id.bytes, 0) != (ssize_t)sizeof id.bytes) return false;
-    return is_fine(stun_types_begin(request.bytes, sizeof request.bytes, type, &id, &request.length));
+    return is_fine(
+        stun_types_begin(request.bytes, sizeof request.bytes, type, &id, &request.length));
 }
 
 static bool add_fingerprint(void) {
@@ -73,10 +85,12 @@ static bool add_fingerprint(void) {
 static bool sign_short_term(void) {
     size_t room = sizeof request.bytes, *length = &request.length;
     return is_fine(stun_types_key_short_term(&key, asked.password, strlen(asked.password))) &&
-           is_fine(stun_types_add(request.bytes, room, length, STUN_TYPES_ATTRIBUTE_USERNAME, asked.user,
-                                  strlen(asked.user))) &&
-           is_fine(stun_types_add_integrity(request.bytes, room, length, &key, STUN_TYPES_INTEGRITY_SHA1)) &&
-           is_fine(stun_types_add_integrity(request.bytes, room, length, &key, STUN_TYPES_INTEGRITY_SHA256)) &&
+           is_fine(stun_types_add(request.bytes, room, length, STUN_TYPES_ATTRIBUTE_USERNAME,
+                                  asked.user, strlen(asked.user))) &&
+           is_fine(stun_types_add_integrity(request.bytes, room, length, &key,
+                                            STUN_TYPES_INTEGRITY_SHA1)) &&
+           is_fine(stun_types_add_integrity(request.bytes, room, length, &key,
+                                            STUN_TYPES_INTEGRITY_SHA256)) &&
            add_fingerprint();
 }
 
@@ -84,7 +98,8 @@ static bool sign_short_term(void) {
 static bool sign_long_term(void) {
     return is_fine(stun_types_answer_challenge(request.bytes, sizeof request.bytes, &request.length,
                                                challenged.bytes, challenged.length, SUPPORTED,
-                                               COUNT_SUPPORTED, asked.user, strlen(asked.user), &key, true));
+                                               COUNT_SUPPORTED, asked.user, strlen(asked.user), &key,
+                                               true));
 }
 
 static stun_types_protection protection(void) {
@@ -94,7 +109,8 @@ static stun_types_protection protection(void) {
 }
 
 static bool write_request(stun_types_method method, write_body *write) {
-    if (!begin_message(STUN_TYPES_CLASS_REQUEST, method) || (write != NULL && !write())) return false;
+    if (!begin_message(STUN_TYPES_CLASS_REQUEST, method)) return false;
+    if (write != NULL && !write()) return false;
     switch (protection()) {
     case STUN_TYPES_SHORT_TERM: return sign_short_term();
     case STUN_TYPES_LONG_TERM: return sign_long_term();
@@ -130,29 +146,35 @@ static bool act(stun_types_transaction *transaction, const stun_types_action *ac
 /* Prints how a transaction ended without a response. */
 static int tell_end(stun_types_end end, const stun_types_received *taken) {
     const char *host = asked.server.host;
-    if (end == STUN_TYPES_TRANSPORT_FAILED) return say(SILENT, "%s: %s", host, strerror(errno));
-    if (discarded && claimed != 0) {
-        return say(SILENT, "%s: no response is authentic; one claims error %u", host, (unsigned)claimed);
+    if (end == STUN_TYPES_TRANSPORT_FAILED) {
+        return say(STATUS_SILENT, "%s: %s", host, strerror(errno));
     }
-    if (discarded) return say(SILENT, "%s: no response is authentic", host);
+    if (discarded && claimed != 0) {
+        return say(STATUS_SILENT, "%s: no response is authentic; one claims error %u", host,
+                   (unsigned)claimed);
+    }
+    if (discarded) return say(STATUS_SILENT, "%s: no response is authentic", host);
     if (end == STUN_TYPES_TIMED_OUT || end == STUN_TYPES_CANCELLED) {
-        return say(SILENT, "%s: no response in time", host);
+        return say(STATUS_SILENT, "%s: no response in time", host);
     }
     if (taken->kind == STUN_TYPES_FAILED_UNKNOWN_ATTRIBUTE) {
-        return say(REFUSED, "the response has an unknown attribute, 0x%04x", (unsigned)taken->number);
+        return say(STATUS_REFUSED, "the response has an unknown attribute, 0x%04x",
+                   (unsigned)taken->number);
     }
-    return say(REFUSED, "the response can't be used");
+    return say(STATUS_REFUSED, "the response can't be used");
 }
 
 /* Carries a transaction through at one address: its end, and what was taken. */
-static stun_types_end carry(stun_types_transaction *transaction, const uint16_t *understood, size_t count,
-                            stun_types_received *taken) {
+static stun_types_end carry(stun_types_transaction *transaction, const uint16_t *understood,
+                            size_t count, stun_types_received *taken) {
     uint64_t end = asked.wait != 0 ? milliseconds() + asked.wait : UINT64_MAX;
     stun_types_action action;
     while (is_fine(stun_types_transaction_poll(transaction, milliseconds(), &action))) {
         if (action.kind == STUN_TYPES_ENDED) return action.end;
         if (milliseconds() >= end) return STUN_TYPES_CANCELLED;
-        if (!act(transaction, &action, end, understood, count, taken)) return STUN_TYPES_TRANSPORT_FAILED;
+        if (!act(transaction, &action, end, understood, count, taken)) {
+            return STUN_TYPES_TRANSPORT_FAILED;
+        }
         if (taken->kind >= STUN_TYPES_TAKEN_SUCCESS) return STUN_TYPES_ANSWERED;
     }
     return STUN_TYPES_RESPONSE_REFUSED;
@@ -170,10 +192,10 @@ static int exchange(const uint16_t *understood, size_t count, stun_types_receive
         stun_types_answer answer = stun_types_transaction_begin(
             &transaction, request.bytes, request.length, &schedule,
             asked.reliable ? STUN_TYPES_TCP : STUN_TYPES_UDP, protection(), &key, milliseconds());
-        if (!is_fine(answer)) return say(BROKEN, "%s", stun_types_message_of(answer.code));
+        if (!is_fine(answer)) return say(STATUS_BROKEN, "%s", stun_types_message_of(answer.code));
         end = carry(&transaction, understood, count, taken);
     } while (end == STUN_TYPES_TRANSPORT_FAILED && !heard && connect_next(&server));
-    return end == STUN_TYPES_ANSWERED ? DONE : tell_end(end, taken);
+    return end == STUN_TYPES_ANSWERED ? STATUS_DONE : tell_end(end, taken);
 }
 
 /* ---- What is received ------------------------------------------------------------------------ */
@@ -192,14 +214,16 @@ static int tell_error(uint32_t number) {
     size_t at = 0, length = 0, kept = 0;
     char reason[256];
     if (stun_types_find(response.bytes, response.length, STUN_TYPES_ATTRIBUTE_ERROR_CODE, &found) &&
-        !is_fine(stun_types_read_error(response.bytes, response.length, &found, &code, &at, &length))) {
+        !is_fine(stun_types_read_error(response.bytes, response.length, &found, &code, &at,
+                                       &length))) {
         length = 0;
     }
     for (size_t i = at; i < at + length && kept < sizeof reason - 1; i++) {
-        if (response.bytes[i] >= 0x20 && response.bytes[i] < 0x7F) reason[kept++] = (char)response.bytes[i];
+        uint8_t byte = response.bytes[i];
+        if (byte >= 0x20 && byte < 0x7F) reason[kept++] = (char)byte;
     }
     reason[kept] = 0;
-    return say(REFUSED, "error %u%s%s", (unsigned)number, kept > 0 ? " " : "", reason);
+    return say(STATUS_REFUSED, "error %u%s%s", (unsigned)number, kept > 0 ? " " : "", reason);
 }
 
 /* Keeps the challenge of the response, and makes its key. Returns what is wrong with it. */
@@ -218,19 +242,20 @@ static stun_types_answer take_challenge(void) {
 
 static bool asks_for_login(const stun_types_received *taken) {
     return asked.user != NULL && !asked.short_term && taken->kind == STUN_TYPES_TAKEN_ERROR &&
-           (taken->number == STUN_TYPES_CODE_UNAUTHORIZED || taken->number == STUN_TYPES_CODE_STALE_NONCE);
+           (taken->number == STUN_TYPES_CODE_UNAUTHORIZED ||
+            taken->number == STUN_TYPES_CODE_STALE_NONCE);
 }
 
 int ask(stun_types_method method, write_body *write, const uint16_t *understood, size_t count) {
     stun_types_received taken;
     for (int sent = 1;; sent++) {
-        if (!write_request(method, write)) return say(BROKEN, "the request can't be made");
+        if (!write_request(method, write)) return say(STATUS_BROKEN, "the request can't be made");
         int status = exchange(understood, count, &taken);
-        if (status != DONE) return status;
-        if (taken.kind == STUN_TYPES_TAKEN_SUCCESS) return DONE;
+        if (status != STATUS_DONE) return status;
+        if (taken.kind == STUN_TYPES_TAKEN_SUCCESS) return STATUS_DONE;
         if (!asks_for_login(&taken) || sent == MOST_REQUESTS) return tell_error(taken.number);
         stun_types_answer answer = take_challenge();
         if (answer.code == STUN_TYPES_SAME_CREDENTIALS) return tell_error(taken.number);
-        if (!is_fine(answer)) return say(REFUSED, "%s", stun_types_message_of(answer.code));
+        if (!is_fine(answer)) return say(STATUS_REFUSED, "%s", stun_types_message_of(answer.code));
     }
 }

@@ -25,14 +25,15 @@ static const struct option words[] = {
     COMMON_WORDS, {"short-term", no_argument, NULL, 's'}, {NULL, 0, NULL, 0}};
 
 static int usage(void) {
-    fprintf(stderr, "usage: stun-client [OPTION].. HOST[:PORT]\nstun-client --help lists the options\n");
-    return MISUSED;
+    fprintf(stderr, "usage: stun-client [OPTION].. HOST[:PORT]\n"
+                    "stun-client --help lists the options\n");
+    return STATUS_MISUSED;
 }
 
 static int tell_address(void) {
     stun_types_address address;
     if (!find_address(STUN_TYPES_ATTRIBUTE_XOR_MAPPED_ADDRESS, &address)) {
-        return say(REFUSED, "the response has no address");
+        return say(STATUS_REFUSED, "the response has no address");
     }
     print_address(stdout, &address);
     putchar('\n');
@@ -41,9 +42,9 @@ static int tell_address(void) {
 
 static int run(void) {
     int status = read_password();
-    if (status == DONE) status = open_server();
-    if (status == DONE) status = ask(STUN_TYPES_METHOD_BINDING, NULL, NULL, 0);
-    if (status == DONE) status = tell_address();
+    if (status == STATUS_DONE) status = open_server();
+    if (status == STATUS_DONE) status = ask(STUN_TYPES_METHOD_BINDING, NULL, NULL, 0);
+    if (status == STATUS_DONE) status = tell_address();
     close_server();
     return status;
 }
@@ -52,8 +53,10 @@ int main(int count, char **arguments) {
     int letter;
     asked.program = "stun-client";
     while ((letter = getopt_long(count, arguments, COMMON_LETTERS "s", words, NULL)) != -1) {
-        if (letter == 'h') return fputs(help, stdout) < 0 ? BROKEN : end_output();
-        if (letter == 'V') return printf("stun-client of stun_types %s\n", STUN_TYPES_VERSION_TEXT) < 0 ? BROKEN : end_output();
+        if (letter == 'h') return print_text(help);
+        if (letter == 'V') {
+            return print_text("stun-client of stun_types " STUN_TYPES_VERSION_TEXT "\n");
+        }
         if (letter == 's') asked.short_term = true;
         else if (!take_option(letter, optarg)) return usage();
     }

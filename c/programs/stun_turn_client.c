@@ -48,7 +48,7 @@ static bool has_peer(void) { return peer_name.host[0] != 0; }
 static int usage(void) {
     fprintf(stderr, "usage: stun-turn-client [OPTION].. HOST[:PORT]\n"
                     "stun-turn-client --help lists the options\n");
-    return MISUSED;
+    return STATUS_MISUSED;
 }
 
 /* ---- What requests ask ----------------------------------------------------------------------- */
@@ -78,16 +78,17 @@ static bool add_peer(void) {
 static int find_peer(void) {
     struct addrinfo *found;
     struct sockaddr_storage address;
-    if (!has_peer()) return DONE;
+    if (!has_peer()) return STATUS_DONE;
     int family = asked.family;
     asked.family = AF_UNSPEC; /* (that of the server) */
     int status = find_host(&peer_name, SOCK_DGRAM, &found);
     asked.family = family;
-    if (status != DONE) return status;
+    if (status != STATUS_DONE) return status;
     memset(&address, 0, sizeof address);
     memcpy(&address, found->ai_addr, found->ai_addrlen);
     freeaddrinfo(found);
-    return address_of(&address, &peer) ? DONE : say(BROKEN, "%s: no address", peer_name.host);
+    if (address_of(&address, &peer)) return STATUS_DONE;
+    return say(STATUS_BROKEN, "%s: no address", peer_name.host);
 }
 
 static bool read_lifetime(uint32_t *seconds) {
@@ -100,8 +101,9 @@ static bool read_lifetime(uint32_t *seconds) {
 static int tell_allocation(void) {
     stun_types_address relayed, mapped;
     uint32_t seconds;
-    if (!find_address(STUN_TYPES_ATTRIBUTE_XOR_RELAYED_ADDRESS, &relayed) || !read_lifetime(&seconds)) {
-        return say(REFUSED, "the response has no relayed address, or no lifetime");
+    if (!find_address(STUN_TYPES_ATTRIBUTE_XOR_RELAYED_ADDRESS, &relayed) ||
+        !read_lifetime(&seconds)) {
+        return say(STATUS_REFUSED, "the response has no relayed address, or no lifetime");
     }
     printf("relayed ");
     print_address(stdout, &relayed);
@@ -117,11 +119,14 @@ static int tell_allocation(void) {
 static int send_data(void) {
     size_t room = sizeof request.bytes, *length = &request.length;
     if (!begin_message(STUN_TYPES_CLASS_INDICATION, STUN_TYPES_METHOD_SEND) || !add_peer() ||
-        !is_fine(stun_types_add(request.bytes, room, length, STUN_TYPES_ATTRIBUTE_DATA, data, strlen(data)))) {
-        return say(BROKEN, "the data can't be sent");
+        !is_fine(stun_types_add(request.bytes, room, length, STUN_TYPES_ATTRIBUTE_DATA, data,
+                                strlen(data)))) {
+        return say(STATUS_BROKEN, "the data can't be sent");
     }
     show(">", &request);
-    if (!send_message(&server, &request)) return say(SILENT, "%s: %s", asked.server.host, strerror(errno));
+    if (!send_message(&server, &request)) {
+        return say(STATUS_SILENT, "%s: %s", asked.server.host, strerror(errno));
+    }
     printf("sent %zu bytes to ", strlen(data));
     print_address(stdout, &peer);
     putchar('\n');
@@ -135,7 +140,8 @@ static bool tell_data(const message *got) {
     stun_types_address from;
     if (!is_fine(stun_types_parse(got->bytes, got->length)) ||
         !is_fine(stun_types_read_header(got->bytes, got->length, &header)) ||
-        header.message_class != STUN_TYPES_CLASS_INDICATION || header.method != STUN_TYPES_METHOD_DATA ||
+        header.message_class != STUN_TYPES_CLASS_INDICATION ||
+        header.method != STUN_TYPES_METHOD_DATA ||
         !find_address(STUN_TYPES_ATTRIBUTE_XOR_PEER_ADDRESS, &from) || from.family != peer.family ||
         memcmp(from.octets, peer.octets, peer.family == 6 ? 16 : 4) != 0 ||
         !stun_types_find(got->bytes, got->length, STUN_TYPES_ATTRIBUTE_DATA, &found)) {
@@ -156,28 +162,30 @@ static int receive_data(void) {
     uint64_t end = milliseconds() + receive_for;
     while (milliseconds() < end) {
         int got = receive_until(&server, &response, end);
-        if (got == FAILED) return say(SILENT, "%s: %s", asked.server.host, strerror(errno));
+        if (got == FAILED) {
+            return say(STATUS_SILENT, "%s: %s", asked.server.host, strerror(errno));
+        }
         if (got == RECEIVED && tell_data(&response)) return end_output();
     }
-    return say(SILENT, "nothing came from the peer in time");
+    return say(STATUS_SILENT, "nothing came from the peer in time");
 }
 
 static int use_peer(void) {
     int status = ask(STUN_TYPES_METHOD_CREATE_PERMISSION, add_peer, UNDERSTOOD, COUNT_UNDERSTOOD);
-    if (status == DONE) status = send_data();
-    return status == DONE && receive_for != 0 ? receive_data() : status;
+    if (status == STATUS_DONE) status = send_data();
+    return status == STATUS_DONE && receive_for != 0 ? receive_data() : status;
 }
 
 static int refresh(void) {
     uint32_t seconds;
     int status = ask(STUN_TYPES_METHOD_REFRESH, add_lifetime, UNDERSTOOD, COUNT_UNDERSTOOD);
-    if (status != DONE) return status;
+    if (status != STATUS_DONE) return status;
     if (lifetime == 0) {
         puts("deleted");
     } else if (read_lifetime(&seconds)) {
         printf("refreshed %lu\n", (unsigned long)seconds);
     } else {
-        return say(REFUSED, "the response has no lifetime");
+        return say(STATUS_REFUSED, "the response has no lifetime");
     }
     return end_output();
 }
@@ -185,20 +193,20 @@ static int refresh(void) {
 /* What was allocated is deleted, also if something between failed. */
 static int use_server(void) {
     int status = ask(STUN_TYPES_METHOD_ALLOCATE, add_transport, UNDERSTOOD, COUNT_UNDERSTOOD);
-    if (status != DONE) return status;
+    if (status != STATUS_DONE) return status;
     status = tell_allocation();
-    if (status == DONE && has_peer()) status = use_peer();
-    if (status == DONE) status = refresh();
+    if (status == STATUS_DONE && has_peer()) status = use_peer();
+    if (status == STATUS_DONE) status = refresh();
     lifetime = 0;
     int deleted = refresh();
-    return status == DONE ? deleted : status;
+    return status == STATUS_DONE ? deleted : status;
 }
 
 static int run(void) {
     int status = read_password();
-    if (status == DONE) status = find_peer();
-    if (status == DONE) status = open_server();
-    if (status == DONE) status = use_server();
+    if (status == STATUS_DONE) status = find_peer();
+    if (status == STATUS_DONE) status = open_server();
+    if (status == STATUS_DONE) status = use_server();
     close_server();
     return status;
 }
@@ -216,12 +224,16 @@ static bool take_own_option(int letter, const char *value) {
 int main(int count, char **arguments) {
     int letter;
     asked.program = "stun-turn-client";
-    while ((letter = getopt_long(count, arguments, COMMON_LETTERS "p:d:r:l:", words, NULL)) != -1) {
-        if (letter == 'h') return fputs(help, stdout) < 0 ? BROKEN : end_output();
-        if (letter == 'V') return printf("stun-turn-client of stun_types %s\n", STUN_TYPES_VERSION_TEXT) < 0 ? BROKEN : end_output();
+    const char *letters = COMMON_LETTERS "p:d:r:l:";
+    while ((letter = getopt_long(count, arguments, letters, words, NULL)) != -1) {
+        if (letter == 'h') return print_text(help);
+        if (letter == 'V') {
+            return print_text("stun-turn-client of stun_types " STUN_TYPES_VERSION_TEXT "\n");
+        }
         if (!take_own_option(letter, optarg)) return usage();
     }
     if (count - optind != 1 || !read_target(arguments[optind], &asked.server)) return usage();
-    if ((asked.user == NULL && asked.password_file != NULL) || (receive_for != 0 && !has_peer())) return usage();
+    if (asked.user == NULL && asked.password_file != NULL) return usage();
+    if (receive_for != 0 && !has_peer()) return usage();
     return run();
 }

@@ -65,11 +65,11 @@ def passed_on(programs):
             news = f"os.environ.update(LISTEN_FDS='{number}', LISTEN_PID=str(os.getpid()))"
             status, _, told = run([*after(news), programs["server"], "-j", "2"])
             right = told.startswith(f"stun-server: LISTEN_FDS={number}: ") and "32" in told
-            check(status == 1 and right, f"LISTEN_FDS={number}: status {status}: {told}")
+            check(status == 3 and right, f"LISTEN_FDS={number}: status {status}: {told}")
         with socket.socket() as deaf:
             command = [sys.executable, "-c", PASS_ON, "1", str(deaf.fileno())]
             status, _, told = run([*command, programs["server"]], pass_fds=[deaf.fileno()])
-            check(status == 1 and "3" in told, f"a socket that isn't bound: {status}: {told}")
+            check(status == 3 and "3" in told, f"a socket that isn't bound: {status}: {told}")
 
 
 @contextlib.contextmanager

@@ -64,7 +64,7 @@ def settings(programs):
         write(file, "rate -1\n")
         words = ["-c", str(file), "127.0.0.1", free_port(["127.0.0.1"])]
         status, _, told = run([programs["server"], *words])
-        check(status == 1 and f"{file}:1: " in told, f"status {status}: {told}")
+        check(status == 3 and f"{file}:1: " in told, f"status {status}: {told}")
 
 
 def settings_file(programs):
@@ -112,7 +112,7 @@ def reports(programs):
                 wait_until(lambda: has_reported(where, "workers_died", 1), "no death is reported")
                 status, _, told = run([programs["server"], "-m", option, "127.0.0.1",
                                        free_port(["127.0.0.1"])])
-                check(status == 1 and option in told, f"status {status}: {told}")
+                check(status == 3 and option in told, f"status {status}: {told}")
                 server.ran.kill()
 
 

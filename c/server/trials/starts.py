@@ -29,4 +29,4 @@ def taken_address(programs):
     with Server(programs["server"], "-t") as server:
         for words in [["127.0.0.1", server.port], ["192.0.2.1", server.port]]:
             status, out, told = run([programs["server"], *words])
-            check(status == 1 and out == "" and words[0] in told, f"status {status}: {out}{told}")
+            check(status == 3 and out == "" and words[0] in told, f"status {status}: {out}{told}")

@@ -98,7 +98,7 @@ def unconfined(programs):
                 check(server.wait_for("gave-up")["deaths"] == "8", "it gave up early or late")
             counted = server.wait_for("counts")
             took = time.monotonic() - began
-            check(server.ran.wait(PATIENCE) == 1, f"status {server.ran.returncode}")
+            check(server.ran.wait(PATIENCE) == 3, f"status {server.ran.returncode}")
             check(lines <= took + 1, f"{lines} lines in {took} s")
             check(took > 12, f"8 workers died in {took} s")
             check(counted["udp_received"] == "0" and counted["workers_died"] == "8", str(counted))
@@ -127,7 +127,7 @@ def rights(programs):
         has_rights(programs, server, user, {user.pw_gid} if as_root else {*os.getgroups()})
     for name in ("root", "no-such-user"):
         status, _, told = run([programs["server"], "-U", name, "127.0.0.1", free_port(["127.0.0.1"])])
-        check(status == 1 and name in told, f"status {status}: {told}")
+        check(status == 3 and name in told, f"status {status}: {told}")
 
 
 def granted_rights(programs):
@@ -162,7 +162,7 @@ def required(programs):
             server.end()
         words = ["-o", "sandbox=2", "127.0.0.1", free_port(["127.0.0.1"])]
         status, out, told = run([*command, programs["server"], *words])
-        check(status == 1 and "sandbox=2" in told, f"status {status}: {out}{told}")
+        check(status == 3 and "sandbox=2" in told, f"status {status}: {out}{told}")
 
 
 def as_root(programs):
