@@ -1,6 +1,7 @@
 //! The types that a message shows, that must be understood and aren't.
 
 ghost use Rattle.std.specs.Prelude.{◌≡◌};
+ghost use Rattle.std.specs.List.{list_any};
 ghost use Rattle.stun_grammar.specs.ScannedOrder.{has};
 ghost use Rattle.stun_grammar.specs.Adding.{numbers};
 ghost use Rattle.stun_types.specs.Replies.{joined, is_unknown};
@@ -11,11 +12,17 @@ use crate::reading::MessageAttributesIter;
 use crate::writing::is_among;
 
 /// Whether one of the lists has the type.
-#[tactic(auto, using(crate::proofs::WrittenTypesLemmas::has_joined))]
-fn is_in_one(lists: &[&[AttributeType]], atype: AttributeType) -> bool
-    ensures { result ≡ has atype.0 (numbers (joined lists.now)) }
+fn any_has(lists: &[&[AttributeType]], atype: AttributeType) -> bool
+    ensures { result ≡ list_any (λ types. has atype.0 (numbers types.now)) lists.now }
 {
     lists.iter().any(|types| is_among(types, atype))
+}
+
+/// Whether the joined lists have the type.
+fn joined_have(lists: &[&[AttributeType]], atype: AttributeType) -> bool
+    ensures { result ≡ has atype.0 (numbers (joined lists.now)) }
+{
+    any_has(lists, atype)
 }
 
 /// The supported types: one list of them, or several.
@@ -32,7 +39,7 @@ impl Supported<'_> {
     {
         match self {
             Supported::One(types) => is_among(types, atype),
-            Supported::Several(lists) => is_in_one(lists, atype),
+            Supported::Several(lists) => joined_have(lists, atype),
         }
     }
 }
