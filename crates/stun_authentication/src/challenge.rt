@@ -1,11 +1,10 @@
 //! What a server asks a client's next request to carry (RFC 8489, sections 9.2.4 and 9.2.5).
 
-ghost use Rattle.std.specs.Prelude.{◌≡◌, ◌≤◌, ◌<◌, ◌^◌, Some, None, IfOk, MatchResult, length};
+ghost use Rattle.std.specs.Prelude.{◌≡◌, ◌≤◌, ◌<◌, ◌^◌, IfOk, length};
 ghost use Rattle.std.specs.Cow.{cow_str_bytes, cow_slice_items};
 ghost use Rattle.std.specs.Option.{option_map_or};
 ghost use Rattle.stun_values.specs.Algorithms.{algorithms_encoding};
 ghost use Rattle.stun_values.specs.TextValues.{text_max};
-ghost use Rattle.stun_authentication.specs.Refusing.{challenge_error};
 
 use crate::security_features;
 use std::alloc::{AllocError, Global};
@@ -99,35 +98,35 @@ fn value_of_list(
     Ok(value)
 }
 
-/// Checks that a nonce promises a list of algorithms exactly if there is one, and that an attribute
-/// has room for it.
-fn check_list(nonce: &str, algorithms: &[PasswordAlgorithmValue]) -> Result<(), ChallengeError>
-    ensures { MatchResult result (λ _. challenge_error nonce.now algorithms.now ≡ None)
-        (λ e. challenge_error nonce.now algorithms.now ≡ Some e) }
-{
-    let promises = match security_features(nonce.as_bytes()) {
-        Some(features) => features.password_algorithms,
-        None => false,
-    };
-    if promises && algorithms.is_empty() {
-        return Err(ChallengeError::NoList);
-    }
-    if !promises && !algorithms.is_empty() {
-        return Err(ChallengeError::NotPromised);
-    }
-    if algorithms.len() > 16383 {
-        return Err(ChallengeError::TooMany);
-    }
-    Ok(())
-}
-
 impl<'a> Challenge<'a> {
-    ghost use Rattle.std.specs.Prelude.{◌≡◌, ◌≢◌, ◌≤◌, ◌<◌, ◌^◌, [], Err, IfOk, MatchOption, MatchResult, length};
+    ghost use Rattle.std.specs.Prelude.{◌≡◌, ◌≢◌, ◌≤◌, ◌<◌, ◌^◌, [], Some, None, Err, IfOk, MatchOption, MatchResult, length};
     ghost use Rattle.std.specs.Option.{option_map, option_map_or};
     ghost use Rattle.stun_attributes.specs.Texts.{text_bytes};
     ghost use Rattle.stun_values.specs.TextValues.{text_max};
     ghost use Rattle.stun_authentication.specs.Asking.{asked_for, asked_in, asks_userhash, listed, signing_by};
     ghost use Rattle.stun_authentication.specs.Refusing.{challenge_error};
+
+    /// Checks that a nonce promises a list of algorithms exactly if there is one, and that an attribute
+    /// has room for it.
+    fn check_list(nonce: &str, algorithms: &[PasswordAlgorithmValue]) -> Result<(), ChallengeError>
+        ensures { MatchResult result (λ _. challenge_error nonce.now algorithms.now ≡ None)
+            (λ e. challenge_error nonce.now algorithms.now ≡ Some e) }
+    {
+        let promises = match security_features(nonce.as_bytes()) {
+            Some(features) => features.password_algorithms,
+            None => false,
+        };
+        if promises && algorithms.is_empty() {
+            return Err(ChallengeError::NoList);
+        }
+        if !promises && !algorithms.is_empty() {
+            return Err(ChallengeError::NotPromised);
+        }
+        if algorithms.len() > 16383 {
+            return Err(ChallengeError::TooMany);
+        }
+        Ok(())
+    }
 
     /// Returns what a server asks for: this realm, this nonce, which is valid and was sent to nobody
     /// else, and these algorithms, the one that the server prefers first; none if it knows MD5
@@ -172,7 +171,7 @@ impl<'a> Challenge<'a> {
             (λ why. result ≡ Err why) }
         ensures free { algorithms.now ≡ [] → result ≢ Err ChallengeError.OutOfMemory }
     {
-        check_list(nonce.nonce(), algorithms)?;
+        Self::check_list(nonce.nonce(), algorithms)?;
         let list = if algorithms.is_empty() {
             None
         } else {
