@@ -10,12 +10,10 @@ ghost use Rattle.stun_types.specs.Message.{message_bytes};
 use std::alloc::Global;
 use std::net::SocketAddr;
 use stun_authentication::{
-    Accepted, Authentication, Challenge, Demand, Logins, NonceMaker, Policy, Refusal,
-    answer_challenge, authenticate_long_term, refuse_long_term,
+    Accepted, Authentication, Challenge, ChallengeError, Logins, NonceMaker, Policy, Refusal,
+    Retry, answer_challenge, authenticate_long_term, refuse_long_term,
 };
-use stun_types::attribute::{
-    ErrorCode, KNOWN, PasswordAlgorithmValue, PasswordAlgorithms, Realm, XorMappedAddress,
-};
+use stun_types::attribute::{ErrorCode, KNOWN, PasswordAlgorithmValue, Realm, XorMappedAddress};
 use stun_types::message::{
     LongTermCredentials, Message, MessageClass, MessageType, MessageWriteVec, StunWriteError,
     TransactionId,
@@ -46,7 +44,7 @@ pub fn allocate_request(
     alloc: Global,
     id: u128,
     seconds: u32,
-    challenge: Option<&Challenge<'_>>,
+    retry: Option<&Retry<'_>>,
     (name, password): (&str, &str),
 ) -> Result<Vec<u8>, StunWriteError> {
     let mtype = MessageType::from_class_method(MessageClass::Request, methods::ALLOCATE);
@@ -54,9 +52,9 @@ pub fn allocate_request(
     let mut request = Message::builder(mtype, TransactionId::from(id), vector)?;
     request.add_attribute(&RequestedTransport::new(UDP))?;
     request.add_attribute(&Lifetime::new(seconds))?;
-    match challenge {
-        Some(challenge) => {
-            answer_challenge(alloc, challenge, name, password, true, &mut request)?;
+    match retry {
+        Some(retry) => {
+            answer_challenge(alloc, retry, name, password, true, &mut request)?;
         }
         None => request.add_fingerprint()?,
     }
@@ -83,12 +81,14 @@ fn refused(
     requires { class_of (type_field (message_bytes request.now)) ≡ Request }
 {
     let nonce = server.nonces.make(alloc, server.now, &client)?;
-    let algorithms = PasswordAlgorithms::new(alloc, &ALGORITHMS)?;
-    let Ok(demand) = Demand::new(Realm::new(alloc, REALM)?, nonce, Some(algorithms)) else {
-        return Err(StunWriteError::IntegrityFailed);
+    let realm = Realm::new(alloc, REALM)?;
+    let challenge = match Challenge::new(alloc, &realm, &nonce, &ALGORITHMS) {
+        Ok(challenge) => challenge,
+        Err(ChallengeError::OutOfMemory) => return Err(StunWriteError::OutOfMemory),
+        Err(_) => return Err(StunWriteError::IntegrityFailed),
     };
     let vector = MessageWriteVec::new(alloc);
-    Ok(refuse_long_term(alloc, request, refusal, &demand, vector)?.finish())
+    Ok(refuse_long_term(alloc, request, refusal, &challenge, vector)?.finish())
 }
 
 /// Why there is no allocation: no REQUESTED-TRANSPORT, or another one than UDP.

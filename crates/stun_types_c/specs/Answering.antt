@@ -6,7 +6,7 @@ use Rattle.stun_grammar.specs.Parsing.{parse_fault}
 use Rattle.stun_keys.specs.declared.keys.integrity_key.IntegrityKey.{IntegrityKey}
 use Rattle.stun_keys.specs.Keys.{IsKey, key_bytes}
 use Rattle.stun_values.specs.TextValues.{username_max}
-use Rattle.stun_authentication.specs.declared.challenge.NoRetry.{NoRetry}
+use Rattle.stun_authentication.specs.declared.retry.NoRetry.{NoRetry}
 use Rattle.stun_authentication.specs.Challenges.{Retry, challenge_of, signing_algorithm}
 use Rattle.stun_authentication.specs.Requests.{login_steps, user_key}
 use Rattle.stun_types_c.specs.declared.call_result.CResult.{CResult}
