@@ -41,6 +41,7 @@ static stun_types_address peer;
 static const char *data = "hello";
 static uint64_t receive_for; /* milliseconds; 0: nothing is received */
 static uint32_t lifetime = 600;
+static bool gone; /* the server no longer responds */
 
 static bool is_fine(stun_types_answer answer) { return answer.code == STUN_TYPES_OK; }
 static bool has_peer(void) { return peer_name.host[0] != 0; }
@@ -133,8 +134,9 @@ static int send_data(void) {
     return end_output();
 }
 
-/* Prints the data of the message if it is an indication of the peer's. Returns whether it is. */
-static bool tell_data(const message *got) {
+/* Prints the data of what was received if it is an indication of the peer's. Returns whether it is. */
+static bool tell_data(void) {
+    const message *got = &response;
     stun_types_header header;
     stun_types_attribute found;
     stun_types_address from;
@@ -165,20 +167,26 @@ static int receive_data(void) {
         if (got == FAILED) {
             return say(STATUS_SILENT, "%s: %s", asked.server.host, strerror(errno));
         }
-        if (got == RECEIVED && tell_data(&response)) return end_output();
+        if (got == RECEIVED && tell_data()) return end_output();
     }
     return say(STATUS_SILENT, "nothing came from the peer in time");
 }
 
+static int ask_turn(stun_types_method method, write_body *write) {
+    int status = ask(method, write, UNDERSTOOD, COUNT_UNDERSTOOD);
+    gone = status == STATUS_SILENT;
+    return status;
+}
+
 static int use_peer(void) {
-    int status = ask(STUN_TYPES_METHOD_CREATE_PERMISSION, add_peer, UNDERSTOOD, COUNT_UNDERSTOOD);
+    int status = ask_turn(STUN_TYPES_METHOD_CREATE_PERMISSION, add_peer);
     if (status == STATUS_DONE) status = send_data();
     return status == STATUS_DONE && receive_for != 0 ? receive_data() : status;
 }
 
 static int refresh(void) {
     uint32_t seconds;
-    int status = ask(STUN_TYPES_METHOD_REFRESH, add_lifetime, UNDERSTOOD, COUNT_UNDERSTOOD);
+    int status = ask_turn(STUN_TYPES_METHOD_REFRESH, add_lifetime);
     if (status != STATUS_DONE) return status;
     if (lifetime == 0) {
         puts("deleted");
@@ -190,13 +198,14 @@ static int refresh(void) {
     return end_output();
 }
 
-/* What was allocated is deleted, also if something between failed. */
+/* What was allocated is deleted, also if something between failed, unless the server is gone. */
 static int use_server(void) {
-    int status = ask(STUN_TYPES_METHOD_ALLOCATE, add_transport, UNDERSTOOD, COUNT_UNDERSTOOD);
+    int status = ask_turn(STUN_TYPES_METHOD_ALLOCATE, add_transport);
     if (status != STATUS_DONE) return status;
     status = tell_allocation();
     if (status == STATUS_DONE && has_peer()) status = use_peer();
     if (status == STATUS_DONE) status = refresh();
+    if (gone) return status;
     lifetime = 0;
     int deleted = refresh();
     return status == STATUS_DONE ? deleted : status;
