@@ -4,7 +4,7 @@
 ghost use Rattle.std.specs.Prelude.{◌≡◌};
 ghost use Rattle.std.specs.Option.{option_map};
 ghost use Rattle.stun_types.specs.KnownTypes.{facts};
-ghost use Rattle.discovery_attrs.specs.DiscoveryTypes.{known_type};
+ghost use Rattle.discovery_attrs.specs.Discovery.{known_type};
 
 use stun_grammar::attribute_types;
 use stun_types::attribute::{AttributeType, KnownType, ValueForm};

@@ -4,7 +4,7 @@
 ghost use Rattle.std.specs.Prelude.{◌≡◌};
 ghost use Rattle.std.specs.Option.{option_map};
 ghost use Rattle.stun_types.specs.KnownTypes.{facts};
-ghost use Rattle.ice_attrs.specs.IceTypes.{known_type};
+ghost use Rattle.ice_attrs.specs.Ice.{known_type};
 
 use stun_types::attribute::{AttributeType, KnownType, ValueForm};
 

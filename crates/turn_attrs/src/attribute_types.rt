@@ -5,7 +5,7 @@
 ghost use Rattle.std.specs.Prelude.{◌≡◌};
 ghost use Rattle.std.specs.Option.{option_map};
 ghost use Rattle.stun_types.specs.KnownTypes.{facts};
-ghost use Rattle.turn_attrs.specs.TurnTypes.{known_type};
+ghost use Rattle.turn_attrs.specs.Turn.{known_type};
 
 use stun_types::attribute::{AttributeType, KnownType, ValueForm};
 
