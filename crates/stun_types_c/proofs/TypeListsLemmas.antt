@@ -1,5 +1,5 @@
 -- Numbers of attribute types that are laid over C's, one after the other.
-use Rattle.std.proofs.Common.{◌≡◌, ℕ, zero, suc, ◌+◌, ◌-◌, ◌*◌, ◌≤◌, true, List, [], ◌∷◌, ◌++◌, length, take, drop, set, min, slice_range, Option, None, Some, refl, ap, ◌∙◌, sym, add-one, arith}
+use Rattle.std.proofs.Common.{◌≡◌, ℕ, zero, suc, ◌+◌, ◌-◌, ◌*◌, ◌≤◌, Bool, true, List, [], ◌∷◌, ◌++◌, length, take, drop, set, min, slice_range, Option, None, Some, refl, ap, ◌∙◌, sym, add-one, arith}
 use Rattle.std.proofs.lemmas.List.{map-append, length-append, length-map, drop-drop}
 use Rattle.std.proofs.lemmas.List.Sums.{length-filter, count_by-le-length}
 use Rattle.stun_grammar.specs.declared.attribute_type.AttributeType.{AttributeType}
@@ -7,8 +7,7 @@ use Rattle.stun_grammar.specs.declared.error.StunParseError.{StunParseError}
 use Rattle.stun_grammar.specs.Numbers.{number}
 use Rattle.stun_grammar.specs.Adding.{numbers}
 use Rattle.stun_grammar.specs.Chains.{Shown}
-use Rattle.stun_grammar.specs.Parsing.{frame_fault}
-use Rattle.stun_grammar.specs.Showing.{shown}
+use Rattle.stun_grammar.specs.Showing.{frame_fault, shown}
 use Rattle.stun_text.specs.Slices.{laid_over}
 use Rattle.stun_values.specs.TypeLists.{types_within}
 use Rattle.stun_types.specs.Iterating.{borrowed}
@@ -77,10 +76,10 @@ reported_more types type count next places new start so_far next-is new-is =
 
 -- a message shows no more attributes than it has bytes, so no more types
 shown_few : (d : List ℕ) (fault : Option StunParseError) → frame_fault d ≡ fault → length (shown d) ≤ length d
-shown_few d None whole = omega (arith, length-items 0 20 d, ap (λ (s : List Shown). length (borrowed s)) (from_start d whole), length-map (shown d) (λ (a : Shown). (a, true)))
+shown_few d None whole = omega (arith, length-items 0 20 d, ap (λ (s : List Shown). length (borrowed s)) (from_start d whole), length-map {B = Shown × Bool} (shown d) (λ (a : Shown). (a, true)))
 shown_few d (Some e) fault = omega (arith, ap length (unframed d e fault))
 
 pub few_unknown : (supported : List AttributeType) (d : List ℕ) → length (unknown_types supported d) ≤ length d
 few_unknown supported d =
     let test = is_unknown supported in
-    omega (arith, length-filter test (shown_types d), count_by-le-length test (shown_types d), length-map (shown d) (λ (a : Shown). record { 0 = a.type }), shown_few d (frame_fault d) refl)
+    omega (arith, length-filter test (shown_types d), count_by-le-length test (shown_types d), length-map {B = AttributeType} (shown d) (λ (a : Shown). record { 0 = a.type }), shown_few d (frame_fault d) refl)
