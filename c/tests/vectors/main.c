@@ -240,6 +240,11 @@ void keep_secret(slice octets) {
     heap_add_secret(octets.bytes, octets.length < 64 ? octets.length : 64);
 }
 
+bool is_secret(slice octets) {
+    if (octets.length == 0) answer_unknown();
+    return octets.length != 0;
+}
+
 bool make_key(stun_types_key *key, slice bytes, stun_types_integrity algorithm) {
     keep_secret(bytes);
     return is_taken(stun_types_key_from_bytes(key, bytes.bytes, bytes.length, algorithm));
