@@ -502,7 +502,8 @@ static const struct {
     {"of both algorithms", KEY_MD5, STUN_TYPES_INTEGRITY_ANY, 16, STUN_TYPES_OK},
     {"of SHA-1, in more room", KEY_MD5, STUN_TYPES_INTEGRITY_SHA1, 20, STUN_TYPES_OK},
     {"of SHA-256", KEY_SHA256, STUN_TYPES_INTEGRITY_SHA256, 32, STUN_TYPES_OK},
-    {"of no bytes, in no room", "", STUN_TYPES_INTEGRITY_ANY, 0, STUN_TYPES_OK},
+    {"of one byte", "61", STUN_TYPES_INTEGRITY_ANY, 1, STUN_TYPES_OK},
+    {"of one byte, in no room", "61", STUN_TYPES_INTEGRITY_ANY, 0, STUN_TYPES_TOO_SMALL},
     {"in less room", KEY_SHA256, STUN_TYPES_INTEGRITY_SHA256, 31, STUN_TYPES_TOO_SMALL},
 };
 
