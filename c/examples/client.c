@@ -1,7 +1,7 @@
 /* A STUN client: asks a server for the address that this machine's requests come from, and prints
  * it as 192.0.2.1:32853 or [2001:db8::1]:32853.
  *
- *     cc -O2 -I c c/examples/client.c libstun_types_c.a liblibc_c.a -o client
+ *     cc -O2 -I c c/examples/client.c libstun_types.a -o client
  *     ./client [-s] [-u USER -p PASSWORD] ADDRESS PORT
  *
  * PORT is a number from 1 to 65535. With -s it asks over TCP. With a name and a password it answers

@@ -1,7 +1,7 @@
 /* A TURN client (RFC 8656): asks a server for a relayed address with long-term credentials, prints it
  * and for how many seconds the server keeps it, and gives it back.
  *
- *     cc -O2 -I c c/examples/turn_client.c libstun_types_c.a liblibc_c.a -o turn_client
+ *     cc -O2 -I c c/examples/turn_client.c libstun_types.a -o turn_client
  *     ./turn_client ADDRESS PORT USER PASSWORD
  *
  * Status 0: the address was printed. 1: the server refused; its code is on standard error. 2: the

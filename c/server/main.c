@@ -1,7 +1,7 @@
 /* A STUN server: it returns to each client the address that its request came from, over UDP and
  * TCP. docs/guide/SERVER.md says how to run it.
  *
- *     cc -std=c11 -O2 -I c FILES libstun_types_c.a liblibc_c.a -o stun-server
+ *     cc -std=c11 -O2 -I c FILES libstun_types.a -o stun-server
  *     ./stun-server [-t] [-j PROCESSES] [-U USER] [-m PATH|PORT] [-c FILE] [-o NAME=NUMBER]..
  *         ADDRESS PORT [ADDRESS PORT]..
  *

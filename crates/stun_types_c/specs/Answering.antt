@@ -14,6 +14,7 @@ use Rattle.stun_types_c.specs.CResults.{plain, counted, parse_result, Refuses}
 use Rattle.stun_types_c.specs.Challenges.{retry_answer}
 use Rattle.stun_types_c.specs.Codes.{OK, TOO_LARGE, BAD_ARGUMENT, NO_KEY}
 use Rattle.stun_types_c.specs.Credentials.{texts_refusal, WithTexts}
+use Rattle.stun_types_c.specs.Keys.{password_answer}
 use Rattle.stun_types_c.specs.PasswordAlgorithms.{password_algorithms_named}
 use Rattle.stun_types_c.specs.Writing.{Written, serving_answer, TakesIn}
 
@@ -41,12 +42,14 @@ HoldsAsked retry user password result old new =
     × IsSomeAnd new (IsKey None (user_key retry (record { name = user; password = password }))))
     (λ answer. Refuses answer result old new)
 
--- the same by what C passes
+-- the same by what C passes, with a password that has bytes
 abbrev pub HoldsFor : (numbers d user password : List ℕ) → CResult
     → (old new : Option IntegrityKey) → Type 0
 HoldsFor numbers d user password result old new =
-    MatchResult (challenge_in numbers d)
+    MatchOption (password_answer password)
+    (MatchResult (challenge_in numbers d)
     (λ retry. HoldsAsked retry user password result old new)
+    (λ answer. Refuses answer result old new))
     (λ answer. Refuses answer result old new)
 
 -- why a user isn't named: the name is no text, or too long for a USERNAME

@@ -76,6 +76,9 @@ pub extern "C" fn stun_types_key_for(
     ensures { HoldsFor supported.now response.now user.now password.now result
         (held_key key.old) (held_key key.new) }
 {
+    if password.is_empty() {
+        return plain(codes::BAD_ARGUMENT);
+    }
     match challenge_in(response, supported) {
         Ok(challenge) => hold_key(alloc, key, &challenge, user, password),
         Err(answer) => answer,
