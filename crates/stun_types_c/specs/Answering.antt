@@ -59,17 +59,22 @@ name_answer name =
     (if nat_lt username_max (length name)
     then Some (counted TOO_LARGE username_max (length name)) else None)
 
--- by what C passes, the challenge is answered for a user with a key that serves
-abbrev pub AnswersChallenge : (numbers d name : List ℕ) → (fingerprint : Bool)
-    → Option IntegrityKey → CResult → Written
-    → Written → Type 0
-AnswersChallenge numbers d name fingerprint held result old new =
-    MatchResult (challenge_in numbers d)
-    (λ retry. MatchOption (name_answer name)
+-- a challenge is answered for a user with a key that serves
+abbrev pub AnswersRetry : Retry → (name : List ℕ) → (fingerprint : Bool) → Option IntegrityKey
+    → CResult → Written → Written → Type 0
+AnswersRetry retry name fingerprint held result old new =
+    MatchOption (name_answer name)
     (MatchOption held
     (Refuses (plain NO_KEY) result old new)
     (λ key. MatchOption (serving_answer key (signing_algorithm retry))
     (TakesIn (login_steps fingerprint retry name (key_bytes key)) result old new)
     (λ answer. Refuses answer result old new)))
-    (λ answer. Refuses answer result old new))
+    (λ answer. Refuses answer result old new)
+
+-- the same by what C passes
+abbrev pub AnswersChallenge : (numbers d name : List ℕ) → (fingerprint : Bool)
+    → Option IntegrityKey → CResult → Written → Written → Type 0
+AnswersChallenge numbers d name fingerprint held result old new =
+    MatchResult (challenge_in numbers d)
+    (λ retry. AnswersRetry retry name fingerprint held result old new)
     (λ answer. Refuses answer result old new)

@@ -5,7 +5,7 @@ ghost use Rattle.stun_keys.specs.Keys.{key_algorithm, key_bytes, serves};
 ghost use Rattle.stun_values.specs.TextValues.{username_max};
 ghost use Rattle.stun_authentication.specs.Challenges.{retry_of, signing_algorithm};
 ghost use Rattle.stun_authentication.specs.Requests.{login_steps};
-ghost use Rattle.stun_types_c.specs.Answering.{challenge_in, HoldsAsked, HoldsFor, name_answer, AnswersChallenge};
+ghost use Rattle.stun_types_c.specs.Answering.{challenge_in, HoldsAsked, HoldsFor, name_answer, AnswersRetry, AnswersChallenge};
 ghost use Rattle.stun_types_c.specs.KeyHandles.{held_key, shared_key};
 ghost use Rattle.stun_types_c.specs.Writing.{TakesIn};
 
@@ -128,6 +128,33 @@ fn add_answer(
     store_end(added, end, &header, room, written)
 }
 
+/// Answers a challenge for a user, if the key serves.
+fn answer(
+    alloc: Global,
+    room: &mut [u8],
+    written: &mut usize,
+    retry: &Retry<'_>,
+    user: &[u8],
+    key: &SharedKey,
+    fingerprint: bool,
+) -> CResult
+    ensures { AnswersRetry (retry_of retry.now) user.now fingerprint (shared_key key.now) result
+        (record { slice = room.old; count = written.old })
+        (record { slice = room.new; count = written.new }) }
+{
+    let name = match name_in(user) {
+        Ok(name) => name,
+        Err(answer) => return answer,
+    };
+    match key.key() {
+        Some(key) if !key.serves(retry.challenge.integrity_algorithm()) => {
+            plain(codes::BAD_ARGUMENT)
+        }
+        Some(key) => add_answer(alloc, room, written, retry, name, key, fingerprint),
+        None => plain(codes::NO_KEY),
+    }
+}
+
 /// Answers a challenge: adds what it asks for, and signs the request.
 #[unsafe(no_mangle)]
 pub extern "C" fn stun_types_answer_challenge(
@@ -145,19 +172,8 @@ pub extern "C" fn stun_types_answer_challenge(
         (record { slice = room.old; count = written.old })
         (record { slice = room.new; count = written.new }) }
 {
-    let retry = match challenge_in(response, supported) {
-        Ok(retry) => retry,
-        Err(answer) => return answer,
-    };
-    let name = match name_in(user) {
-        Ok(name) => name,
-        Err(answer) => return answer,
-    };
-    match key.key() {
-        Some(key) if !key.serves(retry.challenge.integrity_algorithm()) => {
-            plain(codes::BAD_ARGUMENT)
-        }
-        Some(key) => add_answer(alloc, room, written, &retry, name, key, fingerprint),
-        None => plain(codes::NO_KEY),
+    match challenge_in(response, supported) {
+        Ok(retry) => answer(alloc, room, written, &retry, user, key, fingerprint),
+        Err(answer) => answer,
     }
 }
