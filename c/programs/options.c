@@ -3,6 +3,8 @@
 
 #include <stdarg.h>
 
+enum { MOST_USER = 513 }; /* bytes of a USERNAME (RFC 8489, section 14.3) */
+
 options asked = {.family = AF_UNSPEC, .server = {.port = "3478"}};
 
 int say(int status, const char *format, ...) {
@@ -56,7 +58,7 @@ bool take_option(int letter, const char *value) {
     case '6': asked.family = AF_INET6; return true;
     case 't': return asked.reliable = true;
     case 'v': return asked.verbose = true;
-    case 'u': asked.user = value; return *value != 0;
+    case 'u': asked.user = value; return *value != 0 && strlen(value) <= MOST_USER;
     case 'f': asked.password_file = value; return *value != 0;
     case 'w': return read_seconds(value, &asked.wait);
     default: return false;

@@ -24,7 +24,12 @@ static bool heard; /* the server has sent something that is a response to a requ
 static bool discarded;
 static uint32_t claimed;
 
-static bool is_fine(stun_types_answer answer) { return answer.code == STUN_TYPES_OK; }
+/* Whether a call did what it was asked; why the last one did not. */
+static stun_types_status refusal;
+static bool is_fine(stun_types_answer answer) {
+    if (answer.code != STUN_TYPES_OK) refusal = answer.code;
+    return answer.code == STUN_TYPES_OK;
+}
 
 void show(const char *direction, const message *shown) {
     static char text[TEXT_ROOM];
@@ -249,13 +254,18 @@ static bool asks_for_login(const stun_types_received *taken) {
 int ask(stun_types_method method, write_body *write, const uint16_t *understood, size_t count) {
     stun_types_received taken;
     for (int sent = 1;; sent++) {
-        if (!write_request(method, write)) return say(STATUS_BROKEN, "the request can't be made");
+        if (!write_request(method, write)) {
+            return say(STATUS_BROKEN, "the request can't be made: %s", stun_types_message_of(refusal));
+        }
         int status = exchange(understood, count, &taken);
         if (status != STATUS_DONE) return status;
         if (taken.kind == STUN_TYPES_TAKEN_SUCCESS) return STATUS_DONE;
         if (!asks_for_login(&taken) || sent == MOST_REQUESTS) return tell_error(taken.number);
         stun_types_answer answer = take_challenge();
         if (answer.code == STUN_TYPES_SAME_CREDENTIALS) return tell_error(taken.number);
-        if (!is_fine(answer)) return say(STATUS_REFUSED, "%s", stun_types_message_of(answer.code));
+        if (!is_fine(answer)) {
+            return say(answer.code == STUN_TYPES_OUT_OF_MEMORY ? STATUS_BROKEN : STATUS_REFUSED, "%s",
+                       stun_types_message_of(answer.code));
+        }
     }
 }
