@@ -1,7 +1,8 @@
-/* The functions of stun_bench.h by way of c/stun_types.h: what a C program pays for the same work. Those for which
-   that header has no call answer that the workload isn't there. */
+/* The functions of stun_bench.h by way of c/stun_types.h: what a C program pays for the same work. It lacks those
+   for which that header has no call (not_there.c). */
 #include "stun_bench.h"
 #include "../c/stun_types.h"
+#include <stdlib.h>
 #include <string.h>
 
 static const stun_types_id ID = {{1, 2, 3, 4, 5, 6, 7, 8, 9, 10, 11, 12}};
@@ -10,8 +11,8 @@ static uint64_t number(const uint8_t *bytes) {
     return (uint64_t)bytes[0] << 24 | (uint64_t)bytes[1] << 16 | (uint64_t)bytes[2] << 8 | bytes[3];
 }
 
-static uint64_t verdict(stun_types_answer answer, const uint32_t *algorithm) {
-    if (answer.code == STUN_TYPES_OK) return *algorithm;
+static uint64_t verdict(stun_types_answer answer, const stun_types_validated *validated) {
+    if (answer.code == STUN_TYPES_OK) return validated->algorithm == STUN_TYPES_INTEGRITY_SHA1 ? 1 : 2;
     return answer.code == STUN_TYPES_INTEGRITY_FAILED ? 3 : 4;
 }
 
@@ -21,7 +22,7 @@ uint64_t stun_bench_parse(const uint8_t *message, size_t length) {
 }
 
 uint64_t stun_bench_iterate(const uint8_t *message, size_t length) {
-    stun_types_cursor cursor = {20, 0};
+    stun_types_cursor cursor = STUN_TYPES_CURSOR;
     stun_types_attribute attribute;
     uint64_t sum = 0;
     while (stun_types_next(message, length, &cursor, &attribute)) {
@@ -51,14 +52,50 @@ uint64_t stun_bench_print(const uint8_t *message, size_t length) {
     return written;
 }
 
+static void has_succeeded(stun_types_answer answer) {
+    if (answer.code != STUN_TYPES_OK) abort();
+}
+
+static stun_types_key short_key(const uint8_t *password, size_t password_length) {
+    stun_types_key key = STUN_TYPES_NO_KEY_YET;
+    has_succeeded(stun_types_key_short_term(&key, password, password_length));
+    return key;
+}
+
+/* Frees two keys, and returns whether they had the same bytes. */
+static uint64_t were_equal(stun_types_key *one, stun_types_key *other) {
+    uint8_t bytes[2][64];
+    size_t lengths[2];
+    stun_types_integrity algorithm;
+    has_succeeded(stun_types_key_bytes(one, bytes[0], sizeof bytes[0], &lengths[0], &algorithm));
+    has_succeeded(stun_types_key_bytes(other, bytes[1], sizeof bytes[1], &lengths[1], &algorithm));
+    stun_types_key_free(one);
+    stun_types_key_free(other);
+    return lengths[0] == lengths[1] && memcmp(bytes[0], bytes[1], lengths[0]) == 0;
+}
+
+uint64_t stun_bench_short_key(const uint8_t *password, size_t password_length) {
+    stun_types_key one = short_key(password, password_length), other = short_key(password, password_length);
+    return were_equal(&one, &other);
+}
+
+uint64_t stun_bench_long_key(const uint8_t *user, size_t user_length, const uint8_t *realm, size_t realm_length,
+                             const uint8_t *password, size_t password_length, uint32_t algorithm) {
+    stun_types_key keys[2] = {STUN_TYPES_NO_KEY_YET, STUN_TYPES_NO_KEY_YET};
+    stun_types_password by = algorithm == 1 ? STUN_TYPES_PASSWORD_MD5 : STUN_TYPES_PASSWORD_SHA256;
+    for (int i = 0; i < 2; i++)
+        has_succeeded(stun_types_key_long_term(&keys[i], user, user_length, realm, realm_length, password,
+                                               password_length, by));
+    return were_equal(&keys[0], &keys[1]);
+}
+
 uint64_t stun_bench_validate(const uint8_t *message, size_t length, const uint8_t *password, size_t password_length,
                              uint64_t rounds) {
-    stun_types_key key = STUN_TYPES_NO_KEY_YET;
+    stun_types_key key = short_key(password, password_length);
     uint64_t sum = 0;
-    stun_types_key_short_term(&key, password, password_length);
     while (rounds--) {
-        uint32_t algorithm = 0;
-        sum += verdict(stun_types_validate(message, length, &key, &algorithm), &algorithm);
+        stun_types_validated validated;
+        sum += verdict(stun_types_validate(message, length, &key, &validated), &validated);
     }
     stun_types_key_free(&key);
     return sum;
@@ -68,32 +105,31 @@ uint64_t stun_bench_validate_credentials(const uint8_t *message, size_t length, 
                                          size_t password_length, uint64_t rounds) {
     uint64_t sum = 0;
     while (rounds--) {
-        uint32_t algorithm = 0;
+        stun_types_validated validated;
         stun_types_answer answer
-            = stun_types_validate_short_term(message, length, password, password_length, &algorithm);
-        sum += verdict(answer, &algorithm);
+            = stun_types_validate_short_term(message, length, password, password_length, &validated);
+        sum += verdict(answer, &validated);
     }
     return sum;
 }
 
 uint64_t stun_bench_receive(const uint8_t *message, size_t length, const uint8_t *password, size_t password_length,
                             uint64_t rounds) {
-    stun_types_key key = STUN_TYPES_NO_KEY_YET;
+    stun_types_key key = short_key(password, password_length);
     uint64_t sum = 0;
-    stun_types_key_short_term(&key, password, password_length);
     while (rounds--) {
-        uint32_t algorithm = 0;
+        stun_types_validated validated;
         if (stun_types_parse(message, length).code != STUN_TYPES_OK) continue;
         sum += offset_of(message, length, STUN_TYPES_ATTRIBUTE_USERNAME) << 8;
         sum += offset_of(message, length, STUN_TYPES_ATTRIBUTE_PRIORITY) << 24;
-        sum += verdict(stun_types_validate(message, length, &key, &algorithm), &algorithm);
+        sum += verdict(stun_types_validate(message, length, &key, &validated), &validated);
     }
     stun_types_key_free(&key);
     return sum;
 }
 
 /* Writes the check, signed if there is a key, and returns how many bytes it has, or 0. */
-static size_t write_check(const uint8_t *user, size_t user_length, stun_types_key *key, uint32_t algorithm,
+static size_t write_check(const uint8_t *user, size_t user_length, stun_types_key *key, stun_types_integrity algorithm,
                           uint8_t *room, size_t size) {
     static const uint8_t priority[4] = {0x6E, 0x00, 0x01, 0xFF};
     static const uint8_t controlled[8] = {0x93, 0x2F, 0xF9, 0xB1, 0x51, 0x26, 0x3B, 0x36};
@@ -116,11 +152,11 @@ static uint64_t written_answer(const uint8_t *room, size_t length) {
 
 uint64_t stun_bench_write_slice(const uint8_t *user, size_t user_length, const uint8_t *password, size_t password_length,
                                 uint32_t algorithm, uint8_t *destination, size_t destination_length, uint64_t rounds) {
-    stun_types_key key = STUN_TYPES_NO_KEY_YET;
+    stun_types_key key = short_key(password, password_length);
+    stun_types_integrity attribute = algorithm == 1 ? STUN_TYPES_INTEGRITY_SHA1 : STUN_TYPES_INTEGRITY_SHA256;
     uint64_t sum = 0;
-    stun_types_key_short_term(&key, password, password_length);
     while (rounds--) {
-        size_t length = write_check(user, user_length, &key, algorithm, destination, destination_length);
+        size_t length = write_check(user, user_length, &key, attribute, destination, destination_length);
         sum += written_answer(destination, length);
     }
     stun_types_key_free(&key);
@@ -131,71 +167,8 @@ uint64_t stun_bench_write_plain_slice(const uint8_t *user, size_t user_length, u
                                       size_t destination_length, uint64_t rounds) {
     uint64_t sum = 0;
     while (rounds--) {
-        size_t length = write_check(user, user_length, NULL, 0, destination, destination_length);
+        size_t length = write_check(user, user_length, NULL, STUN_TYPES_INTEGRITY_SHA1, destination, destination_length);
         sum += written_answer(destination, length);
     }
     return sum;
-}
-
-/* ---- what isn't there */
-
-uint64_t stun_bench_short_key(const uint8_t *password, size_t password_length) {
-    (void)password, (void)password_length;
-    return UINT64_MAX;
-}
-
-uint64_t stun_bench_long_key(const uint8_t *user, size_t user_length, const uint8_t *realm, size_t realm_length,
-                             const uint8_t *password, size_t password_length, uint32_t algorithm) {
-    (void)user, (void)user_length, (void)realm, (void)realm_length;
-    (void)password, (void)password_length, (void)algorithm;
-    return UINT64_MAX;
-}
-
-uint64_t stun_bench_hmac(const uint8_t *message, size_t length, const uint8_t *password, size_t password_length,
-                         uint32_t algorithm, uint64_t rounds) {
-    (void)message, (void)length, (void)password, (void)password_length, (void)algorithm, (void)rounds;
-    return UINT64_MAX;
-}
-
-uint64_t stun_bench_hmac_unprepared(const uint8_t *message, size_t length, const uint8_t *password, size_t password_length,
-                         uint32_t algorithm, uint64_t rounds) {
-    (void)message, (void)length, (void)password, (void)password_length, (void)algorithm, (void)rounds;
-    return UINT64_MAX;
-}
-
-uint64_t stun_bench_hmac_once(const uint8_t *message, size_t length, const uint8_t *password, size_t password_length,
-                         uint32_t algorithm, uint64_t rounds) {
-    (void)message, (void)length, (void)password, (void)password_length, (void)algorithm, (void)rounds;
-    return UINT64_MAX;
-}
-
-uint64_t stun_bench_username(const uint8_t *user, size_t user_length) {
-    (void)user, (void)user_length;
-    return UINT64_MAX;
-}
-
-uint64_t stun_bench_write_vec(const uint8_t *user, size_t user_length, const uint8_t *password, size_t password_length,
-                              uint32_t algorithm, uint64_t rounds) {
-    (void)user, (void)user_length, (void)password, (void)password_length, (void)algorithm, (void)rounds;
-    return UINT64_MAX;
-}
-
-uint64_t stun_bench_write_plain_vec(const uint8_t *user, size_t user_length, uint64_t rounds) {
-    (void)user, (void)user_length, (void)rounds;
-    return UINT64_MAX;
-}
-
-uint64_t stun_bench_write_empties(uint32_t count, uint8_t *destination, size_t destination_length) {
-    (void)count, (void)destination, (void)destination_length;
-    return UINT64_MAX;
-}
-
-uint64_t stun_bench_crc(const uint8_t *bytes, size_t length) {
-    (void)bytes, (void)length;
-    return UINT64_MAX;
-}
-
-uint64_t stun_bench_typed(uint32_t type, const uint8_t *value, size_t length) {
-    (void)type, (void)value, (void)length;
-    return UINT64_MAX;
 }
