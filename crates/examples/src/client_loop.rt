@@ -41,11 +41,14 @@ impl<R: Read, W: Write> Carrier for Piped<'_, R, W> {
     }
 
     fn receive_until(&mut self, buffer: &mut [u8], until: Duration) -> usize {
-        let mut length = 0;
-        while length < buffer.len() {
-            match self.input.read(&mut buffer[length..]) {
+        let mut length: usize = 0;
+        for _ in 0..u64::MAX {
+            let Some(room) = buffer.get_mut(length..) else {
+                break;
+            };
+            match self.input.read(room) {
                 Ok(0) | Err(_) => break,
-                Ok(count) => length += count,
+                Ok(count) => length = length.saturating_add(count),
             }
         }
         if length == 0 {
