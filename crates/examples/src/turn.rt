@@ -14,7 +14,7 @@ use stun_authentication::{
     answer_challenge, authenticate_long_term, refuse_long_term,
 };
 use stun_types::attribute::{
-    ErrorCode, PasswordAlgorithmValue, PasswordAlgorithms, Realm, XorMappedAddress,
+    ErrorCode, KNOWN, PasswordAlgorithmValue, PasswordAlgorithms, Realm, XorMappedAddress,
 };
 use stun_types::message::{
     LongTermCredentials, Message, MessageClass, MessageType, MessageWriteVec, StunWriteError,
@@ -100,7 +100,34 @@ fn allocation_fault(alloc: Global, request: &Message<'_>) -> Option<u16> {
     }
 }
 
-/// The response to a request that is authenticated, signed as the request is.
+/// The response to a request whose attributes are understood, before it is signed.
+fn allocation(
+    alloc: Global,
+    request: &Message<'_>,
+    client: SocketAddr,
+    relayed: SocketAddr,
+) -> Result<MessageWriteVec, StunWriteError>
+    requires { class_of (type_field (message_bytes request.now)) ≡ Request }
+{
+    let vector = MessageWriteVec::new(alloc);
+    if let Some(code) = allocation_fault(alloc, request) {
+        let mut reply = Message::builder_error(request, vector)?;
+        let reason = error_codes::reason(code).unwrap_or("Bad Request");
+        reply.add_attribute(&ErrorCode::new(alloc, code, reason)?)?;
+        return Ok(reply);
+    }
+    let id = request.transaction_id();
+    let mut reply = Message::builder_success(request, vector)?;
+    reply.add_attribute(&XorRelayedAddress::new(relayed, id))?;
+    let requested = request.attribute::<Lifetime>(alloc).ok();
+    let seconds = allocation_lifetime(requested.map(|it| it.seconds()), LIMIT);
+    reply.add_attribute(&Lifetime::new(seconds))?;
+    reply.add_attribute(&XorMappedAddress::new(client, id))?;
+    Ok(reply)
+}
+
+/// The response to a request that is authenticated, signed as the request is: 420 if it shows types
+/// that must be understood and aren't.
 fn allocated(
     alloc: Global,
     request: &Message<'_>,
@@ -111,23 +138,13 @@ fn allocated(
     requires { class_of (type_field (message_bytes request.now)) ≡ Request }
 {
     let vector = MessageWriteVec::new(alloc);
-    let id = request.transaction_id();
-    let mut reply = match allocation_fault(alloc, request) {
-        Some(code) => {
-            let mut reply = Message::builder_error(request, vector)?;
-            let reason = error_codes::reason(code).unwrap_or("Bad Request");
-            reply.add_attribute(&ErrorCode::new(alloc, code, reason)?)?;
-            reply
-        }
-        None => {
-            let mut reply = Message::builder_success(request, vector)?;
-            reply.add_attribute(&XorRelayedAddress::new(relayed, id))?;
-            let requested = request.attribute::<Lifetime>(alloc).ok();
-            let seconds = allocation_lifetime(requested.map(|it| it.seconds()), LIMIT);
-            reply.add_attribute(&Lifetime::new(seconds))?;
-            reply.add_attribute(&XorMappedAddress::new(client, id))?;
-            reply
-        }
+    // A server that handles all attributes of TURN has `turn_attrs::KNOWN` for `handled`.
+    let handled = [RequestedTransport::TYPE, Lifetime::TYPE];
+    let known = [&KNOWN[..], &handled];
+    let unknown = Message::check_attribute_lists(alloc, request, &known, &[], vector)?;
+    let mut reply = match unknown {
+        Some(reply) => reply,
+        None => allocation(alloc, request, client, relayed)?,
     };
     accepted.finish_reply(true, &mut reply)?;
     Ok(reply.finish())
