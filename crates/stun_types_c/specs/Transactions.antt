@@ -1,6 +1,6 @@
 -- A client's transaction, which C keeps as plain numbers (RFC 8489, sections 6.2, 6.3.3, 6.3.4, 9.1.4
 -- and 9.2.5). Moments are whole milliseconds since a beginning of C's choice.
-use Rattle.std.specs.Prelude.{◌≡◌, ℕ, ◌+◌, ◌-◌, ◌*◌, ◌/◌, ◌^◌, ◌<◌, ◌==◌, ◌⊎◌, List, length, replicate, slice_range, Option, None, Some, Result, Ok, Err, is_some, min, not, ◌&&◌, MatchOption, MatchResult, IsSomeAnd, option_map, if◌then◌else◌}
+use Rattle.std.specs.Prelude.{◌≡◌, ℕ, ◌+◌, ◌-◌, ◌*◌, ◌/◌, ◌^◌, ◌<◌, ◌==◌, ◌⊎◌, List, replicate, slice_range, Option, None, Some, Result, Ok, Err, is_some, min, not, ◌&&◌, MatchOption, MatchResult, IsSomeAnd, option_map, if◌then◌else◌}
 use Rattle.std.specs.Int.{from_bool}
 use Rattle.std.specs.Option.{option_map_or, option_or}
 use Rattle.std.specs.Duration.{as_nanos}
