@@ -19,7 +19,7 @@ Block = collections.namedtuple("Block", "word at code has_end")
 FENCE = re.compile(r"( *)```([^`]*)$")
 # A word, a name or a command between backquotes, and what a link leads to.
 QUOTED = re.compile(r"(?<!`)`([^`\n]+)`(?!`)")
-LINK = re.compile(r"\]\(([^)\s]+)\)")
+LINK = re.compile(r"(?:\]\(|^\[[^\]]+\]: )([^)\s]+)")
 
 
 def read(name):

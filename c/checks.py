@@ -93,3 +93,11 @@ def archives(arguments):
         if not path.exists():
             stop(f"{path} isn't there; rt lib in crates/stun_types_c makes the library")
     return [archive.resolve(), kit.resolve()]
+
+
+def library(given, folder):
+    """The library of these archives, as c/install makes it."""
+    made = folder / "libstun_types.a"
+    if not succeeds("c/library.py", [HERE / "library.py", made, *given]):
+        end()
+    return made

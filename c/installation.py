@@ -12,6 +12,9 @@ import zlib
 from checks import HERE, TOP, part, run
 
 DOCUMENTS = ("share/doc/stun_types/LICENSE-APACHE", "share/doc/stun_types/LICENSE-MIT")
+# What c/install --programs writes.
+PROGRAMS = sorted([*(f"{folder}{name}{end}" for name in ("stun-client", "stun-turn-client")
+                     for folder, end in (("bin/", ""), ("share/man/man1/", ".1"))), *DOCUMENTS])
 
 
 @contextlib.contextmanager

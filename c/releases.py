@@ -1,14 +1,17 @@
 """Checks of what c/release makes, for c/run_installed: it is made twice, installed and removed, and
-used with a PATH that has no `rt`, from C, C++, Python, Go and Rust."""
+used with a PATH that has no `rt`, from C, C++, Python, Go and Rust; and made of what isn't proved."""
 import os
 import pathlib
 import re
+import select
 import shlex
 import shutil
+import socket
+import subprocess
 import sys
 
 from checks import C99, HERE, STRICT, TOP, skipped, stop
-from installation import (checked, compare, expected, installed, language, names_of, pc_flags, said_by,
+from installation import (PROGRAMS, checked, compare, expected, installed, language, names_of, pc_flags, said_by,
                           tree, version)
 
 
@@ -32,9 +35,27 @@ def check_release(compiler, given, folder):
         said_by(["tar", "-xzf", folder / "first" / f"{name}.tar.gz", "-C", clean])
         check_content(wrong, clean / name, given[1].parent.parent)
     if (clean / name).is_dir():
+        use_programs(clean / name, folder)
         use_release(compiler, clean / name, clean)
         check_lines(clean / name, clean)
         check_removal(name, folder)
+    check_unproved(name, given, folder)
+
+
+def check_unproved(name, given, folder):
+    """A release of an archive with the mark of c/build_unproved says that it isn't proved."""
+    with checked("a release that isn't proved") as wrong:
+        marked, mark = folder / "marked.a", folder / "mark"
+        mark.write_text("not proved: c/build_unproved\0")
+        words = ["--remove-section=.comment", f"--add-section=.comment={mark}"]
+        said_by([os.environ.get("OBJCOPY", "objcopy"), *words, given[0], marked])
+        said_by([HERE / "release", folder / "unproved", marked, given[1]])
+        made = f"{name}-not-proved"
+        said_by(["tar", "-xzf", folder / "unproved" / f"{made}.tar.gz", "-C", folder / "unproved"])
+        text = (folder / "unproved" / made / "share/doc/stun_types/RELEASE.txt").read_text()
+        if "\nNOT PROVED. " not in text or "is proved in Rattle" in text or "Every function" in text:
+            wrong.append("RELEASE.txt doesn't say it")
+        wrong += [f"RELEASE.txt has {it}" for it in re.findall(r"@[\w-]*@", text)]
 
 
 def release_twice(name, given, folder):
@@ -58,9 +79,14 @@ def check_content(wrong, root, kit):
     """The files of an unpacked release, their checksums, and what its text names."""
     documents = root / "share/doc/stun_types"
     examples = [f"examples/{it.name}" for it in sorted((HERE / "examples").glob("messages.*"))]
-    more = ["RELEASE.txt", "SHA256SUMS", "uninstall", *examples]
-    more = [f"share/doc/stun_types/{it}" for it in more]
-    compare(wrong, tree(root), [*installed(), *more])
+    guides = [f"guide/{it}.md" for it in ("C", "PROGRAMS", "STUN-SERVER", "TROUBLESHOOTING")]
+    more = ["RELEASE.txt", "SHA256SUMS", "uninstall", "stun-server.conf", "stun-server.service"]
+    more = [f"share/doc/stun_types/{it}" for it in [*more, *examples, *guides]]
+    server = ["bin/stun-server", "share/man/man8/stun-server.8"]
+    compare(wrong, tree(root), sorted({*installed(), *PROGRAMS, *server, *more}))
+    for guide in guides:
+        links = re.findall(r"\]\((?!https?:)[^)]*\)", (documents / guide).read_text())
+        wrong += [f"{guide} has the link {it}" for it in links]
     sums = (documents / "SHA256SUMS").read_text().splitlines()
     said_by(["sha256sum", "-c", "share/doc/stun_types/SHA256SUMS"], cwd=root)
     files = {path for path in tree(root) if not (root / path).is_symlink()}
@@ -75,7 +101,9 @@ def check_content(wrong, root, kit):
     for it in (version()[0], (kit / "KIT-ID").read_text().strip(), *logic, commit, *needed):
         if not re.search(rf"(?<!\w){re.escape(it)}(?!\w)", text):
             wrong.append(f"RELEASE.txt doesn't name {it}")
-    wrong += [f"RELEASE.txt has {it}" for it in re.findall(r"@\w*@", text)]
+    wrong += [f"RELEASE.txt has {it}" for it in re.findall(r"@[\w-]*@", text)]
+    if "NOT PROVED" in text or "\nEvery function of stun_types.h" not in text:
+        wrong.append("RELEASE.txt doesn't say what is proved")
 
 
 # Responses of RFC 5769, sections 2.2 and 2.3: that of the examples, and one with an address of IPv6.
@@ -114,6 +142,31 @@ def check_removal(name, folder):
             wrong += [f"{it} is left" for it in tree(prefix)]
             if len(lines) != 2:
                 wrong.append(f"RELEASE.txt has {lines}")
+
+
+def use_programs(root, folder):
+    """The first lines of RELEASE.txt show the address that stun-server of the release sees."""
+    with checked("the first lines of RELEASE.txt") as wrong:
+        text = (root / "share/doc/stun_types/RELEASE.txt").read_text()
+        lines = re.findall(r"^    (.*)$", text.partition("\nSource ")[0], re.M)
+        with socket.socket(socket.AF_INET, socket.SOCK_DGRAM) as free:
+            free.bind(("127.0.0.1", 0))
+            port = str(free.getsockname()[1])
+        words = [root / "bin/stun-server", "127.0.0.1", port]
+        pipes = {"stdin": subprocess.DEVNULL, "stdout": subprocess.PIPE, "stderr": subprocess.DEVNULL}
+        with subprocess.Popen(words, **pipes) as server:
+            try:
+                if not select.select([server.stdout], [], [], 10)[0]:
+                    wrong.append("stun-server says nothing")
+                shell = " && ".join(lines).replace("stun.cloudflare.com", f"127.0.0.1:{port}")
+                unpacked = folder / "first lines"
+                unpacked.mkdir()
+                shutil.copy(folder / "first" / f"{root.name}.tar.gz", unpacked)
+                said = said_by(["sh", "-c", shell], cwd=unpacked, timeout=20)
+            finally:
+                server.terminate()
+        if len(lines) != 3 or not re.fullmatch(r"127\.0\.0\.1:\d+\n", said):
+            wrong.append(f"{lines} print {said!r}")
 
 
 def check_lines(root, folder):

@@ -1,4 +1,4 @@
-"""What c/examples/run and c/server/run share: steps, which pass, fail or are skipped, and what they are
+"""What c/examples/run, c/programs/run and c/server/run share: steps, which pass, fail or are skipped, and what they are
 run over."""
 import contextlib
 import pathlib
@@ -15,6 +15,7 @@ PATIENCE = 20  # seconds, for what takes a moment on an idle machine
 
 passed = failed = 0
 wanted = ""  # trials without this in their names aren't run
+archives = []  # what the library is made of, for c/install
 
 
 class Wrong(Exception):
@@ -81,6 +82,22 @@ def build(compiler, *words):
     check(status == 0, (out + told)[:2000])
 
 
+def client_sources(name):
+    """The sources of a program of c/programs."""
+    return [HERE / f"programs/{it}.c" for it in ("options", "connection", "requests", name)]
+
+
+def lint(page):
+    """troff and mandoc, as far as they are on this machine, have nothing to say of a manual page."""
+    words = [["groff", "-man", "-Tutf8", "-ww", "-z"], ["mandoc", "-Tlint", "-Wwarning"]]
+    words = [it for it in words if shutil.which(it[0])]
+    for command in words:
+        status, out, told = run([*command, str(page)])
+        check(status == 0 and out + told == "", out + told)
+    if not words:
+        raise Skipped("neither groff nor mandoc is on this machine")
+
+
 # ---- A run
 
 
@@ -91,8 +108,9 @@ def kit_library():
 
 
 def run_over(given, folder_name, run_all):
-    """Runs `run_all(compiler, folder, archives)` over the archives that the arguments name, or those of
-    this tree and of `rt`. Returns the status of the script."""
+    """Runs `run_all(compiler, folder, libraries)` over the library that c/library.py makes of the archives that
+    the arguments name, or of those of this tree and of `rt`. Returns the status of the script."""
+    global archives
     given = [pathlib.Path(word).resolve() for word in given]
     archives = [given[0] if given else ARCHIVE, given[1] if len(given) > 1 else kit_library()]
     compiler = shutil.which("gcc") or shutil.which("cc")
@@ -103,6 +121,9 @@ def run_over(given, folder_name, run_all):
         return 1
     began = time.monotonic()
     with tempfile.TemporaryDirectory(prefix=folder_name) as name:
-        run_all(compiler, pathlib.Path(name), archives)
+        folder = pathlib.Path(name)
+        library = folder / "libstun_types.a"
+        subprocess.run([HERE / "library.py", library, *archives], check=True)
+        run_all(compiler, folder, [library])
     print(f"{time.monotonic() - began:.0f} s\n{passed} passed, {failed} failed")
     return 1 if failed or not passed else 0

@@ -1,9 +1,11 @@
 /* STUN messages (RFC 8489) for C: read, validated, written and answered by a library that is proved.
  *
  * - A slice is a pointer and a length in bytes. A slice of length 0 may be NULL. Every other pointer
- *   is valid and not NULL, but for that of stun_types_key_free. What a call writes overlaps no other
- *   argument of it. Messages are uint8_t; a text or a value that is passed in may be char or uint8_t
- *   (const void *).
+ *   is valid and not NULL, but for that of stun_types_key_free. Messages are uint8_t; a text or a value
+ *   that is passed in may be char or uint8_t (const void *).
+ * - What a call writes, a slice or a struct, overlaps no other argument of it. A call compares the
+ *   addresses before all else: if it would write an argument that overlaps another one, it returns
+ *   BAD_ARGUMENT, or false, or, if it counts, SIZE_MAX.
  * - No call keeps a pointer, prints, blocks or aborts. Only the calls whose comments say so
  *   allocate (by malloc), and at most twice the bytes of their arguments and 1,024 more at once.
  *   All may run in several threads at once. One key may be used by any number of calls at once
@@ -15,9 +17,10 @@
  *   comment lists first; OUT_OF_MEMORY may come before the last of them.
  * - No zero permits anything. A verdict is a struct of type stun_types_validated,
  *   stun_types_authentication, stun_types_action or stun_types_received: a call that fails fills it
- *   with zeros, which say that nothing is decided. A stun_types_policy of zeros lets both
- *   algorithms count, as RFC 8489 does. If an argument of an enumeration has no meaning for 0, 0 is
- *   BAD_ARGUMENT.
+ *   with zeros, which say that nothing is decided. stun_types_transaction_begin does the same with its
+ *   transaction. A stun_types_policy of zeros lets both algorithms count, as RFC 8489 does. If an
+ *   argument of an enumeration has no meaning for 0, 0 is BAD_ARGUMENT.
+ * - A password or a key of no bytes is BAD_ARGUMENT: anybody can sign with it.
  * - Arguments are tested. Only a key has to be what the library made (see Keys).
  * - The layout of the structs is part of the ABI. `reserved` is for fields of later versions: it is 0
  *   in what is passed in, or the call returns BAD_ARGUMENT, and 0 in what a call writes.
@@ -70,7 +73,7 @@ typedef STUN_TYPES_ENUM(stun_types_status) {
     STUN_TYPES_TRUNCATED = 2,            /* expected, actual: too few bytes */
     STUN_TYPES_TOO_LARGE = 3,            /* expected, actual: too many bytes */
     STUN_TYPES_FINGERPRINT_MISMATCH = 4, /* the FINGERPRINT is wrong */
-    STUN_TYPES_MISSING_ATTRIBUTE = 5,    /* type: the attribute isn't shown */
+    STUN_TYPES_MISSING_ATTRIBUTE = 5,    /* type: there is no such attribute */
     STUN_TYPES_INVALID_DATA = 6,         /* a value isn't what its type asks for */
     STUN_TYPES_INTEGRITY_FAILED = 7,     /* the HMAC is wrong */
     STUN_TYPES_OUT_OF_MEMORY = 8,        /* an allocation failed */
@@ -83,7 +86,7 @@ typedef STUN_TYPES_ENUM(stun_types_status) {
     STUN_TYPES_NOT_PADDED = 15,          /* actual: a length field that is no multiple of 4 */
     STUN_TYPES_NOT_A_REQUEST = 16,       /* the message is no request */
     STUN_TYPES_NOT_SIGNED = 17,          /* the request needs an integrity attribute, for the key */
-    STUN_TYPES_SIGNED = 18,              /* the request shows an integrity attribute, and needs none */
+    STUN_TYPES_SIGNED = 18,              /* the request has an integrity attribute, and needs none */
     STUN_TYPES_NOT_A_CHALLENGE = 19,     /* the response is no 401 and no 438 */
     STUN_TYPES_BID_DOWN = 20,            /* somebody may have taken out PASSWORD-ALGORITHMS */
     STUN_TYPES_INCOMPLETE = 21,          /* REALM or NONCE is missing */
@@ -282,7 +285,7 @@ typedef struct {
     stun_types_id id;
 } stun_types_header;
 
-/* An attribute that a message shows. */
+/* An attribute that a message has: one that stun_types_next yields. */
 typedef struct {
     size_t value_at; /* offset of its value in the message; its header is the four bytes before */
     uint16_t type;
@@ -325,11 +328,12 @@ typedef struct {
 STUN_TYPES_NODISCARD
 stun_types_cursor stun_types_cursor_first(void);
 
-/* The next attribute that the message shows: ordinary ones, and then at most one of
+/* The next attribute of the message: those of other types, and then at most one of
    MESSAGE-INTEGRITY, MESSAGE-INTEGRITY-SHA256 and FINGERPRINT each, in this order (RFC 8489,
-   sections 14.5 to 14.7). False if there are no more, and from then on: cursor and attribute stay
-   as they were. The bytes need not parse: they show nothing if they have no header or another
-   length than it states. A call reads one attribute, and a whole walk each attribute once.
+   sections 14.5 to 14.7). What follows is ignored, and the message doesn't have it. False if there
+   are no more, and from then on: cursor and attribute stay as they were. The bytes need not parse:
+   nothing is yielded if they have no header or another length than it states. A call reads one
+   attribute, and a whole walk each attribute once.
    The cursor may be any, and what is yielded is within the bytes. With a message of another length
    or transaction ID than that of the last attribute, it reads as many attributes as it has yielded
    again, and yields the next one. With other bytes of the same length and ID, it yields what begins
@@ -338,13 +342,14 @@ STUN_TYPES_NODISCARD STUN_TYPES_NONNULL((3, 4))
 bool stun_types_next(const uint8_t *bytes, size_t length, stun_types_cursor *cursor,
                      stun_types_attribute *attribute);
 
-/* All attributes that the message shows, in the order of stun_types_next, in one pass. Returns how many
-   there are, even if that is more than room; the first room of them are written. */
+/* All attributes that the message has, in the order of stun_types_next, in one pass. Returns how many
+   there are, even if that is more than room; the first room of them are written. SIZE_MAX: arguments
+   overlap. */
 STUN_TYPES_NODISCARD
 size_t stun_types_attributes(const uint8_t *bytes, size_t length, stun_types_attribute *attributes,
                              size_t room);
 
-/* The first attribute of a type that the message shows; false if there is none, and *attribute
+/* The first attribute of a type that the message has; false if there is none, and *attribute
    stays as it was. */
 STUN_TYPES_NODISCARD STUN_TYPES_NONNULL((4))
 bool stun_types_find(const uint8_t *bytes, size_t length, uint16_t type,
@@ -393,9 +398,10 @@ stun_types_answer stun_types_read_types(const uint8_t *bytes, size_t length,
                                         const stun_types_attribute *attribute, uint16_t *types,
                                         size_t room, size_t *count);
 
-/* The types of attributes that the message shows, that must be understood (below 0x8000) and are
-   none of those supported, in order and as often as they are shown (RFC 8489, section 6.3.1).
-   Returns how many there are, even if that is more than room; the first room are written. */
+/* The types of attributes that the message has, that must be understood (below 0x8000) and are
+   none of those supported, in order and as often as they occur (RFC 8489, section 6.3.1).
+   Returns how many there are, even if that is more than room; the first room are written. SIZE_MAX:
+   arguments overlap. */
 STUN_TYPES_NODISCARD
 size_t stun_types_unknown_types(const uint8_t *bytes, size_t length, const uint16_t *supported,
                                 size_t supported_count, uint16_t *types, size_t room);
@@ -440,7 +446,9 @@ stun_types_answer stun_types_print(const uint8_t *bytes, size_t length, char *te
 
 /* A key of an HMAC, on the heap. It begins as STUN_TYPES_NO_KEY_YET, is made by one of the calls
    below, which free what it held before, and ended by stun_types_key_free. C neither reads nor
-   writes nor copies its fields.
+   writes nor copies its fields. A struct holds a key only if its second word is a mark that the library
+   sets: one of zeros, or of another byte that is repeated, holds none. Nothing is promised of bytes that
+   were a key's before, so begin each key.
    The calls that take it as const stun_types_key * only read it: they may run at once, in as many
    threads as there are. A call that makes or frees it has it alone: C orders such a call before and
    after all others with this key, on other threads by a lock, a join or the start of a thread. */
@@ -456,7 +464,8 @@ STUN_TYPES_NODISCARD
 stun_types_key stun_types_key_none(void);
 
 /* The key of a short-term credential, the password (RFC 8489, section 9.1.1). It serves both
-   algorithms. Allocates: OUT_OF_MEMORY, and the key stays as it was. */
+   algorithms. BAD_ARGUMENT: no byte of password. Allocates: OUT_OF_MEMORY. If the call fails, the key
+   stays as it was. */
 STUN_TYPES_NODISCARD STUN_TYPES_NONNULL((1))
 stun_types_answer stun_types_key_short_term(stun_types_key *key, const void *password,
                                             size_t password_length);
@@ -464,8 +473,8 @@ stun_types_answer stun_types_key_short_term(stun_types_key *key, const void *pas
 /* The key of a long-term credential (RFC 8489, sections 9.2.2 and 18.5.1): the MD5 or the SHA-256 of
    user:realm:password, by the password algorithm. It serves both integrity attributes (section
    9.2.5). The texts are taken as they are, with no SASLprep and no OpaqueString. BAD_ARGUMENT:
-   another password algorithm. INVALID_DATA: a text isn't UTF-8. Allocates: OUT_OF_MEMORY, and the key
-   stays. */
+   another password algorithm, or no byte of password. INVALID_DATA: a text isn't UTF-8. Allocates:
+   OUT_OF_MEMORY. If the call fails, the key stays. */
 STUN_TYPES_NODISCARD STUN_TYPES_NONNULL((1))
 stun_types_answer stun_types_key_long_term(stun_types_key *key, const void *user,
                                            size_t user_length, const void *realm,
@@ -473,8 +482,8 @@ stun_types_answer stun_types_key_long_term(stun_types_key *key, const void *user
                                            size_t password_length, stun_types_password algorithm);
 
 /* The key with these bytes, made for one integrity attribute or, by STUN_TYPES_INTEGRITY_ANY, for
-   both: as a server stores them. BAD_ARGUMENT: no such algorithm. Allocates: OUT_OF_MEMORY, and the
-   key stays. */
+   both: as a server stores them. BAD_ARGUMENT: no such algorithm, or no byte. Allocates:
+   OUT_OF_MEMORY. If the call fails, the key stays. */
 STUN_TYPES_NODISCARD STUN_TYPES_NONNULL((1))
 stun_types_answer stun_types_key_from_bytes(stun_types_key *key, const void *bytes, size_t length,
                                             stun_types_integrity algorithm);
@@ -510,7 +519,7 @@ static inline void stun_types_key_free(stun_types_key *key) {
     stun_types_keys_free(key, key ? 1 : 0);
 }
 
-/* Which messages a usage takes. All zeros take the MESSAGE-INTEGRITY of a message that shows no
+/* Which messages a usage takes. All zeros take the MESSAGE-INTEGRITY of a message that has no
    MESSAGE-INTEGRITY-SHA256: so a message from which somebody has removed the latter counts, if its
    MESSAGE-INTEGRITY is right. They take no HMAC that is cut, and a message without a FINGERPRINT, as
    RFC 8489 has it if no usage says otherwise. */
@@ -525,7 +534,7 @@ typedef struct {
 
 /* MESSAGE-INTEGRITY-SHA256 alone counts, for peers that all know RFC 8489. */
 #define STUN_TYPES_POLICY_SHA256 { STUN_TYPES_INTEGRITY_SHA256, 0, 0, 0 }
-/* Both count, MESSAGE-INTEGRITY-SHA256 if it is shown: for peers of RFC 5389 too. It is all zeros. */
+/* Both count, MESSAGE-INTEGRITY-SHA256 if it is there: for peers of RFC 5389 too. It is all zeros. */
 #define STUN_TYPES_POLICY_BOTH { STUN_TYPES_INTEGRITY_ANY, 0, 0, 0 }
 
 /* What was checked of a message that is valid; all zeros if it isn't. */
@@ -538,14 +547,14 @@ typedef struct {
 
 /* Whether a message is authentic under a key, by a policy (RFC 8489, sections 9.1.3, 9.2.4, 14.5 and
    14.6). It parses the bytes, as stun_types_parse does. Of the integrity attributes that count, and
-   that the key serves, it checks MESSAGE-INTEGRITY-SHA256 if it is shown, otherwise MESSAGE-INTEGRITY.
+   that the key serves, it checks MESSAGE-INTEGRITY-SHA256 if it is there, otherwise MESSAGE-INTEGRITY.
    With an algorithm in the policy and a key for both, it allocates. What follows the attribute that
    was checked, and the length field, are not authentic.
    The errors of stun_types_parse. BAD_ARGUMENT: the policy. NO_KEY. MISSING_ATTRIBUTE, of type
    FINGERPRINT: the usage uses it. BAD_ARGUMENT: the key was made for one algorithm, and the other
-   counts. MISSING_ATTRIBUTE, of type MESSAGE-INTEGRITY: none that counts is shown. TRUNCATED,
-   TOO_LARGE, INVALID_DATA: it has no lawful length. INTEGRITY_FAILED. HMAC_TOO_SHORT: expected is
-   what the policy asks for. Allocates: OUT_OF_MEMORY. */
+   counts. MISSING_ATTRIBUTE, of type MESSAGE-INTEGRITY: none that counts is there. TRUNCATED,
+   TOO_LARGE, INVALID_DATA: it has a length that its type doesn't allow. INTEGRITY_FAILED.
+   HMAC_TOO_SHORT: expected is what the policy asks for. Allocates: OUT_OF_MEMORY. */
 STUN_TYPES_NODISCARD STUN_TYPES_NONNULL((3, 4, 5))
 stun_types_answer stun_types_validate_by_policy(const uint8_t *bytes, size_t length,
                                                 const stun_types_policy *policy,
@@ -557,7 +566,7 @@ stun_types_answer stun_types_validate_by_policy(const uint8_t *bytes, size_t len
    MESSAGE-INTEGRITY-SHA256, a message that has both attributes validates by SHA-1. It allocates
    nothing.
    The errors of stun_types_parse; NO_KEY; MISSING_ATTRIBUTE; TRUNCATED, TOO_LARGE, INVALID_DATA: the
-   attribute has no lawful length; INTEGRITY_FAILED. */
+   attribute has a length that its type doesn't allow; INTEGRITY_FAILED. */
 STUN_TYPES_NODISCARD STUN_TYPES_NONNULL((3, 4))
 stun_types_answer stun_types_validate(const uint8_t *bytes, size_t length,
                                       const stun_types_key *key, stun_types_validated *validated);
@@ -566,8 +575,8 @@ stun_types_answer stun_types_validate(const uint8_t *bytes, size_t length,
    one has two: the key by SHA-256 checks a MESSAGE-INTEGRITY-SHA256, and the key by MD5 a
    MESSAGE-INTEGRITY. A client signs both with the key by MD5 if the server's list prefers MD5: its
    MESSAGE-INTEGRITY-SHA256 is INTEGRITY_FAILED here, so validate it with that key, by a call above.
-   After the errors of stun_types_parse comes INVALID_DATA: a text of the long-term one isn't UTF-8.
-   Allocates: OUT_OF_MEMORY. */
+   After the errors of stun_types_parse come BAD_ARGUMENT: no byte of password; and INVALID_DATA: a text
+   of the long-term one isn't UTF-8. Allocates: OUT_OF_MEMORY. */
 STUN_TYPES_NODISCARD STUN_TYPES_NONNULL((5))
 stun_types_answer stun_types_validate_short_term(const uint8_t *bytes, size_t length,
                                                  const void *password, size_t password_length,
@@ -690,9 +699,9 @@ stun_types_answer stun_types_add_fingerprint(uint8_t *room, size_t size, size_t 
 #define STUN_TYPES_GREATEST_REPLY 32840
 
 /* Writes the reply to a datagram that came from source: to a binding request the address that it
-   came from, or 420 if it shows types that must be understood; with a FINGERPRINT if the request has
-   one. *reply_length is 0 if none is owed. A reply is at most 48 bytes longer than its request and at
-   most three times as long.
+   came from, or 420 if it has types that must be understood; with a FINGERPRINT if the request has
+   one. *reply_length is 0 if none is owed, or if the call fails. A reply is at most 48 bytes longer than
+   its request and at most three times as long.
    BAD_ARGUMENT: the family. TOO_SMALL: expected is what the reply takes, and nothing is written. */
 STUN_TYPES_NODISCARD STUN_TYPES_NONNULL((3, 6))
 stun_types_answer stun_types_binding_reply(const uint8_t *bytes, size_t length,
@@ -716,8 +725,9 @@ typedef struct {
     stun_types_code error_code;
     stun_types_integrity algorithm;       /* whose HMAC in the message was right */
     stun_types_integrity reply_algorithm; /* by which the reply is signed */
-    stun_types_password password_algorithm; /* of the key that accepted: STUN_TYPES_PASSWORD_MD5 if it
-                                               is md5_key; 0 under short-term credentials */
+    stun_types_password password_algorithm; /* of the key that accepted: STUN_TYPES_PASSWORD_MD5 if
+                                               md5_key has its bytes, also if both keys have them; 0
+                                               under short-term credentials */
     uint32_t reserved;
 } stun_types_authentication;
 
@@ -893,12 +903,14 @@ typedef struct {
 } stun_types_transaction;
 
 /* Begins the transaction of a request, which is signed if it is protected. key is that of the
-   credential that protects it, and isn't looked at otherwise. Nothing allocates.
-   The errors of stun_types_parse; BAD_ARGUMENT: transport, protection, or schedule->min_hmac_length, which
-   is none of 0, 16, 20, 24, 28 and 32; OUT_OF_RANGE, of no number: one of the schedule is 0, or they
-   are too large; NOT_A_REQUEST; NOT_SIGNED, SIGNED: against protection; NO_KEY; NOT_SIGNED: the key of
-   a short-term credential works with no integrity attribute of the request; BAD_ARGUMENT: a key of a
-   long-term credential works with both integrity attributes, and this one was made for one. */
+   credential that protects it, and isn't looked at otherwise. If the call fails, it fills the transaction
+   with zeros, whatever it was: that is none, and a poll of it says to do nothing. Nothing allocates.
+   The errors of stun_types_parse; BAD_ARGUMENT: transport, protection, or
+   schedule->min_hmac_length, which is none of 0, 16, 20, 24, 28 and 32; OUT_OF_RANGE, of no number:
+   rto, reliable_wait, requests or last_wait is 0, or they are too large; NOT_A_REQUEST; NOT_SIGNED,
+   SIGNED: against protection; NO_KEY; NOT_SIGNED: the key of a short-term credential works with no
+   integrity attribute of the request; BAD_ARGUMENT: a key of a long-term credential works with both
+   integrity attributes, and this one was made for one. */
 STUN_TYPES_NODISCARD STUN_TYPES_NONNULL((1, 4, 7))
 stun_types_answer stun_types_transaction_begin(stun_types_transaction *transaction,
                                                const uint8_t *request, size_t length,
@@ -965,10 +977,10 @@ typedef struct {
 } stun_types_received;
 
 /* What received bytes are for the transaction (RFC 8489, sections 6.3.3, 6.3.4, 9.1.4 and 9.2.5).
-   understood are the types below 0x8000 that the caller understands, but for those of RFC 8489, at
-   most 64 of them. key is that which the transaction began with.
-   BAD_ARGUMENT: the transaction isn't one, or more types. NO_KEY, NOT_SIGNED, BAD_ARGUMENT: the key
-   isn't one that the transaction can have begun with. Allocates if a credential protects the request, for a copy
+   understood are the types below 0x8000 that the caller understands, but for those of RFC 8489. key is
+   that which the transaction began with.
+   BAD_ARGUMENT: the transaction isn't one. NO_KEY, NOT_SIGNED, BAD_ARGUMENT: the key isn't one that
+   the transaction can have begun with. Allocates if a credential protects the request, for a copy
    of the key: OUT_OF_MEMORY. If the call fails, the transaction stays as it was. */
 STUN_TYPES_NODISCARD STUN_TYPES_NONNULL((1, 2, 7))
 stun_types_answer stun_types_transaction_receive(stun_types_transaction *transaction,
@@ -1019,9 +1031,9 @@ stun_types_answer stun_types_challenge_of(const uint8_t *bytes, size_t length,
 /* Makes the key of a user in the realm of the challenge in response, by the password algorithm that it
    asks for. The key signs every request that answers this challenge, and validates the responses to it.
    It serves both integrity algorithms. The texts are taken as they are.
-   BAD_ARGUMENT: a password algorithm, or more than 16 of them. The errors of stun_types_parse;
-   NOT_A_CHALLENGE, BID_DOWN, INCOMPLETE, NO_ALGORITHM; INVALID_DATA: a text isn't UTF-8. Allocates:
-   OUT_OF_MEMORY, and the key stays. */
+   BAD_ARGUMENT: no byte of password, a password algorithm, or more than 16 of them. The errors of
+   stun_types_parse; NOT_A_CHALLENGE, BID_DOWN, INCOMPLETE, NO_ALGORITHM; INVALID_DATA: a text isn't
+   UTF-8. Allocates: OUT_OF_MEMORY. If the call fails, the key stays. */
 STUN_TYPES_NODISCARD STUN_TYPES_NONNULL((1))
 stun_types_answer stun_types_key_for(stun_types_key *key, const uint8_t *response,
                                      size_t response_length, const uint16_t *supported,

@@ -1,7 +1,7 @@
 /* An ICE agent that answers connectivity checks (RFC 8445, section 7.3), and prints what it has
  * learned from each.
  *
- *     cc -O2 -I c c/examples/ice_responder.c libstun_types_c.a liblibc_c.a -o ice_responder
+ *     cc -O2 -I c c/examples/ice_responder.c libstun_types.a -o ice_responder
  *     ./ice_responder ADDRESS PORT UFRAG PASSWORD TIEBREAKER
  *
  * UFRAG and PASSWORD are its own, as its peer knows them. It begins in the controlled role, with this

@@ -2,7 +2,7 @@
  * program stun_show does. With a password as its one argument it also checks the integrity with it
  * as a short-term key, and the last line says how that ended.
  *
- *     cc -I c c/examples/show.c libstun_types_c.a liblibc_c.a -o show
+ *     cc -I c c/examples/show.c libstun_types.a -o show
  *     ./show [password] < message
  *
  * The status is 0 if the message was shown (and is valid with the password that was given), 1

@@ -1,7 +1,7 @@
 /* Reads a stream of STUN messages, as a connection over TCP carries them (RFC 8489, section 6.2.2), and
  * prints each, in C++17.
  *
- *     c++ -std=c++17 -O2 -I c c/examples/stream_reader.cpp libstun_types_c.a liblibc_c.a -o stream_reader
+ *     c++ -std=c++17 -O2 -I c c/examples/stream_reader.cpp libstun_types.a -o stream_reader
  *     ./stream_reader [-n BYTES] [PASSWORD] < STREAM
  *
  * The stream is the standard input, read in pieces of at most so many bytes, 4096 unless -n says

@@ -25,7 +25,9 @@ static void check_key_for(stun_types_key *key, model_key *expected, const uint8_
     uint8_t bytes[MODEL_KEY];
     size_t written = 0;
     stun_types_integrity algorithm;
-    stun_types_answer fault = model_challenge(response, length, &knowledge, &asked);
+    stun_types_answer fault = password.length == 0
+                                  ? BAD_ARGUMENT
+                                  : model_challenge(response, length, &knowledge, &asked);
     if (fault.code == STUN_TYPES_OK) {
         const model_text texts[]
             = {user, {response + asked.realm_at, asked.realm_length}, password};

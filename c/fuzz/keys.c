@@ -58,6 +58,7 @@ static void make_key(stun_types_key *key, model_key *expected, source *from) {
         if (algorithm != algorithms[0] && algorithm != algorithms[1] && algorithm != algorithms[2])
             fault = BAD_ARGUMENT;
     }
+    if (texts[2].length == 0) fault = BAD_ARGUMENT;
     HOLDS(is_same(answer, fault));
     if (fault.code != STUN_TYPES_OK) return;
     expected->is_there = true;
@@ -126,12 +127,13 @@ static void check_texts(source *from) {
     stun_types_validated *told = NEW(stun_types_validated), wanted;
     const uint8_t *bytes;
     unsigned how = take(from);
-    stun_types_answer answer;
+    stun_types_answer answer, short_term;
     password.length = texts[2].length;
     memcpy(password.bytes, texts[2].bytes, texts[2].length);
     memset(&md5, 0, sizeof md5);
     memset(&sha256, 0, sizeof sha256);
     answer = model_long_term_key(texts, STUN_TYPES_PASSWORD_MD5, &md5);
+    password.is_there = texts[2].length != 0;
     (void)model_long_term_key(texts, STUN_TYPES_PASSWORD_SHA256, &sha256);
     start(&message, 0x0101, id);
     if (how % 4 == 1 || how % 4 == 2)
@@ -143,9 +145,11 @@ static void check_texts(source *from) {
                                 : &sha256);
     if (how / 16 == 15) change(&message, from);
     bytes = give(message.bytes, message.length);
+    short_term = model_validate(bytes, message.length, &LAX, &password, &wanted);
+    if (short_term.code == STUN_TYPES_NO_KEY) short_term = BAD_ARGUMENT;
     HOLDS(is_same(stun_types_validate_short_term(bytes, message.length, texts[2].bytes,
                                                  texts[2].length, told),
-                  model_validate(bytes, message.length, &LAX, &password, &wanted)));
+                  short_term));
     HOLDS(memcmp(told, &wanted, sizeof wanted) == 0);
     memset(&wanted, 0, sizeof wanted);
     if (model_parse(bytes, message.length).code != STUN_TYPES_OK)

@@ -82,13 +82,12 @@ static void add_error(writing *one, source *from) {
     check_added(one, answer, 0x0009, value, 4 + length, fault);
 }
 
-/* Any number by any width, for a type of the table, one of the other types, or any. */
+/* Any number by any width, for a type that has a name, one that ends a message, or any. */
 static void add_number(writing *one, source *from) {
-    static const uint16_t types[] = {0x0017, 0x0019, 0x8000, 0x0018, 0x000C, 0x0027,
-                                     0x0024, 0x000D, 0x002A, 0x0003, 0x8025, 0x8029,
-                                     0x802A, 0x0022, 0x8004, 0x0006, 0x8028, 0x001C};
     unsigned how = take(from), known, width = 1u << how % 4, i;
-    uint16_t type = how / 32 == 7 ? (uint16_t)take_two(from) : types[how / 4 % COUNT(types)];
+    uint16_t type = how / 32 == 7   ? (uint16_t)take_two(from)
+                    : how / 32 == 6 ? (how % 2 == 0 ? 0x8028 : 0x001C)
+                                    : model_known(how / 4);
     uint64_t number = 0;
     uint8_t value[16] = {0};
     stun_types_answer answer, fault = FINE;

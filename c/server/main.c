@@ -1,7 +1,7 @@
 /* A STUN server: it returns to each client the address that its request came from, over UDP and
  * TCP. docs/guide/SERVER.md says how to run it.
  *
- *     cc -std=c11 -O2 -I c FILES libstun_types_c.a liblibc_c.a -o stun-server
+ *     cc -std=c11 -O2 -I c FILES libstun_types.a -o stun-server
  *     ./stun-server [-t] [-j PROCESSES] [-U USER] [-m PATH|PORT] [-c FILE] [-o NAME=NUMBER]..
  *         ADDRESS PORT [ADDRESS PORT]..
  *
@@ -49,7 +49,7 @@ static int print_help(void) {
            "-o NAME=NUMBER     set one of these (least to most, default):\n",
            MOST_WORKERS);
     print_settings();
-    return fflush(stdout) == 0 ? 0 : 1;
+    return fflush(stdout) == 0 ? STATUS_DONE : STATUS_BROKEN;
 }
 
 static int print_version(void) {
@@ -58,7 +58,7 @@ static int print_version(void) {
 #else
     printf("stun-server of stun_types\n");
 #endif
-    return fflush(stdout) == 0 ? 0 : 1;
+    return fflush(stdout) == 0 ? STATUS_DONE : STATUS_BROKEN;
 }
 
 /* ---- Arguments ------------------------------------------------------------------------------- */
@@ -118,12 +118,12 @@ static int run(const socket_address *addresses, size_t count, uint32_t passed) {
     sigprocmask(SIG_BLOCK, &signals, NULL);
     signal(SIGPIPE, SIG_IGN);
     signal(SIGCHLD, SIG_DFL); /* (ignored, as it may be inherited, it hides dead workers) */
-    if (options.file != NULL && !read_settings(options.file)) return 1;
-    if (!open_all(&opened, addresses, count, passed)) return 1;
-    if (options.reports != NULL && (reports = open_reports(options.reports)) < 0) return 1;
-    if ((rates = make_rate_table()) == NULL) return 1;
-    if (options.user != NULL && !become_user(options.user)) return 1;
-    return supervise(&opened, rates, reports) ? 0 : 1;
+    if (options.file != NULL && !read_settings(options.file)) return STATUS_BROKEN;
+    if (!open_all(&opened, addresses, count, passed)) return STATUS_BROKEN;
+    if (options.reports != NULL && (reports = open_reports(options.reports)) < 0) return STATUS_BROKEN;
+    if ((rates = make_rate_table()) == NULL) return STATUS_BROKEN;
+    if (options.user != NULL && !become_user(options.user)) return STATUS_BROKEN;
+    return supervise(&opened, rates, reports) ? STATUS_DONE : STATUS_BROKEN;
 }
 
 /* Opens what isn't open of standard input, output and error: no socket is to have their numbers. */
@@ -140,14 +140,14 @@ int main(int count, char **arguments) {
     int option;
     open_standard();
     setvbuf(stderr, line, _IOLBF, sizeof line); /* each line is written at once */
-    if (!make_settings()) return 1;
+    if (!make_settings()) return STATUS_BROKEN;
     while ((option = getopt(count, arguments, "+:tj:U:o:c:m:hV")) != -1) {
         if (option == 'h') return print_help();
         if (option == 'V') return print_version();
         if (!read_option(option, optarg)) return print_usage(stderr);
     }
     uint32_t passed;
-    if (!count_passed(&passed)) return 1;
+    if (!count_passed(&passed)) return STATUS_BROKEN;
     int words = count - optind;
     size_t read = read_addresses(arguments + optind, words, addresses);
     if (passed > 0 ? words > 0 : read == 0) return print_usage(stderr);

@@ -13,6 +13,7 @@
 #include <unistd.h>
 
 #include "../examples/addresses.h"
+#include "../programs/statuses.h"
 
 /* ---- Options (main.c, settings.c) ------------------------------------------------------------ */
 

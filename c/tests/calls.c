@@ -4,6 +4,7 @@
 #include <string.h>
 
 #include "check.h"
+#include "known.h"
 #include "heap.h"
 #include "keychain.h"
 #include "reference.h"
@@ -113,34 +114,21 @@ static stun_types_answer read_number(unsigned bits, slice message,
     return answer;
 }
 
-/* The types whose value has one width, and those that have no number; 0 bits for these. */
+/* The types that have a name, but for those that end a message: how many bytes a number has that is the
+   value, and how many ignored ones follow it; 0 bytes if the value is none. */
+#define ROW_NUMBER(type, width, zeros) {type, width, zeros},
+#define ROW_ADDRESS(type, width, zeros) {type, 0, 0},
+#define ROW_XOR_ADDRESS ROW_ADDRESS
+#define ROW_ERROR ROW_ADDRESS
+#define ROW_ADDRESS_ERROR ROW_ADDRESS
+#define ROW_TYPES ROW_ADDRESS
+#define ROW_NOTHING ROW_ADDRESS
+#define ROW_ENDING(type, width, zeros)
+#define ROW(type, kind, width, zeros) ROW_##kind(type, width, zeros)
 static const struct {
     uint16_t type;
-    unsigned bits, zeros;
-    uint64_t number;
-} known[] = {
-    {0x0018, 8, 0, 0x80},      {0x0019, 8, 3, 17},
-    {0x0017, 8, 3, 1},         {0x8000, 8, 3, 2},
-    {0x000C, 16, 2, 0x4001},   {0x0027, 16, 2, 3479},
-    {0x0024, 32, 0, 0x6E0001FF}, {0x000D, 32, 0, 600},
-    {0x002A, 32, 0, 1},        {0x0003, 32, 0, 6},
-    {0x8025, 32, 0, 0x0201},   {0x8029, 64, 0, 0x932FF9B151263B36},
-    {0x802A, 64, 0, 1},        {0x0022, 64, 0, 0x0102030405060708},
-    {0x8004, 64, 0, 0x0304000005DC},
-    {0x0001, 0, 0, 0},         {0x0006, 0, 0, 0},
-    {0x0009, 0, 0, 0},         {0x000A, 0, 0, 0},
-    {0x0014, 0, 0, 0},         {0x0015, 0, 0, 0},
-    {0x001D, 0, 0, 0},         {0x001E, 0, 0, 0},
-    {0x0020, 0, 0, 0},         {0x8002, 0, 0, 0},
-    {0x8003, 0, 0, 0},         {0x8022, 0, 0, 0},
-    {0x8023, 0, 0, 0},         {0x0025, 0, 0, 0},
-    {0x0012, 0, 0, 0},         {0x0016, 0, 0, 0},
-    {0x001A, 0, 0, 0},         {0x8001, 0, 0, 0},
-    {0x802E, 0, 0, 0},         {0x802B, 0, 0, 0},
-    {0x802C, 0, 0, 0},         {0x0013, 0, 0, 0},
-    {0x0026, 0, 0, 0},         {0x001B, 0, 0, 0},
-    {0x8030, 0, 0, 0},
-};
+    unsigned width, zeros;
+} known[] = {KNOWN_TYPES(ROW)};
 
 static const unsigned widths[] = {8, 16, 32, 64};
 
@@ -158,19 +146,20 @@ static void test_known_widths(void) {
         row("numbers", "the widths of the types that are known");
         for (j = 0; j < COUNT(widths); j++) {
             unsigned bits = widths[j];
+            bool is_taken = bits / 8 == known[i].width;
             size_t *written = NEW(size_t), length = bits / 8 + known[i].zeros;
             size_t grown = 24 + (length + 3) / 4 * 4;
             uint8_t *bytes = begun(60, written);
             stun_types_attribute attribute = {24, known[i].type, (uint16_t)length};
-            stun_types_answer answer = bits == known[i].bits ? OK_ANSWER
-                                                             : PLAIN(STUN_TYPES_BAD_ARGUMENT);
-            uint64_t number;
+            stun_types_answer answer = is_taken ? OK_ANSWER : PLAIN(STUN_TYPES_BAD_ARGUMENT);
+            /* (a channel, a port, a family, and any other number) */
+            uint64_t wanted = bits == 16 ? 0x4002 : 2, number;
             slice message;
-            ANSWERS(add_number(bits, bytes, 60, written, known[i].type, known[i].number), answer);
-            CHECK(*written == (bits == known[i].bits ? grown : 20));
-            message = bits == known[i].bits ? given(bytes, *written) : given(bytes, 60);
+            ANSWERS(add_number(bits, bytes, 60, written, known[i].type, wanted), answer);
+            CHECK(*written == (is_taken ? grown : 20));
+            message = given(bytes, is_taken ? *written : 60);
             ANSWERS(read_number(bits, message, &attribute, &number), answer);
-            if (bits == known[i].bits) CHECK(number == known[i].number);
+            if (is_taken) CHECK(number == wanted);
         }
     }
 }

@@ -65,6 +65,11 @@ static const struct {
      STUN_TYPES_INVALID_DATA, 0, 0},
     {"a password that isn't UTF-8", CHECK_LONG_MD5, "75736572", "7265616C6D", "80",
      STUN_TYPES_INVALID_DATA, 0, 0},
+    {"an empty password", CHECK_LONG_MD5, "75736572", "7265616C6D", "", STUN_TYPES_BAD_ARGUMENT, 0, 0},
+    {"an empty password, and a user that isn't UTF-8", CHECK_LONG_MD5, "FF", "7265616C6D", "",
+     STUN_TYPES_BAD_ARGUMENT, 0, 0},
+    {"an empty password, and no message", "00", "75736572", "7265616C6D", "", STUN_TYPES_TRUNCATED, 20,
+     1},
     {"a user that isn't UTF-8, and no message", "00", "FF", "7265616C6D", "70617373",
      STUN_TYPES_TRUNCATED, 20, 1},
 };
@@ -113,6 +118,48 @@ static void test_preferred_md5(void) {
     ANSWERS(stun_types_validate(bytes, 56, key, validated), OK_ANSWER);
     CHECK(validated->algorithm == STUN_TYPES_INTEGRITY_SHA256);
     stun_types_key_free(key);
+}
+
+/* Anybody can sign by no password: such a message isn't valid. */
+static void test_empty_password(void) {
+    slice bytes;
+    stun_types_validated *validated;
+    row("stun_types_validate_short_term", "an empty password");
+    bytes = hex(CHECK_EMPTY);
+    validated = NEW(stun_types_validated);
+    ANSWERS(stun_types_validate_short_term(bytes.bytes, bytes.length, NULL, 0, validated),
+            PLAIN(STUN_TYPES_BAD_ARGUMENT));
+    CHECK(is_zero(validated, sizeof *validated));
+}
+
+/* ---- keys that were never begun hold none, whatever their bytes repeat */
+
+static void test_not_begun(void) {
+    static const uint8_t fills[] = {0x00, 0x01, 0x7F, 0xEE, 0xFF};
+    size_t i;
+    for (i = 0; i < COUNT(fills); i++) {
+        stun_types_key *key, *other;
+        slice bytes;
+        stun_types_validated *validated;
+        row("a key that was never begun", "bytes that repeat");
+        bytes = hex(CHECK_SHA256);
+        validated = NEW(stun_types_validated);
+        key = NEW(stun_types_key);
+        other = no_key();
+        memset(key, fills[i], sizeof *key);
+        ANSWERS(stun_types_validate(bytes.bytes, bytes.length, key, validated),
+                PLAIN(STUN_TYPES_NO_KEY));
+        ANSWERS(stun_types_key_copy(other, key), PLAIN(STUN_TYPES_NO_KEY));
+        stun_types_key_free(key);
+        CHECK(is_zero(key, sizeof *key));
+        memset(key, fills[i], sizeof *key);
+        heap_allow(true);
+        ANSWERS(stun_types_key_short_term(key, "pass", 4), OK_ANSWER);
+        heap_allow(false);
+        ANSWERS(stun_types_validate(bytes.bytes, bytes.length, key, validated), OK_ANSWER);
+        stun_types_key_free(key);
+        CHECK(heap_held() == 0);
+    }
 }
 
 static void test_hashes(void) {
@@ -192,6 +239,24 @@ static stun_types_answer copy_none(stun_types_key *key) {
     return stun_types_key_copy(key, no_key());
 }
 
+static stun_types_answer short_empty(stun_types_key *key) {
+    return stun_types_key_short_term(key, NULL, 0);
+}
+
+static stun_types_answer long_empty(stun_types_key *key) {
+    return long_term(key, "61", "61", "", STUN_TYPES_PASSWORD_SHA256);
+}
+
+static stun_types_answer bytes_empty(stun_types_key *key) {
+    return stun_types_key_from_bytes(key, NULL, 0, STUN_TYPES_INTEGRITY_ANY);
+}
+
+static stun_types_answer asked_empty(stun_types_key *key) {
+    static const uint16_t both[] = {STUN_TYPES_PASSWORD_SHA256, STUN_TYPES_PASSWORD_MD5};
+    slice asks = hex(CHALLENGE);
+    return stun_types_key_for(key, asks.bytes, asks.length, both, 2, "user", 4, NULL, 0);
+}
+
 static stun_types_answer bytes_most(stun_types_key *key) {
     slice bytes = hex("61*16");
     return stun_types_key_from_bytes(key, bytes.bytes, bytes.length,
@@ -216,6 +281,10 @@ static const struct {
     {"bytes, the other one", bytes_sha256, STUN_TYPES_BAD_ARGUMENT},
     {"bytes, the greatest algorithm", bytes_most, STUN_TYPES_BAD_ARGUMENT},
     {"a copy of no key", copy_none, STUN_TYPES_NO_KEY},
+    {"short-term, an empty password", short_empty, STUN_TYPES_BAD_ARGUMENT},
+    {"long-term, an empty password", long_empty, STUN_TYPES_BAD_ARGUMENT},
+    {"bytes, none", bytes_empty, STUN_TYPES_BAD_ARGUMENT},
+    {"for a challenge, an empty password", asked_empty, STUN_TYPES_BAD_ARGUMENT},
 };
 
 static void check_key_is_pass(const stun_types_key *key) {
@@ -277,11 +346,6 @@ static stun_types_key *copied;
 
 static stun_types_answer make_copy(stun_types_key *key) { return stun_types_key_copy(key, copied); }
 
-static stun_types_answer make_empty(stun_types_key *key) {
-    slice bytes = hex("");
-    return stun_types_key_from_bytes(key, bytes.bytes, bytes.length, STUN_TYPES_INTEGRITY_ANY);
-}
-
 static const struct {
     const char *name;
     key_call call;
@@ -293,7 +357,6 @@ static const struct {
     {"stun_types_key_long_term, by SHA-256", make_sha256, CHECK_LONG_SHA256,
      STUN_TYPES_INTEGRITY_SHA256},
     {"stun_types_key_from_bytes", make_bytes, CHECK_LONG_MD5, STUN_TYPES_INTEGRITY_SHA1},
-    {"stun_types_key_from_bytes, none", make_empty, CHECK_EMPTY, STUN_TYPES_INTEGRITY_SHA1},
     {"stun_types_key_copy", make_copy, CHECK_LONG_SHA256, STUN_TYPES_INTEGRITY_SHA256},
 };
 
@@ -439,7 +502,8 @@ static const struct {
     {"of both algorithms", KEY_MD5, STUN_TYPES_INTEGRITY_ANY, 16, STUN_TYPES_OK},
     {"of SHA-1, in more room", KEY_MD5, STUN_TYPES_INTEGRITY_SHA1, 20, STUN_TYPES_OK},
     {"of SHA-256", KEY_SHA256, STUN_TYPES_INTEGRITY_SHA256, 32, STUN_TYPES_OK},
-    {"of no bytes, in no room", "", STUN_TYPES_INTEGRITY_ANY, 0, STUN_TYPES_OK},
+    {"of one byte", "61", STUN_TYPES_INTEGRITY_ANY, 1, STUN_TYPES_OK},
+    {"of one byte, in no room", "61", STUN_TYPES_INTEGRITY_ANY, 0, STUN_TYPES_TOO_SMALL},
     {"in less room", KEY_SHA256, STUN_TYPES_INTEGRITY_SHA256, 31, STUN_TYPES_TOO_SMALL},
 };
 
@@ -609,6 +673,8 @@ void test_keys(void) {
     test_changes();
     test_logins();
     test_preferred_md5();
+    test_empty_password();
+    test_not_begun();
     test_hashes();
     test_not_made();
     test_memory();

@@ -79,6 +79,9 @@ unsigned model_width(unsigned type);
 /* How many zeros follow it. */
 unsigned model_zeros(unsigned type);
 
+/* One of the types that have a name and don't end a message: any number chooses one. */
+uint16_t model_known(unsigned which);
+
 /* What reading a number of so many bytes answers. */
 stun_types_answer model_read_number(unsigned type, unsigned width, const uint8_t *value, size_t length);
 

@@ -86,7 +86,9 @@ static uint64_t whole(const stun_types_schedule *schedule) {
 
 /* Whether the end is a number of 64 bits: rto times 2 to the power of (Rc - 1), less 1, plus Rm. */
 static bool is_schedule(const stun_types_schedule *schedule) {
-    if (schedule->rto == 0 || schedule->requests == 0 || schedule->last_wait == 0) return false;
+    if (schedule->rto == 0 || schedule->requests == 0 || schedule->last_wait == 0
+        || schedule->reliable_wait == 0)
+        return false;
     if (schedule->requests > 64) return false;
     return schedule->rto
            <= UINT64_MAX / ((((uint64_t)1 << (schedule->requests - 1)) - 1) + schedule->last_wait);
@@ -123,10 +125,9 @@ static bool is_signed(uint32_t protection) {
     return protection == STUN_TYPES_SHORT_TERM || protection == STUN_TYPES_LONG_TERM;
 }
 
-/* (a method has 12 bits, but that of a struct may be any that the library has a value for) */
 bool model_is_transaction(const stun_types_transaction *one) {
     return one->reserved == 0 && is_schedule(&one->schedule) && is_usage(&one->schedule)
-           && one->method < 0xF000 && one->signed_by <= 3 && one->violated <= 1 && one->stopped <= 1
+           && one->method <= 0xFFF && one->signed_by <= 3 && one->violated <= 1 && one->stopped <= 1
            && one->end <= STUN_TYPES_TRANSPORT_FAILED && one->transport >= STUN_TYPES_UDP
            && one->transport <= STUN_TYPES_TCP && one->protection >= STUN_TYPES_SHORT_TERM
            && one->protection <= STUN_TYPES_UNPROTECTED
@@ -163,6 +164,7 @@ stun_types_answer model_begin(const uint8_t *request, size_t length,
     static model_list shown;
     stun_types_answer fault = model_parse(request, length);
     unsigned by;
+    memset(transaction, 0, sizeof *transaction);
     if (fault.code != STUN_TYPES_OK) return fault;
     if (transport < 1 || transport > 2 || protection < 1 || protection > 4 || !is_usage(schedule))
         return BAD_ARGUMENT;
@@ -175,7 +177,6 @@ stun_types_answer model_begin(const uint8_t *request, size_t length,
     if (!is_signed(protection) && by != 0) return model_answer(STUN_TYPES_SIGNED, 0, 0, 0);
     fault = key_fault(protection, by, key);
     if (fault.code != STUN_TYPES_OK) return fault;
-    memset(transaction, 0, sizeof *transaction);
     transaction->schedule = *schedule;
     transaction->last = transaction->clock = now;
     memcpy(transaction->id.bytes, request + 8, 12);
@@ -299,7 +300,7 @@ stun_types_answer model_receive(stun_types_transaction *one, const model_key *ke
     uint32_t proof;
     size_t i;
     memset(received, 0, sizeof *received);
-    if (count > 64 || !model_is_transaction(one)) return BAD_ARGUMENT;
+    if (!model_is_transaction(one)) return BAD_ARGUMENT;
     fault = key_fault(one->protection, one->signed_by, key);
     if (fault.code != STUN_TYPES_OK) return fault;
     if (one->sent == 0 || one->end != 0 || model_parse(bytes, length).code != STUN_TYPES_OK)

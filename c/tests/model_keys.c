@@ -99,7 +99,8 @@ void model_hmac_of(uint32_t algorithm, const model_key *key, const uint8_t *byte
 
 stun_types_answer model_long_term_key(const model_text *texts, uint32_t algorithm, model_key *key) {
     size_t i;
-    if (algorithm != STUN_TYPES_PASSWORD_MD5 && algorithm != STUN_TYPES_PASSWORD_SHA256)
+    if ((algorithm != STUN_TYPES_PASSWORD_MD5 && algorithm != STUN_TYPES_PASSWORD_SHA256)
+        || texts[2].length == 0)
         return model_answer(STUN_TYPES_BAD_ARGUMENT, 0, 0, 0);
     for (i = 0; i < 3; i++)
         if (!model_is_utf8(texts[i].bytes, texts[i].length))

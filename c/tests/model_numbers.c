@@ -1,35 +1,39 @@
 #include "model.h"
 
-/* The types with numbers: how many bytes the number has, and how many ignored ones follow it. */
+#include "known.h"
+
+/* The types with numbers: how many bytes the number has, and how many ignored ones follow it. The other
+   types that have a name have no number, but for those that end a message. */
+#define ROW_NUMBER(type, width, zeros) {type, width, zeros},
+#define ROW_ADDRESS(type, width, zeros) {type, MODEL_NO_NUMBER, 0},
+#define ROW_XOR_ADDRESS ROW_ADDRESS
+#define ROW_ERROR ROW_ADDRESS
+#define ROW_ADDRESS_ERROR ROW_ADDRESS
+#define ROW_TYPES ROW_ADDRESS
+#define ROW_NOTHING ROW_ADDRESS
+#define ROW_ENDING(type, width, zeros)
+#define ROW(type, kind, width, zeros) ROW_##kind(type, width, zeros)
 static const struct {
     uint16_t type;
-    uint8_t width, more;
-} NUMBERS[] = {
-    {0x0017, 1, 3}, {0x0019, 1, 3}, {0x8000, 1, 3}, {0x0018, 1, 0}, {0x000C, 2, 2},
-    {0x0027, 2, 2}, {0x0024, 4, 0}, {0x000D, 4, 0}, {0x002A, 4, 0}, {0x0003, 4, 0},
-    {0x8025, 4, 0}, {0x8029, 8, 0}, {0x802A, 8, 0}, {0x0022, 8, 0}, {0x8004, 8, 0},
-};
+    uint8_t width, zeros;
+} KNOWN[] = {KNOWN_TYPES(ROW)};
+enum { COUNT_OF_KNOWN = sizeof KNOWN / sizeof *KNOWN };
 
-/* The other types of the header: none of them has a number. */
-static const uint16_t OTHERS[] = {
-    0x0001, 0x0006, 0x0009, 0x000A, 0x0014, 0x0015, 0x001D, 0x001E,
-    0x0020, 0x8002, 0x8003, 0x8022, 0x8023, 0x0025, 0x0012, 0x0013, 0x0016,
-    0x001A, 0x001B, 0x8001, 0x802E, 0x8030, 0x0026, 0x802B, 0x802C,
-};
+uint16_t model_known(unsigned which) {
+    return KNOWN[which % COUNT_OF_KNOWN].type;
+}
 
 unsigned model_width(unsigned type) {
     unsigned i;
-    for (i = 0; i < sizeof NUMBERS / sizeof *NUMBERS; i++)
-        if (NUMBERS[i].type == type) return NUMBERS[i].width;
-    for (i = 0; i < sizeof OTHERS / sizeof *OTHERS; i++)
-        if (OTHERS[i] == type) return MODEL_NO_NUMBER;
+    for (i = 0; i < COUNT_OF_KNOWN; i++)
+        if (KNOWN[i].type == type) return KNOWN[i].width;
     return 0;
 }
 
 unsigned model_zeros(unsigned type) {
     unsigned i;
-    for (i = 0; i < sizeof NUMBERS / sizeof *NUMBERS; i++)
-        if (NUMBERS[i].type == type) return NUMBERS[i].more;
+    for (i = 0; i < COUNT_OF_KNOWN; i++)
+        if (KNOWN[i].type == type) return KNOWN[i].zeros;
     return 0;
 }
 

@@ -67,19 +67,25 @@ static void test_made(void) {
     const slice bytes = hex(CHECK_EMPTY);
     heap_allow(true);
     ANSWERS(stun_types_key_long_term(key, NULL, 0, NULL, 0, NULL, 0, STUN_TYPES_PASSWORD_MD5),
+            PLAIN(STUN_TYPES_BAD_ARGUMENT));
+    ANSWERS(stun_types_key_long_term(key, NULL, 0, NULL, 0, "p", 1, STUN_TYPES_PASSWORD_MD5),
             OK_ANSWER);
     ANSWERS(stun_types_userhash(NULL, 0, NULL, 0, NEW(stun_types_hash)), OK_ANSWER);
-    ANSWERS(stun_types_key_short_term(key, NULL, 0), OK_ANSWER);
-    ANSWERS(stun_types_key_from_bytes(key, NULL, 0, STUN_TYPES_INTEGRITY_ANY), OK_ANSWER);
-    ANSWERS(stun_types_key_bytes(key, NULL, 0, count, algorithm), OK_ANSWER);
-    CHECK(*count == 0 && *algorithm == STUN_TYPES_INTEGRITY_ANY);
+    ANSWERS(stun_types_key_short_term(key, NULL, 0), PLAIN(STUN_TYPES_BAD_ARGUMENT));
+    ANSWERS(stun_types_key_from_bytes(key, NULL, 0, STUN_TYPES_INTEGRITY_ANY),
+            PLAIN(STUN_TYPES_BAD_ARGUMENT));
+    ANSWERS(stun_types_key_bytes(key, NULL, 0, count, algorithm),
+            LENGTHS(STUN_TYPES_TOO_SMALL, 16, 0));
     ANSWERS(stun_types_validate(NULL, 0, key, validated), NOTHING);
     ANSWERS(stun_types_validate_by_policy(NULL, 0, &strict, key, validated), NOTHING);
     ANSWERS(stun_types_validate_short_term(NULL, 0, NULL, 0, validated), NOTHING);
     ANSWERS(stun_types_validate_short_term(bytes.bytes, bytes.length, NULL, 0, validated),
-            OK_ANSWER);
+            PLAIN(STUN_TYPES_BAD_ARGUMENT));
     ANSWERS(stun_types_validate_long_term(NULL, 0, NULL, 0, NULL, 0, NULL, 0, validated), NOTHING);
     ANSWERS(stun_types_validate_long_term(bytes.bytes, bytes.length, NULL, 0, NULL, 0, NULL, 0,
+                                          validated),
+            PLAIN(STUN_TYPES_BAD_ARGUMENT));
+    ANSWERS(stun_types_validate_long_term(bytes.bytes, bytes.length, NULL, 0, NULL, 0, "p", 1,
                                           validated),
             PLAIN(STUN_TYPES_INTEGRITY_FAILED));
     ANSWERS(stun_types_authenticate_short_term(NULL, 0, &strict, key,
@@ -176,10 +182,12 @@ static void test_answers(void) {
     uint8_t *bytes = room(200);
     const slice asks = hex(CHALLENGE);
     heap_allow(true);
-    ANSWERS(stun_types_key_for(key, NULL, 0, NULL, 0, NULL, 0, NULL, 0), NOTHING);
-    ANSWERS(stun_types_key_for(key, asks.bytes, asks.length, NULL, 0, NULL, 0, NULL, 0),
+    ANSWERS(stun_types_key_for(key, NULL, 0, NULL, 0, NULL, 0, NULL, 0),
+            PLAIN(STUN_TYPES_BAD_ARGUMENT));
+    ANSWERS(stun_types_key_for(key, NULL, 0, NULL, 0, NULL, 0, "p", 1), NOTHING);
+    ANSWERS(stun_types_key_for(key, asks.bytes, asks.length, NULL, 0, NULL, 0, "p", 1),
             PLAIN(STUN_TYPES_NO_ALGORITHM));
-    ANSWERS(stun_types_key_for(key, asks.bytes, asks.length, both, 2, NULL, 0, NULL, 0), OK_ANSWER);
+    ANSWERS(stun_types_key_for(key, asks.bytes, asks.length, both, 2, NULL, 0, "p", 1), OK_ANSWER);
     heap_allow(false);
     *written = 0;
     ANSWERS(stun_types_answer_challenge(NULL, 0, written, NULL, 0, NULL, 0, NULL, 0, key, true),

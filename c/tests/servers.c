@@ -21,7 +21,7 @@ static void test_other_families(void) {
         ANSWERS(
             stun_types_binding_reply(bytes.bytes, bytes.length, &source, place, 100, reply_length),
             PLAIN(STUN_TYPES_BAD_ARGUMENT));
-        CHECK(is_untouched(place, 100) && is_untouched(reply_length, sizeof *reply_length));
+        CHECK(is_untouched(place, 100) && *reply_length == 0);
     }
 }
 

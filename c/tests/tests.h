@@ -11,5 +11,6 @@ void test_clients(void);
 void test_streams(void);
 void test_nulls(void);
 void test_calls(void);
+void test_overlaps(void);
 
 #endif

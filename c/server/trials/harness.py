@@ -137,9 +137,10 @@ def expect(counted, **wanted):
 
 
 def ask(program, address, port, *options):
-    """Lets the client ask; its address has to be in what it prints."""
-    status, out, told = run([program, *options, address, port], 3 * PATIENCE)
-    shown = re.escape(f"[{address}]" if ":" in address else address)
+    """Lets stun-client ask; its address has to be in what it prints."""
+    host = f"[{address}]" if ":" in address else address
+    status, out, told = run([program, *options, f"{host}:{port}"], 3 * PATIENCE)
+    shown = re.escape(host)
     check(status == 0 and re.fullmatch(rf"{shown}:\d+\n", out), f"status {status}: {out}{told}")
 
 

@@ -42,7 +42,7 @@ def passed_on(programs):
         with server:
             server.port = udp.getsockname()[1]
             ask_once(server)
-            ask(programs["client"], "::1", str(tcp.getsockname()[1]), "-s")
+            ask(programs["client"], "::1", str(tcp.getsockname()[1]), "-t")
             check(server.started["workers"] == "3", str(server.started))
             before = processor_ticks(server)
             time.sleep(0.5)
@@ -65,11 +65,11 @@ def passed_on(programs):
             news = f"os.environ.update(LISTEN_FDS='{number}', LISTEN_PID=str(os.getpid()))"
             status, _, told = run([*after(news), programs["server"], "-j", "2"])
             right = told.startswith(f"stun-server: LISTEN_FDS={number}: ") and "32" in told
-            check(status == 1 and right, f"LISTEN_FDS={number}: status {status}: {told}")
+            check(status == 3 and right, f"LISTEN_FDS={number}: status {status}: {told}")
         with socket.socket() as deaf:
             command = [sys.executable, "-c", PASS_ON, "1", str(deaf.fileno())]
             status, _, told = run([*command, programs["server"]], pass_fds=[deaf.fileno()])
-            check(status == 1 and "3" in told, f"a socket that isn't bound: {status}: {told}")
+            check(status == 3 and "3" in told, f"a socket that isn't bound: {status}: {told}")
 
 
 @contextlib.contextmanager
@@ -141,7 +141,7 @@ def run_unit(programs):
             check(manager.recv(200) == b"WATCHDOG=1", "it doesn't say that it lives")
             for address in ("127.0.0.1", "::1"):
                 ask(programs["client"], address, "3478")
-                ask(programs["client"], address, "3478", "-s")
+                ask(programs["client"], address, "3478", "-t")
             check(report(("127.0.0.1", 9478))["stun_server_tcp_sent_total"] == 2, "another report")
             server.end()
 

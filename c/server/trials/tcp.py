@@ -76,7 +76,7 @@ def over_tcp(programs):
             time.sleep(0.002)
         check(read_replies(cut, 5) == numbers[:5], "other replies to the cut stream")
         check(read_replies(nonsense, 1) == numbers[:1] and is_closed(nonsense), "nonsense goes on")
-        ask(programs["client"], "127.0.0.1", server.port, "-s")
+        ask(programs["client"], "127.0.0.1", server.port, "-t")
         counted = server.end()
         # (a silent one is accepted after a while)
         check(counted["tcp_accepted"] in (6, 7) and counted["tcp_refused"] == 0, str(counted))

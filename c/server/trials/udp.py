@@ -91,7 +91,7 @@ def software(programs):
                 asking.send(request)
                 types = attributes_of(asking.recv(2048))
                 check(set(types) == wanted | left, f"{types} after {request.hex()}")
-            ask(programs["client"], "127.0.0.1", server.port, "-s")
+            ask(programs["client"], "127.0.0.1", server.port, "-t")
             expect(server.end(), udp_received=4, udp_sent=4, tcp_accepted=1, tcp_received=1, tcp_sent=1)
 
 

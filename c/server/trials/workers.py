@@ -23,7 +23,7 @@ def both_at_once(programs):
         wait_until(lambda: server.sockets() == [1, 1, 1, 1, 2], "workers have sockets of others")
         for address in at:
             ask_once(server, address)
-            ask(programs["client"], address, server.port, "-s")
+            ask(programs["client"], address, server.port, "-t")
         counts = {"udp_received": 2, "udp_sent": 2, "tcp_accepted": 2, "tcp_received": 2, "tcp_sent": 2}
         expect(server.counts(signal.SIGHUP), **counts)
         expect(server.counts(signal.SIGUSR1), **counts)
@@ -46,7 +46,7 @@ def replaced(programs, command=()):
             while left > 0:
                 left -= int(server.wait_for(f"worker-{event}")["deaths"])
             ask(programs["client"], "127.0.0.1", server.port)
-            ask(programs["client"], "127.0.0.1", server.port, "-s")
+            ask(programs["client"], "127.0.0.1", server.port, "-t")
         for worker in server.workers():
             os.kill(worker, signal.SIGSTOP)
         counted = server.end()
@@ -98,7 +98,7 @@ def unconfined(programs):
                 check(server.wait_for("gave-up")["deaths"] == "8", "it gave up early or late")
             counted = server.wait_for("counts")
             took = time.monotonic() - began
-            check(server.ran.wait(PATIENCE) == 1, f"status {server.ran.returncode}")
+            check(server.ran.wait(PATIENCE) == 3, f"status {server.ran.returncode}")
             check(lines <= took + 1, f"{lines} lines in {took} s")
             check(took > 12, f"8 workers died in {took} s")
             check(counted["udp_received"] == "0" and counted["workers_died"] == "8", str(counted))
@@ -127,7 +127,7 @@ def rights(programs):
         has_rights(programs, server, user, {user.pw_gid} if as_root else {*os.getgroups()})
     for name in ("root", "no-such-user"):
         status, _, told = run([programs["server"], "-U", name, "127.0.0.1", free_port(["127.0.0.1"])])
-        check(status == 1 and name in told, f"status {status}: {told}")
+        check(status == 3 and name in told, f"status {status}: {told}")
 
 
 def granted_rights(programs):
@@ -162,7 +162,7 @@ def required(programs):
             server.end()
         words = ["-o", "sandbox=2", "127.0.0.1", free_port(["127.0.0.1"])]
         status, out, told = run([*command, programs["server"], *words])
-        check(status == 1 and "sandbox=2" in told, f"status {status}: {out}{told}")
+        check(status == 3 and "sandbox=2" in told, f"status {status}: {out}{told}")
 
 
 def as_root(programs):
@@ -189,7 +189,7 @@ def own_files(programs):
                 wait_until(lambda: files() <= {"socket", "anon_inode"}, f"it has {files()}")
             wait_until(lambda: server.sockets() == [1, 1], f"they have {server.sockets()}")
             ask_once(server)
-            ask(programs["client"], "127.0.0.1", server.port, "-s")
+            ask(programs["client"], "127.0.0.1", server.port, "-t")
             expect(server.end(), udp_received=1, udp_sent=1, tcp_accepted=1, tcp_received=1,
                    tcp_sent=1)
 

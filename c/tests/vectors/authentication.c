@@ -488,7 +488,7 @@ static bool call_maker(nonce_maker *maker) {
     }
     if (inet_pton(maker->client.family == 4 ? AF_INET : AF_INET6, address, maker->client.octets) != 1)
         answer_unknown();
-    return make_key(&maker->secret, secret, STUN_TYPES_INTEGRITY_ANY);
+    return is_secret(secret) && make_key(&maker->secret, secret, STUN_TYPES_INTEGRITY_ANY);
 }
 
 /* Whether a call was taken, or its secret was too short. */

@@ -69,6 +69,9 @@ void answer_each_way(void (*way)(uint32_t number), uint32_t count);
 
 /* ---- keys */
 
+/* Whether there are octets: C takes no password without any, and then the answer becomes `?`. */
+bool is_secret(slice octets);
+
 /* A key of these bytes for an algorithm; false, and refused, if there is no memory. No freed block
    may hold the bytes. */
 bool make_key(stun_types_key *key, slice bytes, stun_types_integrity algorithm);

@@ -237,7 +237,13 @@ stun_types_class class_of(const char *word) {
 /* ---- keys */
 
 void keep_secret(slice octets) {
-    heap_add_secret(octets.bytes, octets.length < 64 ? octets.length : 64);
+    /* (fewer bytes are found by chance in the addresses that a freed block held) */
+    if (octets.length >= 4) heap_add_secret(octets.bytes, octets.length < 64 ? octets.length : 64);
+}
+
+bool is_secret(slice octets) {
+    if (octets.length == 0) answer_unknown();
+    return octets.length != 0;
 }
 
 bool make_key(stun_types_key *key, slice bytes, stun_types_integrity algorithm) {

@@ -35,7 +35,7 @@ static void password(void) {
     stun_types_key key = STUN_TYPES_NO_KEY_YET, same = STUN_TYPES_NO_KEY_YET;
     stun_types_validated *validated = NEW(stun_types_validated);
     stun_types_answer result;
-    if (make_key(&same, given_password, STUN_TYPES_INTEGRITY_ANY)
+    if (is_secret(given_password) && make_key(&same, given_password, STUN_TYPES_INTEGRITY_ANY)
         && is_taken(stun_types_key_short_term(&key, given_password.bytes, given_password.length))) {
         result = stun_types_validate_short_term(octets.bytes, octets.length, given_password.bytes,
                                               given_password.length, validated);
@@ -57,6 +57,7 @@ static void login(void) {
     bool is_sha256;
     size_t at;
     stun_types_answer result = OK_ANSWER;
+    if (!is_secret(secret)) return;
     keep_secret(secret);
     for (at = 0; at < 2 && result.code == STUN_TYPES_OK; at++)
         result = stun_types_key_long_term(&keys[at], user.bytes, user.length, realm.bytes,

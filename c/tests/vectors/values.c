@@ -1,53 +1,32 @@
 /* Values of attributes: addresses, errors, lists of types, and numbers. C reads and makes no others. */
+#include "../known.h"
 #include "call.h"
 
 #include <stdio.h>
 #include <stdlib.h>
 #include <string.h>
 
-typedef enum {
-    NOTHING,
-    ADDRESS,
-    XOR_ADDRESS,
-    ERROR,
-    ADDRESS_ERROR,
-    TYPES,
-    OF_8,
-    OF_16,
-    OF_32,
-    OF_64
-} value_kind;
+typedef enum { NOTHING, ENDING, ADDRESS, XOR_ADDRESS, ERROR, ADDRESS_ERROR, TYPES, NUMBER } value_kind;
+
+typedef struct {
+    uint16_t type;
+    value_kind kind;
+    unsigned width, zeros;
+} known_type;
+
+#define ROW(type, kind, width, zeros) {type, kind, width, zeros},
+static const known_type known_types[] = {KNOWN_TYPES(ROW){0, NOTHING, 0, 0}};
+
+/* What is known of a type; of any other the last row. */
+static const known_type *known(uint16_t type) {
+    const known_type *found = known_types;
+    while (found < known_types + COUNT(known_types) - 1 && found->type != type) found++;
+    return found;
+}
 
 /* What C reads a value of this type as. */
 static value_kind kind_of(uint16_t type) {
-    switch (type) {
-    case STUN_TYPES_ATTRIBUTE_MAPPED_ADDRESS:
-    case STUN_TYPES_ATTRIBUTE_ALTERNATE_SERVER:
-    case STUN_TYPES_ATTRIBUTE_RESPONSE_ORIGIN:
-    case STUN_TYPES_ATTRIBUTE_OTHER_ADDRESS: return ADDRESS;
-    case STUN_TYPES_ATTRIBUTE_XOR_MAPPED_ADDRESS:
-    case STUN_TYPES_ATTRIBUTE_XOR_PEER_ADDRESS:
-    case STUN_TYPES_ATTRIBUTE_XOR_RELAYED_ADDRESS: return XOR_ADDRESS;
-    case STUN_TYPES_ATTRIBUTE_ERROR_CODE: return ERROR;
-    case STUN_TYPES_ATTRIBUTE_ADDRESS_ERROR_CODE: return ADDRESS_ERROR;
-    case STUN_TYPES_ATTRIBUTE_UNKNOWN_ATTRIBUTES: return TYPES;
-    case STUN_TYPES_ATTRIBUTE_REQUESTED_TRANSPORT:
-    case STUN_TYPES_ATTRIBUTE_REQUESTED_ADDRESS_FAMILY:
-    case STUN_TYPES_ATTRIBUTE_ADDITIONAL_ADDRESS_FAMILY:
-    case STUN_TYPES_ATTRIBUTE_EVEN_PORT: return OF_8;
-    case STUN_TYPES_ATTRIBUTE_CHANNEL_NUMBER:
-    case STUN_TYPES_ATTRIBUTE_RESPONSE_PORT: return OF_16;
-    case STUN_TYPES_ATTRIBUTE_PRIORITY:
-    case STUN_TYPES_ATTRIBUTE_LIFETIME:
-    case STUN_TYPES_ATTRIBUTE_CONNECTION_ID:
-    case STUN_TYPES_ATTRIBUTE_CHANGE_REQUEST:
-    case STUN_TYPES_ATTRIBUTE_TRANSACTION_TRANSMIT_COUNTER: return OF_32;
-    case STUN_TYPES_ATTRIBUTE_ICE_CONTROLLED:
-    case STUN_TYPES_ATTRIBUTE_ICE_CONTROLLING:
-    case STUN_TYPES_ATTRIBUTE_RESERVATION_TOKEN:
-    case STUN_TYPES_ATTRIBUTE_ICMP: return OF_64;
-    default: return NOTHING;
-    }
+    return known(type)->kind == ENDING ? NOTHING : known(type)->kind;
 }
 
 /* Answers with an address, or why there is none; *read stays untouched then. */
@@ -156,6 +135,17 @@ READS(16, stun_types_read_u16)
 READS(32, stun_types_read_u32)
 READS(64, stun_types_read_u64)
 
+/* Answers with a number of as many bits as those of its type have. */
+static stun_types_answer read_number(slice octets, const stun_types_attribute *attribute,
+                                     bool is_shown) {
+    switch (known(attribute->type)->width) {
+    case 1: return read_8(octets, attribute, is_shown);
+    case 2: return read_16(octets, attribute, is_shown);
+    case 4: return read_32(octets, attribute, is_shown);
+    default: return read_64(octets, attribute, is_shown);
+    }
+}
+
 /* Reads a value, and answers with what it means if that is to be result. */
 static stun_types_answer read_value(uint16_t type, slice value, const stun_types_id *id,
                                     bool is_shown) {
@@ -169,10 +159,7 @@ static stun_types_answer read_value(uint16_t type, slice value, const stun_types
     case ERROR: return read_error(octets, &attribute, is_shown);
     case ADDRESS_ERROR: return read_address_error(octets, &attribute, is_shown);
     case TYPES: return read_types(octets, &attribute, is_shown);
-    case OF_8: return read_8(octets, &attribute, is_shown);
-    case OF_16: return read_16(octets, &attribute, is_shown);
-    case OF_32: return read_32(octets, &attribute, is_shown);
-    case OF_64: return read_64(octets, &attribute, is_shown);
+    case NUMBER: return read_number(octets, &attribute, is_shown);
     default: answer_unknown(); return OK_ANSWER;
     }
 }
@@ -345,14 +332,14 @@ static void make_number(uint16_t type) {
     stun_types_id id = id_of("0");
     draft to = begun(&id);
     stun_types_answer result;
-    switch (kind_of(type)) {
-    case OF_8:
+    switch (known(type)->width) {
+    case 1:
         result = stun_types_add_u8(to.room, to.size, &to.written, type, (uint8_t)number);
         break;
-    case OF_16:
+    case 2:
         result = stun_types_add_u16(to.room, to.size, &to.written, type, (uint16_t)number);
         break;
-    case OF_32:
+    case 4:
         result = stun_types_add_u32(to.room, to.size, &to.written, type, (uint32_t)number);
         break;
     default: result = stun_types_add_u64(to.room, to.size, &to.written, type, number);
@@ -372,10 +359,7 @@ static void make(void) {
     case ERROR: make_error(); break;
     case ADDRESS_ERROR: make_address_error(); break;
     case TYPES: make_list(); break;
-    case OF_8:
-    case OF_16:
-    case OF_32:
-    case OF_64: make_number(type); break;
+    case NUMBER: make_number(type); break;
     default: answer_unknown();
     }
 }

@@ -9,6 +9,8 @@ use Rattle.stun_attributes.specs.Reading.{Reads}
 use Rattle.discovery_attrs.specs.declared.change.Change.{Change}
 use Rattle.discovery_attrs.specs.declared.transmissions.Transmissions.{Transmissions}
 use Rattle.discovery_attrs.specs.declared.response_port.ResponsePort.{ResponsePort}
+use Rattle.stun_types.specs.declared.attribute.known.ValueForm.TheVariants.{PaddedNumber, Octets, Address, Other}
+use Rattle.stun_types.specs.KnownTypes.{Known, says}
 
 -- ---- Numbers of types. That of MAPPED-ADDRESS is in `AttributeTypes` of `stun_grammar`
 
@@ -78,3 +80,15 @@ response_port_fault value =
 abbrev pub ReadsResponsePort : List ℕ → Result ResponsePort StunParseError → Type 0
 ReadsResponsePort value =
     Reads (response_port_fault value) (λ read. port_of read ≡ number (take 2 value))
+
+-- ---- What the RFCs say of the types
+
+-- CHANGE-REQUEST is bits, and TRANSACTION_TRANSMIT_COUNTER two counts
+abbrev pub known_type : ℕ → Option Known
+known_type type =
+    if type == CHANGE_REQUEST then says 5780 (codes "CHANGE-REQUEST") (Octets 4) else (
+    if type == PADDING then says 5780 (codes "PADDING") Other else (
+    if type == RESPONSE_PORT then says 5780 (codes "RESPONSE-PORT") (PaddedNumber 2 0 65535) else (
+    if type == TRANSACTION_TRANSMIT_COUNTER then says 7982 (codes "TRANSACTION_TRANSMIT_COUNTER") (Octets 4) else (
+    if type == RESPONSE_ORIGIN then says 5780 (codes "RESPONSE-ORIGIN") Address else (
+    if type == OTHER_ADDRESS then says 5780 (codes "OTHER-ADDRESS") Address else None)))))

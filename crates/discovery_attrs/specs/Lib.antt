@@ -1,2 +1,1 @@
 pub mod Discovery
-pub mod DiscoveryTypes

@@ -4,7 +4,7 @@
 ghost use Rattle.std.specs.Prelude.{◌≡◌};
 ghost use Rattle.std.specs.Option.{option_map};
 ghost use Rattle.stun_types.specs.KnownTypes.{facts};
-ghost use Rattle.discovery_attrs.specs.DiscoveryTypes.{known_type};
+ghost use Rattle.discovery_attrs.specs.Discovery.{known_type};
 
 use stun_grammar::attribute_types;
 use stun_types::attribute::{AttributeType, KnownType, ValueForm};
@@ -72,12 +72,13 @@ pub fn known_type(atype: u16) -> Option<KnownType>
     }
 }
 
-/// The types of the attributes of NAT discovery, for `Message::check_attribute_types`.
+/// The types of the attributes of NAT discovery, for `Message::check_attribute_lists`, beside
+/// `stun_types::attribute::KNOWN`.
 ///
 /// # Examples
 ///
 /// ```
-/// use discovery_attrs::KNOWN;
+/// use stun_types::attribute::KNOWN;
 /// use stun_types::message::{Message, MessageWriteVec};
 ///
 /// // A request for a response from another IP address and another port.
@@ -85,8 +86,8 @@ pub fn known_type(atype: u16) -> Option<KnownType>
 ///     b"\x00\x01\x00\x08\x21\x12\xA4\x42\xB7\xE7\xA7\x01\xBC\x34\xD6\x86\xFA\x87\xDF\xAE\
 ///       \x00\x03\x00\x04\x00\x00\x00\x06",
 /// )?;
-/// let reply = MessageWriteVec::new(alloc);
-/// assert!(rt; Message::check_attribute_types(alloc, &request, &KNOWN, &[], reply)?.is_none());
+/// let (known, reply) = ([&KNOWN[..], &discovery_attrs::KNOWN], MessageWriteVec::new(alloc));
+/// assert!(rt; Message::check_attribute_lists(alloc, &request, &known, &[], reply)?.is_none());
 /// ```
 pub const KNOWN: [AttributeType; 7] = [
     AttributeType(MAPPED_ADDRESS),

@@ -10,7 +10,7 @@ use std::net::SocketAddr;
 use stun_authentication::{
     Authentication, Logins, Policy, authenticate_short_term, refuse_short_term,
 };
-use stun_types::attribute::{ErrorCode, Username, XorMappedAddress};
+use stun_types::attribute::{ErrorCode, KNOWN, Username, XorMappedAddress};
 use stun_types::message::{
     BINDING, IntegrityAlgorithm, IntegrityKey, LongTermCredentials, Message, MessageClass,
     MessageType, MessageWriteVec, StunWriteError, TransactionId,
@@ -105,7 +105,7 @@ fn decide(alloc: Global, agent: &mut Agent<'_>, check: &Message<'_>) -> RoleDeci
 }
 
 /// The answer to a check that came from `source`: a success response with that address, or an
-/// error response. `None` if the message gets none.
+/// error response, 420 for types that must be understood and aren't. `None` if the message gets none.
 pub fn answer(
     alloc: Global,
     agent: &mut Agent<'_>,
@@ -129,6 +129,13 @@ pub fn answer(
         }
         _ => return Ok(None),
     };
+    let known = [&KNOWN[..], &ice_attrs::KNOWN];
+    let unknown = Message::check_attribute_lists(alloc, check, &known, &[], vector)?;
+    if let Some(mut reply) = unknown {
+        accepted.finish_reply(true, &mut reply)?;
+        return Ok(Some(reply.finish()));
+    }
+    let vector = MessageWriteVec::new(alloc);
     let mut reply = match decide(alloc, agent, check).error_code() {
         Some(code) => {
             let mut reply = Message::builder_error(check, vector)?;

@@ -1,7 +1,7 @@
 //! A client that is asked for its credentials (RFC 8489, section 9.2.5).
 
 use std::alloc::Global;
-use stun_authentication::{Challenge, answer_challenge};
+use stun_authentication::{Retry, answer_challenge};
 use stun_types::message::{
     BINDING, Message, MessageClass, MessageType, MessageWriteVec, StunWriteError, TransactionId,
 };
@@ -12,13 +12,13 @@ use stun_types::prelude::*;
 pub fn login_request(
     alloc: Global,
     id: u128,
-    challenge: &Challenge<'_>,
+    retry: &Retry<'_>,
     name: &str,
     password: &str,
 ) -> Result<Vec<u8>, StunWriteError> {
     let mtype = MessageType::from_class_method(MessageClass::Request, BINDING);
     let vector = MessageWriteVec::new(alloc);
     let mut message = Message::builder(mtype, TransactionId::from(id), vector)?;
-    answer_challenge(alloc, challenge, name, password, true, &mut message)?;
+    answer_challenge(alloc, retry, name, password, true, &mut message)?;
     Ok(message.finish())
 }

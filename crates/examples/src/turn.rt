@@ -10,12 +10,10 @@ ghost use Rattle.stun_types.specs.Message.{message_bytes};
 use std::alloc::Global;
 use std::net::SocketAddr;
 use stun_authentication::{
-    Accepted, Authentication, Challenge, Demand, Logins, NonceMaker, Policy, Refusal,
-    answer_challenge, authenticate_long_term, refuse_long_term,
+    Accepted, Authentication, Challenge, ChallengeError, Logins, NonceMaker, Policy, Refusal,
+    Retry, answer_challenge, authenticate_long_term, refuse_long_term,
 };
-use stun_types::attribute::{
-    ErrorCode, PasswordAlgorithmValue, PasswordAlgorithms, Realm, XorMappedAddress,
-};
+use stun_types::attribute::{ErrorCode, KNOWN, PasswordAlgorithmValue, Realm, XorMappedAddress};
 use stun_types::message::{
     LongTermCredentials, Message, MessageClass, MessageType, MessageWriteVec, StunWriteError,
     TransactionId,
@@ -46,7 +44,7 @@ pub fn allocate_request(
     alloc: Global,
     id: u128,
     seconds: u32,
-    challenge: Option<&Challenge<'_>>,
+    retry: Option<&Retry<'_>>,
     (name, password): (&str, &str),
 ) -> Result<Vec<u8>, StunWriteError> {
     let mtype = MessageType::from_class_method(MessageClass::Request, methods::ALLOCATE);
@@ -54,9 +52,9 @@ pub fn allocate_request(
     let mut request = Message::builder(mtype, TransactionId::from(id), vector)?;
     request.add_attribute(&RequestedTransport::new(UDP))?;
     request.add_attribute(&Lifetime::new(seconds))?;
-    match challenge {
-        Some(challenge) => {
-            answer_challenge(alloc, challenge, name, password, true, &mut request)?;
+    match retry {
+        Some(retry) => {
+            answer_challenge(alloc, retry, name, password, true, &mut request)?;
         }
         None => request.add_fingerprint()?,
     }
@@ -83,12 +81,14 @@ fn refused(
     requires { class_of (type_field (message_bytes request.now)) ≡ Request }
 {
     let nonce = server.nonces.make(alloc, server.now, &client)?;
-    let algorithms = PasswordAlgorithms::new(alloc, &ALGORITHMS)?;
-    let Ok(demand) = Demand::new(Realm::new(alloc, REALM)?, nonce, Some(algorithms)) else {
-        return Err(StunWriteError::IntegrityFailed);
+    let realm = Realm::new(alloc, REALM)?;
+    let challenge = match Challenge::new(alloc, &realm, &nonce, &ALGORITHMS) {
+        Ok(challenge) => challenge,
+        Err(ChallengeError::OutOfMemory) => return Err(StunWriteError::OutOfMemory),
+        Err(_) => return Err(StunWriteError::IntegrityFailed),
     };
     let vector = MessageWriteVec::new(alloc);
-    Ok(refuse_long_term(alloc, request, refusal, &demand, vector)?.finish())
+    Ok(refuse_long_term(alloc, request, refusal, &challenge, vector)?.finish())
 }
 
 /// Why there is no allocation: no REQUESTED-TRANSPORT, or another one than UDP.
@@ -100,7 +100,34 @@ fn allocation_fault(alloc: Global, request: &Message<'_>) -> Option<u16> {
     }
 }
 
-/// The response to a request that is authenticated, signed as the request is.
+/// The response to a request whose attributes are understood, before it is signed.
+fn allocation(
+    alloc: Global,
+    request: &Message<'_>,
+    client: SocketAddr,
+    relayed: SocketAddr,
+) -> Result<MessageWriteVec, StunWriteError>
+    requires { class_of (type_field (message_bytes request.now)) ≡ Request }
+{
+    let vector = MessageWriteVec::new(alloc);
+    if let Some(code) = allocation_fault(alloc, request) {
+        let mut reply = Message::builder_error(request, vector)?;
+        let reason = error_codes::reason(code).unwrap_or("Bad Request");
+        reply.add_attribute(&ErrorCode::new(alloc, code, reason)?)?;
+        return Ok(reply);
+    }
+    let id = request.transaction_id();
+    let mut reply = Message::builder_success(request, vector)?;
+    reply.add_attribute(&XorRelayedAddress::new(relayed, id))?;
+    let requested = request.attribute::<Lifetime>(alloc).ok();
+    let seconds = allocation_lifetime(requested.map(|it| it.seconds()), LIMIT);
+    reply.add_attribute(&Lifetime::new(seconds))?;
+    reply.add_attribute(&XorMappedAddress::new(client, id))?;
+    Ok(reply)
+}
+
+/// The response to a request that is authenticated, signed as the request is: 420 if it shows types
+/// that must be understood and aren't.
 fn allocated(
     alloc: Global,
     request: &Message<'_>,
@@ -111,23 +138,13 @@ fn allocated(
     requires { class_of (type_field (message_bytes request.now)) ≡ Request }
 {
     let vector = MessageWriteVec::new(alloc);
-    let id = request.transaction_id();
-    let mut reply = match allocation_fault(alloc, request) {
-        Some(code) => {
-            let mut reply = Message::builder_error(request, vector)?;
-            let reason = error_codes::reason(code).unwrap_or("Bad Request");
-            reply.add_attribute(&ErrorCode::new(alloc, code, reason)?)?;
-            reply
-        }
-        None => {
-            let mut reply = Message::builder_success(request, vector)?;
-            reply.add_attribute(&XorRelayedAddress::new(relayed, id))?;
-            let requested = request.attribute::<Lifetime>(alloc).ok();
-            let seconds = allocation_lifetime(requested.map(|it| it.seconds()), LIMIT);
-            reply.add_attribute(&Lifetime::new(seconds))?;
-            reply.add_attribute(&XorMappedAddress::new(client, id))?;
-            reply
-        }
+    // A server that handles all attributes of TURN has `turn_attrs::KNOWN` for `handled`.
+    let handled = [RequestedTransport::TYPE, Lifetime::TYPE];
+    let known = [&KNOWN[..], &handled];
+    let unknown = Message::check_attribute_lists(alloc, request, &known, &[], vector)?;
+    let mut reply = match unknown {
+        Some(reply) => reply,
+        None => allocation(alloc, request, client, relayed)?,
     };
     accepted.finish_reply(true, &mut reply)?;
     Ok(reply.finish())

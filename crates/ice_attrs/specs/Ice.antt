@@ -1,9 +1,11 @@
 -- ICE: its attributes (RFC 8445, section 16.1), the priority of a candidate (section 5.1.2) and that of
 -- a pair (section 6.1.2.3).
-use Rattle.std.specs.Prelude.{ℕ, ◌+◌, ◌*◌, ◌-◌, ◌^◌, min, max, nat_lt, ◌==◌, Option, Some, None, if◌then◌else◌}
+use Rattle.std.specs.Prelude.{ℕ, ◌+◌, ◌*◌, ◌-◌, ◌^◌, min, max, nat_lt, ◌==◌, Option, Some, None, if◌then◌else◌, codes}
 use Rattle.std.specs.Option.{option_or}
 use Rattle.stun_grammar.specs.declared.error.StunWriteError.{StunWriteError}
 use Rattle.stun_grammar.specs.declared.error.StunWriteError.TheVariants.{OutOfRange}
+use Rattle.stun_types.specs.declared.attribute.known.ValueForm.TheVariants.{Number, Octets, Other}
+use Rattle.stun_types.specs.KnownTypes.{Known, says}
 
 abbrev pub PRIORITY : ℕ
 PRIORITY = 0x0024
@@ -49,3 +51,13 @@ no_priority n =
 -- why a pair has none: the first of the two that is no priority
 abbrev pub pair_fault : (controlling controlled : ℕ) → Option StunWriteError
 pair_fault controlling controlled = option_or (no_priority controlling) (no_priority controlled)
+
+-- ---- What the RFCs say of the types
+
+-- the tiebreakers are numbers that mean nothing but to be compared
+abbrev pub known_type : ℕ → Option Known
+known_type type =
+    if type == PRIORITY then says 8445 (codes "PRIORITY") (Number 4 0 (2 ^ 32 - 1)) else (
+    if type == USE_CANDIDATE then says 8445 (codes "USE-CANDIDATE") Other else (
+    if type == ICE_CONTROLLED then says 8445 (codes "ICE-CONTROLLED") (Octets 8) else (
+    if type == ICE_CONTROLLING then says 8445 (codes "ICE-CONTROLLING") (Octets 8) else None)))

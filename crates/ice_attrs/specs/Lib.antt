@@ -4,4 +4,3 @@ pub mod Roles
 pub mod Credentials
 pub mod CheckUsernames
 pub mod Symmetry
-pub mod IceTypes

@@ -4,7 +4,7 @@
 ghost use Rattle.std.specs.Prelude.{◌≡◌};
 ghost use Rattle.std.specs.Option.{option_map};
 ghost use Rattle.stun_types.specs.KnownTypes.{facts};
-ghost use Rattle.ice_attrs.specs.IceTypes.{known_type};
+ghost use Rattle.ice_attrs.specs.Ice.{known_type};
 
 use stun_types::attribute::{AttributeType, KnownType, ValueForm};
 
@@ -54,12 +54,13 @@ pub fn known_type(atype: u16) -> Option<KnownType>
     }
 }
 
-/// The types of the attributes of ICE, for `Message::check_attribute_types`.
+/// The types of the attributes of ICE, for `Message::check_attribute_lists`, beside
+/// `stun_types::attribute::KNOWN`.
 ///
 /// # Examples
 ///
 /// ```
-/// use ice_attrs::KNOWN;
+/// use stun_types::attribute::KNOWN;
 /// use stun_types::message::{Message, MessageWriteVec};
 ///
 /// // A check with a PRIORITY.
@@ -67,11 +68,11 @@ pub fn known_type(atype: u16) -> Option<KnownType>
 ///     b"\x00\x01\x00\x08\x21\x12\xA4\x42\xB7\xE7\xA7\x01\xBC\x34\xD6\x86\xFA\x87\xDF\xAE\
 ///       \x00\x24\x00\x04\x6E\x00\x01\xFF",
 /// )?;
-/// let reply = MessageWriteVec::new(alloc);
-/// assert!(rt; Message::check_attribute_types(alloc, &check, &KNOWN, &[], reply)?.is_none());
+/// let (known, reply) = ([&KNOWN[..], &ice_attrs::KNOWN], MessageWriteVec::new(alloc));
+/// assert!(rt; Message::check_attribute_lists(alloc, &check, &known, &[], reply)?.is_none());
 /// // An agent that didn't understand PRIORITY would answer with error 420.
 /// let reply = MessageWriteVec::new(alloc);
-/// assert!(rt; Message::check_attribute_types(alloc, &check, &[], &[], reply)?.is_some());
+/// assert!(rt; Message::check_attribute_types(alloc, &check, &KNOWN, &[], reply)?.is_some());
 /// ```
 pub const KNOWN: [AttributeType; 4] = [
     AttributeType(PRIORITY),

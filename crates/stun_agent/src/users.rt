@@ -11,13 +11,12 @@ ghost use Rattle.stun_agent.specs.Issued.{algorithms_of};
 use std::alloc::Global;
 use std::net::SocketAddr;
 use stun_authentication::{
-    Accepted, Authentication, Demand, Logins, NonceState, Nonces, Policy, Refusal,
-    authenticate_long_term, authenticate_short_term, refuse_long_term, refuse_short_term,
+    Accepted, Authentication, Challenge, ChallengeError, Logins, NonceState, Nonces, Policy,
+    Refusal, authenticate_long_term, authenticate_short_term, refuse_long_term, refuse_short_term,
     security_features,
 };
 use stun_types::attribute::{
-    AttributeStaticType, Fingerprint, KNOWN, Nonce, PasswordAlgorithmValue, PasswordAlgorithms,
-    Realm, XorMappedAddress,
+    AttributeStaticType, Fingerprint, KNOWN, Nonce, PasswordAlgorithmValue, Realm, XorMappedAddress,
 };
 use stun_types::message::{
     BINDING, LongTermCredentials, Message, MessageClass, MessageWriteVec, StunWriteError,
@@ -121,20 +120,20 @@ fn success(
     Ok(reply)
 }
 
-/// What a client of long-term credentials is asked for.
-fn demand(alloc: Global, issued: Issued<'_>) -> Result<Demand, StunWriteError> {
-    let promises = security_features(issued.fresh.as_bytes()).is_some_and(
-        |features| features.password_algorithms,
-    );
-    let algorithms = if promises {
-        Some(PasswordAlgorithms::new(alloc, &ALGORITHMS)?)
-    } else {
-        None
-    };
-    let realm = Realm::new(alloc, REALM)?;
-    let nonce = Nonce::new(alloc, issued.fresh)?;
-    match Demand::new(realm, nonce, algorithms) {
-        Ok(demand) => Ok(demand),
+/// The error response to a request, with what a client of long-term credentials is asked for.
+fn refused(
+    alloc: Global,
+    issued: Issued<'_>,
+    request: &Message<'_>,
+    why: Refusal,
+) -> Result<MessageWriteVec, StunWriteError>
+    requires { class_of (type_field (message_bytes request.now)) ≡ Request }
+{
+    let algorithms = algorithms_of(issued.fresh.as_bytes());
+    let (realm, nonce) = (Realm::new(alloc, REALM)?, Nonce::new(alloc, issued.fresh)?);
+    match Challenge::new(alloc, &realm, &nonce, algorithms) {
+        Ok(asked) => refuse_long_term(alloc, request, why, &asked, MessageWriteVec::new(alloc)),
+        Err(ChallengeError::OutOfMemory) => Err(StunWriteError::OutOfMemory),
         Err(_) => unreachable!(),
     }
 }
@@ -186,9 +185,7 @@ fn by_long_term(
             Ok(AuthenticatedReply::Accepted(Some(reply)))
         }
         Authentication::Refused(why) if is_request => {
-            let demand = demand(alloc, issued)?;
-            let vector = MessageWriteVec::new(alloc);
-            let reply = refuse_long_term(alloc, message, why, &demand, vector)?;
+            let reply = refused(alloc, issued, message, why)?;
             Ok(AuthenticatedReply::Refused(printed(reply)?))
         }
         _ => Ok(AuthenticatedReply::Discarded),

@@ -2,18 +2,17 @@
 -- answers, or hands on to the next.
 use Rattle.std.specs.Prelude.{ℕ, Bool, false, not, ◌||◌, ◌&&◌, List, Option, None, Some, is_some, Result, Ok, Err, nat_eq, if◌then◌else◌, option_and_then}
 use Rattle.std.specs.Cmp.Lexicographic.{pointwise}
-use Rattle.std.specs.Option.{option_map, option_map_or}
+use Rattle.std.specs.Option.{option_map_or}
 use Rattle.stun_grammar.specs.declared.integrity_algorithm.IntegrityAlgorithm.{IntegrityAlgorithm}
-use Rattle.stun_grammar.specs.declared.integrity_algorithm.IntegrityAlgorithm.TheVariants.{Sha1, Sha256}
 use Rattle.stun_grammar.specs.AttributeTypes.{REALM, NONCE, PASSWORD_ALGORITHMS}
 use Rattle.stun_values.specs.declared.algorithm.PasswordAlgorithmValue.{PasswordAlgorithmValue}
 use Rattle.stun_values.specs.declared.algorithm.PasswordAlgorithmValue.TheVariants.{MD5}
 use Rattle.stun_values.specs.Algorithms.{algorithm_number}
 use Rattle.stun_values.specs.TextValues.{text_max, text_fault}
-use Rattle.stun_authentication.specs.declared.challenge.Challenge.{Challenge}
-use Rattle.stun_authentication.specs.declared.challenge.NoRetry.{NoRetry}
-use Rattle.stun_authentication.specs.declared.challenge.NoRetry.TheVariants.{NotAChallenge, BidDown, Incomplete, NoAlgorithm, SameCredentials}
-use Rattle.stun_authentication.specs.Asking.{Asked, asked_for}
+use Rattle.stun_authentication.specs.declared.retry.Retry.{Retry as HeldRetry}
+use Rattle.stun_authentication.specs.declared.retry.NoRetry.{NoRetry}
+use Rattle.stun_authentication.specs.declared.retry.NoRetry.TheVariants.{NotAChallenge, BidDown, Incomplete, NoAlgorithm, SameCredentials}
+use Rattle.stun_authentication.specs.Asking.{Asked, asked_for, asked_in, signing_by}
 use Rattle.stun_authentication.specs.Codes.{is_code, response_code, is_challenge}
 use Rattle.stun_authentication.specs.Cookies.{promises_algorithms}
 use Rattle.stun_authentication.specs.Identities.{value_of}
@@ -28,17 +27,10 @@ pub record Retry : Type 0 where
 abbrev pub retry_with : Asked → PasswordAlgorithmValue → Retry
 retry_with asked algorithm = record { asked = asked; algorithm = algorithm }
 
-abbrev pub retry_of : Challenge → Retry
-retry_of c =
-    retry_with (asked_for c.realm.now c.nonce.now (option_map (λ value. value.now) c.list))
-    c.algorithm
+abbrev pub retry_of : HeldRetry → Retry
+retry_of retry = retry_with (asked_in retry.challenge) retry.algorithm
 
--- the algorithm by which the request is signed: SHA-256 alone if there is a list (the last
--- paragraph), otherwise SHA-1, for a server of RFC 5389
-abbrev pub signing_by : Option (List ℕ) → IntegrityAlgorithm
-signing_by None = Sha1
-signing_by (Some list) = Sha256
-
+-- the algorithm by which the request is signed
 abbrev pub signing_algorithm : Retry → IntegrityAlgorithm
 signing_algorithm retry = signing_by retry.asked.list
 

@@ -1,22 +1,18 @@
 -- The error response to a request that is refused (RFC 8489, sections 9.1.3 and 9.2.4).
-use Rattle.std.specs.Prelude.{ℕ, List, [], ◌∷◌, ◌++◌, Option, None, Some, is_some, if◌then◌else◌}
-use Rattle.std.specs.Option.{option_map}
+use Rattle.std.specs.Prelude.{ℕ, List, [], ◌∷◌, ◌++◌, length, Option, None, Some, is_some, nat_lt, if◌then◌else◌}
+use Rattle.std.specs.Option.{option_or}
 use Rattle.stun_grammar.specs.Attributes.{Attribute, canonical}
 use Rattle.stun_grammar.specs.AttributeTypes.{REALM, NONCE, PASSWORD_ALGORITHMS}
 use Rattle.stun_grammar.specs.Headers.{id_field}
 use Rattle.stun_grammar.specs.Writing.{message_encoding}
 use Rattle.stun_base.specs.declared.message_class.MessageClass.TheVariants.{Error as ErrorClass}
-use Rattle.stun_attributes.specs.declared.password_algorithms.PasswordAlgorithms.{PasswordAlgorithms}
-use Rattle.stun_attributes.specs.PasswordAlgorithms.{held_algorithms}
-use Rattle.stun_attributes.specs.Texts.{text_bytes}
 use Rattle.stun_types.specs.Replies.{error_attribute, response_type}
-use Rattle.stun_values.specs.Algorithms.{algorithms_encoding}
+use Rattle.stun_values.specs.declared.algorithm.PasswordAlgorithmValue.{PasswordAlgorithmValue}
 use Rattle.stun_authentication.specs.declared.answer.Refusal.{Refusal}
 use Rattle.stun_authentication.specs.declared.answer.Refusal.TheVariants.{BadRequest, Unauthenticated, StaleNonce}
-use Rattle.stun_authentication.specs.declared.demand.Demand.{Demand}
-use Rattle.stun_authentication.specs.declared.demand.Mismatch.{Mismatch}
-use Rattle.stun_authentication.specs.declared.demand.Mismatch.TheVariants.{NoList, NotPromised}
-use Rattle.stun_authentication.specs.Asking.{Asked, asked_for}
+use Rattle.stun_authentication.specs.declared.challenge.ChallengeError.{ChallengeError}
+use Rattle.stun_authentication.specs.declared.challenge.ChallengeError.TheVariants.{NoList, NotPromised, TooMany}
+use Rattle.stun_authentication.specs.Asking.{Asked, listed}
 use Rattle.stun_authentication.specs.Answers.{refusal_code, refusal_reason}
 use Rattle.stun_authentication.specs.Cookies.{promises_algorithms}
 use Rattle.stun_authentication.specs.Policies.{is_fingerprinted}
@@ -26,19 +22,18 @@ use Rattle.stun_authentication.specs.Writing.{finished, print_steps, step_sizes,
 
 -- why a nonce isn't sent with a list, or without one: its cookie says that there is one exactly if
 -- there is one (section 9.2.4, the first check)
-abbrev pub mismatch : Asked → Option Mismatch
-mismatch asked =
-    if promises_algorithms asked.nonce
-    then (if is_some asked.list then None else Some NoList)
-    else (if is_some asked.list then Some NotPromised else None)
+abbrev pub mismatch : (nonce : List ℕ) → Option (List ℕ) → Option ChallengeError
+mismatch nonce list =
+    if promises_algorithms nonce
+    then (if is_some list then None else Some NoList)
+    else (if is_some list then Some NotPromised else None)
 
--- the value of PASSWORD-ALGORITHMS, if there are algorithms
-abbrev pub listed : Option PasswordAlgorithms → Option (List ℕ)
-listed algorithms = option_map (λ list. algorithms_encoding (held_algorithms list)) algorithms
-
-abbrev pub demanded : Demand → Asked
-demanded demand =
-    asked_for (text_bytes demand.realm) (text_bytes demand.nonce) (listed demand.algorithms)
+-- why a server doesn't ask for this: also if an attribute has no room for the algorithms, four bytes
+-- each
+abbrev pub challenge_error : (nonce : List ℕ) → List PasswordAlgorithmValue → Option ChallengeError
+challenge_error nonce algorithms =
+    option_or (mismatch nonce (listed algorithms))
+    (if nat_lt 16383 (length algorithms) then Some TooMany else None)
 
 -- PASSWORD-ALGORITHMS, if there is a list
 abbrev pub list_attributes : Option (List ℕ) → List Attribute

@@ -15,10 +15,10 @@
 //! use rand::{Rng, make_rng};
 //! use std::net::SocketAddr;
 //! use stun_authentication::{
-//!     Authentication, Demand, Logins, NonceMaker, Policy, Refusal, SecurityFeatures,
+//!     Authentication, Challenge, Logins, NonceMaker, Policy, Refusal, SecurityFeatures,
 //!     answer_challenge, authenticate_long_term, challenge_of, refuse_long_term,
 //! };
-//! use stun_types::attribute::{PasswordAlgorithmValue, PasswordAlgorithms, Realm};
+//! use stun_types::attribute::{PasswordAlgorithmValue, Realm};
 //! use stun_types::message::{
 //!     BINDING, IntegrityAlgorithm, IntegrityKey, LongTermCredentials, Message, MessageWriteVec,
 //! };
@@ -41,16 +41,16 @@
 //! let first = Message::builder_request(BINDING, &mut rng, vector)?.finish();
 //! let first = Message::from_bytes(&first)?;
 //! let nonce = maker.make(alloc, now, &client)?;
-//! let list = PasswordAlgorithms::new(alloc, &algorithms)?;
-//! let demand = Demand::new(Realm::new(alloc, "example.org")?, nonce, Some(list))?;
+//! let realm = Realm::new(alloc, "example.org")?;
+//! let challenge = Challenge::new(alloc, &realm, &nonce, &algorithms)?;
 //! let (refusal, vector) = (Refusal::Unauthenticated, MessageWriteVec::new(alloc));
-//! let refused = refuse_long_term(alloc, &first, refusal, &demand, vector)?.finish();
+//! let refused = refuse_long_term(alloc, &first, refusal, &challenge, vector)?.finish();
 //!
 //! // The client answers with its name and password.
 //! let response = Message::from_bytes(&refused)?;
-//! let challenge = challenge_of(&response, &algorithms, None, false)?;
+//! let retry = challenge_of(&response, &algorithms, None, false)?;
 //! let mut second = Message::builder_request(BINDING, &mut rng, MessageWriteVec::new(alloc))?;
-//! answer_challenge(alloc, &challenge, "alice", "wonderland", true, &mut second)?;
+//! answer_challenge(alloc, &retry, "alice", "wonderland", true, &mut second)?;
 //! let second = second.finish();
 //!
 //! // The server accepts the second request.
@@ -71,7 +71,6 @@ mod answer;
 mod challenge;
 mod codes;
 mod cookie;
-mod demand;
 mod finishing;
 mod identity;
 mod laws;
@@ -87,10 +86,9 @@ mod short_term;
 mod writing;
 
 pub use answer::{Accepted, Authentication, Refusal};
-pub use challenge::{Challenge, NoRetry};
+pub use challenge::{Challenge, ChallengeError};
 pub use codes::{is_challenge, response_code, shown_code};
 pub use cookie::{SecurityFeatures, nonce_cookie, security_features};
-pub use demand::{Demand, Mismatch};
 pub use finishing::finish_reply_with_key;
 pub use identity::Identity;
 pub use laws::{
@@ -104,5 +102,5 @@ pub use lookups::{LongTermKeys, NonceState, Nonces, ShortTermKeys};
 pub use nonces::{Freshness, NonceMaker, NoncesOf, SECRET_MIN, SecretError};
 pub use policy::{Policy, has_least_length};
 pub use refusing::{refuse_long_term, refuse_short_term};
-pub use retry::{challenge_of, is_bid_down};
+pub use retry::{NoRetry, Retry, challenge_of, is_bid_down};
 pub use short_term::authenticate_short_term;

@@ -1,20 +1,19 @@
 //! A client's next request: what it carries of a challenge (RFC 8489, section 9.2.5).
 
 ghost use Rattle.std.specs.Prelude.{◌≡◌, ◌≤◌, ◌∷◌, [], None, Some, IfOk, IfErr, MatchResult, length};
-ghost use Rattle.stun_grammar.specs.Attributes.{canonical};
-ghost use Rattle.stun_grammar.specs.AttributeTypes.{REALM, NONCE};
 ghost use Rattle.stun_keys.specs.Keys.{IsKey, key_algorithm, key_bytes};
 ghost use Rattle.stun_values.specs.TextValues.{username_max};
+ghost use Rattle.stun_authentication.specs.Asking.{asked_in};
 ghost use Rattle.stun_authentication.specs.Challenges.{retry_of};
 ghost use Rattle.stun_authentication.specs.Requests.{asked_identity, identity_attribute, algorithm_attributes, credentials, user_key, answering_attributes, login_steps, name_refusal, AnswersWith, AnswersFor};
 ghost use Rattle.stun_authentication.specs.Writing.{Lengthens, Finishes};
 
-use crate::Challenge;
-use crate::writing::{add_bytes, sign_and_print};
+use crate::writing::{add_bytes, add_copies, sign_and_print};
+use crate::{Challenge, Retry};
 use std::alloc::Global;
 use stun_keys::keys::key_of_texts;
 use stun_types::attribute::{
-    AttributeStaticType, Nonce, PasswordAlgorithm, PasswordAlgorithms, Realm, Userhash, Username,
+    AttributeStaticType, PasswordAlgorithm, PasswordAlgorithms, Userhash, Username,
 };
 use stun_types::message::{IntegrityKey, StunWriteError};
 use stun_types::prelude::*;
@@ -42,24 +41,24 @@ use stun_values::{USERNAME_MAX, write_algorithm};
 ///       \x80\x02\x00\x08\x00\x01\x00\x00\x00\x02\x00\x00",
 /// )?;
 /// let supported = [PasswordAlgorithmValue::SHA256];
-/// let challenge = challenge_of(&response, &supported, None, false)?;
+/// let retry = challenge_of(&response, &supported, None, false)?;
 /// // The SHA-256 of `George:example.com:secret`.
-/// let key = key_for(alloc, &challenge, "George", "secret")?;
+/// let key = key_for(alloc, &retry, "George", "secret")?;
 /// assert!(rt; key.as_bytes().starts_with(&[0x9C, 0x61, 0x08, 0xE0, 0x37, 0x2F, 0x04, 0xB7]));
 /// ```
 pub fn key_for(
     alloc: Global,
-    challenge: &Challenge<'_>,
+    retry: &Retry<'_>,
     name: &str,
     password: &str,
 ) -> Result<IntegrityKey, StunWriteError>
     ensures key { IfOk result (IsKey None
-        (user_key (retry_of challenge.now)
+        (user_key (retry_of retry.now)
         (record { name = name.now; password = password.now }))) }
     ensures err { IfErr result (λ e. e ≡ StunWriteError.OutOfMemory) }
 {
-    let algorithm = challenge.password_algorithm().as_integrity();
-    let key = key_of_texts(alloc, name, challenge.realm(), password, algorithm)?;
+    let algorithm = retry.algorithm.as_integrity();
+    let key = key_of_texts(alloc, name, retry.challenge.realm(), password, algorithm)?;
     Ok(key.for_both())
 }
 
@@ -70,9 +69,8 @@ fn add_identity<B: MessageWrite>(
     write: &mut B,
 ) -> Result<(), StunWriteError>
     requires { length name.now ≤ username_max }
-    ensures { let retry = retry_of challenge.now in
-        Lengthens result (B.state write.old) (B.state write.new)
-        (identity_attribute (asked_identity retry.asked name.now) ∷ []) }
+    ensures { Lengthens result (B.state write.old) (B.state write.new)
+        (identity_attribute (asked_identity (asked_in challenge.now) name.now) ∷ []) }
 {
     if challenge.is_anonymous() {
         let hash = Userhash::compute(name, challenge.realm());
@@ -81,50 +79,34 @@ fn add_identity<B: MessageWrite>(
     add_bytes(Username::TYPE, name.as_bytes(), write)
 }
 
-/// Adds REALM and NONCE.
-fn add_copies<B: MessageWrite>(
-    challenge: &Challenge<'_>,
-    write: &mut B,
-) -> Result<(), StunWriteError>
-    ensures { let retry = retry_of challenge.now in
-        Lengthens result (B.state write.old) (B.state write.new)
-        (canonical REALM retry.asked.realm ∷ canonical NONCE retry.asked.nonce ∷ []) }
-{
-    add_bytes(Realm::TYPE, challenge.realm().as_bytes(), write)?;
-    add_bytes(Nonce::TYPE, challenge.nonce().as_bytes(), write)
-}
-
 /// Adds PASSWORD-ALGORITHMS, as it came, and PASSWORD-ALGORITHM, if the challenge has a list.
-fn add_algorithms<B: MessageWrite>(
-    challenge: &Challenge<'_>,
-    write: &mut B,
-) -> Result<(), StunWriteError>
-    ensures { let retry = retry_of challenge.now in
+fn add_algorithms<B: MessageWrite>(retry: &Retry<'_>, write: &mut B) -> Result<(), StunWriteError>
+    ensures { let how = retry_of retry.now in
         Lengthens result (B.state write.old) (B.state write.new)
-        (algorithm_attributes retry.asked.list retry.algorithm) }
+        (algorithm_attributes how.asked.list how.algorithm) }
 {
-    let Some(list) = challenge.password_algorithms() else {
+    let Some(list) = retry.challenge.password_algorithms() else {
         return Ok(());
     };
     let mut one = [0u8; 4];
-    write_algorithm(challenge.password_algorithm(), &mut one);
+    write_algorithm(retry.algorithm, &mut one);
     add_bytes(PasswordAlgorithms::TYPE, list, write)?;
     add_bytes(PasswordAlgorithm::TYPE, &one, write)
 }
 
 /// Adds what a request carries of a challenge, before it is signed.
 fn add_credentials<B: MessageWrite>(
-    challenge: &Challenge<'_>,
+    retry: &Retry<'_>,
     name: &str,
     write: &mut B,
 ) -> Result<(), StunWriteError>
     requires { length name.now ≤ username_max }
     ensures { Lengthens result (B.state write.old) (B.state write.new)
-        (credentials (retry_of challenge.now) name.now) }
+        (credentials (retry_of retry.now) name.now) }
 {
-    add_identity(challenge, name, write)?;
-    add_copies(challenge, write)?;
-    add_algorithms(challenge, write)
+    add_identity(&retry.challenge, name, write)?;
+    add_copies(&retry.challenge, write)?;
+    add_algorithms(retry, write)
 }
 
 /// Checks that a USERNAME has room for a name.
@@ -144,20 +126,25 @@ fn check_name(name: &str) -> Result<(), StunWriteError>
 /// Adds what a request carries of a challenge, and finishes it with a key, whichever algorithm the
 /// key was made for.
 fn answer_by<B: MessageWrite>(
-    challenge: &Challenge<'_>,
+    retry: &Retry<'_>,
     name: &str,
     key: &IntegrityKey,
     fingerprint: bool,
     write: &mut B,
 ) -> Result<(), StunWriteError>
     requires { length name.now ≤ username_max }
-    ensures { let retry = retry_of challenge.now in let key = key_bytes key.now in
+    ensures { let how = retry_of retry.now in let key = key_bytes key.now in
         Finishes result (B.state write.old) (B.state write.new)
-        (answering_attributes fingerprint retry name.now key)
-        (login_steps fingerprint retry name.now key) }
+        (answering_attributes fingerprint how name.now key)
+        (login_steps fingerprint how name.now key) }
 {
-    add_credentials(challenge, name, write)?;
-    sign_and_print(key, challenge.integrity_algorithm(), fingerprint, write)
+    add_credentials(retry, name, write)?;
+    sign_and_print(
+        key,
+        retry.challenge.integrity_algorithm(),
+        fingerprint,
+        write,
+    )
 }
 
 /// Answers a challenge with a key that [`key_for`] made, as [`answer_challenge`] does: a client
@@ -194,35 +181,35 @@ fn answer_by<B: MessageWrite>(
 ///       \x80\x02\x00\x08\x00\x01\x00\x00\x00\x02\x00\x00",
 /// )?;
 /// let supported = [PasswordAlgorithmValue::SHA256];
-/// let challenge = challenge_of(&response, &supported, None, false)?;
-/// let key = key_for(alloc, &challenge, "George", "secret")?;
+/// let retry = challenge_of(&response, &supported, None, false)?;
+/// let key = key_for(alloc, &retry, "George", "secret")?;
 /// // Two requests with the same key, each in a slice.
 /// let mtype = MessageType::from_class_method(MessageClass::Request, BINDING);
 /// for number in 1..3 {
 ///     let mut slice = [0; 256];
 ///     let write = MessageWriteMutSlice::new(alloc, &mut slice);
 ///     let mut request = Message::builder(mtype, TransactionId::from(number), write)?;
-///     answer_challenge_with_key(&challenge, "George", &key, true, &mut request)?;
+///     answer_challenge_with_key(&retry, "George", &key, true, &mut request)?;
 ///     let length = request.finish();
 ///     let request = Message::from_bytes(&slice[..length])?;
 ///     assert!(rt; request.validate_integrity_with_key(&key).is_ok());
 /// }
 /// ```
 pub fn answer_challenge_with_key<B: MessageWrite>(
-    challenge: &Challenge<'_>,
+    retry: &Retry<'_>,
     name: &str,
     key: &IntegrityKey,
     fingerprint: bool,
     write: &mut B,
 ) -> Result<(), StunWriteError>
-    ensures { AnswersWith (retry_of challenge.now) name.now (key_algorithm key.now)
+    ensures { AnswersWith (retry_of retry.now) name.now (key_algorithm key.now)
         (key_bytes key.now) fingerprint result (B.state write.old) (B.state write.new) }
 {
     check_name(name)?;
-    if !key.serves(challenge.integrity_algorithm()) {
+    if !key.serves(retry.challenge.integrity_algorithm()) {
         return Err(StunWriteError::IntegrityFailed);
     }
-    answer_by(challenge, name, key, fingerprint, write)
+    answer_by(retry, name, key, fingerprint, write)
 }
 
 /// Answers a challenge (RFC 8489, section 9.2.5): after the attributes that a request has already,
@@ -266,12 +253,12 @@ pub fn answer_challenge_with_key<B: MessageWrite>(
 ///       \x80\x02\x00\x08\x00\x01\x00\x00\x00\x02\x00\x00",
 /// )?;
 /// let supported = [PasswordAlgorithmValue::SHA256];
-/// let challenge = challenge_of(&response, &supported, None, false)?;
+/// let retry = challenge_of(&response, &supported, None, false)?;
 /// let mut rng: StdRng = make_rng(&rt)?;
 /// let vector = MessageWriteVec::new(alloc);
 /// let mut request = Message::builder_request(methods::ALLOCATE, &mut rng, vector)?;
 /// request.add_attribute(&RequestedTransport::new(17))?;
-/// let key = answer_challenge(alloc, &challenge, "George", "secret", true, &mut request)?;
+/// let key = answer_challenge(alloc, &retry, "George", "secret", true, &mut request)?;
 /// let bytes = request.finish();
 /// let request = Message::from_bytes(&bytes)?;
 /// assert_eq!(rt; request.attribute::<Username>(alloc)?.username(), "George");
@@ -279,21 +266,21 @@ pub fn answer_challenge_with_key<B: MessageWrite>(
 /// ```
 pub fn answer_challenge<B: MessageWrite>(
     alloc: Global,
-    challenge: &Challenge<'_>,
+    retry: &Retry<'_>,
     name: &str,
     password: &str,
     fingerprint: bool,
     write: &mut B,
 ) -> Result<IntegrityKey, StunWriteError>
-    ensures answer { AnswersFor (retry_of challenge.now)
+    ensures answer { AnswersFor (retry_of retry.now)
         (record { name = name.now; password = password.now }) fingerprint result
         (B.state write.old) (B.state write.new) }
     ensures key { IfOk result (IsKey None
-        (user_key (retry_of challenge.now)
+        (user_key (retry_of retry.now)
         (record { name = name.now; password = password.now }))) }
 {
     check_name(name)?;
-    let key = key_for(alloc, challenge, name, password)?;
-    answer_by(challenge, name, &key, fingerprint, write)?;
+    let key = key_for(alloc, retry, name, password)?;
+    answer_by(retry, name, &key, fingerprint, write)?;
     Ok(key)
 }

@@ -1,32 +1,26 @@
 //! The error response to a request that is refused.
 
-ghost use Rattle.std.specs.Prelude.{◌≡◌, ◌≢◌, ◌∷◌, ◌<◌, ◌^◌, [], length, None, Some, IfOk, OnOk, OnErr, MatchResult};
+ghost use Rattle.std.specs.Prelude.{◌≡◌, ◌≢◌, ◌∷◌, [], None, Some, IfOk, MatchResult};
 ghost use Rattle.std.specs.Option.{option_map};
 ghost use Rattle.stun_base.specs.MessageTypes.{class_of};
 ghost use Rattle.stun_base.specs.declared.message_class.MessageClass.TheVariants.{Request};
 ghost use Rattle.stun_attributes.specs.ErrorCodes.{error_code, error_reason, IsError};
-ghost use Rattle.stun_attributes.specs.PasswordAlgorithms.{held_algorithms};
-ghost use Rattle.stun_attributes.specs.Texts.{text_bytes};
-ghost use Rattle.stun_grammar.specs.Adding.{Fits, add_refusal, IsAddAnswer};
-ghost use Rattle.stun_grammar.specs.Attributes.{canonical, attribute_length};
-ghost use Rattle.stun_grammar.specs.AttributeTypes.{ERROR_CODE, REALM, NONCE, PASSWORD_ALGORITHMS};
+ghost use Rattle.stun_grammar.specs.Adding.{Fits};
+ghost use Rattle.stun_grammar.specs.Attributes.{canonical};
+ghost use Rattle.stun_grammar.specs.AttributeTypes.{ERROR_CODE};
 ghost use Rattle.stun_grammar.specs.Headers.{type_field};
-ghost use Rattle.stun_grammar.specs.Steps.{add};
 ghost use Rattle.stun_types.specs.Message.{message_bytes};
-ghost use Rattle.stun_values.specs.Algorithms.{algorithms_encoding};
 ghost use Rattle.stun_values.specs.ErrorValues.{error_value};
-ghost use Rattle.stun_types.specs.Writers.{Allocates, Gains, IsUnchanged, Spends};
 ghost use Rattle.stun_authentication.specs.declared.answer.Refusal.TheVariants.{StaleNonce};
 ghost use Rattle.stun_authentication.specs.Answers.{refusal_code, refusal_reason};
-ghost use Rattle.stun_authentication.specs.Refusing.{demanded, asked_attributes, carried, refusal_of, refusal_sizes};
+ghost use Rattle.stun_authentication.specs.Asking.{asked_in};
+ghost use Rattle.stun_authentication.specs.Refusing.{asked_attributes, carried, refusal_of, refusal_sizes};
 ghost use Rattle.stun_authentication.specs.Writing.{Lengthens, FailsFor, no_room};
 
-use crate::writing::{add_one, add_print};
-use crate::{Demand, Refusal};
+use crate::writing::{add_bytes, add_copies, add_one, add_print};
+use crate::{Challenge, Refusal};
 use std::alloc::Global;
-use stun_types::attribute::{
-    AttributeStaticType, ErrorCode, Fingerprint, Nonce, PasswordAlgorithms, Realm,
-};
+use stun_types::attribute::{AttributeStaticType, ErrorCode, Fingerprint, PasswordAlgorithms};
 use stun_types::message::{Message, StunWriteError};
 use stun_types::prelude::*;
 
@@ -39,58 +33,17 @@ fn add_error<B: MessageWrite>(attribute: &ErrorCode, write: &mut B) -> Result<()
     add_one(attribute, write)
 }
 
-/// Adds a REALM.
-fn add_realm<B: MessageWrite>(attribute: &Realm, write: &mut B) -> Result<(), StunWriteError>
-    ensures answer { IsAddAnswer
-        (add_refusal (add REALM (text_bytes attribute.now)) (B.state write.old).types
-        (length (B.state write.old).bytes) (B.state write.old).greatest)
-        (Allocates (B.state write.old) (length (text_bytes attribute.now))) result }
-    ensures gains { OnOk result (Gains (B.state write.old) (B.state write.new) REALM
-        (text_bytes attribute.now)) }
-    ensures same { OnErr result (IsUnchanged (B.state write.old) (B.state write.new)) }
-    ensures spends { Spends (B.state write.old) (B.state write.new)
-        (attribute_length (length (text_bytes attribute.now))) 1 }
-    ensures fits { length (text_bytes attribute.now) < 2 ^ 16 }
-{
-    write.add_attribute(attribute)
-}
-
-/// Adds a NONCE.
-fn add_nonce<B: MessageWrite>(attribute: &Nonce, write: &mut B) -> Result<(), StunWriteError>
-    ensures answer { IsAddAnswer
-        (add_refusal (add NONCE (text_bytes attribute.now)) (B.state write.old).types
-        (length (B.state write.old).bytes) (B.state write.old).greatest)
-        (Allocates (B.state write.old) (length (text_bytes attribute.now))) result }
-    ensures gains { OnOk result (Gains (B.state write.old) (B.state write.new) NONCE
-        (text_bytes attribute.now)) }
-    ensures same { OnErr result (IsUnchanged (B.state write.old) (B.state write.new)) }
-    ensures spends { Spends (B.state write.old) (B.state write.new)
-        (attribute_length (length (text_bytes attribute.now))) 1 }
-    ensures fits { length (text_bytes attribute.now) < 2 ^ 16 }
-{
-    write.add_attribute(attribute)
-}
-
-/// Adds a PASSWORD-ALGORITHMS.
-fn add_algorithms<B: MessageWrite>(
-    attribute: &PasswordAlgorithms,
+/// Adds what a response asks for: REALM and NONCE, and PASSWORD-ALGORITHMS if there is a list.
+fn add_asked<B: MessageWrite>(
+    challenge: &Challenge<'_>,
     write: &mut B,
 ) -> Result<(), StunWriteError>
     ensures { Lengthens result (B.state write.old) (B.state write.new)
-        (canonical PASSWORD_ALGORITHMS (algorithms_encoding (held_algorithms attribute.now)) ∷ []) }
+        (asked_attributes (asked_in challenge.now)) }
 {
-    add_one(attribute, write)
-}
-
-/// Adds what a response asks for: REALM and NONCE, and PASSWORD-ALGORITHMS if there are algorithms.
-fn add_demand<B: MessageWrite>(demand: &Demand, write: &mut B) -> Result<(), StunWriteError>
-    ensures { Lengthens result (B.state write.old) (B.state write.new)
-        (asked_attributes (demanded demand.now)) }
-{
-    add_realm(&demand.realm, write)?;
-    add_nonce(&demand.nonce, write)?;
-    match &demand.algorithms {
-        Some(algorithms) => add_algorithms(algorithms, write),
+    add_copies(challenge, write)?;
+    match challenge.password_algorithms() {
+        Some(list) => add_bytes(PasswordAlgorithms::TYPE, list, write),
         None => Ok(()),
     }
 }
@@ -98,15 +51,15 @@ fn add_demand<B: MessageWrite>(demand: &Demand, write: &mut B) -> Result<(), Stu
 /// Adds what a refusal carries beside its code.
 fn add_carried<B: MessageWrite>(
     refusal: Refusal,
-    demand: Option<&Demand>,
+    challenge: Option<&Challenge<'_>>,
     write: &mut B,
 ) -> Result<(), StunWriteError>
     ensures { Lengthens result (B.state write.old) (B.state write.new)
-        (carried refusal (option_map (λ one. demanded one.now) demand.entry)) }
+        (carried refusal (option_map (λ one. asked_in one.now) challenge.entry)) }
 {
-    match (refusal, demand) {
-        (Refusal::Unauthenticated, Some(demand)) => add_demand(demand, write),
-        (Refusal::StaleNonce, Some(demand)) => add_demand(demand, write),
+    match (refusal, challenge) {
+        (Refusal::Unauthenticated, Some(challenge)) => add_asked(challenge, write),
+        (Refusal::StaleNonce, Some(challenge)) => add_asked(challenge, write),
         _ => Ok(()),
     }
 }
@@ -125,22 +78,22 @@ fn refuse<B: MessageWrite + Drop>(
     alloc: Global,
     request: &Message<'_>,
     refusal: Refusal,
-    demand: Option<&Demand>,
+    challenge: Option<&Challenge<'_>>,
     write: B,
 ) -> Result<B, StunWriteError>
     requires request { class_of (type_field (message_bytes request.now)) ≡ Request }
     requires empty { (B.state write).bytes ≡ [] }
     requires room { Fits (B.state write).greatest 20 }
     ensures text { let r = message_bytes request.now in
-        IfOk result (λ w. (B.state w).bytes ≡ refusal_of r refusal (option_map (λ one. demanded one.now) demand.entry)) }
+        IfOk result (λ w. (B.state w).bytes ≡ refusal_of r refusal (option_map (λ one. asked_in one.now) challenge.entry)) }
     ensures answer { let r = message_bytes request.now in
         FailsFor (no_room (B.state write).greatest 20
-        (refusal_sizes r refusal (option_map (λ one. demanded one.now) demand.entry))) result }
+        (refusal_sizes r refusal (option_map (λ one. asked_in one.now) challenge.entry))) result }
 {
     let error = error_of(alloc, refusal)?;
     let mut write = Message::builder_error(request, write)?;
     add_error(&error, &mut write)?;
-    add_carried(refusal, demand, &mut write)?;
+    add_carried(refusal, challenge, &mut write)?;
     add_print(request.has_attribute(Fingerprint::TYPE), &mut write)?;
     Ok(write)
 }
@@ -200,7 +153,7 @@ pub fn refuse_short_term<B: MessageWrite + Drop>(
 
 /// Writes the error response to a request that was refused under long-term credentials: its
 /// ERROR-CODE, with the reason phrase of RFC 8489; in a 401 or a 438 REALM, NONCE and
-/// PASSWORD-ALGORITHMS, as `demand` has them (section 9.2.4), and in a 400 none of these; and a
+/// PASSWORD-ALGORITHMS, as `challenge` has them (section 9.2.4), and in a 400 none of these; and a
 /// FINGERPRINT if the request has one. It isn't signed, and has no USERNAME and no USERHASH. More
 /// attributes can be added only if there is no FINGERPRINT.
 ///
@@ -215,22 +168,22 @@ pub fn refuse_short_term<B: MessageWrite + Drop>(
 /// # Examples
 ///
 /// ```
-/// use stun_authentication::{Demand, Refusal, is_challenge, refuse_long_term};
-/// use stun_types::attribute::{Nonce, PasswordAlgorithmValue, PasswordAlgorithms, Realm};
+/// use stun_authentication::{Challenge, Refusal, is_challenge, refuse_long_term};
+/// use stun_types::attribute::{Nonce, PasswordAlgorithmValue, Realm};
 /// use stun_types::message::{Message, MessageWriteVec};
 /// use stun_types::prelude::*;
 ///
-/// // An unsigned request, and what the server of section 20 of RFC 8656 demands.
+/// // An unsigned request, and what the server of section 20 of RFC 8656 asks for.
 /// let request = Message::from_bytes(
 ///     b"\x00\x03\x00\x08\x21\x12\xA4\x42\xA5\x62\x50\xD3\xF1\x7A\xBE\x67\x94\x22\xDE\x85\
 ///       \x00\x19\x00\x04\x11\x00\x00\x00",
 /// )?;
 /// let nonce = Nonce::new(alloc, "obMatJos2gAAAadl7W7PeDU4hKE72jda")?;
 /// let both = [PasswordAlgorithmValue::MD5, PasswordAlgorithmValue::SHA256];
-/// let list = PasswordAlgorithms::new(alloc, &both)?;
-/// let demand = Demand::new(Realm::new(alloc, "example.com")?, nonce, Some(list))?;
+/// let realm = Realm::new(alloc, "example.com")?;
+/// let challenge = Challenge::new(alloc, &realm, &nonce, &both)?;
 /// let (refusal, vector) = (Refusal::Unauthenticated, MessageWriteVec::new(alloc));
-/// let bytes = refuse_long_term(alloc, &request, refusal, &demand, vector)?.finish();
+/// let bytes = refuse_long_term(alloc, &request, refusal, &challenge, vector)?.finish();
 /// let response = Message::from_bytes(&bytes)?;
 /// assert!(rt; response.answers(&request) && is_challenge(&response));
 /// assert_eq!(rt; response.attribute::<Realm>(alloc)?.realm(), "example.com");
@@ -239,17 +192,17 @@ pub fn refuse_long_term<B: MessageWrite + Drop>(
     alloc: Global,
     request: &Message<'_>,
     refusal: Refusal,
-    demand: &Demand,
+    challenge: &Challenge<'_>,
     write: B,
 ) -> Result<B, StunWriteError>
     requires request { class_of (type_field (message_bytes request.now)) ≡ Request }
     requires empty { (B.state write).bytes ≡ [] }
     requires room { Fits (B.state write).greatest 20 }
     ensures text { let r = message_bytes request.now in
-        IfOk result (λ w. (B.state w).bytes ≡ refusal_of r refusal (Some (demanded demand.now))) }
+        IfOk result (λ w. (B.state w).bytes ≡ refusal_of r refusal (Some (asked_in challenge.now))) }
     ensures answer { let r = message_bytes request.now in
         FailsFor (no_room (B.state write).greatest 20
-        (refusal_sizes r refusal (Some (demanded demand.now)))) result }
+        (refusal_sizes r refusal (Some (asked_in challenge.now)))) result }
 {
-    refuse(alloc, request, refusal, Some(demand), write)
+    refuse(alloc, request, refusal, Some(challenge), write)
 }

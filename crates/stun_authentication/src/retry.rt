@@ -1,22 +1,72 @@
 //! A client's half of the long-term credential mechanism: whether a request is sent again with
 //! credentials, and what an error response asks for (RFC 8489, section 9.2.5).
 
-ghost use Rattle.std.specs.Prelude.{◌≡◌, ◌≤◌, Ok, Err, IfSome, MatchResult, length};
+ghost use Rattle.std.specs.Prelude.{◌≡◌, ◌≤◌, Ok, Err, IfOk, IfSome, MatchResult, length};
 ghost use Rattle.std.specs.Option.{option_map};
 ghost use Rattle.stun_types.specs.Message.{message_bytes};
 ghost use Rattle.stun_authentication.specs.Challenges.{retry_of, is_bid_down, text_of, selected, repeats, challenge_of};
 
+use crate::Challenge;
 use crate::algorithms::{first_listed, numbered};
 use crate::codes::{is_challenge, response_code};
 use crate::cookie::security_features;
 use crate::identity::value_of;
-use crate::{Challenge, NoRetry};
+use std::alloc::{AllocError, Global};
 use stun_types::attribute::{
     AttributeStaticType, AttributeType, ErrorCode, Nonce, PasswordAlgorithmValue,
     PasswordAlgorithms, Realm, read_text,
 };
 use stun_types::message::Message;
 use stun_values::{NONCE_MAX, REALM_MAX};
+
+/// How a request is sent again with credentials.
+#[derive(Debug, Drop)]
+pub struct Retry<'a> {
+    /// What the request is asked to carry.
+    pub challenge: Challenge<'a>,
+    /// The password algorithm of the key, which the PASSWORD-ALGORITHM of the request names if there
+    /// is a PASSWORD-ALGORITHMS: the first one on the list that is supported, and MD5 if there is no
+    /// list.
+    pub algorithm: PasswordAlgorithmValue,
+}
+
+/// Why a request isn't sent again with credentials.
+#[derive(Clone, Copy, Debug, PartialEq, Eq)]
+pub enum NoRetry {
+    /// The message is no error response with the code 401 or 438.
+    NotAChallenge,
+    /// The response shows no PASSWORD-ALGORITHMS, and its nonce promises one, or the server sent
+    /// one before. An attacker may have removed it, so that the client falls back to a weaker
+    /// algorithm.
+    BidDown,
+    /// The response shows no REALM or no NONCE, or one that is no text.
+    Incomplete,
+    /// The client supports none of the algorithms on the list; or there is no list, and it doesn't
+    /// support MD5.
+    NoAlgorithm,
+    /// The request that this 401 refuses had the same credentials, in the same realm.
+    SameCredentials,
+}
+
+impl Retry<'_> {
+    /// Copies what the challenge borrows into memory from `alloc`, as [`Challenge::into_owned`] does.
+    ///
+    /// # Errors
+    ///
+    /// Only if an allocation failed.
+    pub fn into_owned(self, alloc: Global) -> Result<Retry<'static>, AllocError>
+        ensures { IfOk result (λ owned. retry_of owned ≡ retry_of self.entry) }
+    {
+        let Retry {
+            challenge,
+            algorithm,
+        } = self;
+        Ok(Retry {
+            challenge: challenge.into_owned(alloc)?,
+            algorithm,
+        })
+    }
+}
 
 /// Returns `true` if the nonce of a response promises PASSWORD-ALGORITHMS, and the response shows
 /// none: an attacker may have removed it (RFC 8489, sections 9.2.1 and 9.2.5). A client that uses
@@ -84,8 +134,9 @@ fn repeats(response: &Message<'_>, tried: Option<&str>, realm: &str) -> bool
     }
 }
 
-/// Returns what a 401 or a 438 asks the next request to carry, or why the request isn't sent again
-/// (RFC 8489, section 9.2.5).
+/// Returns what a 401 or a 438 asks the next request to carry, and the password algorithm that the
+/// client selects; or why the request isn't sent again (RFC 8489, section 9.2.5). The challenge
+/// borrows from the bytes of the response; [`Retry::into_owned`] copies them.
 ///
 /// `supported` are the password algorithms that the client supports. Two more arguments say what
 /// the client knows from earlier challenges; they are `None` and `false` for the first:
@@ -126,10 +177,10 @@ fn repeats(response: &Message<'_>, tried: Option<&str>, realm: &str) -> bool
 ///       \x80\x02\x00\x08\x00\x01\x00\x00\x00\x02\x00\x00",
 /// )?;
 /// let supported = [PasswordAlgorithmValue::SHA256];
-/// let challenge = challenge_of(&response, &supported, None, false)?;
-/// assert_eq!(rt; challenge.realm(), "example.com");
-/// assert_eq!(rt; challenge.nonce(), "obMatJos2gAAAadl7W7PeDU4hKE72jda");
-/// assert_eq!(rt; challenge.password_algorithm(), PasswordAlgorithmValue::SHA256);
+/// let retry = challenge_of(&response, &supported, None, false)?;
+/// assert_eq!(rt; retry.challenge.realm(), "example.com");
+/// assert_eq!(rt; retry.challenge.nonce(), "obMatJos2gAAAadl7W7PeDU4hKE72jda");
+/// assert_eq!(rt; retry.algorithm, PasswordAlgorithmValue::SHA256);
 /// // The same response to a request that had credentials of this realm refuses them.
 /// let again = challenge_of(&response, &supported, Some("example.com"), false);
 /// assert_eq!(rt; again.err(), Some(NoRetry::SameCredentials));
@@ -139,10 +190,10 @@ pub fn challenge_of<'a>(
     supported: &[PasswordAlgorithmValue],
     tried: Option<&str>,
     had_algorithms: bool,
-) -> Result<Challenge<'a>, NoRetry>
+) -> Result<Retry<'a>, NoRetry>
     ensures { let retry = challenge_of supported.now (option_map (λ text. text.now) tried.entry)
         had_algorithms (message_bytes response.now) in
-        MatchResult result (λ challenge. retry ≡ Ok (retry_of challenge)) (λ e. retry ≡ Err e) }
+        MatchResult result (λ found. retry ≡ Ok (retry_of found)) (λ e. retry ≡ Err e) }
 {
     if !is_challenge(response) {
         return Err(NoRetry::NotAChallenge);
@@ -163,5 +214,8 @@ pub fn challenge_of<'a>(
     if repeats(response, tried, realm) {
         return Err(NoRetry::SameCredentials);
     }
-    Ok(Challenge::new(realm, nonce, list, algorithm))
+    Ok(Retry {
+        challenge: Challenge::of_response(realm, nonce, list),
+        algorithm,
+    })
 }

@@ -2,12 +2,14 @@
 
 ghost use Rattle.std.specs.Prelude.{◌≡◌, ◌≤◌, ◌<◌, ◌^◌, ◌∷◌, [], length};
 ghost use Rattle.stun_grammar.specs.Attributes.{canonical};
-ghost use Rattle.stun_grammar.specs.AttributeTypes.{IsOrdinary};
+ghost use Rattle.stun_grammar.specs.AttributeTypes.{IsOrdinary, REALM, NONCE};
 ghost use Rattle.stun_grammar.specs.Steps.{sign};
 ghost use Rattle.stun_keys.specs.Keys.{key_bytes};
+ghost use Rattle.stun_authentication.specs.Asking.{asked_in};
 ghost use Rattle.stun_authentication.specs.Writing.{Lengthens, Finishes, finished, signed, print_steps};
 
-use stun_types::attribute::AttributeType;
+use crate::Challenge;
+use stun_types::attribute::{AttributeStaticType, AttributeType, Nonce, Realm};
 use stun_types::message::{IntegrityAlgorithm, IntegrityKey, StunWriteError};
 use stun_types::prelude::*;
 
@@ -36,6 +38,19 @@ pub(crate) fn add_bytes<B: MessageWrite>(
         (canonical atype.0 value.now ∷ []) }
 {
     write.add_ordinary_value(atype, value)
+}
+
+/// Adds REALM and NONCE, which a response and the next request have alike.
+pub(crate) fn add_copies<B: MessageWrite>(
+    challenge: &Challenge<'_>,
+    write: &mut B,
+) -> Result<(), StunWriteError>
+    ensures { let asked = asked_in challenge.now in
+        Lengthens result (B.state write.old) (B.state write.new)
+        (canonical REALM asked.realm ∷ canonical NONCE asked.nonce ∷ []) }
+{
+    add_bytes(Realm::TYPE, challenge.realm().as_bytes(), write)?;
+    add_bytes(Nonce::TYPE, challenge.nonce().as_bytes(), write)
 }
 
 /// Adds a FINGERPRINT, if one is wanted.

@@ -28,7 +28,7 @@ use Rattle.stun_values.specs.TextValues.{text_max, text_fault}
 use Rattle.stun_authentication.specs.declared.answer.Refusal.{Refusal}
 use Rattle.stun_authentication.specs.declared.answer.Refusal.TheVariants.{BadRequest, Unauthenticated, StaleNonce}
 use Rattle.stun_authentication.specs.Refusing.{list_attributes, refusal_attributes}
-use Rattle.stun_authentication.specs.declared.challenge.NoRetry.TheVariants.{NotAChallenge, BidDown, Incomplete, NoAlgorithm, SameCredentials}
+use Rattle.stun_authentication.specs.declared.retry.NoRetry.TheVariants.{NotAChallenge, BidDown, Incomplete, NoAlgorithm, SameCredentials}
 use Rattle.stun_authentication.specs.Asking.{Asked, asked_for}
 use Rattle.stun_authentication.specs.Answers.{refusal_code, refusal_reason}
 use Rattle.stun_authentication.specs.Challenges.{retry_with, list_of, is_bid_down, lost_list, text_in, text_of, selected, repeats, by_credentials, by_algorithm, by_texts, by_list, challenge_of}

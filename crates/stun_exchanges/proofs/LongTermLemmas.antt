@@ -25,15 +25,15 @@ use Rattle.stun_values.specs.Algorithms.{algorithm_encoding, algorithms_encoding
 use Rattle.stun_authentication.specs.declared.answer.Refusal.TheVariants.{Unauthenticated}
 use Rattle.stun_authentication.specs.declared.policy.Policy.{Policy}
 use Rattle.stun_authentication.specs.Answers.{accept, refuse, decided, accepted as accepted_with}
-use Rattle.stun_authentication.specs.Asking.{Asked, asks_userhash}
-use Rattle.stun_authentication.specs.Challenges.{retry_with, signing_by, signing_algorithm, selected}
+use Rattle.stun_authentication.specs.Asking.{Asked, listed, asks_userhash, signing_by}
+use Rattle.stun_authentication.specs.Challenges.{retry_with, signing_algorithm, selected}
 use Rattle.stun_authentication.specs.Cookies.{promises_algorithms}
 use Rattle.stun_authentication.specs.Identities.{Who, named, hashed, value_of, one_of, identity_of}
 use Rattle.stun_authentication.specs.Lookups.{UserKey, Known, valid, unknown}
 use Rattle.stun_authentication.specs.LongTerm.{is_request, is_sent, is_listed, promised, chosen, key_of_user, reply_algorithm, lacks_credentials, shows_one_alone, shows_other_list, chooses_none_listed, rows_of_message, by_key, long_term}
 use Rattle.stun_authentication.specs.Lists.{both, sole_named}
 use Rattle.stun_authentication.specs.Policies.{is_taken, is_signed, proof_of}
-use Rattle.stun_exchanges.specs.Offers.{offered_list, sent_with, IsOffered, Takes, IsShort}
+use Rattle.stun_exchanges.specs.Offers.{IsOffered, Takes, IsShort}
 use Rattle.stun_exchanges.specs.Premises.{IsOwn, HasRoom, Serves, Works, is_reserved}
 use Rattle.stun_authentication.specs.Requests.{User, identity, asked_identity, identity_attribute, algorithm_attributes, credentials, user_key, retried_attributes, retried_request}
 use Rattle.stun_authentication.specs.Writing.{signed}
@@ -171,10 +171,10 @@ alone one list = (is_some one || is_some list) && not (is_some one && is_some li
 abbrev none_listed : (choice : Option PasswordAlgorithmValue) (list : Option (List ℕ)) → Bool
 none_listed choice list = option_map_or (λ (l : List ℕ). not (option_map_or (λ (a : PasswordAlgorithmValue). is_listed l a) choice false)) list false
 
-processed : IsFirst → (supported : List PasswordAlgorithmValue) (d : List ℕ) (before : List Attribute) (who : Who) (realm nonce : List ℕ) (algorithms : Option (List PasswordAlgorithmValue)) (a : PasswordAlgorithmValue)
-    → Shows d before (parts who realm nonce (offered_list algorithms) a) → promises_algorithms nonce ≡ is_some (offered_list algorithms) → selected supported (offered_list algorithms) ≡ Some a
-    → IsProcessed (valid (sent_with algorithms)) d (offered_list algorithms) a
-processed first supported d before who realm nonce None a s agrees takes =
+processed : IsFirst → (supported : List PasswordAlgorithmValue) (d : List ℕ) (before : List Attribute) (who : Who) (realm nonce : List ℕ) (algorithms : List PasswordAlgorithmValue) (a : PasswordAlgorithmValue)
+    → Shows d before (parts who realm nonce (listed algorithms) a) → promises_algorithms nonce ≡ is_some (listed algorithms) → selected supported (listed algorithms) ≡ Some a
+    → IsProcessed (valid algorithms) d (listed algorithms) a
+processed first supported d before who realm nonce [] a s agrees takes =
     let promise : option_map_or promises_algorithms (value_of d NONCE) false ≡ false = ap (λ (o : Option (List ℕ)). option_map_or promises_algorithms o false) (nonce_there first d before who realm nonce None a s) ∙ agrees in
     let values = by_values false (value_of d PASSWORD_ALGORITHM) (value_of d PASSWORD_ALGORITHMS) d promise refl refl in
     let choice : chosen d ≡ None = ap (λ (o : Option (List ℕ)). option_and_then (λ (v : List ℕ). sole_named both v) o) values.0 in
@@ -185,25 +185,25 @@ processed first supported d before who realm nonce None a s agrees takes =
       key_by = ap (λ (o : Option PasswordAlgorithmValue). unwrap_or o MD5) choice ∙ sym (unlisted_is supported a takes);
       reply_by = ap reply_algorithm choice;
     }
-processed first supported d before who realm nonce (Some xs) a s agrees takes =
-    let list = algorithms_encoding xs in
+processed first supported d before who realm nonce (x ∷ xs) a s agrees takes =
+    let list = algorithms_encoding (x ∷ xs) in
     let promise : option_map_or promises_algorithms (value_of d NONCE) false ≡ true = ap (λ (o : Option (List ℕ)). option_map_or promises_algorithms o false) (nonce_there first d before who realm nonce (Some list) a s) ∙ agrees in
     let values = by_values true (Some (algorithm_encoding a)) (Some list) d promise (one_there first d before who realm nonce list a s) (list_there first d before who realm nonce list a s) in
     let choice : chosen d ≡ Some a = ap (λ (o : Option (List ℕ)). option_and_then (λ (v : List ℕ). sole_named both v) o) values.0 ∙ named_one a in
     record {
       both_shown = ap (λ (o : Option (List ℕ)). alone o (promised PASSWORD_ALGORITHMS d)) values.0 ∙ ap (λ (o : Option (List ℕ)). alone (Some (algorithm_encoding a)) o) values.1;
-      sent = ap (λ (o : Option (List ℕ)). option_map_or (λ (l : List ℕ). not (is_sent (valid xs) l)) o false) values.1 ∙ ap not ((bytes_decides list list).1 refl);
+      sent = ap (λ (o : Option (List ℕ)). option_map_or (λ (l : List ℕ). not (is_sent (valid (x ∷ xs)) l)) o false) values.1 ∙ ap not ((bytes_decides list list).1 refl);
       chooses = ap (λ (o : Option (List ℕ)). none_listed (chosen d) o) values.1 ∙ ap (λ (o : Option PasswordAlgorithmValue). none_listed o (Some list)) choice
-          ∙ ap (λ (o : Option PasswordAlgorithmValue). not (is_some o)) (listed_one supported xs a takes);
+          ∙ ap (λ (o : Option PasswordAlgorithmValue). not (is_some o)) (listed_one supported (x ∷ xs) a takes);
       key_by = ap (λ (o : Option PasswordAlgorithmValue). unwrap_or o MD5) choice;
       reply_by = ap reply_algorithm choice;
     }
 
 -- the same of a list that is these algorithms
-processed_as : IsFirst → (supported : List PasswordAlgorithmValue) (d : List ℕ) (before : List Attribute) (who : Who) (realm nonce : List ℕ) (list : Option (List ℕ)) (algorithms : Option (List PasswordAlgorithmValue)) (a : PasswordAlgorithmValue)
-    → list ≡ offered_list algorithms → Shows d before (parts who realm nonce list a) → promises_algorithms nonce ≡ is_some list → selected supported list ≡ Some a → IsProcessed (valid (sent_with algorithms)) d list a
+processed_as : IsFirst → (supported : List PasswordAlgorithmValue) (d : List ℕ) (before : List Attribute) (who : Who) (realm nonce : List ℕ) (list : Option (List ℕ)) (algorithms : List PasswordAlgorithmValue) (a : PasswordAlgorithmValue)
+    → list ≡ listed algorithms → Shows d before (parts who realm nonce list a) → promises_algorithms nonce ≡ is_some list → selected supported list ≡ Some a → IsProcessed (valid algorithms) d list a
 processed_as first supported d before who realm nonce list algorithms a is =
-    subst (λ (l : Option (List ℕ)). Shows d before (parts who realm nonce l a) → promises_algorithms nonce ≡ is_some l → selected supported l ≡ Some a → IsProcessed (valid (sent_with algorithms)) d l a) (sym is)
+    subst (λ (l : Option (List ℕ)). Shows d before (parts who realm nonce l a) → promises_algorithms nonce ≡ is_some l → selected supported l ≡ Some a → IsProcessed (valid algorithms) d l a) (sym is)
     (processed first supported d before who realm nonce algorithms a)
 
 -- ---- The rows of the server
@@ -233,7 +233,7 @@ rows policy realm nonces keys d who reported nonce key xs list algorithm a taken
     ∙ ap (λ (o : Option UserKey). by_key policy (valid xs) (chosen d) o d) found
     ∙ ap (λ (o : Option IntegrityAlgorithm). decided ((not (is_some o), refuse Unauthenticated) ∷ []) (accepted_with (Some key) o (λ _. reply_algorithm (chosen d)))) right
 
-pub accepted : IsFirst → IsMissing → (policy : Policy) (nonces : List ℕ → Known) (keys : Who → List ℕ → PasswordAlgorithmValue → Option UserKey) (asked : Asked) (algorithms : Option (List PasswordAlgorithmValue)) (supported : List PasswordAlgorithmValue) (algorithm : PasswordAlgorithmValue) (user : User) (key : UserKey) (fingerprint : Bool) (kind id : ℕ) (before : List Attribute)
+pub accepted : IsFirst → IsMissing → (policy : Policy) (nonces : List ℕ → Known) (keys : Who → List ℕ → PasswordAlgorithmValue → Option UserKey) (asked : Asked) (algorithms : List PasswordAlgorithmValue) (supported : List PasswordAlgorithmValue) (algorithm : PasswordAlgorithmValue) (user : User) (key : UserKey) (fingerprint : Bool) (kind id : ℕ) (before : List Attribute)
     → (let retry = retry_with asked algorithm in
     IsOffered nonces asked algorithms → Takes supported asked algorithm → IsShort asked user.name → class_of kind ≡ Request → IsOwn kind id before → HasRoom kind id (retried_attributes fingerprint retry user kind id before)
     → keys (asked_identity asked user.name) asked.realm algorithm ≡ Some key → Works (user_key retry user) (signing_algorithm retry) key → Serves policy (signing_algorithm retry) fingerprint
@@ -263,7 +263,7 @@ accepted first missing policy nonces keys asked algorithms supported algorithm u
     let hmac = signs_found first kind id all wanted a bytes writable signs in
     let right : verdict wanted (λ _. key.bytes) d ≡ Ok a = ap (λ (k : List ℕ). verdict wanted (λ _. k) d) works.bytes_are ∙ signs_validate kind id all wanted a bytes writable (is_wanted both.served a both.counts) signs in
     let how = processed_as first supported d before who asked.realm asked.nonce list algorithms algorithm offered.list_is shows offered.agrees takes in
-    rows policy asked.realm nonces keys d who asked.realm asked.nonce key (sent_with algorithms) list algorithm a
+    rows policy asked.realm nonces keys d who asked.realm asked.nonce key algorithms list algorithm a
     (print_taken first policy.fingerprint fingerprint kind id (signed kind id xs a bytes) writable (signed_unprinted kind id xs a bytes (no_print (types xs) plain)) served.printed)
     (ap class_of (type-message kind id all writable.type_fits) ∙ class) (is_served policy.algorithm a d served.counts hmac)
     (who_there first missing d before who asked.realm asked.nonce list algorithm shows) (realm_there first d before who asked.realm asked.nonce list algorithm shows) (nonce_there first d before who asked.realm asked.nonce list algorithm shows)

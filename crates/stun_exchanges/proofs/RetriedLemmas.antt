@@ -11,7 +11,7 @@ use Rattle.stun_keys.specs.Keys.{login_username, login_password, long_term_key}
 use Rattle.stun_values.specs.declared.algorithm.PasswordAlgorithmValue.{PasswordAlgorithmValue}
 use Rattle.stun_values.specs.Algorithms.{integrity_of}
 use Rattle.stun_authentication.specs.declared.answer.Refusal.{Refusal}
-use Rattle.stun_authentication.specs.declared.challenge.NoRetry.{NoRetry}
+use Rattle.stun_authentication.specs.declared.retry.NoRetry.{NoRetry}
 use Rattle.stun_authentication.specs.declared.logins.Logins.{Logins}
 use Rattle.stun_authentication.specs.declared.policy.Policy.{Policy}
 use Rattle.stun_authentication.specs.Answers.{accept}
@@ -33,7 +33,7 @@ ok_is a b r one two =
     let same : (let x : Result Retry NoRetry = Ok a in x) ≡ Ok b = sym one ∙ two in cc
 
 -- however the request is sent again, if it is by what the server asks for
-of_asked : IsFirst → IsMissing → (policy : Policy) (nonces : List ℕ → Known) (keys : Who → List ℕ → PasswordAlgorithmValue → Option UserKey) (asked : Asked) (algorithms : Option (List PasswordAlgorithmValue)) (supported : List PasswordAlgorithmValue) (algorithm : PasswordAlgorithmValue) (retry : Retry) (user : User) (key : UserKey) (fingerprint : Bool) (kind id : ℕ) (before : List Attribute)
+of_asked : IsFirst → IsMissing → (policy : Policy) (nonces : List ℕ → Known) (keys : Who → List ℕ → PasswordAlgorithmValue → Option UserKey) (asked : Asked) (algorithms : List PasswordAlgorithmValue) (supported : List PasswordAlgorithmValue) (algorithm : PasswordAlgorithmValue) (retry : Retry) (user : User) (key : UserKey) (fingerprint : Bool) (kind id : ℕ) (before : List Attribute)
     → retry_with asked algorithm ≡ retry → IsOffered nonces asked algorithms → Takes supported asked algorithm → IsShort asked user.name → class_of kind ≡ Request → IsOwn kind id before → HasRoom kind id (retried_attributes fingerprint retry user kind id before)
     → keys (asked_identity retry.asked user.name) retry.asked.realm retry.algorithm ≡ Some key → Works (user_key retry user) (signing_algorithm retry) key → Serves policy (signing_algorithm retry) fingerprint
     → long_term policy asked.realm nonces keys (retried_request fingerprint retry user kind id before) ≡ accept key (signing_algorithm retry) (signing_algorithm retry)
@@ -42,7 +42,7 @@ of_asked first missing policy nonces keys asked algorithms supported algorithm r
     → long_term policy asked.realm nonces keys (retried_request fingerprint x user kind id before) ≡ accept key (signing_algorithm x) (signing_algorithm x)) same
     (accepted first missing policy nonces keys asked algorithms supported algorithm user key fingerprint kind id before offered takes short class own)
 
-pub retried : IsFirst → IsMissing → (policy : Policy) (nonces : List ℕ → Known) (keys : Who → List ℕ → PasswordAlgorithmValue → Option UserKey) (refusal : Refusal) (asked : Asked) (algorithms : Option (List PasswordAlgorithmValue)) (supported : List PasswordAlgorithmValue) (algorithm : PasswordAlgorithmValue) (tried : Option (List ℕ)) (had_algorithms : Bool) (print : Bool) (other number : ℕ) (retry : Retry) (user : User) (key : UserKey) (fingerprint : Bool) (kind id : ℕ) (before : List Attribute)
+pub retried : IsFirst → IsMissing → (policy : Policy) (nonces : List ℕ → Known) (keys : Who → List ℕ → PasswordAlgorithmValue → Option UserKey) (refusal : Refusal) (asked : Asked) (algorithms : List PasswordAlgorithmValue) (supported : List PasswordAlgorithmValue) (algorithm : PasswordAlgorithmValue) (tried : Option (List ℕ)) (had_algorithms : Bool) (print : Bool) (other number : ℕ) (retry : Retry) (user : User) (key : UserKey) (fingerprint : Bool) (kind id : ℕ) (before : List Attribute)
     → (asks refusal ≡ true → other < 2 ^ 14 → number < 2 ^ 96 → class_of other ≡ ErrorClass → IsLawful asked → IsOffered nonces asked algorithms → Takes supported asked algorithm → Retries tried had_algorithms refusal asked → HasRoom other number (refused_attributes print other number refusal asked)
     → challenge_of supported tried had_algorithms (refused print other number refusal asked) ≡ Ok retry → length user.name < 2 ^ 16 → class_of kind ≡ Request → IsOwn kind id before → HasRoom kind id (retried_attributes fingerprint retry user kind id before)
     → keys (asked_identity retry.asked user.name) retry.asked.realm retry.algorithm ≡ Some key → Works (user_key retry user) (signing_algorithm retry) key → Serves policy (signing_algorithm retry) fingerprint

@@ -1,31 +1,31 @@
 -- One login, at which the premises of the clause `accepted` hold together, but for the one about keys.
-use Rattle.std.specs.Prelude.{◌≡◌, ℕ, true, false, List, [], ◌∷◌, codes, Option, Some, None}
+use Rattle.std.specs.Prelude.{◌≡◌, ℕ, true, false, List, [], ◌∷◌, codes, None}
 use Rattle.stun_base.specs.declared.message_class.MessageClass.TheVariants.{Request}
 use Rattle.stun_base.specs.MessageTypes.{class_of}
 use Rattle.stun_values.specs.declared.algorithm.PasswordAlgorithmValue.{PasswordAlgorithmValue}
 use Rattle.stun_values.specs.declared.algorithm.PasswordAlgorithmValue.TheVariants.{MD5, SHA256}
-use Rattle.stun_authentication.specs.Asking.{Asked}
+use Rattle.stun_authentication.specs.Asking.{Asked, listed}
 use Rattle.stun_authentication.specs.Challenges.{Retry, retry_with, signing_algorithm}
 use Rattle.stun_authentication.specs.Cookies.{cookie}
 use Rattle.stun_authentication.specs.Lookups.{Known, valid}
 use Rattle.stun_authentication.specs.declared.policy.Policy.{Policy}
-use Rattle.stun_exchanges.specs.Offers.{offered_list, IsOffered, Takes, IsShort}
+use Rattle.stun_exchanges.specs.Offers.{IsOffered, Takes, IsShort}
 use Rattle.stun_exchanges.specs.Premises.{IsOwn, HasRoom, Serves}
 use Rattle.stun_authentication.specs.Requests.{User, retried_attributes}
 
 -- a server that sends both algorithms, SHA-256 first
-abbrev pub algorithms : Option (List PasswordAlgorithmValue)
-algorithms = Some (SHA256 ∷ MD5 ∷ [])
+abbrev pub algorithms : List PasswordAlgorithmValue
+algorithms = SHA256 ∷ MD5 ∷ []
 
 abbrev pub asked : Asked
 asked = record {
   realm = codes "example.org";
   nonce = cookie (record { password_algorithms = true; username_anonymity = false });
-  list = offered_list algorithms;
+  list = listed algorithms;
 }
 
 abbrev pub nonces : List ℕ → Known
-nonces nonce = valid (SHA256 ∷ MD5 ∷ [])
+nonces nonce = valid algorithms
 
 abbrev pub policy : Policy
 policy = record { algorithm = None; min_hmac_length = 32; fingerprint = true }

@@ -1,36 +1,26 @@
 -- What a server offers to a client that it asks for credentials, and the client's choice (RFC 8489,
 -- sections 9.2, 9.2.1, 9.2.4 and 9.2.5).
-use Rattle.std.specs.Prelude.{◌≡◌, ℕ, ◌^◌, ◌<◌, Bool, true, false, List, [], length, nat_eq, Option, Some, None, is_some}
+use Rattle.std.specs.Prelude.{◌≡◌, ℕ, ◌^◌, ◌<◌, Bool, true, false, List, length, nat_eq, Option, Some, None, is_some}
 use Rattle.std.specs.Cmp.Lexicographic.{pointwise}
-use Rattle.std.specs.Option.{option_map, option_map_or}
+use Rattle.std.specs.Option.{option_map_or}
 use Rattle.stun_grammar.specs.Attributes.{Attribute}
 use Rattle.stun_grammar.specs.Writing.{message_encoding}
 use Rattle.stun_values.specs.declared.algorithm.PasswordAlgorithmValue.{PasswordAlgorithmValue}
-use Rattle.stun_values.specs.Algorithms.{algorithms_encoding}
 use Rattle.stun_values.specs.TextValues.{text_max, text_fault}
 use Rattle.stun_authentication.specs.declared.answer.Refusal.{Refusal}
 use Rattle.stun_authentication.specs.declared.answer.Refusal.TheVariants.{BadRequest, Unauthenticated, StaleNonce}
-use Rattle.stun_authentication.specs.Asking.{Asked}
+use Rattle.stun_authentication.specs.Asking.{Asked, listed}
 use Rattle.stun_authentication.specs.Refusing.{refusal_attributes}
 use Rattle.stun_authentication.specs.Challenges.{selected}
 use Rattle.stun_authentication.specs.Cookies.{promises_algorithms}
 use Rattle.stun_authentication.specs.Lookups.{Known, valid}
 use Rattle.stun_authentication.specs.Writing.{finished}
 
--- the value of PASSWORD-ALGORITHMS, if a server sends a list
-abbrev pub offered_list : Option (List PasswordAlgorithmValue) → Option (List ℕ)
-offered_list algorithms = option_map (λ xs. algorithms_encoding xs) algorithms
-
--- the algorithms, as they are known of the nonce: none if there is no list
-abbrev pub sent_with : Option (List PasswordAlgorithmValue) → List PasswordAlgorithmValue
-sent_with None = []
-sent_with (Some algorithms) = algorithms
-
 -- the nonce is valid, was sent with these algorithms, which are the list, and its cookie says whether
 -- there is one
-pub record IsOffered (nonces : List ℕ → Known) (asked : Asked) (algorithms : Option (List PasswordAlgorithmValue)) : Type 0 where
-  pub known : nonces asked.nonce ≡ valid (sent_with algorithms)
-  pub list_is : asked.list ≡ offered_list algorithms
+pub record IsOffered (nonces : List ℕ → Known) (asked : Asked) (algorithms : List PasswordAlgorithmValue) : Type 0 where
+  pub known : nonces asked.nonce ≡ valid algorithms
+  pub list_is : asked.list ≡ listed algorithms
   pub agrees : promises_algorithms asked.nonce ≡ is_some asked.list
 
 -- a client that supports these algorithms takes this one: the first on the list, or MD5 if there

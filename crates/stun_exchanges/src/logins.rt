@@ -17,7 +17,7 @@ ghost use Rattle.stun_grammar.specs.ScannedOrder.{has};
 ghost use Rattle.stun_base.specs.declared.message_class.MessageClass.TheVariants.{Request, Error as ErrorClass};
 ghost use Rattle.stun_values.specs.declared.algorithm.PasswordAlgorithmValue.{PasswordAlgorithmValue};
 ghost use Rattle.stun_authentication.specs.declared.answer.Refusal.{Refusal};
-ghost use Rattle.stun_authentication.specs.Asking.{Asked, asked_for};
+ghost use Rattle.stun_authentication.specs.Asking.{Asked, asked_for, listed};
 ghost use Rattle.stun_authentication.specs.Challenges.{Retry, retry_with, challenge_of, signing_algorithm};
 ghost use Rattle.stun_authentication.specs.Cookies.{promises_algorithms};
 ghost use Rattle.stun_authentication.specs.Identities.{Who, named};
@@ -37,7 +37,7 @@ ghost use Rattle.stun_transactions.specs.Outcomes.{is_open};
 ghost use Rattle.stun_transactions.specs.Receiving.{content, received_outcome};
 ghost use Rattle.stun_transactions.specs.Beginning.{request_parts};
 ghost use Rattle.stun_exchanges.specs.Example.{IsMet};
-ghost use Rattle.stun_exchanges.specs.Offers.{offered_list, IsOffered, sent_with, IsLawful, Takes, IsShort, Retries, asks, refused, refused_attributes};
+ghost use Rattle.stun_exchanges.specs.Offers.{IsOffered, IsLawful, Takes, IsShort, Retries, asks, refused, refused_attributes};
 ghost use Rattle.stun_authentication.specs.Requests.{User, user_of, asked_identity, user_key, retried_attributes, retried_request, short_term_attributes, short_term_request};
 ghost use Rattle.stun_authentication.specs.Writing.{signed, finished, signed_reply};
 ghost use Rattle.stun_exchanges.specs.Premises.{IsOwn, IsOpen, IsNamed, IsPrinted, HasRoom, Serves, Suits, Works, WorksAs, checked};
@@ -74,8 +74,7 @@ pub fn challenge_is_read()
 pub fn login_is_accepted()
     ensures accepted { (policy : Policy) (nonces : List ℕ → Known)
         (keys : Who → List ℕ → PasswordAlgorithmValue → Option UserKey)
-        (asked : Asked) (algorithms : Option (List PasswordAlgorithmValue))
-        (supported : List PasswordAlgorithmValue)
+        (asked : Asked) (algorithms supported : List PasswordAlgorithmValue)
         (algorithm : PasswordAlgorithmValue) (user : User) (key : UserKey) (fingerprint : Bool)
         (kind id : ℕ) (before : List Attribute)
         → let retry = retry_with asked algorithm in
@@ -91,8 +90,7 @@ pub fn login_is_accepted()
     // the same if the client reads the challenge of the response by which the server refused it
     ensures retried { (policy : Policy) (nonces : List ℕ → Known)
         (keys : Who → List ℕ → PasswordAlgorithmValue → Option UserKey)
-        (refusal : Refusal) (asked : Asked) (algorithms : Option (List PasswordAlgorithmValue))
-        (supported : List PasswordAlgorithmValue)
+        (refusal : Refusal) (asked : Asked) (algorithms supported : List PasswordAlgorithmValue)
         (algorithm : PasswordAlgorithmValue) (tried : Option (List ℕ)) (had_algorithms : Bool) (print : Bool)
         (other number : ℕ)
         (retry : Retry) (user : User) (key : UserKey) (fingerprint : Bool) (kind id : ℕ)
@@ -195,11 +193,11 @@ pub fn premises_are_met()
 /// sends, and its cookie says whether there is a list.
 pub fn made_nonces_are_offered()
     ensures { (minting : Minting) (time now : ℕ) (place realm : List ℕ)
-        (algorithms : Option (List PasswordAlgorithmValue))
+        (algorithms : List PasswordAlgorithmValue)
         → time < 2 ^ 64 → time ≤ now → now ≤ time + minting.window
-        → minting.features.password_algorithms ≡ is_some algorithms
-        → IsOffered (λ nonce. known_as (sent_with algorithms) (freshness minting now place nonce))
-        (asked_for realm (minted minting time place) (offered_list algorithms)) algorithms }
+        → minting.features.password_algorithms ≡ is_some (listed algorithms)
+        → IsOffered (λ nonce. known_as algorithms (freshness minting now place nonce))
+        (asked_for realm (minted minting time place) (listed algorithms)) algorithms }
 {
     cookie_is_read();
     nonces_are_timed();

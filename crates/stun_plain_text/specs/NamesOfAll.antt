@@ -5,9 +5,9 @@ use Rattle.std.specs.Option.{option_map, option_map_or, option_or}
 use Rattle.stun_grammar.specs.Names.{method_name as own_method_name}
 use Rattle.stun_types.specs.declared.attribute.known.ValueForm.{ValueForm}
 use Rattle.stun_types.specs.KnownTypes.{Known, known_type as own_type}
-use Rattle.ice_attrs.specs.IceTypes.{known_type as ice_type}
-use Rattle.turn_attrs.specs.TurnTypes.{known_type as turn_type}
-use Rattle.discovery_attrs.specs.DiscoveryTypes.{known_type as discovery_type}
+use Rattle.ice_attrs.specs.Ice.{known_type as ice_type}
+use Rattle.turn_attrs.specs.Turn.{known_type as turn_type}
+use Rattle.discovery_attrs.specs.Discovery.{known_type as discovery_type}
 
 -- what is said of a type, by the first of them that has it
 abbrev pub known_type : ℕ → Option Known

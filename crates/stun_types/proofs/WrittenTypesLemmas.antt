@@ -1,5 +1,6 @@
 -- Types and their numbers.
 use Rattle.std.proofs.Common.{◌≡◌, ℕ, eqb, ◌||◌, Bool, true, false, List, [], ◌∷◌, ◌++◌, None, refl, sym, ap, ◌∙◌, inl, inr}
+use Rattle.std.specs.Borrow.{Bor}
 use Rattle.std.specs.Prelude.{find}
 use Rattle.std.specs.List.{list_any, list_all}
 use Rattle.std.specs.Option.{option_map}
@@ -10,10 +11,18 @@ use Rattle.stun_grammar.specs.AttributeTypes.{is_ending}
 use Rattle.stun_grammar.specs.declared.attribute_type.AttributeType.{AttributeType}
 use Rattle.stun_grammar.specs.ScannedOrder.{has}
 use Rattle.stun_grammar.specs.Adding.{numbers, first_of}
+use Rattle.stun_types.specs.Replies.{joined}
 
 pub has_number : (type : ℕ) (types : List AttributeType) → list_any (λ a. eqb a.0 type) types ≡ has type (numbers types)
 has_number type [] = refl
 has_number type (x ∷ types) = rw (has_number type types) refl
+
+-- a type is among the types of several lists if one of the lists has it
+pub has_joined : (type : ℕ) (lists : List (Bor (List AttributeType))) → list_any (λ (types : Bor (List AttributeType)). has type (numbers types.now)) lists ≡ has type (numbers (joined lists))
+has_joined type [] = refl
+has_joined type (x ∷ lists) =
+    ap (λ (p : Bool). has type (numbers x.now) || p) (has_joined type lists)
+    ∙ sym (ap (has type) (map-append (λ (t : AttributeType). t.0) x.now (joined lists)) ∙ list_any-append (λ (n : ℕ). eqb n type) (numbers x.now) (numbers (joined lists)))
 
 pub first_number : (asked types : List AttributeType)
     → option_map (λ (found : AttributeType). found.0) (find (λ type. list_any (λ a. eqb a.0 type.0) asked) types) ≡ first_of (numbers asked) (numbers types)

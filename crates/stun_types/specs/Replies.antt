@@ -1,6 +1,7 @@
 -- The replies to a request (RFC 8489, sections 6.3.1, 14.8 and 14.13).
 use Rattle.std.specs.Prelude.{◌≡◌, ◌≢◌, ℕ, ◌+◌, ◌/◌, ◌^◌, ◌<◌, Bool, true, not, ◌&&◌, ◌⊎◌, List, [], ◌∷◌, ◌++◌, length, drop, map, codes, Option, Some, None, is_some, MatchOption, Result, Err, IsOk, IfErr, OnOk, nat_lt, ◌==◌, if◌then◌else◌}
-use Rattle.std.specs.List.{filter, list_any}
+use Rattle.std.specs.Borrow.{Bor}
+use Rattle.std.specs.List.{filter, flat_map, list_any}
 use Rattle.std.specs.Option.{option_or}
 use Rattle.stun_grammar.specs.declared.attribute_type.AttributeType.{AttributeType}
 use Rattle.stun_grammar.specs.declared.error.StunWriteError.{StunWriteError}
@@ -70,6 +71,10 @@ bad_reply = own_software ∷ error_attribute 400 (codes "Bad Request") ∷ []
 -- the types of the attributes that r shows
 abbrev pub shown_types : List ℕ → List AttributeType
 shown_types r = map (λ attribute. record { 0 = attribute.type }) (shown r)
+
+-- the types of several lists, one list after the other
+abbrev pub joined : List (Bor (List AttributeType)) → List AttributeType
+joined = flat_map (λ types. types.now)
 
 -- whether an attribute of this type must be understood, and isn't (RFC 8489, section 14)
 abbrev pub is_unknown : List AttributeType → AttributeType → Bool

@@ -10,7 +10,7 @@ use Rattle.stun_values.specs.TextValues.{text_max, text_fault}
 use Rattle.stun_values.specs.declared.algorithm.PasswordAlgorithmValue.{PasswordAlgorithmValue}
 use Rattle.stun_authentication.specs.Asking.{Asked, asked_for}
 use Rattle.stun_authentication.specs.Challenges.{Retry, retry_with, challenge_of, by_list, by_texts, by_algorithm, by_credentials, selected, repeats, lost_list, is_bid_down, text_of, text_in, list_of}
-use Rattle.stun_authentication.specs.declared.challenge.NoRetry.TheVariants.{NotAChallenge, BidDown, Incomplete, NoAlgorithm, SameCredentials}
+use Rattle.stun_authentication.specs.declared.retry.NoRetry.TheVariants.{NotAChallenge, BidDown, Incomplete, NoAlgorithm, SameCredentials}
 use Rattle.stun_authentication.specs.Codes.{is_challenge}
 use Rattle.stun_authentication.specs.Identities.{value_of}
 use Rattle.stun_types_c.specs.Challenges.{value_at, in_c, StandsWhereReported}

@@ -1,6 +1,7 @@
 -- A refusal that asks for credentials.
-use Rattle.std.proofs.Common.{◌≡◌, ℕ, List, Option, None, Some, sym, subst, inl}
+use Rattle.std.proofs.Common.{◌≡◌, ℕ, List, Option, None, Some, sym, ap, subst, ◌∙◌, inl}
 use Rattle.std.specs.Prelude.{MatchOption}
+use Rattle.std.specs.Option.{option_or}
 use Rattle.stun_values.specs.declared.algorithm.PasswordAlgorithmValue.{PasswordAlgorithmValue}
 use Rattle.stun_authentication.specs.declared.answer.Refusal.{Refusal}
 use Rattle.stun_authentication.specs.Asking.{Asked}
@@ -8,12 +9,13 @@ use Rattle.stun_types_c.specs.declared.call_result.CResult.{CResult}
 use Rattle.stun_types_c.specs.CResults.{plain, Refuses}
 use Rattle.stun_types_c.specs.Codes.{BAD_ARGUMENT}
 use Rattle.stun_types_c.specs.PasswordAlgorithms.{password_algorithms_named}
-use Rattle.stun_types_c.specs.Refusals.{message_answer, long_term_refusal, asked_of, asked_answer, WritesRefusal, RefusesAsking, RefusesLongTerm}
+use Rattle.stun_types_c.specs.Refusals.{message_answer, long_term_refusal, texts_answer, list_answer, asked_of, asked_answer, WritesRefusal, RefusesAsking, RefusesLongTerm}
 use Rattle.stun_types_c.specs.Writing.{Written}
 
 pub asks : (r : List ℕ) (refusal : Refusal) (asked : Asked) (result : CResult) (old new : Written)
-    → asked_answer asked ≡ None → WritesRefusal r refusal (Some asked) result old new → RefusesAsking r refusal asked result old new
-asks r refusal asked result old new fine written =
+    → texts_answer asked.realm asked.nonce ≡ None → list_answer asked ≡ None → WritesRefusal r refusal (Some asked) result old new → RefusesAsking r refusal asked result old new
+asks r refusal asked result old new texts list written =
+    let fine : asked_answer asked ≡ None = ap (λ (o : Option CResult). option_or o (list_answer asked)) texts ∙ list in
     inl (subst (λ (o : Option CResult). MatchOption o (WritesRefusal r refusal (Some asked) result old new) (λ answer. Refuses answer result old new)) (sym fine) written)
 
 -- a request is refused by what C passes

@@ -1,16 +1,18 @@
 -- Numbers of attribute types that are laid over C's, one after the other.
-use Rattle.std.proofs.Common.{◌≡◌, ℕ, zero, suc, ◌+◌, ◌-◌, ◌*◌, ◌<◌, ◌≤◌, Bool, true, false, List, [], ◌∷◌, ◌++◌, length, get_or, take, drop, map, set, min, slice_range, refl, ap, ◌∙◌, sym, add-one, arith}
-use Rattle.std.specs.List.{filter}
-use Rattle.std.proofs.lemmas.List.{map-append, length-append, drop-drop, take_more, take_more_set}
+use Rattle.std.proofs.Common.{◌≡◌, ℕ, zero, suc, ◌+◌, ◌-◌, ◌*◌, ◌≤◌, Bool, true, List, [], ◌∷◌, ◌++◌, length, take, drop, set, min, slice_range, Option, None, Some, refl, ap, ◌∙◌, sym, add-one, arith}
+use Rattle.std.proofs.lemmas.List.{map-append, length-append, length-map, drop-drop}
 use Rattle.std.proofs.lemmas.List.Sums.{length-filter, count_by-le-length}
 use Rattle.stun_grammar.specs.declared.attribute_type.AttributeType.{AttributeType}
+use Rattle.stun_grammar.specs.declared.error.StunParseError.{StunParseError}
 use Rattle.stun_grammar.specs.Numbers.{number}
 use Rattle.stun_grammar.specs.Adding.{numbers}
+use Rattle.stun_grammar.specs.Chains.{Shown}
+use Rattle.stun_grammar.specs.Showing.{frame_fault, shown}
 use Rattle.stun_text.specs.Slices.{laid_over}
-use Rattle.stun_attributes.specs.declared.wire.raw.RawAttribute.{RawAttribute}
 use Rattle.stun_values.specs.TypeLists.{types_within}
-use Rattle.stun_types.proofs.ShownTypesLemmas.{item_type, passes_more, fails_more}
-use Rattle.stun_types_c.specs.TypeLists.{types_numbered}
+use Rattle.stun_types.specs.Iterating.{borrowed}
+use Rattle.stun_types.specs.Replies.{is_unknown, shown_types, unknown_types}
+use Rattle.stun_types.proofs.IteratingLemmas.{from_start, unframed, length-items}
 
 -- one more number is laid over, if there is room for it
 pub laid_more : (found start : List ℕ) (x : ℕ) → set (laid_over found start) (length found) x ≡ laid_over (found ++ x ∷ []) start
@@ -57,45 +59,27 @@ read_enough (suc n) (suc all) value (s ∷ start) e = ap (λ (l : List ℕ). num
 
 -- ---- Types and their numbers
 
--- the numbers of the types of some numbers are these
-pub numbers_of_numbered : (ns : List ℕ) → numbers (types_numbered ns) ≡ ns
-numbers_of_numbered [] = refl
-numbers_of_numbered (n ∷ ns) = ap (λ (l : List ℕ). n ∷ l) (numbers_of_numbered ns)
+-- one more type is reported: it is counted, and its number is laid over
+abbrev pub Reported : (types : List AttributeType) (count : ℕ) (places start : List ℕ) → Type 0
+Reported types count places start = (count ≡ length types) × (places ≡ laid_over (numbers types) start)
 
--- one more type is listed
-pub numbered_more : (ns : List ℕ) (all : List AttributeType) (i : ℕ) → i < length ns → i < length all → take i all ≡ types_numbered (take i ns)
-    → take (i + 1) (set all i (record { 0 = get_or ns i 0 })) ≡ types_numbered (take (i + 1) ns)
-numbered_more ns all i here room so_far =
-    let type : AttributeType = record { 0 = get_or ns i 0 } in
-    take_more_set all i type room ∙ ap (λ (types : List AttributeType). types ++ type ∷ []) so_far
-    ∙ sym (map-append (λ (n : ℕ). record { 0 = n }) (take i ns) (get_or ns i 0 ∷ [])) ∙ ap types_numbered (sym (take_more ns i 0 here))
-
--- the types that pass a test are counted, and their numbers are laid over
-abbrev pub Reported : (test : AttributeType → Bool) (types : List AttributeType) (count : ℕ) (places start : List ℕ) → Type 0
-Reported test types count places start =
-    let found = numbers (filter test types) in (count ≡ length found) × (places ≡ laid_over found start)
-
-pub reported_passes : (test : AttributeType → Bool) (items : List (ℕ × RawAttribute)) (item : ℕ × RawAttribute) (count next : ℕ) (places new start : List ℕ) → test (item_type item) ≡ true
-    → Reported test (map item_type items) count places start → next ≡ count + 1 → new ≡ set places count (item_type item).0 → Reported test (map item_type (items ++ item ∷ [])) next new start
-reported_passes test items item count next places new start passes so_far next-is new-is =
-    let found = numbers (filter test (map item_type items)) in
-    let number = (item_type item).0 in
-    let more : numbers (filter test (map item_type (items ++ item ∷ []))) ≡ found ++ number ∷ [] =
-    ap numbers (passes_more test items item passes) ∙ map-append (λ (type : AttributeType). type.0) (filter test (map item_type items)) (item_type item ∷ []) in
-    let laid : new ≡ laid_over (found ++ number ∷ []) start =
-    new-is ∙ (λ j. set (so_far.1 j) (so_far.0 j) number) ∙ laid_more found start number in (
-      omega (arith, ap length more, length-append found (number ∷ []), so_far.0, next-is),
+pub reported_more : (types : List AttributeType) (type : AttributeType) (count next : ℕ) (places new start : List ℕ) → Reported types count places start → next ≡ count + 1 → new ≡ set places count type.0
+    → Reported (types ++ type ∷ []) next new start
+reported_more types type count next places new start so_far next-is new-is =
+    let found = numbers types in
+    let more : numbers (types ++ type ∷ []) ≡ found ++ type.0 ∷ [] = map-append (λ (t : AttributeType). t.0) types (type ∷ []) in
+    let same : count ≡ length found = so_far.0 ∙ sym (length-map types (λ (t : AttributeType). t.0)) in
+    let laid : new ≡ laid_over (found ++ type.0 ∷ []) start = new-is ∙ (λ j. set (so_far.1 j) (same j) type.0) ∙ laid_more found start type.0 in (
+      omega (arith, length-append types (type ∷ []), so_far.0, next-is),
       laid ∙ ap (λ (l : List ℕ). laid_over l start) (sym more),
     )
 
-pub reported_fails : (test : AttributeType → Bool) (items : List (ℕ × RawAttribute)) (item : ℕ × RawAttribute) (count next : ℕ) (places new start : List ℕ) → test (item_type item) ≡ false
-    → Reported test (map item_type items) count places start → next ≡ count → new ≡ places → Reported test (map item_type (items ++ item ∷ [])) next new start
-reported_fails test items item count next places new start fails so_far next-is new-is =
-    let same : filter test (map item_type (items ++ item ∷ [])) ≡ filter test (map item_type items) = fails_more test items item fails in (
-      next-is ∙ so_far.0 ∙ ap (λ (types : List AttributeType). length (numbers types)) (sym same),
-      new-is ∙ so_far.1 ∙ ap (λ (types : List AttributeType). laid_over (numbers types) start) (sym same),
-    )
+-- a message shows no more attributes than it has bytes, so no more types
+shown_few : (d : List ℕ) (fault : Option StunParseError) → frame_fault d ≡ fault → length (shown d) ≤ length d
+shown_few d None whole = omega (arith, length-items 0 20 d, ap (λ (s : List Shown). length (borrowed s)) (from_start d whole), length-map {B = Shown × Bool} (shown d) (λ (a : Shown). (a, true)))
+shown_few d (Some e) fault = omega (arith, ap length (unframed d e fault))
 
--- no more pass than there are
-pub few_pass : (test : AttributeType → Bool) (types : List AttributeType) → length (filter test types) ≤ length types
-few_pass test types = omega (arith, length-filter test types, count_by-le-length test types)
+pub few_unknown : (supported : List AttributeType) (d : List ℕ) → length (unknown_types supported d) ≤ length d
+few_unknown supported d =
+    let test = is_unknown supported in
+    omega (arith, length-filter test (shown_types d), count_by-le-length test (shown_types d), length-map {B = AttributeType} (shown d) (λ (a : Shown). record { 0 = a.type }), shown_few d (frame_fault d) refl)

@@ -6,7 +6,7 @@ use Rattle.stun_grammar.specs.Parsing.{parse_fault}
 use Rattle.stun_keys.specs.declared.keys.integrity_key.IntegrityKey.{IntegrityKey}
 use Rattle.stun_keys.specs.Keys.{IsKey, key_bytes}
 use Rattle.stun_values.specs.TextValues.{username_max}
-use Rattle.stun_authentication.specs.declared.challenge.NoRetry.{NoRetry}
+use Rattle.stun_authentication.specs.declared.retry.NoRetry.{NoRetry}
 use Rattle.stun_authentication.specs.Challenges.{Retry, challenge_of, signing_algorithm}
 use Rattle.stun_authentication.specs.Requests.{login_steps, user_key}
 use Rattle.stun_types_c.specs.declared.call_result.CResult.{CResult}
@@ -14,6 +14,7 @@ use Rattle.stun_types_c.specs.CResults.{plain, counted, parse_result, Refuses}
 use Rattle.stun_types_c.specs.Challenges.{retry_answer}
 use Rattle.stun_types_c.specs.Codes.{OK, TOO_LARGE, BAD_ARGUMENT, NO_KEY}
 use Rattle.stun_types_c.specs.Credentials.{texts_refusal, WithTexts}
+use Rattle.stun_types_c.specs.Keys.{password_answer}
 use Rattle.stun_types_c.specs.PasswordAlgorithms.{password_algorithms_named}
 use Rattle.stun_types_c.specs.Writing.{Written, serving_answer, TakesIn}
 
@@ -41,12 +42,14 @@ HoldsAsked retry user password result old new =
     × IsSomeAnd new (IsKey None (user_key retry (record { name = user; password = password }))))
     (λ answer. Refuses answer result old new)
 
--- the same by what C passes
+-- the same by what C passes, with a password that has bytes
 abbrev pub HoldsFor : (numbers d user password : List ℕ) → CResult
     → (old new : Option IntegrityKey) → Type 0
 HoldsFor numbers d user password result old new =
-    MatchResult (challenge_in numbers d)
+    MatchOption (password_answer password)
+    (MatchResult (challenge_in numbers d)
     (λ retry. HoldsAsked retry user password result old new)
+    (λ answer. Refuses answer result old new))
     (λ answer. Refuses answer result old new)
 
 -- why a user isn't named: the name is no text, or too long for a USERNAME
@@ -56,17 +59,22 @@ name_answer name =
     (if nat_lt username_max (length name)
     then Some (counted TOO_LARGE username_max (length name)) else None)
 
--- by what C passes, the challenge is answered for a user with a key that serves
-abbrev pub AnswersChallenge : (numbers d name : List ℕ) → (fingerprint : Bool)
-    → Option IntegrityKey → CResult → Written
-    → Written → Type 0
-AnswersChallenge numbers d name fingerprint held result old new =
-    MatchResult (challenge_in numbers d)
-    (λ retry. MatchOption (name_answer name)
+-- a challenge is answered for a user with a key that serves
+abbrev pub AnswersRetry : Retry → (name : List ℕ) → (fingerprint : Bool) → Option IntegrityKey
+    → CResult → Written → Written → Type 0
+AnswersRetry retry name fingerprint held result old new =
+    MatchOption (name_answer name)
     (MatchOption held
     (Refuses (plain NO_KEY) result old new)
     (λ key. MatchOption (serving_answer key (signing_algorithm retry))
     (TakesIn (login_steps fingerprint retry name (key_bytes key)) result old new)
     (λ answer. Refuses answer result old new)))
-    (λ answer. Refuses answer result old new))
+    (λ answer. Refuses answer result old new)
+
+-- the same by what C passes
+abbrev pub AnswersChallenge : (numbers d name : List ℕ) → (fingerprint : Bool)
+    → Option IntegrityKey → CResult → Written → Written → Type 0
+AnswersChallenge numbers d name fingerprint held result old new =
+    MatchResult (challenge_in numbers d)
+    (λ retry. AnswersRetry retry name fingerprint held result old new)
     (λ answer. Refuses answer result old new)

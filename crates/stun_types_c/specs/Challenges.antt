@@ -7,8 +7,8 @@ use Rattle.stun_grammar.specs.Parsing.{parse_fault}
 use Rattle.stun_types.specs.LookingUp.{nth}
 use Rattle.stun_values.specs.declared.algorithm.PasswordAlgorithmValue.{PasswordAlgorithmValue}
 use Rattle.stun_values.specs.Algorithms.{algorithm_number}
-use Rattle.stun_authentication.specs.declared.challenge.NoRetry.{NoRetry}
-use Rattle.stun_authentication.specs.declared.challenge.NoRetry.TheVariants.{NotAChallenge, BidDown, Incomplete, NoAlgorithm, SameCredentials}
+use Rattle.stun_authentication.specs.declared.retry.NoRetry.{NoRetry}
+use Rattle.stun_authentication.specs.declared.retry.NoRetry.TheVariants.{NotAChallenge, BidDown, Incomplete, NoAlgorithm, SameCredentials}
 use Rattle.stun_authentication.specs.Asking.{asks_userhash}
 use Rattle.stun_authentication.specs.Challenges.{Retry, challenge_of, signing_algorithm}
 use Rattle.stun_types_c.specs.declared.call_result.CResult.{CResult}

@@ -15,6 +15,7 @@ use Rattle.stun_types_c.specs.declared.keys.Hash.{Hash}
 use Rattle.stun_types_c.specs.declared.validating.Validated.{Validated}
 use Rattle.stun_types_c.specs.Codes.{OK, INVALID_DATA, OUT_OF_MEMORY, BAD_ARGUMENT}
 use Rattle.stun_types_c.specs.CResults.{plain, parse_result, Refuses}
+use Rattle.stun_types_c.specs.Keys.{password_answer}
 use Rattle.stun_types_c.specs.PasswordAlgorithms.{password_numbered}
 use Rattle.stun_types_c.specs.Validating.{TellsVerdict, Invalidates}
 
@@ -59,35 +60,41 @@ RefusesLongTerm user realm password answer =
 
 -- ---- What the calls answer
 
--- a handle holds the long-term key by the password algorithm of a number: it serves both integrity
--- attributes (section 9.2.5)
+-- a handle holds the long-term key by the password algorithm of a number, of a password that has
+-- bytes: it serves both integrity attributes (section 9.2.5)
 abbrev pub HoldsLongTerm : ℕ → (user realm password : List ℕ) → CResult
     → (old new : Option IntegrityKey) → Type 0
 HoldsLongTerm number user realm password result old new =
     MatchOption (password_numbered number)
     (Refuses (plain BAD_ARGUMENT) result old new)
-    (λ algorithm. WithTexts user realm password
+    (λ algorithm. MatchOption (password_answer password)
+    (WithTexts user realm password
     ((result ≡ plain OK)
     × IsSomeAnd new (IsKey None (long_term_key (integrity_of algorithm) user realm password)))
     (λ answer. Refuses answer result old new))
+    (λ answer. Refuses answer result old new))
 
--- validating d under a password: why it is no message, or the verdict if the password is the key
--- for both algorithms, or an allocation failed
+-- validating d under a password: why it is no message, or the password none, or the verdict if the
+-- password is the key for both algorithms, or an allocation failed
 abbrev pub ValidatesShortTerm : (password d : List ℕ) → CResult → Validated → Type 0
 ValidatesShortTerm password d result new =
     MatchOption (parse_fault d)
+    (MatchOption (password_answer password)
     (TellsVerdict d (verdict (is_checked_type None) (λ _. password) d) result new
     ⊎ Invalidates (plain OUT_OF_MEMORY) result new)
+    (λ answer. Invalidates answer result new))
     (λ e. Invalidates (parse_result e) result new)
 
 -- the same with a long-term credential, which gives each algorithm its key
 abbrev pub ValidatesLongTerm : (user realm password d : List ℕ) → CResult → Validated → Type 0
 ValidatesLongTerm user realm password d result new =
     MatchOption (parse_fault d)
+    (MatchOption (password_answer password)
     (WithTexts user realm password
     (TellsVerdict d
     (verdict (is_checked_type None) (λ algorithm. long_term_key algorithm user realm password) d)
     result new)
+    (λ answer. Invalidates answer result new))
     (λ answer. Invalidates answer result new))
     (λ e. Invalidates (parse_result e) result new)
 

@@ -1,5 +1,5 @@
 -- What the place of a key owns, and what it has of a key that is shared.
-use Rattle.std.specs.Prelude.{ℕ, Option, Some, None}
+use Rattle.std.specs.Prelude.{ℕ, Bool, Option, Some, None, ◌==◌}
 use Rattle.std.specs.Box.Ownership.{box_owns}
 use Rattle.std.specs.contracts.impls.GlobalAllocator.TheImpl.{ghosts}
 use Rattle.std.specs.declared.alloc.Global.{Global}
@@ -27,7 +27,11 @@ abbrev pub shared_if_some : (R : RattleType) → Ptr → Option R.Denot → Fml
 shared_if_some R at None = ftrue
 shared_if_some R at (Some value) = is_shared R at value
 
--- how many keys there are: 0 or 1
-abbrev pub keys_in : {X : Type 0} → Option X → ℕ
-keys_in None = 0
-keys_in (Some key) = 1
+-- the second word of a handle that holds a key: the letters "stun_key"
+abbrev pub held_mark : ℕ
+held_mark = 0x7374_756E_5F6B_6579
+
+-- whether a second word says that a handle holds a key. Any other word says that it holds none,
+-- whatever the first word is
+abbrev pub is_held : ℕ → Bool
+is_held held = held == held_mark

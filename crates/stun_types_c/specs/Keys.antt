@@ -39,6 +39,18 @@ Holds made_for bytes result old new =
     ((result ≡ plain OK) × IsSomeAnd new (IsKey made_for bytes))
     ⊎ ((result ≡ plain OUT_OF_MEMORY) × (new ≡ old))
 
+-- why bytes are no password and no key: there are none
+abbrev pub password_answer : List ℕ → Option CResult
+password_answer bytes = if length bytes == 0 then Some (plain BAD_ARGUMENT) else None
+
+-- the same, unless there are no bytes
+abbrev pub HoldsPassword : Option IntegrityAlgorithm → List ℕ → CResult → (old new : Option IntegrityKey)
+    → Type 0
+HoldsPassword made_for bytes result old new =
+    MatchOption (password_answer bytes)
+    (Holds made_for bytes result old new)
+    (λ answer. Refuses answer result old new)
+
 -- the algorithm that a key is made for by a number, and by 0 none; nothing by another number
 abbrev pub made_for_named : ℕ → Option (Option IntegrityAlgorithm)
 made_for_named number =
@@ -46,12 +58,12 @@ made_for_named number =
     else option_map (λ algorithm. Some algorithm) (algorithm_named number)
 
 -- a handle holds a key with these bytes for the algorithm of a number, or no algorithm has that
--- number
+-- number, or there are no bytes
 abbrev pub HoldsNamed : ℕ → List ℕ → CResult → (old new : Option IntegrityKey) → Type 0
 HoldsNamed number bytes result old new =
     MatchOption (made_for_named number)
     ((result ≡ plain BAD_ARGUMENT) × (new ≡ old))
-    (λ made_for. Holds made_for bytes result old new)
+    (λ made_for. HoldsPassword made_for bytes result old new)
 
 -- the number of the algorithm that a key was made for, and 0 for one that serves both
 abbrev pub made_for_number : Option IntegrityAlgorithm → ℕ

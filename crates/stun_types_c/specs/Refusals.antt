@@ -1,6 +1,6 @@
 -- The error response to a request that a server refuses, and what it says at the beginning of its
 -- nonces (RFC 8489, sections 9.1.3, 9.2, 9.2.4 and 18.1).
-use Rattle.std.specs.Prelude.{◌≡◌, ◌⊎◌, ℕ, ◌+◌, ◌*◌, ◌%◌, Bool, List, [], ◌∷◌, ◌++◌, length, drop, Option, None, Some, is_some, MatchOption, nat_lt, ◌==◌, if◌then◌else◌}
+use Rattle.std.specs.Prelude.{◌≡◌, ◌⊎◌, ℕ, ◌+◌, ◌*◌, ◌%◌, Bool, List, ◌++◌, length, drop, Option, None, Some, is_some, MatchOption, nat_lt, ◌==◌, if◌then◌else◌}
 use Rattle.std.specs.Int.{from_bool}
 use Rattle.std.specs.Option.{option_map, option_map_or, option_or}
 use Rattle.std.specs.Str.{is_utf8}
@@ -8,12 +8,11 @@ use Rattle.stun_grammar.specs.Headers.{type_field}
 use Rattle.stun_grammar.specs.Parsing.{parse_fault}
 use Rattle.stun_base.specs.MessageTypes.{class_of}
 use Rattle.stun_values.specs.declared.algorithm.PasswordAlgorithmValue.{PasswordAlgorithmValue}
-use Rattle.stun_values.specs.Algorithms.{algorithms_encoding}
 use Rattle.stun_values.specs.TextValues.{text_max}
 use Rattle.stun_authentication.specs.declared.answer.Refusal.{Refusal}
 use Rattle.stun_authentication.specs.declared.answer.Refusal.TheVariants.{BadRequest, Unauthenticated, StaleNonce}
 use Rattle.stun_authentication.specs.declared.cookie.SecurityFeatures.{SecurityFeatures}
-use Rattle.stun_authentication.specs.Asking.{Asked, asked_for}
+use Rattle.stun_authentication.specs.Asking.{Asked, asked_for, listed}
 use Rattle.stun_authentication.specs.Cookies.{cookie}
 use Rattle.stun_authentication.specs.LongTerm.{is_request}
 use Rattle.stun_authentication.specs.Refusing.{mismatch, refusal_of, refusal_sizes}
@@ -49,20 +48,19 @@ text_answer bytes =
     (if nat_lt text_max (length bytes) then Some (counted TOO_LARGE text_max (length bytes)) else None)
     else Some (plain INVALID_DATA)
 
--- the value of PASSWORD-ALGORITHMS, if there are algorithms
-abbrev pub list_sent : List PasswordAlgorithmValue → Option (List ℕ)
-list_sent [] = None
-list_sent (algorithm ∷ algorithms) = Some (algorithms_encoding (algorithm ∷ algorithms))
+abbrev pub texts_answer : (realm nonce : List ℕ) → Option CResult
+texts_answer realm nonce = option_or (text_answer realm) (text_answer nonce)
 
 -- what a realm, a nonce and algorithms ask for
 abbrev pub asked_of : (realm nonce : List ℕ) → List PasswordAlgorithmValue → Asked
-asked_of realm nonce algorithms = asked_for realm nonce (list_sent algorithms)
+asked_of realm nonce algorithms = asked_for realm nonce (listed algorithms)
 
--- why it isn't asked for
+-- why it isn't asked for: the nonce and the list don't match
+abbrev pub list_answer : Asked → Option CResult
+list_answer asked = option_map (λ why. plain BAD_ARGUMENT) (mismatch asked.nonce asked.list)
+
 abbrev pub asked_answer : Asked → Option CResult
-asked_answer asked =
-    option_or (text_answer asked.realm) (option_or (text_answer asked.nonce)
-    (option_map (λ why. plain BAD_ARGUMENT) (mismatch asked)))
+asked_answer asked = option_or (texts_answer asked.realm asked.nonce) (list_answer asked)
 
 -- ---- The response
 

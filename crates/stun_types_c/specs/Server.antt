@@ -15,20 +15,18 @@ length_reported None = 0
 length_reported (Some length) = length
 
 -- the reply to a datagram is written at the start of the slice, or there is none, or it has no room
--- and the slice stays
-abbrev pub RepliesTo : SocketAddr → List ℕ → CResult → (old new : List ℕ) → (before after : ℕ)
-    → Type 0
-RepliesTo source datagram result old new before after =
+-- and the slice stays. Without a reply its length is 0
+abbrev pub RepliesTo : SocketAddr → List ℕ → CResult → (old new : List ℕ) → ℕ → Type 0
+RepliesTo source datagram result old new reported_length =
     (new ≡ slice_after (reply source datagram) old)
     × MatchResult (answer_in (reply source datagram) (length old))
-    (λ reported. (result ≡ plain OK) × (after ≡ length_reported reported))
-    (λ e. (result ≡ write_result e) × (after ≡ before))
+    (λ reported. (result ≡ plain OK) × (reported_length ≡ length_reported reported))
+    (λ e. (result ≡ write_result e) × (reported_length ≡ 0))
 
 -- the same for a datagram that came from the address that C's form names, if it names one
-abbrev pub RepliesAt : Address → List ℕ → CResult → (old new : List ℕ) → (before after : ℕ)
-    → Type 0
-RepliesAt address datagram result old new before after =
+abbrev pub RepliesAt : Address → List ℕ → CResult → (old new : List ℕ) → ℕ → Type 0
+RepliesAt address datagram result old new reported_length =
     MatchOption (ip_named address)
-    ((result ≡ plain BAD_ARGUMENT) × (new ≡ old) × (after ≡ before))
+    ((result ≡ plain BAD_ARGUMENT) × (new ≡ old) × (reported_length ≡ 0))
     (λ ip. (source : SocketAddr)
-    × (IsAt ip address.port source × RepliesTo source datagram result old new before after))
+    × (IsAt ip address.port source × RepliesTo source datagram result old new reported_length))

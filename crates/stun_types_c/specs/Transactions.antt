@@ -1,6 +1,6 @@
 -- A client's transaction, which C keeps as plain numbers (RFC 8489, sections 6.2, 6.3.3, 6.3.4, 9.1.4
 -- and 9.2.5). Moments are whole milliseconds since a beginning of C's choice.
-use Rattle.std.specs.Prelude.{◌≡◌, ℕ, ◌+◌, ◌-◌, ◌*◌, ◌/◌, ◌^◌, ◌<◌, ◌≤◌, ◌==◌, ◌⊎◌, List, length, slice_range, Option, None, Some, Result, Ok, Err, is_some, min, not, ◌&&◌, MatchOption, MatchResult, IsSomeAnd, option_map, if◌then◌else◌}
+use Rattle.std.specs.Prelude.{◌≡◌, ℕ, ◌+◌, ◌-◌, ◌*◌, ◌/◌, ◌^◌, ◌<◌, ◌==◌, ◌⊎◌, List, length, replicate, slice_range, Option, None, Some, Result, Ok, Err, is_some, min, not, ◌&&◌, MatchOption, MatchResult, IsSomeAnd, option_map, if◌then◌else◌}
 use Rattle.std.specs.Int.{from_bool}
 use Rattle.std.specs.Option.{option_map_or, option_or}
 use Rattle.std.specs.Duration.{as_nanos}
@@ -34,6 +34,7 @@ use Rattle.stun_transactions.specs.declared.received.Outcome.{Outcome}
 use Rattle.stun_transactions.specs.declared.received.Outcome.TheVariants.{NotForThis, Discarded, Failed, Success, Error}
 use Rattle.stun_transactions.specs.declared.schedule.Schedule.{Schedule}
 use Rattle.stun_transactions.specs.declared.schedule.ScheduleError.{ScheduleError}
+use Rattle.stun_transactions.specs.declared.schedule.ScheduleError.TheVariants.{Zero}
 use Rattle.stun_transactions.specs.declared.beginning.BeginError.{BeginError}
 use Rattle.stun_transactions.specs.declared.beginning.BeginError.TheVariants.{NotARequest, NotSigned, Signed, KeyForOneAlgorithm}
 use Rattle.stun_transactions.specs.declared.response_policy.ResponsePolicy.{ResponsePolicy}
@@ -51,7 +52,6 @@ use Rattle.stun_types_c.specs.declared.transactions.CSchedule.{CSchedule}
 use Rattle.stun_types_c.specs.declared.transactions.CAction.{CAction}
 use Rattle.stun_types_c.specs.CResults.{plain, parse_result}
 use Rattle.stun_types_c.specs.Keys.{number_of}
-use Rattle.stun_types_c.specs.TypeLists.{types_numbered}
 use Rattle.stun_types_c.specs.Usages.{min_hmac_length_named}
 use Rattle.stun_types_c.specs.Codes.{OK, OUT_OF_MEMORY, OUT_OF_RANGE, BAD_ARGUMENT, NO_KEY, NOT_A_REQUEST, NOT_SIGNED, SIGNED}
 
@@ -95,9 +95,11 @@ pub record IsAt (millis : ℕ) (moment : Duration) : Type 0 where
 abbrev pub millis_of : Duration → ℕ
 millis_of moment = min (as_nanos moment / 1_000_000) (2 ^ 64 - 1)
 
--- why no schedule has these numbers
+-- why no schedule has these numbers: one of them is 0, or they are too large
 abbrev pub waits_fault : CSchedule → Option ScheduleError
-waits_fault waits = schedule_fault waits.rto waits.requests waits.last_wait
+waits_fault waits =
+    if waits.reliable_wait == 0 then Some Zero
+    else schedule_fault waits.rto waits.requests waits.last_wait
 
 -- the schedule of these numbers
 pub record Schedules (waits : CSchedule) (schedule : Schedule) : Type 0 where
@@ -130,7 +132,7 @@ pub record TellsParts (kept : CTransaction) (parts : TransactionParts) : Type 0 
   pub schedule : Schedules kept.schedule parts.plan.schedule
   pub transport : transport_numbered kept.transport ≡ Some parts.plan.transport
   pub method : parts.method ≡ kept.method
-  pub method_valid : kept.method < 0xf000
+  pub method_valid : kept.method < 0x1000
   pub id : parts.id ≡ number kept.id.bytes
   pub signed : kept.signed_by ≡ signed_number parts.signed
   pub mechanism : mechanism_numbered kept.protection ≡ Some parts.mechanism
@@ -294,13 +296,40 @@ begun_in_c d waits transport protection now = record {
   reserved = 0;
 }
 
--- a transaction of the request d begins, or it is reported why none does, and nothing changes
+-- the numbers of no transaction: a call that begins none writes this
+abbrev pub no_transaction : CTransaction
+no_transaction = record {
+  schedule = record {
+    rto = 0;
+    reliable_wait = 0;
+    requests = 0;
+    last_wait = 0;
+    min_hmac_length = 0;
+    fingerprint = 0;
+    reserved = 0;
+  };
+  last = 0;
+  clock = 0;
+  id = record { bytes = replicate 12 0 };
+  sent = 0;
+  method = 0;
+  transport = 0;
+  protection = 0;
+  signed_by = 0;
+  violated = 0;
+  end = 0;
+  stopped = 0;
+  reserved = 0;
+}
+
+-- a transaction of the request d begins, or it is reported why none does, and C keeps none, whatever
+-- it kept before
 abbrev pub BeginsKept : List ℕ → CSchedule → (transport protection now : ℕ) → Option IntegrityKey
-    → CResult → CTransaction → CTransaction → Type 0
-BeginsKept d waits transport protection now held result old new =
+    → CResult → CTransaction → Type 0
+BeginsKept d waits transport protection now held result new =
     MatchOption (begin_answer waits transport protection held d)
     ((result ≡ plain OK) × (new ≡ begun_in_c d waits transport protection now))
-    (λ answer. (result ≡ answer) × (new ≡ old))
+    (λ answer. (result ≡ answer) × (new ≡ no_transaction))
 
 -- ---- What is received
 
@@ -372,21 +401,19 @@ pub record ReceivesParts (parts : TransactionParts) (key : Option IntegrityKey)
   pub reported : new.reported ≡ outcome_in_c (received_outcome parts key understood d)
 
 -- the same with the key of a handle, if there is one
-abbrev pub ReceivesWith : Option IntegrityKey → (understood d : List ℕ) → TransactionParts
+abbrev pub ReceivesWith : Option IntegrityKey → List AttributeType → List ℕ → TransactionParts
     → CResult
     → ReceivedState → ReceivedState → Type 0
 ReceivesWith held understood d parts result old new =
     (made : Result (Option IntegrityKey) CResult) × Copies parts held made
     × MatchResult made
-    (λ key. (result ≡ plain OK) × ReceivesParts parts key (types_numbered understood) d old new)
+    (λ key. (result ≡ plain OK) × ReceivesParts parts key understood d old new)
     (λ answer. Ignores answer result old new)
 
--- the same for the transaction that C keeps, by a client that understands at most 64 types
-abbrev pub ReceivesKept : Option IntegrityKey → (understood d : List ℕ) → CResult → ReceivedState
+-- the same for the transaction that C keeps, by a client that understands these types
+abbrev pub ReceivesKept : Option IntegrityKey → List AttributeType → List ℕ → CResult → ReceivedState
     → ReceivedState
     → Type 0
 ReceivesKept held understood d result old new =
-    ((64 < length understood) × Ignores (plain BAD_ARGUMENT) result old new)
-    ⊎ ((length understood ≤ 64)
-    × MatchKept old.kept (Ignores (plain BAD_ARGUMENT) result old new)
-    (λ parts. ReceivesWith held understood d parts result old new))
+    MatchKept old.kept (Ignores (plain BAD_ARGUMENT) result old new)
+    (λ parts. ReceivesWith held understood d parts result old new)

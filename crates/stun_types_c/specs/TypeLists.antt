@@ -1,5 +1,5 @@
 -- Lists of attribute types as C sees them (RFC 8489, sections 6.3.1, 14 and 14.13).
-use Rattle.std.specs.Prelude.{◌≡◌, ℕ, List, length, map, MatchOption}
+use Rattle.std.specs.Prelude.{◌≡◌, ℕ, List, length, MatchOption}
 use Rattle.stun_grammar.specs.declared.attribute_type.AttributeType.{AttributeType}
 use Rattle.stun_grammar.specs.Adding.{numbers}
 use Rattle.stun_text.specs.Slices.{laid_over}
@@ -11,14 +11,10 @@ use Rattle.stun_types_c.specs.Codes.{OK, BAD_ARGUMENT, INVALID_DATA}
 use Rattle.stun_types_c.specs.CResults.{plain}
 use Rattle.stun_types_c.specs.Values.{value_of}
 
--- the types of these numbers, in order
-abbrev pub types_numbered : List ℕ → List AttributeType
-types_numbered = map (λ number. record { 0 = number })
-
 -- the numbers of the types that d shows, that must be understood and are none of those supported,
 -- in order and as often as shown
-abbrev pub unknown_numbers : (supported d : List ℕ) → List ℕ
-unknown_numbers supported d = numbers (unknown_types (types_numbered supported) d)
+abbrev pub unknown_numbers : List AttributeType → List ℕ → List ℕ
+unknown_numbers supported d = numbers (unknown_types supported d)
 
 -- a call leaves C's places as they are
 abbrev pub LeavesTypes : (old new : List ℕ) → (before after : ℕ) → Type 0

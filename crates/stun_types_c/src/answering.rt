@@ -5,7 +5,7 @@ ghost use Rattle.stun_keys.specs.Keys.{key_algorithm, key_bytes, serves};
 ghost use Rattle.stun_values.specs.TextValues.{username_max};
 ghost use Rattle.stun_authentication.specs.Challenges.{retry_of, signing_algorithm};
 ghost use Rattle.stun_authentication.specs.Requests.{login_steps};
-ghost use Rattle.stun_types_c.specs.Answering.{challenge_in, HoldsAsked, HoldsFor, name_answer, AnswersChallenge};
+ghost use Rattle.stun_types_c.specs.Answering.{challenge_in, HoldsAsked, HoldsFor, name_answer, AnswersRetry, AnswersChallenge};
 ghost use Rattle.stun_types_c.specs.KeyHandles.{held_key, shared_key};
 ghost use Rattle.stun_types_c.specs.Writing.{TakesIn};
 
@@ -19,15 +19,15 @@ use crate::shared_key::SharedKey;
 use crate::values::text_in;
 use crate::writing::{header_of, store_end};
 use std::alloc::Global;
-use stun_authentication::{Challenge, answer_challenge_with_key, challenge_of, key_for};
+use stun_authentication::{Retry, answer_challenge_with_key, challenge_of, key_for};
 use stun_types::message::{IntegrityKey, Message, MessageWriteMutSlice, ResumePoint};
 use stun_types::prelude::*;
 use stun_values::USERNAME_MAX;
 
 /// The challenge in a response, for a client that supports the algorithms of these numbers.
-fn challenge_in<'a>(response: &'a [u8], supported: &[u16]) -> Result<Challenge<'a>, CResult>
+fn challenge_in<'a>(response: &'a [u8], supported: &[u16]) -> Result<Retry<'a>, CResult>
     ensures { MatchResult result
-        (λ challenge. challenge_in supported.now response.now ≡ Ok (retry_of challenge))
+        (λ retry. challenge_in supported.now response.now ≡ Ok (retry_of retry))
         (λ answer. challenge_in supported.now response.now ≡ Err answer) }
 {
     let Some(supported) = algorithms_of(supported) else {
@@ -38,7 +38,7 @@ fn challenge_in<'a>(response: &'a [u8], supported: &[u16]) -> Result<Challenge<'
         Err(error) => return Err(parse_result(error)),
     };
     match challenge_of(&message, supported.as_slice(), None, false) {
-        Ok(challenge) => Ok(challenge),
+        Ok(retry) => Ok(retry),
         Err(reason) => Err(no_retry(reason)),
     }
 }
@@ -47,17 +47,17 @@ fn challenge_in<'a>(response: &'a [u8], supported: &[u16]) -> Result<Challenge<'
 fn hold_key(
     alloc: Global,
     key: &mut KeyHandle,
-    challenge: &Challenge<'_>,
+    retry: &Retry<'_>,
     user: &[u8],
     password: &[u8],
 ) -> CResult
-    ensures { HoldsAsked (retry_of challenge.now) user.now password.now result
+    ensures { HoldsAsked (retry_of retry.now) user.now password.now result
         (held_key key.old) (held_key key.new) }
 {
-    let realm = text_in(challenge.realm().as_bytes());
+    let realm = text_in(retry.challenge.realm().as_bytes());
     match (text_in(user), realm, text_in(password)) {
         (Some(user), Some(_), Some(password)) => {
-            hold_made(alloc, key, key_for(alloc, challenge, user, password))
+            hold_made(alloc, key, key_for(alloc, retry, user, password))
         }
         _ => plain(codes::INVALID_DATA),
     }
@@ -76,8 +76,11 @@ pub extern "C" fn stun_types_key_for(
     ensures { HoldsFor supported.now response.now user.now password.now result
         (held_key key.old) (held_key key.new) }
 {
+    if password.is_empty() {
+        return plain(codes::BAD_ARGUMENT);
+    }
     match challenge_in(response, supported) {
-        Ok(challenge) => hold_key(alloc, key, &challenge, user, password),
+        Ok(retry) => hold_key(alloc, key, &retry, user, password),
         Err(answer) => answer,
     }
 }
@@ -103,16 +106,15 @@ fn add_answer(
     alloc: Global,
     room: &mut [u8],
     written: &mut usize,
-    challenge: &Challenge<'_>,
+    retry: &Retry<'_>,
     name: &str,
     key: &IntegrityKey,
     fingerprint: bool,
 ) -> CResult
     requires short { length name.now ≤ username_max }
-    requires serving { serves (key_algorithm key.now) (signing_algorithm (retry_of challenge.now))
+    requires serving { serves (key_algorithm key.now) (signing_algorithm (retry_of retry.now))
         ≡ true }
-    ensures { let retry = retry_of challenge.now in
-        TakesIn (login_steps fingerprint retry name.now (key_bytes key.now)) result
+    ensures { TakesIn (login_steps fingerprint (retry_of retry.now) name.now (key_bytes key.now)) result
         (record { slice = room.old; count = written.old })
         (record { slice = room.new; count = written.new }) }
 {
@@ -121,9 +123,36 @@ fn add_answer(
     };
     let mut write = MessageWriteMutSlice::resume_at(alloc, room, point);
     let header = header_of(write.data());
-    let added = answer_challenge_with_key(challenge, name, key, fingerprint, &mut write);
+    let added = answer_challenge_with_key(retry, name, key, fingerprint, &mut write);
     let end = write.finish();
     store_end(added, end, &header, room, written)
+}
+
+/// Answers a challenge for a user, if the key serves.
+fn answer(
+    alloc: Global,
+    room: &mut [u8],
+    written: &mut usize,
+    retry: &Retry<'_>,
+    user: &[u8],
+    key: &SharedKey,
+    fingerprint: bool,
+) -> CResult
+    ensures { AnswersRetry (retry_of retry.now) user.now fingerprint (shared_key key.now) result
+        (record { slice = room.old; count = written.old })
+        (record { slice = room.new; count = written.new }) }
+{
+    let name = match name_in(user) {
+        Ok(name) => name,
+        Err(answer) => return answer,
+    };
+    match key.key() {
+        Some(key) if !key.serves(retry.challenge.integrity_algorithm()) => {
+            plain(codes::BAD_ARGUMENT)
+        }
+        Some(key) => add_answer(alloc, room, written, retry, name, key, fingerprint),
+        None => plain(codes::NO_KEY),
+    }
 }
 
 /// Answers a challenge: adds what it asks for, and signs the request.
@@ -143,17 +172,8 @@ pub extern "C" fn stun_types_answer_challenge(
         (record { slice = room.old; count = written.old })
         (record { slice = room.new; count = written.new }) }
 {
-    let challenge = match challenge_in(response, supported) {
-        Ok(challenge) => challenge,
-        Err(answer) => return answer,
-    };
-    let name = match name_in(user) {
-        Ok(name) => name,
-        Err(answer) => return answer,
-    };
-    match key.key() {
-        Some(key) if !key.serves(challenge.integrity_algorithm()) => plain(codes::BAD_ARGUMENT),
-        Some(key) => add_answer(alloc, room, written, &challenge, name, key, fingerprint),
-        None => plain(codes::NO_KEY),
+    match challenge_in(response, supported) {
+        Ok(retry) => answer(alloc, room, written, &retry, user, key, fingerprint),
+        Err(answer) => answer,
     }
 }

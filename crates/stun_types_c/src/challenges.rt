@@ -11,7 +11,7 @@ use crate::codes;
 use crate::keys::number_of;
 use crate::password_algorithms::{AlgorithmList, algorithms_of};
 use crate::values::text_in;
-use stun_authentication::{Challenge, NoRetry, challenge_of};
+use stun_authentication::{NoRetry, Retry, challenge_of};
 use stun_grammar::attribute_types::{NONCE, PASSWORD_ALGORITHMS, REALM};
 use stun_types::attribute::PasswordAlgorithmValue;
 use stun_types::message::Message;
@@ -65,10 +65,11 @@ fn value_at(response: &[u8], atype: u16) -> usize
     }
 }
 
-/// A challenge, as C sees it.
-fn in_c(response: &[u8], challenge: &Challenge<'_>) -> CChallenge
-    ensures { result ≡ in_c response.now (retry_of challenge.now) }
+/// What a response asks for, as C sees it.
+fn in_c(response: &[u8], retry: &Retry<'_>) -> CChallenge
+    ensures { result ≡ in_c response.now (retry_of retry.now) }
 {
+    let challenge = &retry.challenge;
     CChallenge {
         realm_at: value_at(response, REALM),
         realm_length: challenge.realm().len(),
@@ -76,7 +77,7 @@ fn in_c(response: &[u8], challenge: &Challenge<'_>) -> CChallenge
         nonce_length: challenge.nonce().len(),
         algorithms_at: value_at(response, PASSWORD_ALGORITHMS),
         algorithms_length: challenge.password_algorithms().map_or(0, |list| list.len()),
-        password_algorithm: match challenge.password_algorithm() {
+        password_algorithm: match retry.algorithm {
             PasswordAlgorithmValue::MD5 => 1,
             PasswordAlgorithmValue::SHA256 => 2,
         },
@@ -118,8 +119,8 @@ fn asked_by(
         Err(error) => return parse_result(error),
     };
     match challenge_of(&message, supported.as_slice(), tried, had_algorithms) {
-        Ok(challenge) => {
-            *asked = in_c(response, &challenge);
+        Ok(retry) => {
+            *asked = in_c(response, &retry);
             plain(codes::OK)
         }
         Err(reason) => no_retry(reason),

@@ -1,14 +1,18 @@
 //! A key in the hands of C: `stun_types_key` of the header.
-ghost use Rattle.std.specs.Prelude.{◌≡◌, Some, None, option_map, box_value};
-ghost use Rattle.stun_types_c.specs.KeyMemory.{keys_in};
+ghost use Rattle.std.specs.Prelude.{◌≡◌, Some, None, is_some, option_map, box_value};
+ghost use Rattle.stun_types_c.specs.KeyMemory.{is_held};
 
 use crate::box_parts::BoxParts;
 use crate::key_place::KeyPlace;
 use std::alloc::Global;
 use stun_types::message::IntegrityKey;
 
-/// A key on the heap, or none: in C `struct { void *at; uint64_t held; }`, 16 bytes, of which
-/// `{ NULL, 0 }` holds no key.
+/// What `held` is if a handle holds a key: the letters `stun_key`. No zero, and no filling of a
+/// debugger or an allocator, is that, so a handle that was never begun holds no key.
+pub(crate) const HELD: u64 = 0x7374_756E_5F6B_6579;
+
+/// A key on the heap, or none: in C `struct { void *at; uint64_t held; }`, 16 bytes. It holds a key
+/// only if `held` is [`HELD`]; `{ NULL, 0 }` holds none.
 ///
 /// A handle owns its key. A call that makes or frees the key takes it by `&mut`: in C by a pointer
 /// that isn't null, is aligned and that nothing else uses during the call. One that only uses the
@@ -26,7 +30,7 @@ use stun_types::message::IntegrityKey;
 pub struct KeyHandle {
     pub(crate) place: KeyPlace,
     held: u64,
-    ghost tied: { held ≡ keys_in place.value },
+    ghost tied: { is_held held ≡ is_some place.value },
 }
 
 impl KeyHandle {
@@ -49,7 +53,7 @@ impl KeyHandle {
     {
         KeyHandle {
             place: KeyPlace::of(BoxParts::of(key)),
-            held: 1,
+            held: HELD,
         }
     }
 
@@ -58,11 +62,11 @@ impl KeyHandle {
         ensures { option_map box_value result ≡ held_key self }
     {
         let KeyHandle { place, held } = self;
-        if held == 0 {
+        if held == HELD {
+            Some(place.into_parts().into_box())
+        } else {
             place.end();
             None
-        } else {
-            Some(place.into_parts().into_box())
         }
     }
 }

@@ -5,7 +5,7 @@ ghost use Rattle.stun_keys.specs.Keys.{key_bytes, IsKey};
 ghost use Rattle.std.specs.Str.{is_utf8};
 ghost use Rattle.std.specs.String.{string_bytes};
 ghost use Rattle.stun_types_c.specs.KeyHandles.{held_key, shared_key};
-ghost use Rattle.stun_types_c.specs.Keys.{algorithm_named, number_of, made_for_number, Holds, HoldsNamed, HoldsMade, HoldsCopy, TellsKey};
+ghost use Rattle.stun_types_c.specs.Keys.{algorithm_named, number_of, made_for_number, HoldsPassword, HoldsNamed, HoldsMade, HoldsCopy, TellsKey};
 ghost use Rattle.stun_types_c.specs.Credentials.{RefusesText, IsLongTerm, RefusesLongTerm, HoldsLongTerm, TellsUserhash};
 
 use crate::call_result::{CResult, counted, plain, write_result};
@@ -82,8 +82,11 @@ pub extern "C" fn stun_types_key_short_term(
     key: &mut KeyHandle,
     password: &[u8],
 ) -> CResult
-    ensures { Holds None password.now result (held_key key.old) (held_key key.new) }
+    ensures { HoldsPassword None password.now result (held_key key.old) (held_key key.new) }
 {
+    if password.is_empty() {
+        return plain(codes::BAD_ARGUMENT);
+    }
     hold_made(alloc, key, IntegrityKey::new(alloc, password, None))
 }
 
@@ -104,6 +107,9 @@ pub extern "C" fn stun_types_key_from_bytes(
             None => return plain(codes::BAD_ARGUMENT),
         },
     };
+    if bytes.is_empty() {
+        return plain(codes::BAD_ARGUMENT);
+    }
     hold_made(alloc, key, IntegrityKey::new(alloc, bytes, algorithm))
 }
 
@@ -216,6 +222,9 @@ pub extern "C" fn stun_types_key_long_term(
     let Some(algorithm) = password_of(algorithm) else {
         return plain(codes::BAD_ARGUMENT);
     };
+    if password.is_empty() {
+        return plain(codes::BAD_ARGUMENT);
+    }
     match long_term_of(alloc, user, realm, password) {
         Ok(credentials) => {
             let made = credentials.make_key(alloc, algorithm.as_integrity());

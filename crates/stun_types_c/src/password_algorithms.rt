@@ -1,6 +1,6 @@
 //! Lists of password algorithms, by their numbers (RFC 8489, section 18.5).
 
-ghost use Rattle.std.specs.Prelude.{◌≡◌, ◌≤◌, take};
+ghost use Rattle.std.specs.Prelude.{◌≡◌, ◌≤◌, length, take};
 ghost use Rattle.std.specs.Option.{option_map};
 ghost use Rattle.stun_types_c.specs.PasswordAlgorithms.{password_numbered, password_algorithms_named};
 
@@ -20,7 +20,8 @@ pub(crate) struct AlgorithmList {
 impl AlgorithmList {
     /// The algorithms.
     pub(crate) fn as_slice(&self) -> &[PasswordAlgorithmValue]
-        ensures { result.now ≡ take self.now.count self.now.all }
+        ensures algorithms { result.now ≡ take self.now.count self.now.all }
+        ensures few { length result.now ≤ 16 }
     {
         &self.all[..self.count]
     }

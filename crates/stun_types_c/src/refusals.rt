@@ -8,10 +8,10 @@ ghost use Rattle.stun_grammar.specs.Headers.{type_field};
 ghost use Rattle.stun_types.specs.Message.{message_bytes};
 ghost use Rattle.stun_attributes.specs.Texts.{text_bytes};
 ghost use Rattle.stun_authentication.specs.Cookies.{security_features};
-ghost use Rattle.stun_authentication.specs.Refusing.{listed, demanded};
+ghost use Rattle.stun_authentication.specs.Asking.{asked_in};
 ghost use Rattle.stun_types_c.specs.CResults.{plain};
 ghost use Rattle.stun_types_c.specs.Codes.{OUT_OF_MEMORY};
-ghost use Rattle.stun_types_c.specs.Refusals.{message_answer, short_term_refusal, long_term_refusal, text_answer, list_sent, asked_of, asked_answer, Delivers, WritesRefusal, RefusesShortTerm, RefusesAsking, RefusesLongTerm, features_named, TellsCookie, TellsFeatures};
+ghost use Rattle.stun_types_c.specs.Refusals.{message_answer, short_term_refusal, long_term_refusal, text_answer, texts_answer, list_answer, asked_of, Delivers, WritesRefusal, RefusesShortTerm, RefusesAsking, RefusesLongTerm, features_named, TellsCookie, TellsFeatures};
 
 use crate::call_result::{CResult, counted, parse_result, plain, write_result};
 use crate::codes;
@@ -19,10 +19,10 @@ use crate::password_algorithms::{AlgorithmList, algorithms_of};
 use crate::values::text_in;
 use std::alloc::Global;
 use stun_authentication::{
-    Demand, Refusal, SecurityFeatures, nonce_cookie, refuse_long_term, refuse_short_term,
-    security_features,
+    Challenge, ChallengeError, Refusal, SecurityFeatures, nonce_cookie, refuse_long_term,
+    refuse_short_term, security_features,
 };
-use stun_types::attribute::{Nonce, PasswordAlgorithms, Realm};
+use stun_types::attribute::{Nonce, Realm};
 use stun_types::message::{Message, MessageClass, MessageWriteVec};
 use stun_types::prelude::*;
 
@@ -142,58 +142,60 @@ fn nonce_of(alloc: Global, bytes: &[u8]) -> Result<Nonce, CResult>
     }
 }
 
-/// The PASSWORD-ALGORITHMS of algorithms, if there are any.
-fn list_of(alloc: Global, algorithms: &AlgorithmList) -> Result<Option<PasswordAlgorithms>, CResult>
+/// The REALM and the NONCE of C's bytes.
+fn texts_of(alloc: Global, realm: &[u8], nonce: &[u8]) -> Result<(Realm, Nonce), CResult>
     ensures { MatchResult result
-        (λ list. listed list ≡ list_sent (take algorithms.now.count algorithms.now.all))
-        (λ answer. answer ≡ plain OUT_OF_MEMORY) }
-{
-    if algorithms.as_slice().is_empty() {
-        return Ok(None);
-    }
-    match PasswordAlgorithms::new(alloc, algorithms.as_slice()) {
-        Ok(list) => Ok(Some(list)),
-        Err(error) => Err(write_result(error)),
-    }
-}
-
-/// What a realm, a nonce and algorithms ask for.
-fn demand_of(
-    alloc: Global,
-    realm: &[u8],
-    nonce: &[u8],
-    algorithms: &AlgorithmList,
-) -> Result<Demand, CResult>
-    ensures { let asked = asked_of realm.now nonce.now
-        (take algorithms.now.count algorithms.now.all) in
-        MatchResult result
-        (λ demand. (asked_answer asked ≡ None) × (demanded demand ≡ asked))
-        (λ answer. (asked_answer asked ≡ Some answer) ⊎ (answer ≡ plain OUT_OF_MEMORY)) }
+        (λ texts. (texts_answer realm.now nonce.now ≡ None)
+        × (text_bytes texts.0 ≡ realm.now) × (text_bytes texts.1 ≡ nonce.now))
+        (λ answer. (texts_answer realm.now nonce.now ≡ Some answer)
+        ⊎ (answer ≡ plain OUT_OF_MEMORY)) }
 {
     let realm = realm_of(alloc, realm)?;
     let nonce = nonce_of(alloc, nonce)?;
-    let list = list_of(alloc, algorithms)?;
-    match Demand::new(realm, nonce, list) {
-        Ok(demand) => Ok(demand),
+    Ok((realm, nonce))
+}
+
+/// What a realm, a nonce and algorithms ask for.
+fn challenge_with<'a>(
+    alloc: Global,
+    realm: &'a Realm,
+    nonce: &'a Nonce,
+    algorithms: &AlgorithmList,
+) -> Result<Challenge<'a>, CResult>
+    ensures { let asked = asked_of (text_bytes realm.now) (text_bytes nonce.now)
+        (take algorithms.now.count algorithms.now.all) in
+        MatchResult result
+        (λ challenge. (list_answer asked ≡ None) × (asked_in challenge ≡ asked))
+        (λ answer. (list_answer asked ≡ Some answer) ⊎ (answer ≡ plain OUT_OF_MEMORY)) }
+{
+    match Challenge::new(alloc, realm, nonce, algorithms.as_slice()) {
+        Ok(challenge) => Ok(challenge),
+        Err(ChallengeError::OutOfMemory) => Err(plain(codes::OUT_OF_MEMORY)),
         Err(_) => Err(plain(codes::BAD_ARGUMENT)),
     }
 }
 
-/// Refuses a request by long-term credentials, with what it asks for.
-fn refuse_demanding(
+/// Writes the response that refuses a request by long-term credentials, with what it asks for.
+fn write_refusal(
     alloc: Global,
     message: &Message<'_>,
     refusal: Refusal,
-    demand: &Demand,
+    challenge: &Challenge<'_>,
     room: &mut [u8],
     written: &mut usize,
 ) -> CResult
     requires { class_of (type_field (message_bytes message.now)) ≡ Request }
-    ensures { WritesRefusal (message_bytes message.now) refusal (Some (demanded demand.now)) result
+    ensures { WritesRefusal (message_bytes message.now) refusal (Some (asked_in challenge.now)) result
         (record { slice = room.old; count = written.old })
         (record { slice = room.new; count = written.new }) }
 {
-    match refuse_long_term(alloc, message, refusal, demand, MessageWriteVec::new(alloc)) {
+    match refuse_long_term(
+        alloc,
+        message,
+        refusal,
+        challenge,
+        MessageWriteVec::new(alloc),
+    ) {
         Ok(write) => deliver(&write.finish(), room, written),
         Err(error) => write_result(error),
     }
@@ -216,8 +218,12 @@ fn refuse_asking(
         (record { slice = room.old; count = written.old })
         (record { slice = room.new; count = written.new }) }
 {
-    match demand_of(alloc, realm, nonce, algorithms) {
-        Ok(demand) => refuse_demanding(alloc, message, refusal, &demand, room, written),
+    let (realm, nonce) = match texts_of(alloc, realm, nonce) {
+        Ok(texts) => texts,
+        Err(answer) => return answer,
+    };
+    match challenge_with(alloc, &realm, &nonce, algorithms) {
+        Ok(challenge) => write_refusal(alloc, message, refusal, &challenge, room, written),
         Err(answer) => answer,
     }
 }

@@ -11,17 +11,15 @@ use stun_server::reply_into;
 
 /// Writes the reply to a datagram that came from an address.
 fn reply_to(bytes: &[u8], source: SocketAddr, room: &mut [u8], reply_length: &mut usize) -> CResult
-    ensures { RepliesTo source bytes.now result room.old room.new reply_length.old reply_length.new }
+    ensures { RepliesTo source bytes.now result room.old room.new reply_length.new }
 {
+    *reply_length = 0;
     match reply_into(source, bytes, room) {
         Ok(Some(length)) => {
             *reply_length = length;
             plain(codes::OK)
         }
-        Ok(None) => {
-            *reply_length = 0;
-            plain(codes::OK)
-        }
+        Ok(None) => plain(codes::OK),
         Err(error) => write_result(error),
     }
 }
@@ -34,9 +32,9 @@ pub extern "C" fn stun_types_binding_reply(
     room: &mut [u8],
     reply_length: &mut usize,
 ) -> CResult
-    ensures { RepliesAt source.now bytes.now result room.old room.new reply_length.old
-        reply_length.new }
+    ensures { RepliesAt source.now bytes.now result room.old room.new reply_length.new }
 {
+    *reply_length = 0;
     match socket_of(source) {
         Some(source) => reply_to(bytes, source, room, reply_length),
         None => plain(codes::BAD_ARGUMENT),

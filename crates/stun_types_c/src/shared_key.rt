@@ -1,7 +1,8 @@
 //! A key in the hands of C, as the calls see it that only use it.
-ghost use Rattle.std.specs.Prelude.{◌≡◌};
-ghost use Rattle.stun_types_c.specs.KeyMemory.{keys_in};
+ghost use Rattle.std.specs.Prelude.{◌≡◌, is_some};
+ghost use Rattle.stun_types_c.specs.KeyMemory.{is_held};
 
+use crate::key_handle::HELD;
 use crate::shared_place::SharedPlace;
 use stun_types::message::IntegrityKey;
 
@@ -18,7 +19,7 @@ use stun_types::message::IntegrityKey;
 pub struct SharedKey {
     pub(crate) place: SharedPlace,
     held: u64,
-    ghost tied: { held ≡ keys_in place.value },
+    ghost tied: { is_held held ≡ is_some place.value },
 }
 
 impl SharedKey {
@@ -30,10 +31,10 @@ impl SharedKey {
     pub fn key(&self) -> Option<&IntegrityKey>
         ensures { option_copied result ≡ shared_key self.now }
     {
-        if self.held == 0 {
-            None
-        } else {
+        if self.held == HELD {
             Some(self.place.key())
+        } else {
+            None
         }
     }
 }

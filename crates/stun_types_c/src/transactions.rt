@@ -10,7 +10,7 @@ ghost use Rattle.stun_transactions.specs.declared.response_policy.ResponsePolicy
 ghost use Rattle.stun_transactions.specs.Beginning.{request_fault, request_parts};
 ghost use Rattle.stun_transactions.specs.Guards.{signs};
 ghost use Rattle.stun_transactions.specs.Retransmissions.{begun};
-ghost use Rattle.stun_types_c.specs.Transactions.{transport_numbered, mechanism_numbered, IsAt, Schedules, usage_named, Keeps, AreSame, begun_in_c};
+ghost use Rattle.stun_types_c.specs.Transactions.{transport_numbered, mechanism_numbered, IsAt, Schedules, usage_named, Keeps, KeepsNone, AreSame, no_transaction, begun_in_c};
 
 mod beginning;
 mod kept;
@@ -117,10 +117,12 @@ pub fn numbers_keep_one_transaction()
         → Keeps kept one → Keeps kept other → AreSame one other }
 {}
 
-/// A law: the numbers of a transaction that begins keep just that transaction.
+/// A law: the numbers of a transaction that begins keep just that transaction, and what a call leaves
+/// that begins none keeps none.
 #[tactic(auto, using(crate::proofs::KeptLemmas::begun_keeps))]
 pub fn what_begins_is_kept()
-    ensures { (d : List ℕ) (waits : CSchedule) (transport protection now : ℕ) (plan : Plan)
+    ensures none { KeepsNone no_transaction }
+    ensures one { (d : List ℕ) (waits : CSchedule) (transport protection now : ℕ) (plan : Plan)
         (mechanism : Option Mechanism) (usage : ResponsePolicy) (moment : Duration)
         → Schedules waits plan.schedule → usage_named waits ≡ Some usage
         → transport_numbered transport ≡ Some plan.transport

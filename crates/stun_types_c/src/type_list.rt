@@ -1,10 +1,9 @@
 //! Lists of attribute types.
 
-ghost use Rattle.std.specs.Prelude.{◌≡◌, ◌≤◌, ◌<◌, length, take, slice_set, MatchOption};
+ghost use Rattle.std.specs.Prelude.{◌≡◌, length, slice_set};
 ghost use Rattle.stun_text.specs.Slices.{laid_over};
 ghost use Rattle.stun_values.specs.TypeLists.{types_in};
-ghost use Rattle.stun_types.specs.Replies.{is_unknown};
-ghost use Rattle.stun_types_c.specs.TypeLists.{types_numbered, unknown_numbers, ReadsTypes};
+ghost use Rattle.stun_types_c.specs.TypeLists.{unknown_numbers, ReadsTypes};
 
 use crate::attribute::ShownAttribute;
 use crate::call_result::{CResult, plain};
@@ -12,45 +11,7 @@ use crate::codes;
 use crate::values::value_in;
 use stun_base::number_at;
 use stun_types::attribute::AttributeType;
-use stun_types::message::MessageAttributesIter;
-
-/// How many types there are at most.
-const MOST: usize = 64;
-
-/// At most 64 types.
-#[derive(Clone, Copy, Drop)]
-pub(crate) struct TypeList {
-    all: [AttributeType; 64],
-    count: usize,
-    ghost few: { count ≤ 64 },
-}
-
-impl TypeList {
-    /// The types.
-    pub(crate) fn as_slice(&self) -> &[AttributeType]
-        ensures { result.now ≡ take self.now.count self.now.all }
-    {
-        &self.all[..self.count]
-    }
-}
-
-/// The types of C's numbers; `None` if there are more than 64.
-pub(crate) fn types_of(numbers: &[u16]) -> Option<TypeList>
-    ensures { MatchOption result (64 < length numbers.now)
-        (λ few. (length numbers.now ≤ 64) × (take few.count few.all ≡ types_numbered numbers.now)) }
-{
-    if numbers.len() > MOST {
-        return None;
-    }
-    let mut all = [AttributeType(0); MOST];
-    for i in 0..numbers.len() {
-        all[i] = AttributeType(numbers[i]);
-    }
-    Some(TypeList {
-        all,
-        count: numbers.len(),
-    })
-}
+use stun_types::message::UnknownTypes;
 
 /// The types in a value of an even number of bytes, as many as there is room for.
 fn read_into(value: &[u8], types: &mut [u16])
@@ -83,13 +44,6 @@ pub extern "C" fn stun_types_read_types(
     plain(codes::OK)
 }
 
-/// Whether an attribute of this type must be understood, and isn't.
-fn is_unknown(supported: &[u16], atype: AttributeType) -> bool
-    ensures { result ≡ is_unknown (types_numbered supported.now) atype }
-{
-    atype.0 < 0x8000 && !supported.contains(&atype.0)
-}
-
 /// Puts the number of a type after as many others, if there is room for it.
 fn put_behind(count: usize, atype: AttributeType, types: &mut [u16])
     ensures { types.new ≡ slice_set types.old count atype.0 }
@@ -104,19 +58,16 @@ fn put_behind(count: usize, atype: AttributeType, types: &mut [u16])
 #[unsafe(no_mangle)]
 pub extern "C" fn stun_types_unknown_types(
     bytes: &[u8],
-    supported: &[u16],
+    supported: &[AttributeType],
     types: &mut [u16],
 ) -> usize
     ensures count { result ≡ length (unknown_numbers supported.now bytes.now) }
     ensures types { types.new ≡ laid_over (unknown_numbers supported.now bytes.now) types.old }
 {
     let mut count = 0;
-    for (_offset, attribute) in MessageAttributesIter::new(bytes) {
-        let atype = attribute.header().get_type();
-        if is_unknown(supported, atype) {
-            put_behind(count, atype, types);
-            count += 1;
-        }
+    for atype in UnknownTypes::new(bytes, supported) {
+        put_behind(count, atype, types);
+        count += 1;
     }
     count
 }

@@ -243,6 +243,9 @@ pub extern "C" fn stun_types_validate_short_term(
         Ok(message) => message,
         Err(error) => return parse_result(error),
     };
+    if password.is_empty() {
+        return plain(codes::BAD_ARGUMENT);
+    }
     match IntegrityKey::new(alloc, password, None) {
         Ok(key) => tell_verdict(
             &message,
@@ -270,6 +273,9 @@ pub extern "C" fn stun_types_validate_long_term(
         Ok(message) => message,
         Err(error) => return parse_result(error),
     };
+    if password.is_empty() {
+        return plain(codes::BAD_ARGUMENT);
+    }
     match long_term_of(alloc, user, realm, password) {
         Ok(long) => {
             let credentials = MessageIntegrityCredentials::from(long);

@@ -5,7 +5,7 @@
 ghost use Rattle.std.specs.Prelude.{◌≡◌};
 ghost use Rattle.std.specs.Option.{option_map};
 ghost use Rattle.stun_types.specs.KnownTypes.{facts};
-ghost use Rattle.turn_attrs.specs.TurnTypes.{known_type};
+ghost use Rattle.turn_attrs.specs.Turn.{known_type};
 
 use stun_types::attribute::{AttributeType, KnownType, ValueForm};
 
@@ -153,21 +153,22 @@ pub fn known_type(atype: u16) -> Option<KnownType>
     }
 }
 
-/// The types of the attributes of TURN, for `Message::check_attribute_types`.
+/// The types of the attributes of TURN, for `Message::check_attribute_lists`, beside
+/// `stun_types::attribute::KNOWN`.
 ///
 /// # Examples
 ///
 /// ```
+/// use stun_types::attribute::KNOWN;
 /// use stun_types::message::{Message, MessageWriteVec};
-/// use turn_attrs::KNOWN;
 ///
 /// // An Allocate request with REQUESTED-TRANSPORT (UDP) and DONT-FRAGMENT.
 /// let request = Message::from_bytes(
 ///     b"\x00\x03\x00\x0C\x21\x12\xA4\x42\xA5\x62\x50\xD3\xF1\x7A\xBE\x67\x94\x22\xDE\x85\
 ///       \x00\x19\x00\x04\x11\x00\x00\x00\x00\x1A\x00\x00",
 /// )?;
-/// let reply = MessageWriteVec::new(alloc);
-/// assert!(rt; Message::check_attribute_types(alloc, &request, &KNOWN, &[], reply)?.is_none());
+/// let (known, reply) = ([&KNOWN[..], &turn_attrs::KNOWN], MessageWriteVec::new(alloc));
+/// assert!(rt; Message::check_attribute_lists(alloc, &request, &known, &[], reply)?.is_none());
 /// ```
 pub const KNOWN: [AttributeType; 17] = [
     AttributeType(CHANNEL_NUMBER),

@@ -46,7 +46,32 @@ fn request_answer(error: BeginError) -> CResult
     }
 }
 
-/// Begins the transaction of a request.
+/// What a call leaves that begins no transaction.
+const NO_TRANSACTION: CTransaction = CTransaction {
+    schedule: CSchedule {
+        rto: 0,
+        reliable_wait: 0,
+        requests: 0,
+        last_wait: 0,
+        min_hmac_length: 0,
+        fingerprint: 0,
+        reserved: 0,
+    },
+    last: 0,
+    clock: 0,
+    id: Id { bytes: [0; 12] },
+    sent: 0,
+    method: 0,
+    transport: 0,
+    protection: 0,
+    signed_by: 0,
+    violated: 0,
+    end: 0,
+    stopped: 0,
+    reserved: 0,
+};
+
+/// Begins the transaction of a request, or leaves that of none.
 #[tactic(auto, using(stun_grammar::proofs::HeadersLemmas::header_there, stun_grammar::proofs::ParsingLemmas::parsed_header))]
 #[unsafe(no_mangle)]
 pub extern "C" fn stun_types_transaction_begin(
@@ -59,8 +84,9 @@ pub extern "C" fn stun_types_transaction_begin(
     now: u64,
 ) -> CResult
     ensures { BeginsKept request.now schedule.now transport protection now
-        (shared_key key.now) result kept.old kept.new }
+        (shared_key key.now) result kept.new }
 {
+    *kept = NO_TRANSACTION;
     let message = match Message::from_bytes(request) {
         Ok(message) => message,
         Err(error) => return parse_result(error),

@@ -72,6 +72,9 @@ pub(crate) fn end_number(end: TransactionEnd) -> u8
 pub(crate) fn schedule_of(waits: &CSchedule) -> Option<Schedule>
     ensures { MatchOption result (is_some (waits_fault waits.now) ≡ true) (Schedules waits.now) }
 {
+    if waits.reliable_wait == 0 {
+        return None;
+    }
     let schedule = Schedule::new(waits.rto, waits.requests, waits.last_wait).ok()?;
     Some(schedule.with_reliable_timeout(waits.reliable_wait))
 }
@@ -115,7 +118,7 @@ fn meant_parts(kept: &CTransaction) -> Option<TransactionParts>
     if kept.reserved != 0 {
         return None;
     }
-    if !Method::is_valid(kept.method) {
+    if kept.method > 0xFFF {
         return None;
     }
     Some(TransactionParts {

@@ -14,7 +14,6 @@ use crate::call_result::{CResult, plain};
 use crate::codes;
 use crate::keys::number_of;
 use crate::shared_key::SharedKey;
-use crate::type_list::types_of;
 use std::alloc::{AllocError, Global};
 use stun_keys::keys::key_of_bytes;
 use stun_transactions::{
@@ -132,7 +131,7 @@ pub extern "C" fn stun_types_transaction_receive(
     kept: &mut CTransaction,
     key: &SharedKey,
     bytes: &[u8],
-    understood: &[u16],
+    understood: &[AttributeType],
     received: &mut CReceived,
 ) -> CResult
     ensures { ReceivesKept (shared_key key.now) understood.now bytes.now result
@@ -140,9 +139,6 @@ pub extern "C" fn stun_types_transaction_receive(
         (record { kept = kept.new; reported = received.new }) }
 {
     *received = NOTHING_RECEIVED;
-    let Some(understood) = types_of(understood) else {
-        return plain(codes::BAD_ARGUMENT);
-    };
     let Some(parts) = parts_of(kept) else {
         return plain(codes::BAD_ARGUMENT);
     };
@@ -150,7 +146,7 @@ pub extern "C" fn stun_types_transaction_receive(
         Ok(copy) => copy,
         Err(answer) => return answer,
     };
-    match receive(parts, copy, bytes, understood.as_slice()) {
+    match receive(parts, copy, bytes, understood) {
         Ok((parts, outcome)) => {
             store(kept, &parts.state);
             *received = outcome;

@@ -8,13 +8,13 @@ use Rattle.stun_authentication.proofs.login.add_credentials.Goals as goal
 
 pub returns-in_err-add_identity : goal.returns-in_err-add_identity
 returns-in_err-add_identity g c =
-    let retry = retry_of c.args.challenge.now in
+    let retry = retry_of c.args.retry.now in
     let user = identity_attribute (asked_identity retry.asked c.args.name.now) in
     failed c.from_residual.result _ _ c.in_err-add_identity.field-0.0 (user ∷ []) (canonical REALM retry.asked.realm ∷ canonical NONCE retry.asked.nonce ∷ algorithm_attributes retry.asked.list retry.algorithm) c.in_err-add_identity.ensures c.from_residual.ensures
 
 pub returns-in_err-add_copies : goal.returns-in_err-add_copies
 returns-in_err-add_copies g c =
-    let retry = retry_of c.args.challenge.now in
+    let retry = retry_of c.args.retry.now in
     let user = identity_attribute (asked_identity retry.asked c.args.name.now) in
     let realm = canonical REALM retry.asked.realm in
     let nonce = canonical NONCE retry.asked.nonce in
@@ -24,7 +24,7 @@ returns-in_err-add_copies g c =
 
 pub returns : goal.returns
 returns g c =
-    let retry = retry_of c.args.challenge.now in
+    let retry = retry_of c.args.retry.now in
     let user = identity_attribute (asked_identity retry.asked c.args.name.now) in
     let realm = canonical REALM retry.asked.realm in
     let nonce = canonical NONCE retry.asked.nonce in

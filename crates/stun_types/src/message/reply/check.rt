@@ -7,7 +7,7 @@ ghost use Rattle.stun_base.specs.declared.message_class.MessageClass.TheVariants
 ghost use Rattle.stun_base.specs.MessageTypes.{class_of};
 ghost use Rattle.stun_types.specs.Writers.{IsUnchanged};
 ghost use Rattle.stun_types.specs.Message.{message_bytes};
-ghost use Rattle.stun_types.specs.Replies.{unknown_types, lacks, check_reply, IsReply, IsReplyAnswer, Replies};
+ghost use Rattle.stun_types.specs.Replies.{joined, unknown_types, lacks, check_reply, IsReply, IsReplyAnswer, Replies};
 
 use crate::attribute::AttributeType;
 use crate::message::{Message, StunWriteError, UnknownTypes};
@@ -18,15 +18,16 @@ use std::alloc::{AllocError, Global};
 fn unknown_types_of(
     alloc: Global,
     message: &Message<'_>,
-    supported: &[AttributeType],
+    supported: &[&[AttributeType]],
 ) -> Result<Vec<AttributeType>, StunWriteError>
-    ensures ok { IfOk result
-        (λ found. found.items ≡ unknown_types supported.now (message_bytes message.now)) }
+    ensures ok { IfOk result (λ found. found.items
+        ≡ unknown_types (joined supported.now) (message_bytes message.now)) }
     ensures err { IfErr result (λ e. e ≡ StunWriteError.OutOfMemory) }
-    ensures some { OnErr result (unknown_types supported.now (message_bytes message.now) ≢ []) }
+    ensures some { OnErr result
+        (unknown_types (joined supported.now) (message_bytes message.now) ≢ []) }
 {
     let mut found = Vec::new(alloc);
-    for atype in UnknownTypes::new(message.as_bytes(), supported) {
+    for atype in UnknownTypes::with_lists(message.as_bytes(), supported) {
         found.push(atype).map_err(AllocError::from)?;
     }
     Ok(found)
@@ -142,6 +143,88 @@ impl Message<'_> {
         ensures reported { IfOk result (λ written. written
             ≡ is_some (check_reply supported.now required.now (message_bytes msg.now))) }
         ensures replies { IfSome (check_reply supported.now required.now (message_bytes msg.now))
+            (Replies result (B.state write.old) (B.state write.new) (message_bytes msg.now)) }
+    {
+        Self::check_attribute_lists_into(alloc, msg, &[supported], required, write)
+    }
+
+    /// Checks the attributes of a request, and writes the reply that it deserves, if it does, as
+    /// [`Message::check_attribute_types`] does, with the types of several lists as those supported:
+    /// of each usage of STUN its own.
+    ///
+    /// # Requires
+    ///
+    /// As for [`Message::check_attribute_types`].
+    ///
+    /// # Errors
+    ///
+    /// As for [`Message::check_attribute_types`].
+    ///
+    /// # Examples
+    ///
+    /// ```
+    /// use stun_types::attribute::{AttributeType, KNOWN};
+    /// use stun_types::message::{Message, MessageWriteVec};
+    ///
+    /// let bytes = b"\x00\x01\x00\x08\x21\x12\xA4\x42abcdefghijkl\x77\x77\x00\x01a\0\0\0";
+    /// let (request, write) = (Message::from_bytes(bytes)?, MessageWriteVec::new(alloc));
+    /// let lists = [&KNOWN[..], &[AttributeType(0x7777)]];
+    /// let reply = Message::check_attribute_lists(alloc, &request, &lists, &[], write)?;
+    /// assert!(rt; reply.is_none());
+    /// ```
+    pub fn check_attribute_lists<B: MessageWrite + Drop>(
+        alloc: Global,
+        msg: &Message<'_>,
+        supported: &[&[AttributeType]],
+        required: &[AttributeType],
+        mut write: B,
+    ) -> Result<Option<B>, StunWriteError>
+        requires request { class_of (type_field (message_bytes msg.now)) ≡ Request }
+        requires empty { (B.state write).bytes ≡ [] }
+        requires room { Fits (B.state write).greatest 20 }
+        ensures none { check_reply (joined supported.now) required.now (message_bytes msg.now)
+            ≡ None → result ≡ Ok None }
+        ensures answer { IfSome
+            (check_reply (joined supported.now) required.now (message_bytes msg.now))
+            (λ reply. IsReplyAnswer (B.state write).greatest reply result) }
+        ensures ok { IfSome
+            (check_reply (joined supported.now) required.now (message_bytes msg.now))
+            (λ reply. IfOk result (λ answer. IsSomeAnd answer
+            (λ w. IsReply (B.state write) (B.state w) (message_bytes msg.now) reply))) }
+    {
+        if Self::check_attribute_lists_into(alloc, msg, supported, required, &mut write)? {
+            Ok(Some(write))
+        } else {
+            Ok(None)
+        }
+    }
+
+    /// Checks the attributes of a request, writes the reply that it deserves into a borrowed
+    /// writer, as [`Message::check_attribute_lists`] does, and returns whether a reply was written.
+    ///
+    /// # Requires
+    ///
+    /// As for [`Message::check_attribute_types`].
+    ///
+    /// # Errors
+    ///
+    /// As for [`Message::check_attribute_types_into`], with the same bytes written then.
+    pub fn check_attribute_lists_into<B: MessageWrite>(
+        alloc: Global,
+        msg: &Message<'_>,
+        supported: &[&[AttributeType]],
+        required: &[AttributeType],
+        write: &mut B,
+    ) -> Result<bool, StunWriteError>
+        requires request { class_of (type_field (message_bytes msg.now)) ≡ Request }
+        requires empty { (B.state write.old).bytes ≡ [] }
+        requires room { Fits (B.state write.old).greatest 20 }
+        ensures none { check_reply (joined supported.now) required.now (message_bytes msg.now)
+            ≡ None → (result ≡ Ok false) × IsUnchanged (B.state write.old) (B.state write.new) }
+        ensures reported { IfOk result (λ written. written ≡ is_some
+            (check_reply (joined supported.now) required.now (message_bytes msg.now))) }
+        ensures replies { IfSome
+            (check_reply (joined supported.now) required.now (message_bytes msg.now))
             (Replies result (B.state write.old) (B.state write.new) (message_bytes msg.now)) }
     {
         let unknown = unknown_types_of(alloc, msg, supported)?;

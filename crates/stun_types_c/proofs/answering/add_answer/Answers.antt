@@ -7,7 +7,7 @@ use Rattle.stun_types_c.proofs.answering.add_answer.Goals as goal
 
 pub store_end-requires : goal.store_end-requires
 store_end-requires c =
-    let retry = retry_of c.args.challenge.now in
+    let retry = retry_of c.args.retry.now in
     let key = key_bytes c.args.key.now in
     let takes = answered_with retry c.args.name.now (key_algorithm c.args.key.now) key c.args.fingerprint c.answer_challenge_with_key-added.result _ _ c.requires.short c.requires.serving c.answer_challenge_with_key-added.ensures in
     let long = room_long _ _ _ _ c.resume_at-write.ensures (login_steps c.args.fingerprint retry c.args.name.now key) c.answer_challenge_with_key-added.result _ _ takes c.finish-end.ensures.slice in
@@ -15,7 +15,7 @@ store_end-requires c =
 
 pub returns : goal.returns
 returns c =
-    let retry = retry_of c.args.challenge.now in
+    let retry = retry_of c.args.retry.now in
     let key = key_bytes c.args.key.now in
     let place = c.in-Ok.ensures.0 in
     let takes = answered_with retry c.args.name.now (key_algorithm c.args.key.now) key c.args.fingerprint c.answer_challenge_with_key-added.result _ _ c.requires.short c.requires.serving c.answer_challenge_with_key-added.ensures in

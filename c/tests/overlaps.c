@@ -1,0 +1,350 @@
+/* Arguments that overlap: for each call that writes one, each two of them share a byte, or as few as
+ * their alignment allows, at either end; and they touch, which is allowed. */
+#include <string.h>
+
+#include "check.h"
+#include "heap.h"
+#include "samples.h"
+#include "tests.h"
+
+enum { ARGUMENTS = 7, APART = 512 };
+
+/* An argument of a call: what it is for the call, how many bytes it has, at which multiples it is
+   aligned, and what it begins with, in hexadecimal; zeros follow. Of a call that is refused, verdicts are
+   zeros, and nothing else has changed. */
+typedef struct {
+    enum { READ = 1, WRITTEN, VERDICT, KEY } is;
+    size_t size, align;
+    const char *begins;
+} argument;
+
+typedef struct {
+    const char *name;
+    uint64_t (*call)(void *const *at);
+    argument arguments[ARGUMENTS];
+} guarded_call;
+
+/* What a call with overlapping arguments returns, as the functions below report it. */
+#define REFUSED STUN_TYPES_BAD_ARGUMENT
+
+#define REPORT(answer) return (uint64_t)(answer).code
+#define REPORT_BOOL(answer) return (answer) ? 0 : (uint64_t)REFUSED
+#define REPORT_COUNT(answer) return (answer) == SIZE_MAX ? (uint64_t)REFUSED : 0
+#define CALL(name) static uint64_t name(void *const *at)
+
+static const uint16_t ADDED = STUN_TYPES_ATTRIBUTE_SOFTWARE;
+
+CALL(framed_length) { REPORT(stun_types_framed_length(at[0], 20, at[1])); }
+CALL(read_header) { REPORT(stun_types_read_header(at[0], 20, at[1])); }
+CALL(next) { REPORT_BOOL(stun_types_next(at[0], 28, at[1], at[2])); }
+CALL(attributes) { REPORT_COUNT(stun_types_attributes(at[0], 28, at[1], 2)); }
+CALL(find) { REPORT_BOOL(stun_types_find(at[0], 28, 0x0006, at[1])); }
+CALL(read_xor_address) { REPORT(stun_types_read_xor_address(at[0], 28, at[1], at[2])); }
+CALL(read_address) { REPORT(stun_types_read_address(at[0], 28, at[1], at[2])); }
+CALL(read_error) { REPORT(stun_types_read_error(at[0], 28, at[1], at[2], at[3], at[4])); }
+CALL(read_types) { REPORT(stun_types_read_types(at[0], 28, at[1], at[2], 2, at[3])); }
+CALL(unknown_types) { REPORT_COUNT(stun_types_unknown_types(at[0], 28, at[1], 4, at[2], 2)); }
+CALL(read_u8) { REPORT(stun_types_read_u8(at[0], 28, at[1], at[2])); }
+CALL(read_u16) { REPORT(stun_types_read_u16(at[0], 28, at[1], at[2])); }
+CALL(read_u32) { REPORT(stun_types_read_u32(at[0], 28, at[1], at[2])); }
+CALL(read_u64) { REPORT(stun_types_read_u64(at[0], 28, at[1], at[2])); }
+CALL(print) { REPORT(stun_types_print(at[0], 28, at[1], 100, at[2])); }
+CALL(key_short_term) { REPORT(stun_types_key_short_term(at[0], at[1], 4)); }
+CALL(key_long_term) {
+    REPORT(stun_types_key_long_term(at[0], at[1], 4, at[2], 5, at[3], 4, STUN_TYPES_PASSWORD_MD5));
+}
+CALL(key_from_bytes) {
+    REPORT(stun_types_key_from_bytes(at[0], at[1], 4, STUN_TYPES_INTEGRITY_ANY));
+}
+CALL(key_copy) { REPORT(stun_types_key_copy(at[0], at[1])); }
+CALL(key_bytes) { REPORT(stun_types_key_bytes(at[0], at[1], 8, at[2], at[3])); }
+CALL(userhash) { REPORT(stun_types_userhash(at[0], 4, at[1], 5, at[2])); }
+CALL(validate_by_policy) {
+    REPORT(stun_types_validate_by_policy(at[0], 28, at[1], at[2], at[3]));
+}
+CALL(validate) { REPORT(stun_types_validate(at[0], 28, at[1], at[2])); }
+CALL(validate_short_term) { REPORT(stun_types_validate_short_term(at[0], 28, at[1], 4, at[2])); }
+CALL(validate_long_term) {
+    REPORT(stun_types_validate_long_term(at[0], 28, at[1], 4, at[2], 5, at[3], 4, at[4]));
+}
+CALL(begin) { REPORT(stun_types_begin(at[0], 40, 0x0001, at[1], at[2])); }
+CALL(begin_reply) {
+    REPORT(stun_types_begin_reply(at[0], 40, at[1], 28, STUN_TYPES_CLASS_SUCCESS, at[2]));
+}
+CALL(add) { REPORT(stun_types_add(at[0], 44, at[1], ADDED, at[2], 8)); }
+CALL(add_u8) { REPORT(stun_types_add_u8(at[0], 44, at[1], 0x7FFF, 1)); }
+CALL(add_u16) { REPORT(stun_types_add_u16(at[0], 44, at[1], 0x7FFF, 1)); }
+CALL(add_u32) { REPORT(stun_types_add_u32(at[0], 44, at[1], 0x7FFF, 1)); }
+CALL(add_u64) { REPORT(stun_types_add_u64(at[0], 44, at[1], 0x7FFF, 1)); }
+CALL(add_xor_address) { REPORT(stun_types_add_xor_address(at[0], 44, at[1], 0x0020, at[2])); }
+CALL(add_address) { REPORT(stun_types_add_address(at[0], 44, at[1], 0x0001, at[2])); }
+CALL(add_error) {
+    REPORT(stun_types_add_error(at[0], 44, at[1], STUN_TYPES_CODE_BAD_REQUEST, at[2], 4));
+}
+CALL(add_unknown_types) { REPORT(stun_types_add_unknown_types(at[0], 44, at[1], at[2], 4)); }
+CALL(add_integrity) {
+    REPORT(stun_types_add_integrity(at[0], 44, at[1], at[2], STUN_TYPES_INTEGRITY_SHA1));
+}
+CALL(add_fingerprint) { REPORT(stun_types_add_fingerprint(at[0], 44, at[1])); }
+CALL(binding_reply) { REPORT(stun_types_binding_reply(at[0], 20, at[1], at[2], 60, at[3])); }
+CALL(authenticate_short_term) {
+    REPORT(stun_types_authenticate_short_term(at[0], 28, at[1], at[2], at[3]));
+}
+CALL(authenticate_long_term) {
+    REPORT(stun_types_authenticate_long_term(at[0], 28, at[1], STUN_TYPES_NONCE_UNKNOWN, at[2], 2,
+                                             at[3], at[4], at[5]));
+}
+CALL(finish_reply) {
+    REPORT(stun_types_finish_reply(at[0], 44, at[1], at[2], at[3], at[4], false));
+}
+CALL(refuse_short_term) {
+    REPORT(stun_types_refuse_short_term(at[0], 28, STUN_TYPES_CODE_BAD_REQUEST, at[1], 100, at[2]));
+}
+CALL(refuse_long_term) {
+    REPORT(stun_types_refuse_long_term(at[0], 28, STUN_TYPES_CODE_UNAUTHORIZED, at[1], 5, at[2],
+                                       13, at[3], 1, at[4], 200, at[5]));
+}
+CALL(security_features) { REPORT_BOOL(stun_types_security_features(at[0], 13, at[1])); }
+CALL(make_nonce) {
+    REPORT(stun_types_make_nonce(at[0], 0, 600, 7, at[1], at[2], STUN_TYPES_NONCE_LENGTH, at[3]));
+}
+CALL(judge_nonce) { REPORT(stun_types_judge_nonce(at[0], 0, 600, 7, at[1], at[2], 13, at[3])); }
+CALL(transaction_begin) {
+    REPORT(stun_types_transaction_begin(at[0], at[1], 28, at[2], STUN_TYPES_UDP,
+                                        STUN_TYPES_UNPROTECTED, at[3], 0));
+}
+CALL(transaction_poll) { REPORT(stun_types_transaction_poll(at[0], 0, at[1])); }
+CALL(transaction_receive) {
+    REPORT(stun_types_transaction_receive(at[0], at[1], at[2], 28, at[3], 4, at[4]));
+}
+CALL(challenge_of) {
+    REPORT(stun_types_challenge_of(at[0], 28, at[1], 2, true, at[2], 5, false, at[3]));
+}
+CALL(key_for) { REPORT(stun_types_key_for(at[0], at[1], 28, at[2], 2, at[3], 4, at[4], 4)); }
+CALL(answer_challenge) {
+    REPORT(stun_types_answer_challenge(at[0], 200, at[1], at[2], 28, at[3], 2, at[4], 4, at[5],
+                                       false));
+}
+CALL(transactions_find) { REPORT_BOOL(stun_types_transactions_find(at[0], 1, at[1], 32, at[2])); }
+CALL(transactions_next) { REPORT_BOOL(stun_types_transactions_next(at[0], 1, at[1])); }
+CALL(round_trip) { REPORT_BOOL(stun_types_transaction_round_trip(at[0], 9, at[1])); }
+CALL(stream_push) { REPORT(stun_types_stream_push(at[0], at[1], 40, at[2], 28, at[3])); }
+CALL(channel_data_length) { REPORT(stun_types_channel_data_length(at[0], 8, at[1])); }
+CALL(read_channel_data) { REPORT(stun_types_read_channel_data(at[0], 8, at[1])); }
+CALL(write_channel_data) {
+    REPORT(stun_types_write_channel_data(0x4000, at[0], 4, true, at[1], 20, at[2]));
+}
+
+/* ---- the calls, and what they are given: answers that aren't REFUSED, if no arguments overlap */
+
+#define BYTES(size, begins) {READ, size, 1, begins}
+#define GIVEN(size, begins) {READ, size, 8, begins}
+#define ROOM(size, begins) {WRITTEN, size, 1, begins}
+#define LEFT(size, begins) {WRITTEN, size, 8, begins}
+#define ZEROED(size) {VERDICT, size, 8, ""}
+#define HANDLE {KEY, sizeof(stun_types_key), 8, ""}
+
+#define HEADER "0001 0000 2112A442 00*12"
+#define USER "0001 0008 2112A442 00*12 0006 0004 75736572"
+#define ATTRIBUTE GIVEN(sizeof(stun_types_attribute), "18 00*7 FF7F 0400")
+#define ADDRESS GIVEN(sizeof(stun_types_address), "00*16 0100 0400")
+#define BEGUN ROOM(44, HEADER), LEFT(sizeof(size_t), "14")
+#define COUNTED LEFT(sizeof(size_t), "")
+#define LIST GIVEN(4, "0100 0200")
+#define SCHEDULE "F401 00*6 4C9A 00*6 07000000 10000000 00*16"
+#define SENT SCHEDULE " 00*28 01000000 0100 01 04 0000"
+#define POLICY GIVEN(sizeof(stun_types_policy), "")
+
+static const guarded_call calls[] = {
+    {"stun_types_framed_length", framed_length, {BYTES(20, HEADER), COUNTED}},
+    {"stun_types_read_header", read_header, {BYTES(20, HEADER), LEFT(sizeof(stun_types_header), "")}},
+    {"stun_types_next", next,
+     {BYTES(28, USER), LEFT(sizeof(stun_types_cursor), ""), LEFT(sizeof(stun_types_attribute), "")}},
+    {"stun_types_attributes", attributes,
+     {BYTES(28, USER), LEFT(2 * sizeof(stun_types_attribute), "")}},
+    {"stun_types_find", find, {BYTES(28, USER), LEFT(sizeof(stun_types_attribute), "")}},
+    {"stun_types_read_xor_address", read_xor_address,
+     {BYTES(28, USER), ATTRIBUTE, LEFT(sizeof(stun_types_address), "")}},
+    {"stun_types_read_address", read_address,
+     {BYTES(28, USER), ATTRIBUTE, LEFT(sizeof(stun_types_address), "")}},
+    {"stun_types_read_error", read_error,
+     {BYTES(28, USER), ATTRIBUTE, LEFT(sizeof(uint16_t), ""), COUNTED, COUNTED}},
+    {"stun_types_read_types", read_types, {BYTES(28, USER), ATTRIBUTE, LEFT(4, ""), COUNTED}},
+    {"stun_types_unknown_types", unknown_types, {BYTES(28, USER), GIVEN(8, ""), LEFT(4, "")}},
+    {"stun_types_read_u8", read_u8, {BYTES(28, USER), ATTRIBUTE, ROOM(1, "")}},
+    {"stun_types_read_u16", read_u16, {BYTES(28, USER), ATTRIBUTE, LEFT(2, "")}},
+    {"stun_types_read_u32", read_u32, {BYTES(28, USER), ATTRIBUTE, LEFT(4, "")}},
+    {"stun_types_read_u64", read_u64, {BYTES(28, USER), ATTRIBUTE, LEFT(8, "")}},
+    {"stun_types_print", print, {BYTES(28, USER), ROOM(100, ""), COUNTED}},
+    {"stun_types_key_short_term", key_short_term, {HANDLE, BYTES(4, "")}},
+    {"stun_types_key_long_term", key_long_term,
+     {HANDLE, BYTES(4, ""), BYTES(5, ""), BYTES(4, "")}},
+    {"stun_types_key_from_bytes", key_from_bytes, {HANDLE, BYTES(4, "")}},
+    {"stun_types_key_copy", key_copy, {HANDLE, GIVEN(sizeof(stun_types_key), "")}},
+    {"stun_types_key_bytes", key_bytes,
+     {GIVEN(sizeof(stun_types_key), ""), ROOM(8, ""), COUNTED, LEFT(4, "")}},
+    {"stun_types_userhash", userhash, {BYTES(4, ""), BYTES(5, ""), ROOM(32, "")}},
+    {"stun_types_validate_by_policy", validate_by_policy,
+     {BYTES(28, USER), POLICY, GIVEN(sizeof(stun_types_key), ""), ZEROED(16)}},
+    {"stun_types_validate", validate,
+     {BYTES(28, USER), GIVEN(sizeof(stun_types_key), ""), ZEROED(16)}},
+    {"stun_types_validate_short_term", validate_short_term,
+     {BYTES(28, USER), BYTES(4, ""), ZEROED(16)}},
+    {"stun_types_validate_long_term", validate_long_term,
+     {BYTES(28, USER), BYTES(4, ""), BYTES(5, ""), BYTES(4, ""), ZEROED(16)}},
+    {"stun_types_begin", begin, {ROOM(40, ""), BYTES(sizeof(stun_types_id), ""), COUNTED}},
+    {"stun_types_begin_reply", begin_reply, {ROOM(40, ""), BYTES(28, USER), COUNTED}},
+    {"stun_types_add", add, {BEGUN, BYTES(8, "")}},
+    {"stun_types_add_u8", add_u8, {BEGUN}},
+    {"stun_types_add_u16", add_u16, {BEGUN}},
+    {"stun_types_add_u32", add_u32, {BEGUN}},
+    {"stun_types_add_u64", add_u64, {BEGUN}},
+    {"stun_types_add_xor_address", add_xor_address, {BEGUN, ADDRESS}},
+    {"stun_types_add_address", add_address, {BEGUN, ADDRESS}},
+    {"stun_types_add_error", add_error, {BEGUN, BYTES(4, "")}},
+    {"stun_types_add_unknown_types", add_unknown_types, {BEGUN, GIVEN(8, "")}},
+    {"stun_types_add_integrity", add_integrity, {BEGUN, GIVEN(sizeof(stun_types_key), "")}},
+    {"stun_types_add_fingerprint", add_fingerprint, {BEGUN}},
+    {"stun_types_binding_reply", binding_reply,
+     {BYTES(20, HEADER), ADDRESS, ROOM(60, ""), ZEROED(sizeof(size_t))}},
+    {"stun_types_authenticate_short_term", authenticate_short_term,
+     {BYTES(28, USER), POLICY, GIVEN(sizeof(stun_types_key), ""), ZEROED(24)}},
+    {"stun_types_authenticate_long_term", authenticate_long_term,
+     {BYTES(28, USER), POLICY, LIST, GIVEN(sizeof(stun_types_key), ""),
+      GIVEN(sizeof(stun_types_key), ""), ZEROED(24)}},
+    {"stun_types_finish_reply", finish_reply,
+     {BEGUN, GIVEN(24, "01000000 00000000 08000000 08000000"), GIVEN(sizeof(stun_types_key), ""),
+      GIVEN(sizeof(stun_types_key), "")}},
+    {"stun_types_refuse_short_term", refuse_short_term, {BYTES(28, USER), ROOM(100, ""), COUNTED}},
+    {"stun_types_refuse_long_term", refuse_long_term,
+     {BYTES(28, USER), BYTES(5, ""), BYTES(13, "6F624D61744A6F733267414141"), GIVEN(2, "0100"),
+      ROOM(200, ""), COUNTED}},
+    {"stun_types_security_features", security_features,
+     {BYTES(13, "6F624D61744A6F733241414141"), LEFT(4, "")}},
+    {"stun_types_make_nonce", make_nonce,
+     {GIVEN(sizeof(stun_types_key), ""), ADDRESS, ROOM(STUN_TYPES_NONCE_LENGTH, ""), COUNTED}},
+    {"stun_types_judge_nonce", judge_nonce,
+     {GIVEN(sizeof(stun_types_key), ""), ADDRESS, BYTES(13, ""), ZEROED(4)}},
+    {"stun_types_transaction_begin", transaction_begin,
+     {ZEROED(sizeof(stun_types_transaction)), BYTES(28, USER),
+      GIVEN(sizeof(stun_types_schedule), SCHEDULE), GIVEN(sizeof(stun_types_key), "")}},
+    {"stun_types_transaction_poll", transaction_poll,
+     {LEFT(sizeof(stun_types_transaction), SENT), ZEROED(24)}},
+    {"stun_types_transaction_receive", transaction_receive,
+     {LEFT(sizeof(stun_types_transaction), SENT), GIVEN(sizeof(stun_types_key), ""), BYTES(28, USER),
+      GIVEN(8, ""), ZEROED(16)}},
+    {"stun_types_challenge_of", challenge_of,
+     {BYTES(28, USER), LIST, BYTES(5, ""), LEFT(sizeof(stun_types_challenge), "")}},
+    {"stun_types_key_for", key_for,
+     {HANDLE, BYTES(28, USER), LIST, BYTES(4, ""), BYTES(4, "")}},
+    {"stun_types_answer_challenge", answer_challenge,
+     {ROOM(200, HEADER), LEFT(sizeof(size_t), "14"), BYTES(28, USER), LIST, BYTES(4, ""),
+      GIVEN(sizeof(stun_types_key), "")}},
+    {"stun_types_transactions_find", transactions_find,
+     {GIVEN(sizeof(stun_types_transaction), SENT),
+      BYTES(32, "0101 000C 2112A442 00*12 00200008 0001A147E112A643"), COUNTED}},
+    {"stun_types_transactions_next", transactions_next,
+     {GIVEN(sizeof(stun_types_transaction), SENT), LEFT(8, "")}},
+    {"stun_types_transaction_round_trip", round_trip,
+     {GIVEN(sizeof(stun_types_transaction), SENT "01"), LEFT(8, "")}},
+    {"stun_types_stream_push", stream_push,
+     {LEFT(sizeof(stun_types_stream), ""), ROOM(40, ""), BYTES(28, USER), COUNTED}},
+    {"stun_types_channel_data_length", channel_data_length,
+     {BYTES(8, "40000004 01020304"), COUNTED}},
+    {"stun_types_read_channel_data", read_channel_data,
+     {BYTES(8, "40000004 01020304"), LEFT(sizeof(stun_types_channel_data), "")}},
+    {"stun_types_write_channel_data", write_channel_data,
+     {BYTES(4, ""), ROOM(20, ""), COUNTED}},
+};
+
+/* ---- the arguments, in one block of memory */
+
+static uint64_t words[APART * (ARGUMENTS + 2) / 8];
+static uint8_t *const memory = (uint8_t *)words;
+
+static size_t count_of(const guarded_call *it) {
+    size_t count = 0;
+    while (count < ARGUMENTS && it->arguments[count].size != 0) count++;
+    return count;
+}
+
+/* The places of the arguments, far from each other. */
+static void spread(void **at) {
+    size_t i;
+    for (i = 0; i < ARGUMENTS; i++) at[i] = memory + APART * (i + 1);
+}
+
+/* What the arguments of the call of this row begin with. */
+static slice begins[ARGUMENTS];
+
+/* Writes what the arguments are before a call, at these places. */
+static void prepare(const guarded_call *it, void *const *at) {
+    const size_t count = count_of(it);
+    size_t i;
+    memset(words, FILL, sizeof words);
+    for (i = 0; i < count; i++) memset(at[i], 0, it->arguments[i].size);
+    for (i = 0; i < count; i++)
+        if (begins[i].length != 0) memcpy(at[i], begins[i].bytes, begins[i].length);
+}
+
+/* What a call returns that overlaps nothing; a key that it made is freed. */
+static uint64_t allowed(const guarded_call *it, void *const *at) {
+    uint64_t result;
+    prepare(it, at);
+    heap_allow(true);
+    result = it->call(at);
+    heap_allow(false);
+    if (it->arguments[0].is == KEY) stun_types_keys_free(at[0], 1);
+    return result;
+}
+
+/* That a call is refused, leaves each verdict as zeros, and changes nothing else. */
+static void check_overlap(const guarded_call *it, void *const *at) {
+    static uint64_t expected[COUNT(words)];
+    const size_t count = count_of(it);
+    size_t i;
+    prepare(it, at);
+    memcpy(expected, words, sizeof words);
+    for (i = 0; i < count; i++)
+        if (it->arguments[i].is == VERDICT)
+            memset((uint8_t *)expected + ((uint8_t *)at[i] - memory), 0, it->arguments[i].size);
+    CHECK(it->call(at) == REFUSED);
+    CHECK(memcmp(words, expected, sizeof words) == 0);
+}
+
+/* Two arguments that share the least that they can, at either end, and two that touch. */
+static void check_two(const guarded_call *it, size_t one, size_t other, uint64_t apart) {
+    const size_t size = it->arguments[one].size, length = it->arguments[other].size;
+    const size_t align = it->arguments[other].align;
+    void *at[ARGUMENTS];
+    uint8_t *place;
+    spread(at);
+    place = at[one];
+    at[other] = place + (size - 1) / align * align;
+    check_overlap(it, at);
+    at[other] = place - (length - 1) / align * align;
+    check_overlap(it, at);
+    at[other] = place + (size + align - 1) / align * align;
+    CHECK(allowed(it, at) == apart);
+    at[other] = place - (length + align - 1) / align * align;
+    CHECK(allowed(it, at) == apart);
+}
+
+void test_overlaps(void) {
+    size_t i, one, other;
+    for (i = 0; i < COUNT(calls); i++) {
+        const guarded_call *it = &calls[i];
+        const size_t count = count_of(it);
+        void *at[ARGUMENTS];
+        uint64_t apart;
+        row("arguments that overlap", it->name);
+        for (one = 0; one < count; one++) begins[one] = hex(it->arguments[one].begins);
+        spread(at);
+        apart = allowed(it, at);
+        CHECK(apart != REFUSED);
+        for (one = 0; one < count; one++)
+            for (other = 0; other < count; other++)
+                if (one != other && (it->arguments[one].is != READ || it->arguments[other].is != READ))
+                    check_two(it, one, other, apart);
+    }
+}
