@@ -57,7 +57,7 @@ static void has_succeeded(stun_types_answer answer) {
 }
 
 static stun_types_key short_key(const uint8_t *password, size_t password_length) {
-    stun_types_key key = STUN_TYPES_NO_KEY_YET;
+    stun_types_key key = STUN_TYPES_KEY_INIT;
     has_succeeded(stun_types_key_short_term(&key, password, password_length));
     return key;
 }
@@ -81,7 +81,7 @@ uint64_t stun_bench_short_key(const uint8_t *password, size_t password_length) {
 
 uint64_t stun_bench_long_key(const uint8_t *user, size_t user_length, const uint8_t *realm, size_t realm_length,
                              const uint8_t *password, size_t password_length, uint32_t algorithm) {
-    stun_types_key keys[2] = {STUN_TYPES_NO_KEY_YET, STUN_TYPES_NO_KEY_YET};
+    stun_types_key keys[2] = {STUN_TYPES_KEY_INIT, STUN_TYPES_KEY_INIT};
     stun_types_password by = algorithm == 1 ? STUN_TYPES_PASSWORD_MD5 : STUN_TYPES_PASSWORD_SHA256;
     for (int i = 0; i < 2; i++)
         has_succeeded(stun_types_key_long_term(&keys[i], user, user_length, realm, realm_length, password,

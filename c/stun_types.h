@@ -444,7 +444,7 @@ stun_types_answer stun_types_print(const uint8_t *bytes, size_t length, char *te
 
 /* ---- Keys ------------------------------------------------------------------------------------- */
 
-/* A key of an HMAC, on the heap. It begins as STUN_TYPES_NO_KEY_YET, is made by one of the calls
+/* A key of an HMAC, on the heap. It begins as STUN_TYPES_KEY_INIT, is made by one of the calls
    below, which free what it held before, and ended by stun_types_key_free. C neither reads nor
    writes nor copies its fields. A struct holds a key only if its second word is a mark that the library
    sets: one of zeros, or of another byte that is repeated, holds none. Nothing is promised of bytes that
@@ -457,9 +457,9 @@ typedef struct {
     uint64_t held;
 } stun_types_key;
 
-#define STUN_TYPES_NO_KEY_YET { NULL, 0 }
+#define STUN_TYPES_KEY_INIT { NULL, 0 }
 
-/* STUN_TYPES_NO_KEY_YET, for languages that read no macros. */
+/* STUN_TYPES_KEY_INIT, for languages that read no macros. */
 STUN_TYPES_NODISCARD
 stun_types_key stun_types_key_none(void);
 
@@ -511,10 +511,10 @@ stun_types_answer stun_types_userhash(const void *user, size_t user_length, cons
                                       size_t realm_length, stun_types_hash *hash);
 
 /* Overwrites the bytes of these keys, one after the other in memory, frees them, and leaves
-   STUN_TYPES_NO_KEY_YET for each. */
+   STUN_TYPES_KEY_INIT for each. */
 void stun_types_keys_free(stun_types_key *keys, size_t count);
 
-/* The same with one key. With STUN_TYPES_NO_KEY_YET, and with NULL, it does nothing. */
+/* The same with one key. With STUN_TYPES_KEY_INIT, and with NULL, it does nothing. */
 static inline void stun_types_key_free(stun_types_key *key) {
     stun_types_keys_free(key, key ? 1 : 0);
 }

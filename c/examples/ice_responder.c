@@ -19,8 +19,8 @@ enum { ROOM = 2000, TYPES = 64 };
 static const char *ufrag;
 static uint64_t tiebreaker;
 static bool is_controlling;
-static stun_types_key key = STUN_TYPES_NO_KEY_YET;
-static const stun_types_key no_key = STUN_TYPES_NO_KEY_YET;
+static stun_types_key key = STUN_TYPES_KEY_INIT;
+static const stun_types_key no_key = STUN_TYPES_KEY_INIT;
 
 typedef struct {
     uint8_t bytes[ROOM];

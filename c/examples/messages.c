@@ -42,7 +42,7 @@ static stun_types_answer write_request(const stun_types_key *key, uint8_t *room,
 }
 
 int main(void) {
-    stun_types_key key = STUN_TYPES_NO_KEY_YET;
+    stun_types_key key = STUN_TYPES_KEY_INIT;
     stun_types_policy policy = STUN_TYPES_POLICY_BOTH;
     stun_types_validated validated;
     uint8_t request[200];

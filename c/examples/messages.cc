@@ -16,7 +16,7 @@ static void check(stun_types_answer answer) {
 
 // The key of a short-term credential. It is freed with the object, and not copied.
 struct Key {
-    stun_types_key key = STUN_TYPES_NO_KEY_YET;
+    stun_types_key key = STUN_TYPES_KEY_INIT;
     explicit Key(const std::string &password) {
         check(stun_types_key_short_term(&key, password.data(), password.size()));
     }

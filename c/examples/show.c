@@ -130,7 +130,7 @@ static bool is_utf8(const char *text, size_t length) {
 
 /* The same with a password, which makes the key. */
 static int show_with(const char *password) {
-    stun_types_key key = STUN_TYPES_NO_KEY_YET;
+    stun_types_key key = STUN_TYPES_KEY_INIT;
     if (!is_utf8(password, strlen(password))) return fail("usage: stun_show [password]");
     stun_types_answer made = stun_types_key_short_term(&key, password, strlen(password));
     if (made.code != STUN_TYPES_OK) return fail(stun_types_message_of(made.code));

@@ -37,7 +37,7 @@ public:
     const stun_types_key *get() const { return &key_; }
 
 private:
-    stun_types_key key_ = STUN_TYPES_NO_KEY_YET;
+    stun_types_key key_ = STUN_TYPES_KEY_INIT;
     stun_types_answer made_{};
 };
 

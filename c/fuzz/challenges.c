@@ -115,7 +115,7 @@ static void check_exchange(source *from) {
     size_t nonce_length = 0, asks_length = 0, length = 0, written = 0, place_of = 99;
     stun_types_id id;
     stun_types_key client_key = stun_types_key_none(),
-                   keys[2] = {STUN_TYPES_NO_KEY_YET, STUN_TYPES_NO_KEY_YET};
+                   keys[2] = {STUN_TYPES_KEY_INIT, STUN_TYPES_KEY_INIT};
     stun_types_nonce_state state = STUN_TYPES_NONCE_UNKNOWN;
     stun_types_authentication *decided = NEW(stun_types_authentication);
     stun_types_transaction transactions[2];

@@ -3,7 +3,7 @@
 #include "heap.h"
 
 stun_types_key *no_key(void) {
-    static const stun_types_key none = STUN_TYPES_NO_KEY_YET;
+    static const stun_types_key none = STUN_TYPES_KEY_INIT;
     stun_types_key *key = NEW(stun_types_key);
     *key = none;
     return key;

@@ -51,7 +51,7 @@ void test_numbers(void) {
     {
         const stun_types_schedule schedule = STUN_TYPES_SCHEDULE;
         const stun_types_schedule other = stun_types_schedule_default();
-        const stun_types_key none = STUN_TYPES_NO_KEY_YET, other_none = stun_types_key_none();
+        const stun_types_key none = STUN_TYPES_KEY_INIT, other_none = stun_types_key_none();
         CHECK(memcmp(&schedule, &other, sizeof schedule) == 0);
         CHECK(none.at == other_none.at && none.held == other_none.held);
     }

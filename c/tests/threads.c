@@ -148,7 +148,7 @@ static void check(int line, int holds, const char *text) {
 #define CHECK(text) check(__LINE__, (text) != 0, #text)
 
 static void make_keys(void) {
-    static const stun_types_key none = STUN_TYPES_NO_KEY_YET;
+    static const stun_types_key none = STUN_TYPES_KEY_INIT;
     size_t i;
     for (i = 0; i < KEYS; i++) keys[i] = none;
     CHECK(!stun_types_key_short_term(&keys[0], "pass", 4).code);

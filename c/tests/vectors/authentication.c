@@ -197,7 +197,7 @@ static void short_term(void) {
     stun_types_policy policy = call_policy(&made_for);
     slice message = call_octets();
     size_t user = user_of(message);
-    user_keys keys = {STUN_TYPES_NO_KEY_YET, STUN_TYPES_NO_KEY_YET};
+    user_keys keys = {STUN_TYPES_KEY_INIT, STUN_TYPES_KEY_INIT};
     stun_types_authentication *decision = NEW(stun_types_authentication);
     stun_types_answer answer = OK_ANSWER;
     if (user < COUNT(users)) {
@@ -238,7 +238,7 @@ static void long_term(void) {
     stun_types_policy policy = call_policy(&made_for);
     slice fresh = call_octets(), stale = call_octets(), message = call_octets();
     size_t user = user_of(message);
-    user_keys keys = {STUN_TYPES_NO_KEY_YET, STUN_TYPES_NO_KEY_YET};
+    user_keys keys = {STUN_TYPES_KEY_INIT, STUN_TYPES_KEY_INIT};
     stun_types_authentication *decision = NEW(stun_types_authentication);
     stun_types_nonce_state state = nonce_state(message, fresh, stale);
     bool is_promised = state == STUN_TYPES_NONCE_VALID && promises(fresh);
@@ -333,7 +333,7 @@ static stun_types_answer answer_with(draft *to, size_t size, slice response,
 /* A key that was made for the other algorithm answers no challenge, and nothing is written. */
 static void check_other_key(slice response, const uint16_t *supported, size_t count) {
     stun_types_challenge asked;
-    stun_types_key key = STUN_TYPES_NO_KEY_YET;
+    stun_types_key key = STUN_TYPES_KEY_INIT;
     stun_types_answer made;
     draft to;
     if (stun_types_challenge_of(response.bytes, response.length, supported, count, false, NULL, 0, false,
@@ -356,7 +356,7 @@ static void answer_by(slice user, slice password) {
     uint16_t supported[ALGORITHMS];
     size_t count = algorithms_of(call_word(), supported);
     slice response = call_octets();
-    stun_types_key key = STUN_TYPES_NO_KEY_YET;
+    stun_types_key key = STUN_TYPES_KEY_INIT;
     draft to, small;
     keep_secret(password);
     check_other_key(response, supported, count);

@@ -85,7 +85,7 @@ static void check_attributes(void) {
    if the request is signed, and no transaction begins without its key. */
 static bool is_for(slice request, slice response, bool *is_response) {
     const stun_types_schedule schedule = STUN_TYPES_SCHEDULE;
-    const stun_types_key none = STUN_TYPES_NO_KEY_YET;
+    const stun_types_key none = STUN_TYPES_KEY_INIT;
     stun_types_transaction transaction;
     stun_types_action action;
     stun_types_received received;

@@ -200,7 +200,7 @@ static bool take(const event *it, stun_types_transaction *transaction, const stu
 static void run(void) {
     static const event nothing;
     const event *understood = &nothing;
-    stun_types_key key = STUN_TYPES_NO_KEY_YET;
+    stun_types_key key = STUN_TYPES_KEY_INIT;
     stun_types_transaction transaction;
     stun_types_answer result;
     size_t at;
@@ -279,7 +279,7 @@ static void free_place(size_t place) {
 }
 
 static void begin_one(void) {
-    const stun_types_key none = STUN_TYPES_NO_KEY_YET;
+    const stun_types_key none = STUN_TYPES_KEY_INIT;
     uint64_t now = call_count();
     slice request = call_octets();
     stun_types_transaction begun;
@@ -344,7 +344,7 @@ static void answer_wake(const char *before, const char *otherwise) {
 }
 
 static void receive_one(void) {
-    const stun_types_key none = STUN_TYPES_NO_KEY_YET;
+    const stun_types_key none = STUN_TYPES_KEY_INIT;
     slice bytes = call_octets();
     size_t *place = NEW(size_t), at;
     stun_types_received received;
@@ -403,7 +403,7 @@ static void transactions(void) {
 
 /* A client that asks at each moment that it is asked to wait for. */
 static void schedule(void) {
-    const stun_types_key none = STUN_TYPES_NO_KEY_YET;
+    const stun_types_key none = STUN_TYPES_KEY_INIT;
     stun_types_schedule given_schedule = schedule_of(call_word());
     stun_types_id id = id_of("1");
     stun_types_transaction begun;

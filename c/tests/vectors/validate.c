@@ -32,7 +32,7 @@ static void check_by_key(slice octets, const stun_types_key *key, stun_types_ans
 
 static void password(void) {
     slice given_password = call_octets(), octets = call_octets();
-    stun_types_key key = STUN_TYPES_NO_KEY_YET, same = STUN_TYPES_NO_KEY_YET;
+    stun_types_key key = STUN_TYPES_KEY_INIT, same = STUN_TYPES_KEY_INIT;
     stun_types_validated *validated = NEW(stun_types_validated);
     stun_types_answer result;
     if (is_secret(given_password) && make_key(&same, given_password, STUN_TYPES_INTEGRITY_ANY)
@@ -52,7 +52,7 @@ static void password(void) {
 static void login(void) {
     slice user = call_octets(), realm = call_octets(), secret = call_octets();
     slice octets = call_octets(), signature;
-    stun_types_key keys[2] = {STUN_TYPES_NO_KEY_YET, STUN_TYPES_NO_KEY_YET};
+    stun_types_key keys[2] = {STUN_TYPES_KEY_INIT, STUN_TYPES_KEY_INIT};
     stun_types_validated *validated = NEW(stun_types_validated);
     bool is_sha256;
     size_t at;
@@ -83,7 +83,7 @@ static void key(void) {
     stun_types_integrity made_for = algorithm_of(word == NULL ? "" : word);
     stun_types_validated *validated = NEW(stun_types_validated);
     slice bytes = call_octets(), octets = call_octets();
-    stun_types_key made = STUN_TYPES_NO_KEY_YET, copy = STUN_TYPES_NO_KEY_YET;
+    stun_types_key made = STUN_TYPES_KEY_INIT, copy = STUN_TYPES_KEY_INIT;
     if (make_key(&made, bytes, made_for) && is_taken(stun_types_key_copy(&copy, &made))) {
         stun_types_answer result = by_key(octets, &made, validated);
         answer_verdict(result, validated);

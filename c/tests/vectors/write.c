@@ -47,7 +47,7 @@ static bool make_credentials(stun_types_key *key, stun_types_integrity algorithm
 
 /* Reads the step of a word; false if it has no key. */
 static bool read_step(step *it, char *word) {
-    const stun_types_key none = STUN_TYPES_NO_KEY_YET;
+    const stun_types_key none = STUN_TYPES_KEY_INIT;
     char *kind = next_part(&word, ':');
     char *algorithm;
     memset(it, 0, sizeof *it);
@@ -158,7 +158,7 @@ static void resume(void) {
     size_t size = call_room();
     slice octets = call_octets();
     draft message = there(size, octets), probe = there(size, octets);
-    step finger = {FINGER, 0, {NULL, 0}, STUN_TYPES_NO_KEY_YET, STUN_TYPES_INTEGRITY_ANY};
+    step finger = {FINGER, 0, {NULL, 0}, STUN_TYPES_KEY_INIT, STUN_TYPES_INTEGRITY_ANY};
     bool is_there = take(&finger, &probe).code != STUN_TYPES_BAD_ARGUMENT;
     if (read_steps()) {
         if (is_there) answer_steps(&message);
