@@ -8,5 +8,5 @@ mod printing;
 mod types;
 mod values;
 
-pub use names::{known_type, value_form};
+pub use names::{known_type, method_name, value_form};
 pub use printing::write_plain_text;

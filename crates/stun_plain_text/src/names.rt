@@ -52,8 +52,17 @@ pub(crate) fn type_name(atype: AttributeType) -> &'static str
     }
 }
 
-/// The name of a method, `unknown` of one that neither STUN nor TURN has.
-pub(crate) fn method_name(method: Method) -> &'static str
+/// Returns the name of a method; `unknown` for one that neither STUN nor TURN has.
+///
+/// # Examples
+///
+/// ```
+/// use stun_plain_text::method_name;
+/// use stun_types::message::Method;
+///
+/// assert_eq!(rt; method_name(Method::new(0x003)), "ALLOCATE");
+/// ```
+pub fn method_name(method: Method) -> &'static str
     ensures { result.now ≡ method_name method }
 {
     match method.value() {

@@ -1,0 +1,3 @@
+mod ArgumentsLemmas
+mod ChecksLemmas
+mod StreamLemmas

@@ -1,0 +1,9 @@
+pub mod Arguments
+pub mod AskRun
+pub mod Binding
+pub mod Checks
+pub mod Ends
+pub mod ReplyRun
+pub mod Shows
+pub mod StreamRun
+pub mod StreamSteps

@@ -1,0 +1,84 @@
+//! Whether a message is valid with the credentials that are given.
+
+ghost use Rattle.std.specs.Prelude.{◌≡◌, IfOk};
+ghost use Rattle.stun_types.specs.Message.{message_bytes};
+ghost use Rattle.stun.specs.Shows.{Asks, by_algorithm, by_either, Validates};
+
+use std::alloc::{AllocError, Global};
+use stun_keys::keys::key_of_credentials;
+use stun_types::attribute::{AttributeStaticType, PasswordAlgorithm, PasswordAlgorithmValue};
+use stun_types::message::{
+    IntegrityAlgorithm, Message, MessageIntegrityCredentials, StunParseError, ValidateError,
+};
+use stun_values::read_one;
+
+/// What a validation answers.
+pub type Validated = Result<IntegrityAlgorithm, ValidateError>;
+
+/// The algorithm of the PASSWORD-ALGORITHM of a message, if it shows one that is known.
+pub fn asked_algorithm(message: &Message<'_>) -> Option<PasswordAlgorithmValue>
+    ensures { Asks (message_bytes message.now) result }
+{
+    let raw = message.raw_attribute(PasswordAlgorithm::TYPE)?;
+    read_one(raw.value().as_bytes()).ok()
+}
+
+/// Validates a message with the key that credentials give by an algorithm, which works with both
+/// integrity attributes (RFC 8489, section 9.2.5).
+fn validated_by(
+    alloc: Global,
+    message: &Message<'_>,
+    credentials: &MessageIntegrityCredentials,
+    algorithm: PasswordAlgorithmValue,
+) -> Result<Validated, AllocError>
+    ensures { IfOk result
+        (λ v. v ≡ by_algorithm credentials.now (message_bytes message.now) algorithm) }
+{
+    let key = key_of_credentials(alloc, credentials, algorithm.as_integrity())?;
+    Ok(message.validate_integrity_with_key(&key.for_both()))
+}
+
+/// Validates a message with the key by MD5, and, if that isn't valid, with the key by SHA-256.
+fn validated_by_either(
+    alloc: Global,
+    message: &Message<'_>,
+    credentials: &MessageIntegrityCredentials,
+) -> Result<Validated, AllocError>
+    ensures { IfOk result (λ v. v ≡ by_either credentials.now (message_bytes message.now)) }
+{
+    let validated = validated_by(alloc, message, credentials, PasswordAlgorithmValue::MD5)?;
+    if validated.is_ok() {
+        return Ok(validated);
+    }
+    validated_by(alloc, message, credentials, PasswordAlgorithmValue::SHA256)
+}
+
+/// Validates a message by credentials: by the algorithm that it asks for, or, if it asks for none,
+/// by either. The key of short-term credentials is the same by both.
+pub fn validated(
+    alloc: Global,
+    message: &Message<'_>,
+    credentials: &MessageIntegrityCredentials,
+) -> Result<Validated, AllocError>
+    ensures { IfOk result (Validates credentials.now (message_bytes message.now)) }
+{
+    match asked_algorithm(message) {
+        Some(asked) => validated_by(alloc, message, credentials, asked),
+        None => validated_by_either(alloc, message, credentials),
+    }
+}
+
+/// The words for what a validation answers.
+pub fn verdict_words(validated: Validated) -> &'static str {
+    match validated {
+        Ok(IntegrityAlgorithm::Sha1) => "valid by MESSAGE-INTEGRITY",
+        Ok(IntegrityAlgorithm::Sha256) => "valid by MESSAGE-INTEGRITY-SHA256",
+        Err(ValidateError::Parse(StunParseError::MissingAttribute(_))) => {
+            "MESSAGE-INTEGRITY and MESSAGE-INTEGRITY-SHA256 are missing"
+        }
+        Err(ValidateError::Parse(_)) => "invalid: the value has a wrong length",
+        Err(ValidateError::IntegrityFailed) => {
+            "invalid: another password, or the message was changed"
+        }
+    }
+}

@@ -1,3 +1,0 @@
-mod ArgumentsLemmas
-mod BindingLemmas
-mod StreamLemmas

@@ -1,7 +1,0 @@
-use Rattle.std.proofs.Common.{[]}
-use Rattle.stun_agent.specs.StreamSteps.{Serving}
-use Rattle.stun_agent.proofs.stream.serve.Given as goal
-
--- what was read is answered
-abbrev pub invariant-loop-turn : goal.invariant-loop-turn
-invariant-loop-turn g l = Serving l.fn.source (g.R.Read.remaining l.fn.reader) (g.R.Read.remaining l.reader) (g.W.Write.contents l.fn.writer) (g.W.Write.contents l.writer) l.stream []
