@@ -1,5 +1,5 @@
 -- What a challenge asks for is in the response at the places that are reported to C.
-use Rattle.std.proofs.Common.{◌≡◌, ℕ, ◌+◌, Bool, true, false, cond, List, length, Option, None, Some, Result, Ok, Err, refl, ap, subst, ◌∙◌}
+use Rattle.std.proofs.Common.{◌≡◌, ℕ, ◌+◌, Bool, true, false, cond, List, length, Option, None, Some, Result, Ok, Err, refl, ap, subst}
 use Rattle.std.specs.Prelude.{slice_range, is_some, ◌||◌, MatchOption, option_and_then}
 use Rattle.std.specs.Option.{option_map, option_map_or}
 use Rattle.stun_grammar.specs.AttributeTypes.{REALM, NONCE, PASSWORD_ALGORITHMS}

@@ -1,7 +1,6 @@
 -- Attributes that a message shows, as C sees them (RFC 8489, section 14).
-use Rattle.std.specs.Prelude.{◌≡◌, ◌≤◌, ℕ, ◌+◌, Bool, true, false, List, [], ◌∷◌, ◌++◌, length, map, take, drop, Option, ◌==◌, if◌then◌else◌, MatchOption, filter, slice_get}
+use Rattle.std.specs.Prelude.{◌≡◌, ◌≤◌, ℕ, ◌+◌, Bool, true, false, List, ◌∷◌, ◌++◌, length, map, take, drop, Option, ◌==◌, MatchOption, filter, slice_get}
 use Rattle.stun_grammar.specs.Chains.{Shown}
-use Rattle.stun_grammar.specs.Showing.{shown}
 use Rattle.stun_types.specs.Iterating.{shown_behind}
 use Rattle.stun_types_c.specs.declared.attribute.ShownAttribute.{ShownAttribute}
 use Rattle.stun_types_c.specs.declared.attribute.Place.{Place}
