@@ -14,6 +14,8 @@ KNOWN = {
     wire.PEER, wire.DATA, wire.REALM, wire.NONCE, wire.RELAYED, wire.FAMILY, wire.EVEN_PORT, wire.TRANSPORT,
     wire.INTEGRITY_256, wire.ALGORITHM, wire.USERHASH, wire.MAPPED, wire.TOKEN,
 }
+# How many types a 420 lists.
+LISTED = 200
 # 4 and 6 are how the families are called here, 1 and 2 how they are in a message.
 FAMILIES = {1: 4, 2: 6}
 
@@ -108,7 +110,7 @@ class Site(Server):
         if answer:
             return answer
         if unknown := message.unknown(KNOWN):
-            return self.note("unknown-types", f"420:{types(unknown)}:{sign}")
+            return self.note("unknown-types", f"420:{types(unknown[:LISTED])}:{sign}")
         return self.described(client, message, getattr(self, f"on_{method}")(client, user, message), sign)
 
     def described(self, client, message, output, sign):
