@@ -62,7 +62,6 @@ impl IntegrityKey {
     ghost use Rattle.stun_keys.specs.Keys.{key_bytes, key_algorithm, serves, is_prepared, is_prepared_for, IsKey};
 
     /// The key that [`IntegrityKey::new`] makes; only an allocation fails.
-    #[inline]
     pub(crate) fn of_bytes(
         alloc: Global,
         bytes: &[u8],
