@@ -1,6 +1,7 @@
 mod AcceptingLoginsLemmas
 mod AcceptingRowsLemmas
 mod AddedLemmas
+mod Base64Lemmas
 mod CookiesLemmas
 mod CountedLemmas
 pub mod DecidedLemmas

@@ -1,6 +1,6 @@
 //! Laws of authentication. Each function does nothing: its contract is the law.
 
-ghost use Rattle.std.specs.Prelude.{◌≡◌, ◌&&◌, ◌≢◌, ◌<◌, ◌≤◌, ◌+◌, ◌^◌, ℕ, ◌++◌, List, length, true, false, Option, Some, None, IsSomeAnd};
+ghost use Rattle.std.specs.Prelude.{◌≡◌, ◌&&◌, ◌≢◌, ◌<◌, ◌≤◌, ◌+◌, ◌%◌, ◌^◌, ℕ, ◌++◌, List, length, true, false, Option, Some, None, IsSomeAnd};
 ghost use Rattle.std.specs.Option.{option_map_or};
 ghost use Rattle.std.specs.List.{AllByRecursion};
 ghost use Rattle.stun_grammar.specs.declared.integrity_algorithm.IntegrityAlgorithm.{IntegrityAlgorithm};
@@ -13,7 +13,7 @@ ghost use Rattle.stun_authentication.specs.declared.cookie.SecurityFeatures.{Sec
 ghost use Rattle.stun_authentication.specs.declared.policy.Policy.{Policy};
 ghost use Rattle.stun_authentication.specs.declared.nonces.Freshness.TheVariants.{Fresh, Stale, Unknown};
 ghost use Rattle.stun_values.specs.TextValues.{text_max, text_fault};
-ghost use Rattle.stun_authentication.specs.Nonces.{Minting, minted, minted_mac, stated_time, freshness, is_qdtext};
+ghost use Rattle.stun_authentication.specs.Nonces.{Minting, minted, minted_mac, first_bits, stated_time, freshness, is_qdtext};
 ghost use Rattle.stun_authentication.specs.Accepted.{IsUsers, IsLogin};
 ghost use Rattle.stun_authentication.specs.Answers.{accept};
 ghost use Rattle.stun_authentication.specs.Cookies.{cookie, security_features};
@@ -79,12 +79,12 @@ pub fn accepted_is_authentic()
         → IsAuthentic (λ _. key.bytes) d a }
 {}
 
-/// A nonce of a [`NonceMaker`](crate::NonceMaker) has 93 bytes, which are characters that a NONCE may
-/// have (RFC 8489, section 14.10), begins with the cookie of its server's features, and has the time
-/// at which it was made.
+/// A nonce of a [`NonceMaker`](crate::NonceMaker) has 35 bytes, which are characters that a NONCE may
+/// have (RFC 8489, section 14.10), begins with the cookie of its server's features, and has the last
+/// 36 bits of the time at which it was made.
 pub fn nonces_are_texts()
     ensures size { (minting : Minting) (time : ℕ) (place : List ℕ)
-        → length (minted minting time place) ≡ 93 }
+        → length (minted minting time place) ≡ 35 }
     ensures characters { (minting : Minting) (time : ℕ) (place : List ℕ)
         → AllByRecursion (λ c. is_qdtext c ≡ true) (minted minting time place) }
     ensures text { (minting : Minting) (time : ℕ) (place : List ℕ)
@@ -92,28 +92,31 @@ pub fn nonces_are_texts()
     ensures features { (minting : Minting) (time : ℕ) (place : List ℕ)
         → security_features (minted minting time place) ≡ Some minting.features }
     ensures time { (minting : Minting) (time : ℕ) (place : List ℕ)
-        → time < 2 ^ 64 → stated_time (minted minting time place) ≡ time }
+        → stated_time (minted minting time place) ≡ time % 2 ^ 36 }
 {
     cookie_is_read();
 }
 
 /// A nonce of a [`NonceMaker`](crate::NonceMaker) is valid from the time at which it was made until
-/// its window is over, for the client that it was made for, and stale afterwards. What is valid or
+/// its window is over, for the client that it was made for. It is stale afterwards and before, as long
+/// as less than 2^36 seconds, 2,177 years, separate now from its window or its time. What is valid or
 /// stale is the nonce that the server made for that client at that time; so one that was made under
-/// another secret, with other features or for another client is unknown, unless the two HMACs are
-/// equal.
+/// another secret, with other features or for another client is unknown, unless the first 96 bits of
+/// the two HMACs are equal.
 pub fn nonces_are_timed()
     ensures valid { (minting : Minting) (time now : ℕ) (place : List ℕ)
-        → time < 2 ^ 64 → time ≤ now → now ≤ time + minting.window
+        → time ≤ now → now ≤ time + minting.window
         → freshness minting now place (minted minting time place) ≡ Fresh }
     ensures over { (minting : Minting) (time now : ℕ) (place : List ℕ)
-        → time < 2 ^ 64 → time + minting.window < now
+        → time + minting.window < now → now < time + 2 ^ 36
+        → freshness minting now place (minted minting time place) ≡ Stale }
+    ensures to_come { (minting : Minting) (time now : ℕ) (place : List ℕ)
+        → now < time → time + minting.window < now + 2 ^ 36
         → freshness minting now place (minted minting time place) ≡ Stale }
     ensures own { (minting : Minting) (now : ℕ) (place nonce : List ℕ)
         → freshness minting now place nonce ≢ Unknown
         → nonce ≡ minted minting (stated_time nonce) place }
     ensures other { (minting other : Minting) (time now : ℕ) (place there : List ℕ)
-        → time < 2 ^ 64
         → freshness other now there (minted minting time place) ≢ Unknown
-        → minted_mac other time there ≡ minted_mac minting time place }
+        → first_bits (minted_mac other time there) ≡ first_bits (minted_mac minting time place) }
 {}

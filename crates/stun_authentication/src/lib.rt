@@ -68,6 +68,7 @@
 
 mod algorithms;
 mod answer;
+mod base64;
 mod challenge;
 mod codes;
 mod cookie;
