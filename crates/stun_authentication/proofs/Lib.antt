@@ -9,5 +9,6 @@ mod EntriesLemmas
 mod FinishingLemmas
 mod NoncesLemmas
 mod ProvesLemmas
+mod SizesLemmas
 mod TakenLemmas
 pub mod TypesLemmas
