@@ -140,8 +140,6 @@ stun_types_answer model_server_fault(const model_server *server) {
     return model_answer(code, 0, 0, 0);
 }
 
-static const char BASE64[] = "ABCDEFGHIJKLMNOPQRSTUVWXYZabcdefghijklmnopqrstuvwxyz0123456789+/";
-
 /* Three octets are four characters. */
 static void base64(const uint8_t *bytes, size_t groups, uint8_t *characters) {
     for (; groups > 0; groups--, bytes += 3, characters += 4) {
