@@ -22,6 +22,7 @@ ghost use Rattle.stun_authentication.specs.declared.answer.Refusal.TheVariants.{
 ghost use Rattle.stun_authentication.specs.Answers.{accept, refuse, discard, not_a_request};
 ghost use Rattle.stun_authentication.specs.Base64.{in_base64};
 ghost use Rattle.stun_authentication.specs.Cookies.{security_features, cookie};
+ghost use Rattle.stun_authentication.specs.Identities.{named};
 ghost use Rattle.stun_authentication.specs.Lookups.{key_made, valid, stale, unknown};
 ghost use Rattle.stun_authentication.specs.LongTerm.{long_term};
 ghost use Rattle.stun_authentication.specs.Nonces.{minted, minting};
@@ -220,7 +221,7 @@ pub fn long_term_keys_are_right()
     ensures other_key { long_term unprinted realm (λ _. stale) (everybody other) long_term_request ≡ refuse Unauthenticated }
     ensures stale { long_term unprinted realm (λ _. stale) (everybody user) long_term_request ≡ refuse StaleNonce }
     ensures unknown { long_term unprinted realm (λ _. unknown) (everybody user) long_term_request ≡ refuse StaleNonce }
-    ensures accepted { long_term unprinted realm (λ _. valid []) (everybody user) long_term_request ≡ accept user Sha1 Sha1 }
+    ensures accepted { long_term unprinted realm (λ _. valid []) (everybody user) long_term_request ≡ accept (named user_name) user Sha1 Sha1 }
 {}
 
 /// The rows of a server's checks under short-term credentials (RFC 8489, section 9.1.3), the last
@@ -233,5 +234,5 @@ pub fn short_term_rows_are_right()
     ensures no_key { short_term unprinted (λ _. None) sample_request ≡ refuse Unauthenticated }
     ensures one_algorithm { short_term unprinted (λ _. Some (key_made (Some Sha256) password)) sample_request ≡ refuse BadRequest }
     ensures other_key { short_term unprinted (λ _. Some other) sample_request ≡ refuse Unauthenticated }
-    ensures accepted { short_term printed (λ _. Some (key_made None password)) sample_request ≡ accept (key_made None password) Sha1 Sha1 }
+    ensures accepted { short_term printed (λ _. Some (key_made None password)) sample_request ≡ accept (named (codes "evtj:h6vY")) (key_made None password) Sha1 Sha1 }
 {}
