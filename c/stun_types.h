@@ -827,12 +827,13 @@ STUN_TYPES_NODISCARD STUN_TYPES_NONNULL((3))
 bool stun_types_security_features(const void *nonce, size_t nonce_length, uint32_t *features);
 
 /* How many bytes a nonce has that stun_types_make_nonce makes. */
-#define STUN_TYPES_NONCE_LENGTH 93
+#define STUN_TYPES_NONCE_LENGTH 35
 
-/* Makes a nonce that the server need not store: the cookie of these features, the time now, in seconds
-   since a moment that stays the same, and an HMAC-SHA256 of both and of the client's address and port.
-   It is valid for this client alone, for window seconds: the nonce doesn't contain the window, so pass
-   the same one to stun_types_judge_nonce. The secret, which only the server knows, is a key of at least
+/* Makes a nonce that the server need not store: the cookie of these features, 36 bits of the time now,
+   in seconds since a moment that stays the same, and the first 96 bits of an HMAC-SHA256 of both and of
+   the client's address and port. It is valid for this client alone, for window seconds (for ever if
+   they are 2^36 - 1 or more): the nonce doesn't contain the window, so pass the same one to
+   stun_types_judge_nonce. The secret, which only the server knows, is a key of at least
    32 random bytes (stun_types_key_from_bytes, for STUN_TYPES_INTEGRITY_ANY).
    BAD_ARGUMENT: another sum of features, the family of the address, or a secret of fewer than 16 bytes. NO_KEY: there is no secret.
    TOO_SMALL. Allocates: OUT_OF_MEMORY. */

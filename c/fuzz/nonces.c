@@ -23,16 +23,20 @@ static uint32_t judged(const model_server *server, const stun_types_key *secret,
     return state;
 }
 
+/* How many seconds' times a nonce can state. */
+#define TIMES ((uint64_t)1 << 36)
+
 /* A nonce is valid within its window, for its client alone and by its secret, and stale before and
-   after: of these the input chooses. */
+   after: of these the input chooses. A window of TIMES - 1 never ends. */
 static void check_window(const model_server *server, const pair *secret, uint64_t now,
                          model_text nonce, source *from) {
     stun_types_address other = *server->client;
-    uint64_t window = server->window, end = now > UINT64_MAX - window ? UINT64_MAX : now + window;
+    uint64_t window = server->window, end = now + (window < TIMES ? window : TIMES - 1);
     unsigned how = take(from);
     uint64_t at = how % 4 == 0 ? now : how % 4 == 1 ? end : how % 4 == 2 ? end + 1 : now - 1;
+    bool is_within = how % 4 < 2 || window >= TIMES - 1;
     HOLDS(judged(server, &secret->key, at, server->client, nonce)
-          == (at < now || at > end ? STUN_TYPES_NONCE_STALE : STUN_TYPES_NONCE_VALID));
+          == (is_within ? STUN_TYPES_NONCE_VALID : STUN_TYPES_NONCE_STALE));
     if (how / 4 % 4 == 0) {
         other.port ^= (uint16_t)(1 << take(from) % 16);
     } else if (how / 4 % 4 == 1) {

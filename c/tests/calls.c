@@ -647,20 +647,20 @@ static void test_nonces(void) {
             PLAIN(STUN_TYPES_NO_KEY));
     CHECK(*state == STUN_TYPES_NONCE_UNKNOWN);
     heap_allow(true);
-    ANSWERS(stun_types_make_nonce(secret, 3, 600, 7, &client, bytes, 92, written),
-            LENGTHS(STUN_TYPES_TOO_SMALL, 93, 92));
-    CHECK(is_untouched(bytes, 93) && is_untouched(written, sizeof *written));
-    ANSWERS(stun_types_make_nonce(secret, 3, 600, 7, &client, bytes, 93, written), OK_ANSWER);
+    ANSWERS(stun_types_make_nonce(secret, 3, 600, 7, &client, bytes, 34, written),
+            LENGTHS(STUN_TYPES_TOO_SMALL, 35, 34));
+    CHECK(is_untouched(bytes, 35) && is_untouched(written, sizeof *written));
+    ANSWERS(stun_types_make_nonce(secret, 3, 600, 7, &client, bytes, 35, written), OK_ANSWER);
     heap_allow(false);
-    CHECK(*written == 93);
+    CHECK(*written == 35);
     stun_types_key_free(secret);
     row("nonces, each allocation refused in turn", "one that is made, and judged");
     secret = bytes_key(hex("A5*32"), 0);
     bytes = room(STUN_TYPES_NONCE_LENGTH);
     written = NEW(size_t);
     heap_allow(true);
-    ANSWERS(stun_types_make_nonce(secret, 3, 600, 7, &client, bytes, 93, written), OK_ANSWER);
-    nonce = given(bytes, 93);
+    ANSWERS(stun_types_make_nonce(secret, 3, 600, 7, &client, bytes, 35, written), OK_ANSWER);
+    nonce = given(bytes, 35);
     for (number = 1; number < 100; number++) {
         stun_types_answer made, judged;
         long held = heap_held(), asked;
@@ -670,12 +670,12 @@ static void test_nonces(void) {
         *state = STUN_TYPES_NONCE_VALID;
         heap_allow(true);
         heap_refuse(number);
-        made = stun_types_make_nonce(secret, 3, 600, 7, &client, bytes, 93, written);
+        made = stun_types_make_nonce(secret, 3, 600, 7, &client, bytes, 35, written);
         asked = heap_asked();
         heap_refuse(0);
         heap_allow(true);
         heap_refuse(number);
-        judged = stun_types_judge_nonce(secret, 3, 600, 8, &client, nonce.bytes, 93, state);
+        judged = stun_types_judge_nonce(secret, 3, 600, 8, &client, nonce.bytes, 35, state);
         if (judged.code == STUN_TYPES_OK) CHECK(*state == STUN_TYPES_NONCE_VALID);
         else CHECK(*state == STUN_TYPES_NONCE_UNKNOWN && judged.code == STUN_TYPES_OUT_OF_MEMORY);
         heap_refuse(0);
@@ -683,11 +683,11 @@ static void test_nonces(void) {
         CHECK(heap_held() == held);
         if (asked < number) {
             ANSWERS(made, OK_ANSWER);
-            CHECK_BYTES(bytes, 93, nonce);
+            CHECK_BYTES(bytes, 35, nonce);
             break;
         }
         ANSWERS(made, PLAIN(STUN_TYPES_OUT_OF_MEMORY));
-        CHECK(is_untouched(bytes, 93) && is_untouched(written, sizeof *written));
+        CHECK(is_untouched(bytes, 35) && is_untouched(written, sizeof *written));
     }
     CHECK(number > 1 && number < 100);
     stun_types_key_free(secret);

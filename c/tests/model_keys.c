@@ -140,27 +140,33 @@ stun_types_answer model_server_fault(const model_server *server) {
     return model_answer(code, 0, 0, 0);
 }
 
-static void hexadecimal(const uint8_t *bytes, size_t length, uint8_t *digits) {
-    size_t i;
-    for (i = 0; i < 2 * length; i++)
-        digits[i] = (uint8_t) "0123456789abcdef"[bytes[i / 2] >> (i % 2 == 0 ? 4 : 0) & 15];
+/* Three octets are four characters. */
+static void base64(const uint8_t *bytes, size_t groups, uint8_t *characters) {
+    for (; groups > 0; groups--, bytes += 3, characters += 4) {
+        characters[0] = (uint8_t)BASE64[bytes[0] >> 2];
+        characters[1] = (uint8_t)BASE64[(bytes[0] & 3) << 4 | bytes[1] >> 4];
+        characters[2] = (uint8_t)BASE64[(bytes[1] & 15) << 2 | bytes[2] >> 6];
+        characters[3] = (uint8_t)BASE64[bytes[2] & 63];
+    }
 }
 
 void model_nonce(const model_server *server, uint64_t time, uint8_t *nonce) {
     size_t octets = server->client->family == 4 ? 4 : 16;
-    uint8_t covered[13 + 8 + 20], mac[32];
+    uint8_t covered[19 + 20], mac[32], seconds[6], characters[8];
     unsigned i;
     model_cookie(server->features, covered);
-    for (i = 0; i < 8; i++) covered[13 + i] = (uint8_t)(time >> (56 - 8 * i));
-    covered[21] = 0;
-    covered[22] = server->client->family == 4 ? 1 : 2;
-    covered[23] = (uint8_t)(server->client->port >> 8);
-    covered[24] = (uint8_t)server->client->port;
-    memcpy(covered + 25, server->client->octets, octets);
-    model_hmac_of(STUN_TYPES_INTEGRITY_SHA256, server->secret, covered, 25 + octets, mac);
-    memcpy(nonce, covered, 13);
-    hexadecimal(covered + 13, 8, nonce + 13);
-    hexadecimal(mac, 32, nonce + 29);
+    /* Of the last 48 bits the first 12 are two characters, and the others six. */
+    for (i = 0; i < 6; i++) seconds[i] = (uint8_t)(time >> (40 - 8 * i));
+    base64(seconds, 2, characters);
+    memcpy(covered + 13, characters + 2, 6);
+    covered[19] = 0;
+    covered[20] = server->client->family == 4 ? 1 : 2;
+    covered[21] = (uint8_t)(server->client->port >> 8);
+    covered[22] = (uint8_t)server->client->port;
+    memcpy(covered + 23, server->client->octets, octets);
+    model_hmac_of(STUN_TYPES_INTEGRITY_SHA256, server->secret, covered, 23 + octets, mac);
+    memcpy(nonce, covered, 19);
+    base64(mac, 4, nonce + 19);
 }
 
 uint32_t model_nonce_state(const model_server *server, uint64_t now, model_text nonce) {
@@ -168,14 +174,13 @@ uint32_t model_nonce_state(const model_server *server, uint64_t now, model_text 
     uint64_t time = 0;
     unsigned i;
     if (nonce.length != sizeof made) return STUN_TYPES_NONCE_UNKNOWN;
-    for (i = 13; i < 29; i++) {
-        uint8_t digit = nonce.bytes[i];
-        if (digit >= '0' && digit <= '9') time = time << 4 | (unsigned)(digit - '0');
-        else if (digit >= 'a' && digit <= 'f') time = time << 4 | (unsigned)(digit - 'a' + 10);
-        else return STUN_TYPES_NONCE_UNKNOWN;
+    for (i = 13; i < 19; i++) {
+        const char *known = nonce.bytes[i] == 0 ? NULL : strchr(BASE64, nonce.bytes[i]);
+        if (known == NULL) return STUN_TYPES_NONCE_UNKNOWN;
+        time = time * 64 + (uint64_t)(known - BASE64);
     }
     model_nonce(server, time, made);
     if (memcmp(made, nonce.bytes, sizeof made) != 0) return STUN_TYPES_NONCE_UNKNOWN;
-    return time <= now && now - time <= server->window ? STUN_TYPES_NONCE_VALID
-                                                       : STUN_TYPES_NONCE_STALE;
+    return (now - time) % ((uint64_t)1 << 36) <= server->window ? STUN_TYPES_NONCE_VALID
+                                                                    : STUN_TYPES_NONCE_STALE;
 }

@@ -92,7 +92,7 @@ fn users(alloc: Global) -> Result<[LongTermCredentials; 2], StunWriteError> {
 fn reply(
     alloc: Global,
     request: &Message<'_>,
-    accepted: &Accepted,
+    accepted: &Accepted<'_>,
     source: SocketAddr,
 ) -> Result<Vec<u8>, StunWriteError>
     requires { class_of (type_field (message_bytes request.now)) ≡ Request }

@@ -22,7 +22,7 @@ use Rattle.stun_authentication.specs.Lookups.{UserKey, Known, valid, stale, unkn
 use Rattle.stun_authentication.specs.Policies.{is_taken, proof_of, proof_with}
 use Rattle.stun_authentication.specs.LongTerm as long
 use Rattle.stun_authentication.proofs.DecidedLemmas.{none_decides}
-use Rattle.stun_authentication.proofs.AcceptingRowsLemmas.{proved, works_with, accepted_parts, found_by, kept_true, enough}
+use Rattle.stun_authentication.proofs.AcceptingRowsLemmas.{proved, works_with, accepted_parts, kept_true, enough}
 
 -- of one algorithm only that one is named
 one_found : (b : Bool) (a x : PasswordAlgorithmValue) → (if b then Some a else None) ≡ Some x → a ≡ x
@@ -89,42 +89,44 @@ unlisted_in (Some o) (Some l) (Some y) alone unlisted is = absurd cc
 
 -- what a request that is accepted by long-term credentials passes: no row before a key is looked up
 -- decides, nor one after it
-record Passes (policy : Policy) (realm : List ℕ) (nonces : List ℕ → Known) (keys : Who → List ℕ → PasswordAlgorithmValue → Option UserKey) (d : List ℕ) (key : UserKey) (a reply : IntegrityAlgorithm) : Type 0 where
+record Passes (policy : Policy) (realm : List ℕ) (nonces : List ℕ → Known) (keys : Who → List ℕ → PasswordAlgorithmValue → Option UserKey) (d : List ℕ) (user : Who) (key : UserKey) (a reply : IntegrityAlgorithm) : Type 0 where
   message : AllByRecursion (λ (row : Row). row.0 ≡ false) (long.rows_of_message policy (long.nonce_of nonces d) d)
   is_valid : not (long.is_valid (long.nonce_of nonces d)) ≡ false
   found : long.key_of_user realm keys d ≡ Some key
   proof : proof_of policy key d ≡ Some a
   reply_by : long.reply_algorithm (long.chosen d) ≡ reply
+  identified : identity_of d ≡ Some user
 
-passes : (policy : Policy) (realm : List ℕ) (nonces : List ℕ → Known) (keys : Who → List ℕ → PasswordAlgorithmValue → Option UserKey) (d : List ℕ) (key : UserKey) (a reply : IntegrityAlgorithm)
-    → long.long_term policy realm nonces keys d ≡ accept key a reply → Passes policy realm nonces keys d key a reply
-passes policy realm nonces keys d key a reply e =
-    let goal : Decision = accept key a reply in
+passes : (policy : Policy) (realm : List ℕ) (nonces : List ℕ → Known) (keys : Who → List ℕ → PasswordAlgorithmValue → Option UserKey) (d : List ℕ) (user : Who) (key : UserKey) (a reply : IntegrityAlgorithm)
+    → long.long_term policy realm nonces keys d ≡ accept user key a reply → Passes policy realm nonces keys d user key a reply
+passes policy realm nonces keys d user key a reply e =
+    let goal : Decision = accept user key a reply in
     let state = long.nonce_of nonces d in
     let k = long.key_of_user realm keys d in
     let one = none_decides (long.rows_of_message policy state d) (long.by_key policy state (long.chosen d) k d) goal
     ((λ f. cc), ((λ f. cc), ((λ f. cc), ((λ f. cc), ((λ f. cc), ((λ f. cc), ((λ f. cc), ((λ f. cc), tt)))))))) e in
     let two = none_decides ((not (is_some k), refuse Unauthenticated) ∷ (not (is_some (proof_with policy k d)), refuse Unauthenticated) ∷ (not (long.is_valid state), refuse StaleNonce) ∷ [])
-    (accepted k (proof_with policy k d) (λ _. long.reply_algorithm (long.chosen d))) goal ((λ f. cc), ((λ f. cc), ((λ f. cc), tt))) one.1 in
-    let parts = accepted_parts k (proof_with policy k d) (λ _. long.reply_algorithm (long.chosen d)) key a reply two.1 in
+    (accepted (identity_of d) k (proof_with policy k d) (λ _. long.reply_algorithm (long.chosen d))) goal ((λ f. cc), ((λ f. cc), ((λ f. cc), tt))) one.1 in
+    let parts = accepted_parts (identity_of d) k (proof_with policy k d) (λ _. long.reply_algorithm (long.chosen d)) user key a reply two.1 in
     record {
       message = one.0;
       is_valid = two.0.1.1.0;
       found = parts.0;
       proof = ap (λ (o : Option UserKey). proof_with policy o d) (sym parts.0) ∙ parts.1.0;
-      reply_by = parts.1.1;
+      reply_by = parts.1.1.0;
+      identified = parts.1.1.1;
     }
 
-pub long_term_proof : (policy : Policy) (realm : List ℕ) (nonces : List ℕ → Known) (keys : Who → List ℕ → PasswordAlgorithmValue → Option UserKey) (d : List ℕ) (key : UserKey) (a reply : IntegrityAlgorithm)
-    → long.long_term policy realm nonces keys d ≡ accept key a reply → proof_of policy key d ≡ Some a
-long_term_proof policy realm nonces keys d key a reply e = (passes policy realm nonces keys d key a reply e).proof
+pub long_term_proof : (policy : Policy) (realm : List ℕ) (nonces : List ℕ → Known) (keys : Who → List ℕ → PasswordAlgorithmValue → Option UserKey) (d : List ℕ) (user : Who) (key : UserKey) (a reply : IntegrityAlgorithm)
+    → long.long_term policy realm nonces keys d ≡ accept user key a reply → proof_of policy key d ≡ Some a
+long_term_proof policy realm nonces keys d user key a reply e = (passes policy realm nonces keys d user key a reply e).proof
 
-pub long_term_login : (policy : Policy) (realm : List ℕ) (nonces : List ℕ → Known) (keys : Who → List ℕ → PasswordAlgorithmValue → Option UserKey) (d : List ℕ) (key : UserKey) (a reply : IntegrityAlgorithm)
-    → long.long_term policy realm nonces keys d ≡ accept key a reply → IsLogin policy realm nonces keys d key a reply
-long_term_login policy realm nonces keys d key a reply e =
-    let p = passes policy realm nonces keys d key a reply e in
+pub long_term_login : (policy : Policy) (realm : List ℕ) (nonces : List ℕ → Known) (keys : Who → List ℕ → PasswordAlgorithmValue → Option UserKey) (d : List ℕ) (user : Who) (key : UserKey) (a reply : IntegrityAlgorithm)
+    → long.long_term policy realm nonces keys d ≡ accept user key a reply → IsLogin policy realm nonces keys d user key a reply
+long_term_login policy realm nonces keys d user key a reply e =
+    let p = passes policy realm nonces keys d user key a reply e in
     let by = proved policy d key a p.proof in
-    let user = found_by (identity_of d) (λ (u : Who). keys u realm (unwrap_or (long.chosen d) MD5)) key p.found in
+    let found : keys user realm (unwrap_or (long.chosen d) MD5) ≡ Some key = sym (ap (option_and_then (λ (u : Who). keys u realm (unwrap_or (long.chosen d) MD5))) p.identified) ∙ p.found in
     let nonce = valid_nonce nonces (value_of d NONCE) p.is_valid in
     let sent = nonce.1.1.0 in
     let state-is : long.nonce_of nonces d ≡ valid sent = ap (λ (o : Option (List ℕ)). option_map_or nonces o unknown) nonce.1.0 ∙ nonce.1.1.1 in
@@ -133,8 +135,7 @@ long_term_login policy realm nonces keys d key a reply e =
     let one = long.promised PASSWORD_ALGORITHM d in
     let list = long.promised PASSWORD_ALGORITHMS d in
     record {
-      user = user.0;
-      identified = user.1.0;
+      identified = p.identified;
       nonce = nonce.0;
       shown = nonce.1.0;
       sent = sent;
@@ -143,7 +144,7 @@ long_term_login policy realm nonces keys d key a reply e =
           let both-are = listed_in sent one list (long.chosen d) refl third.0 other third.1.1.0 x is in
           (shown_if (option_map_or promises_algorithms (value_of d NONCE) false) (value_of d PASSWORD_ALGORITHMS) (algorithms_encoding sent) both-are.0, both-are.1);
       unlisted = unlisted_in one list (long.chosen d) third.0 third.1.1.0;
-      known = user.1.1;
+      known = found;
       works = (works_with policy d key a by).1;
       counts = (works_with policy d key a by).0;
       reply_by = p.reply_by;

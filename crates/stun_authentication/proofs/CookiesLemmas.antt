@@ -2,7 +2,8 @@
 use Rattle.std.proofs.Common.{◌≡◌, ℕ, Bool, true, false, List, ◌++◌, length, Some, refl, arith}
 use Rattle.std.specs.Prelude.{codes}
 use Rattle.std.proofs.lemmas.Bool.{le-leb}
-use Rattle.stun_authentication.specs.Cookies.{six_bits, security_features, four_characters}
+use Rattle.stun_authentication.specs.Base64.{six_bits}
+use Rattle.stun_authentication.specs.Cookies.{security_features, four_characters}
 
 -- a cookie has its two bits
 pub read_bits : (algorithms anonymity : Bool) (more : List ℕ) → security_features (codes "obMatJos2" ++ (four_characters algorithms anonymity ++ more)) ≡ Some (record { password_algorithms = algorithms; username_anonymity = anonymity })

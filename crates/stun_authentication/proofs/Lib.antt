@@ -1,6 +1,7 @@
 mod AcceptingLoginsLemmas
 mod AcceptingRowsLemmas
 mod AddedLemmas
+mod Base64Lemmas
 mod CookiesLemmas
 mod CountedLemmas
 pub mod DecidedLemmas
@@ -8,5 +9,6 @@ mod EntriesLemmas
 mod FinishingLemmas
 mod NoncesLemmas
 mod ProvesLemmas
+mod SizesLemmas
 mod TakenLemmas
 pub mod TypesLemmas

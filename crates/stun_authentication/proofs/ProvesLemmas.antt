@@ -1,7 +1,8 @@
 -- What is answered where a user has a key.
 use Rattle.std.proofs.Common.{◌≡◌, ℕ, Bool, true, false, List, [], ◌∷◌, Option, Some, None, refl, sym, ap, subst, ◌∙◌}
 use Rattle.std.specs.Prelude.{◌&&◌, ◌||◌, not, is_some, unwrap_or, option_and_then}
-use Rattle.std.specs.Option.{option_map_or}
+use Rattle.std.specs.Borrow.{Bor}
+use Rattle.std.specs.Option.{option_map, option_map_or}
 use Rattle.stun_grammar.specs.declared.integrity_algorithm.IntegrityAlgorithm.{IntegrityAlgorithm}
 use Rattle.stun_grammar.specs.AttributeTypes.{USERNAME, NONCE}
 use Rattle.stun_grammar.specs.Headers.{type_field}
@@ -16,9 +17,11 @@ use Rattle.stun_values.specs.declared.algorithm.PasswordAlgorithmValue.TheVarian
 use Rattle.stun_authentication.specs.declared.answer.Authentication.{Authentication}
 use Rattle.stun_authentication.specs.declared.answer.Authentication.TheVariants.{Accepted as AcceptedBy}
 use Rattle.stun_authentication.specs.declared.answer.Refusal.TheVariants.{BadRequest, Unauthenticated}
+use Rattle.stun_authentication.specs.declared.identity.Identity.{Identity}
+use Rattle.stun_authentication.specs.declared.identity.Identity.TheVariants.{Name}
 use Rattle.stun_authentication.specs.declared.policy.Policy.{Policy}
 use Rattle.stun_authentication.specs.Answers.{Decision, refuse, Tells, decided, accepted}
-use Rattle.stun_authentication.specs.Identities.{Who, value_of, identity_of}
+use Rattle.stun_authentication.specs.Identities.{Who, named, who, value_of, named_in, identity_of}
 use Rattle.stun_authentication.specs.Lookups.{UserKey, key_made, key_held, IsKeyOf, Known, valid, unknown}
 use Rattle.stun_authentication.specs.Policies.{is_taken, is_signed, is_signed_for, counted, proved_at, validated, proof_of, Proves}
 use Rattle.stun_authentication.specs.ShortTerm as short
@@ -57,24 +60,27 @@ one_proved policy d key served made back a which is one same =
 
 -- ---- What is answered
 
-short_accepts : (signed : Bool) (bad wrong : Decision) (key : UserKey) (o : Option IntegrityAlgorithm) (k : IntegrityKey) (a : IntegrityAlgorithm) → signed ≡ true → Proves key o (Some (k, a))
-    → Tells (decided ((not signed, bad) ∷ (not (is_some o), wrong) ∷ []) (accepted (Some key) o (λ b. b))) (AcceptedBy (record { key = k; algorithm = a; reply_algorithm = a }))
-short_accepts false bad wrong key o k a s p = absurd cc
-short_accepts true bad wrong key None k a s p = absurd cc
-short_accepts true bad wrong key (Some b) k a s p = record { key_is = p.0; algorithm_is = p.1; reply_is = p.1 }
+short_accepts : (signed : Bool) (bad wrong : Decision) (u : Option Who) (user : Identity) (key : UserKey) (o : Option IntegrityAlgorithm) (k : IntegrityKey) (a : IntegrityAlgorithm) → signed ≡ true → u ≡ Some (who user) → Proves key o (Some (k, a))
+    → Tells (decided ((not signed, bad) ∷ (not (is_some o), wrong) ∷ []) (accepted u (Some key) o (λ b. b))) (AcceptedBy (record { user = user; key = k; algorithm = a; reply_algorithm = a }))
+short_accepts false bad wrong u user key o k a s n p = absurd cc
+short_accepts true bad wrong None user key o k a s n p = absurd cc
+short_accepts true bad wrong (Some v) user key None k a s n p = absurd cc
+short_accepts true bad wrong (Some v) user key (Some b) k a s n p = record { user_is = cc; key_is = p.0; algorithm_is = p.1; reply_is = p.1 }
 
-pub short_accepted : (policy : Policy) (d : List ℕ) (key : UserKey) (k : IntegrityKey) (a : IntegrityAlgorithm) → is_signed_for policy key.made_for d ≡ true → Proves key (proof_of policy key d) (Some (k, a))
-    → Tells (short.by_key policy (Some key) d) (AcceptedBy (record { key = k; algorithm = a; reply_algorithm = a }))
-short_accepted policy d key k a s p = short_accepts (is_signed_for policy key.made_for d) (short.reject d BadRequest) (short.reject d Unauthenticated) key (proof_of policy key d) k a s p
+pub short_accepted : (policy : Policy) (d : List ℕ) (name : Bor (List ℕ)) (key : UserKey) (k : IntegrityKey) (a : IntegrityAlgorithm) → value_of d USERNAME ≡ Some name.now → is_signed_for policy key.made_for d ≡ true → Proves key (proof_of policy key d) (Some (k, a))
+    → Tells (short.by_key policy (Some key) d) (AcceptedBy (record { user = Name name; key = k; algorithm = a; reply_algorithm = a }))
+short_accepted policy d name key k a n s p =
+    short_accepts (is_signed_for policy key.made_for d) (short.reject d BadRequest) (short.reject d Unauthenticated) (named_in d) (Name name) key (proof_of policy key d) k a s (ap (option_map (λ (x : List ℕ). named x)) n) p
 
-long_accepts : (key : UserKey) (o : Option IntegrityAlgorithm) (k : IntegrityKey) (a s : IntegrityAlgorithm) → Proves key o (Some (k, a))
-    → Tells (decided ((not (is_some o), refuse Unauthenticated) ∷ []) (accepted (Some key) o (λ _. s))) (AcceptedBy (record { key = k; algorithm = a; reply_algorithm = s }))
-long_accepts key None k a s p = absurd cc
-long_accepts key (Some b) k a s p = record { key_is = p.0; algorithm_is = p.1; reply_is = refl }
+long_accepts : (u : Option Who) (user : Identity) (key : UserKey) (o : Option IntegrityAlgorithm) (k : IntegrityKey) (a s : IntegrityAlgorithm) → u ≡ Some (who user) → Proves key o (Some (k, a))
+    → Tells (decided ((not (is_some o), refuse Unauthenticated) ∷ []) (accepted u (Some key) o (λ _. s))) (AcceptedBy (record { user = user; key = k; algorithm = a; reply_algorithm = s }))
+long_accepts None user key o k a s n p = absurd cc
+long_accepts (Some v) user key None k a s n p = absurd cc
+long_accepts (Some v) user key (Some b) k a s n p = record { user_is = cc; key_is = p.0; algorithm_is = p.1; reply_is = refl }
 
-pub long_accepted : (policy : Policy) (d : List ℕ) (sent : List PasswordAlgorithmValue) (algorithm : Option PasswordAlgorithmValue) (key : UserKey) (k : IntegrityKey) (a : IntegrityAlgorithm) → Proves key (proof_of policy key d) (Some (k, a))
-    → Tells (long.by_key policy (valid sent) algorithm (Some key) d) (AcceptedBy (record { key = k; algorithm = a; reply_algorithm = long.reply_algorithm algorithm }))
-long_accepted policy d sent algorithm key k a p = long_accepts key (proof_of policy key d) k a (long.reply_algorithm algorithm) p
+pub long_accepted : (policy : Policy) (d : List ℕ) (sent : List PasswordAlgorithmValue) (algorithm : Option PasswordAlgorithmValue) (user : Identity) (key : UserKey) (k : IntegrityKey) (a : IntegrityAlgorithm) → identity_of d ≡ Some (who user) → Proves key (proof_of policy key d) (Some (k, a))
+    → Tells (long.by_key policy (valid sent) algorithm (Some key) d) (AcceptedBy (record { user = user; key = k; algorithm = a; reply_algorithm = long.reply_algorithm algorithm }))
+long_accepted policy d sent algorithm user key k a n p = long_accepts (identity_of d) user key (proof_of policy key d) k a (long.reply_algorithm algorithm) n p
 
 -- ---- The key that a look-up finds
 
@@ -89,17 +95,17 @@ found_key (Some key) found is = ap (λ (k : UserKey). Some k) (sym (made_as (key
 short_passed : (policy : Policy) (keys : List ℕ → Option UserKey) (user d : List ℕ) (key : Option UserKey)
     → is_taken policy d ≡ true → is_response (class_of (type_field d)) ≡ false → is_signed policy d ≡ true → value_of d USERNAME ≡ Some user → keys user ≡ key
     → short.short_term policy keys d ≡ short.by_key policy key d
-short_passed policy keys user d key taken class signed named is =
+short_passed policy keys user d key taken class signed shown is =
     let there : not (is_signed policy d && is_some (value_of d USERNAME)) ≡ false =
-    ap (λ (b : Bool). not (b && is_some (value_of d USERNAME))) signed ∙ ap (λ (o : Option (List ℕ)). not (is_some o)) named in
+    ap (λ (b : Bool). not (b && is_some (value_of d USERNAME))) signed ∙ ap (λ (o : Option (List ℕ)). not (is_some o)) shown in
     none_holds (short.rows_of_message policy d) (short.by_key policy (short.key_of_username keys d) d) (ap not taken, (class, (there, tt)))
-    ∙ ap (λ (o : Option (List ℕ)). short.by_key policy (option_and_then keys o) d) named ∙ ap (λ (o : Option UserKey). short.by_key policy o d) is
+    ∙ ap (λ (o : Option (List ℕ)). short.by_key policy (option_and_then keys o) d) shown ∙ ap (λ (o : Option UserKey). short.by_key policy o d) is
 
 pub short_user : (policy : Policy) (keys : List ℕ → Option UserKey) (user d : List ℕ) (found : IntegrityKey) (answer : Authentication)
     → is_taken policy d ≡ true → is_response (class_of (type_field d)) ≡ false → is_signed policy d ≡ true → value_of d USERNAME ≡ Some user
     → IsKeyOf (keys user) (Some found) → Tells (short.by_key policy (Some (key_held found)) d) answer → Tells (short.short_term policy keys d) answer
-short_user policy keys user d found answer taken class signed named is reported =
-    subst (λ (x : Decision). Tells x answer) (sym (short_passed policy keys user d (Some (key_held found)) taken class signed named (found_key (keys user) found is))) reported
+short_user policy keys user d found answer taken class signed shown is reported =
+    subst (λ (x : Decision). Tells x answer) (sym (short_passed policy keys user d (Some (key_held found)) taken class signed shown (found_key (keys user) found is))) reported
 
 -- no row decides before the key is looked up, and there is one
 pub long_user : (policy : Policy) (realm : List ℕ) (nonces : List ℕ → Known) (keys : Who → List ℕ → PasswordAlgorithmValue → Option UserKey) (d : List ℕ)

@@ -11,12 +11,14 @@ use Rattle.stun_authentication.specs.declared.answer.Refusal.{Refusal}
 use Rattle.stun_authentication.specs.declared.answer.Refusal.TheVariants.{BadRequest, Unauthenticated, StaleNonce}
 use Rattle.stun_authentication.specs.declared.answer.Authentication.{Authentication}
 use Rattle.stun_authentication.specs.declared.answer.Authentication.TheVariants.{Accepted as AcceptedBy, Refused, Discarded, NotARequest}
+use Rattle.stun_authentication.specs.Identities.{Who, who}
 use Rattle.stun_authentication.specs.Lookups.{UserKey}
 
--- accepted, by the user's key and the algorithm whose HMAC was right, with the algorithm that the
+-- accepted: the user, by its key and the algorithm whose HMAC was right, with the algorithm that the
 -- reply is signed by; refused; dropped; or none that the mechanism authenticates at a server
 pub data Decision : Type 0 where
-  accept : (key : UserKey) → (algorithm reply_algorithm : IntegrityAlgorithm) → Decision
+  accept : (user : Who) → (key : UserKey) → (algorithm reply_algorithm : IntegrityAlgorithm)
+      → Decision
   refuse : Refusal → Decision
   discard : Decision
   not_a_request : Decision
@@ -34,14 +36,16 @@ refusal_reason Unauthenticated = codes "Unauthenticated"
 refusal_reason StaleNonce = codes "Stale Nonce"
 
 -- an answer reports a decision
-pub record TellsAccept (key : UserKey) (algorithm reply_algorithm : IntegrityAlgorithm)
+pub record TellsAccept (user : Who) (key : UserKey) (algorithm reply_algorithm : IntegrityAlgorithm)
     (accepted : Accepted) : Type 0 where
+  pub user_is : who accepted.user ≡ user
   pub key_is : IsKey key.made_for key.bytes accepted.key
   pub algorithm_is : accepted.algorithm ≡ algorithm
   pub reply_is : accepted.reply_algorithm ≡ reply_algorithm
 
 abbrev pub Tells : Decision → Authentication → Type 0
-Tells (accept key algorithm reply) (AcceptedBy accepted) = TellsAccept key algorithm reply accepted
+Tells (accept user key algorithm reply) (AcceptedBy accepted) =
+    TellsAccept user key algorithm reply accepted
 Tells (refuse refusal) (Refused reported) = reported ≡ refusal
 Tells discard Discarded = Unit {0}
 Tells not_a_request NotARequest = Unit {0}
@@ -67,9 +71,10 @@ decides rows = list_any (λ row. row.0) rows
 abbrev pub decided : List Row → (otherwise : Decision) → Decision
 decided rows otherwise = option_map_or (λ row. row.1) (find (λ row. row.0) rows) otherwise
 
--- accepted, with the user's key, and the algorithm whose HMAC is right under it: there are both, if
--- no row before decides
-abbrev pub accepted : Option UserKey → Option IntegrityAlgorithm
+-- accepted, with the user, its key, and the algorithm whose HMAC is right under it: there are all
+-- three, if no row before decides
+abbrev pub accepted : Option Who → Option UserKey → Option IntegrityAlgorithm
     → (reply_by : IntegrityAlgorithm → IntegrityAlgorithm) → Decision
-accepted (Some key) (Some algorithm) reply_by = accept key algorithm (reply_by algorithm)
-accepted _ _ reply_by = discard
+accepted (Some user) (Some key) (Some algorithm) reply_by =
+    accept user key algorithm (reply_by algorithm)
+accepted _ _ _ reply_by = discard

@@ -1,17 +1,10 @@
 -- The beginning of a nonce that has the security features of its server (RFC 8489, sections 9.2
 -- and 18.1).
-use Rattle.std.specs.Prelude.{ℕ, Bool, true, false, ◌&&◌, List, ◌++◌, codes, length, slice_index, Option, None, Some, is_some, nat_eq, nat_le, position, bit_and, ◌==◌, not, if◌then◌else◌}
+use Rattle.std.specs.Prelude.{ℕ, Bool, true, false, ◌&&◌, List, ◌++◌, codes, length, slice_index, Option, None, Some, is_some, nat_eq, nat_le, bit_and, ◌==◌, not, if◌then◌else◌}
 use Rattle.std.specs.List.{starts_with}
 use Rattle.std.specs.Option.{option_map}
 use Rattle.stun_authentication.specs.declared.cookie.SecurityFeatures.{SecurityFeatures}
-
--- the characters of base64, in the order of the six bits that each encodes (RFC 4648, section 4)
-abbrev pub base64 : List ℕ
-base64 = codes "ABCDEFGHIJKLMNOPQRSTUVWXYZabcdefghijklmnopqrstuvwxyz0123456789+/"
-
--- the six bits that a character encodes
-unfoldable pub six_bits : ℕ → Option ℕ
-six_bits character = position (λ known. known == character) base64
+use Rattle.stun_authentication.specs.Base64.{six_bits}
 
 -- bits 0 and 1 of the 24 are the two most significant of the first six
 abbrev pub features_of : ℕ → SecurityFeatures

@@ -24,6 +24,10 @@ value_of d type = option_map (λ a. a.value) (nth d type 0)
 abbrev pub shows : ℕ → List ℕ → Bool
 shows type d = is_some (value_of d type)
 
+-- who the USERNAME of d names
+abbrev pub named_in : List ℕ → Option Who
+named_in d = option_map (λ name. named name) (value_of d USERNAME)
+
 -- the one that is there
 abbrev pub one_of : (name hash : Option (List ℕ)) → Option Who
 one_of (Some name) None = Some (named name)

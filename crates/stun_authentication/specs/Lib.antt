@@ -1,6 +1,7 @@
 pub mod Accepted
 pub mod Answers
 pub mod Asking
+pub mod Base64
 pub mod Challenges
 pub mod Codes
 pub mod Cookies

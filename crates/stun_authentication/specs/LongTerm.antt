@@ -136,7 +136,7 @@ by_key policy state algorithm key d =
     ∷ (not (is_valid state), refuse StaleNonce)
     ∷ [])
     -- 12: otherwise
-    (accepted key (proof_with policy key d) (λ _. reply_algorithm algorithm))
+    (accepted (identity_of d) key (proof_with policy key d) (λ _. reply_algorithm algorithm))
 
 -- what becomes of d
 abbrev pub long_term : Policy → List ℕ → (nonces : List ℕ → Known)

@@ -1,11 +1,11 @@
 -- Nonces that a server doesn't keep (RFC 8489, sections 9.2, 9.2.1, 9.2.4 and 14.10): a nonce has
--- the time at which it was made, and an HMAC under a secret of the server over its cookie, that time,
--- and the address and port that it was sent to.
-use Rattle.std.specs.Prelude.{ℕ, ◌+◌, ◌*◌, ◌/◌, ◌%◌, ◌-◌, Bool, not, ◌&&◌, List, [], ◌∷◌, ◌++◌, flat_map, slice_range, nat_eq, nat_lt, nat_le, ◌==◌, if◌then◌else◌}
+-- the time at which it was made, and the first bits of an HMAC under a secret of the server over its
+-- cookie, that time, and the address and port that it was sent to.
+use Rattle.std.specs.Prelude.{ℕ, ◌+◌, ◌%◌, ◌-◌, ◌^◌, Bool, not, ◌&&◌, List, ◌++◌, take, slice_range, nat_eq, nat_le, ◌==◌, if◌then◌else◌}
 use Rattle.std.specs.Cmp.Lexicographic.{pointwise}
 use Rattle.stun_grammar.specs.declared.integrity_algorithm.IntegrityAlgorithm.TheVariants.{Sha256}
 use Rattle.stun_grammar.specs.Hmac.{hmac}
-use Rattle.stun_grammar.specs.Numbers.{be64, number}
+use Rattle.stun_grammar.specs.Numbers.{number}
 use Rattle.stun_keys.specs.Keys.{key_bytes}
 use Rattle.stun_values.specs.declared.algorithm.PasswordAlgorithmValue.{PasswordAlgorithmValue}
 use Rattle.stun_values.specs.Addresses.{address_value}
@@ -14,32 +14,9 @@ use Rattle.stun_authentication.specs.declared.nonces.Freshness.{Freshness}
 use Rattle.stun_authentication.specs.declared.nonces.Freshness.TheVariants.{Fresh, Stale, Unknown}
 use Rattle.stun_authentication.specs.declared.nonces.NonceMaker.{NonceMaker}
 use Rattle.stun_authentication.specs.declared.nonces.NoncesOf.{NoncesOf}
+use Rattle.stun_authentication.specs.Base64.{in_base64, of_base64}
 use Rattle.stun_authentication.specs.Cookies.{cookie}
 use Rattle.stun_authentication.specs.Lookups.{Known, valid, stale, unknown}
-
--- ---- Bytes in hexadecimal
-
--- the character of a digit below sixteen: 0 to 9, and then a to f
-abbrev pub digit : ℕ → ℕ
-digit n = if nat_lt n 10 then 0x30 + n else 0x57 + n
-
--- the digit of a character
-abbrev pub digit_of : ℕ → ℕ
-digit_of character = if nat_lt character 0x3A then character - 0x30 else character - 0x57
-
--- the two digits of a byte
-abbrev pub digits : ℕ → List ℕ
-digits byte = digit (byte / 16) ∷ digit (byte % 16) ∷ []
-
--- two characters for each byte
-unfoldable pub hexed : List ℕ → List ℕ
-hexed bytes = flat_map digits bytes
-
--- the bytes that pairs of characters spell
-unfoldable pub unhexed : List ℕ → List ℕ
-unhexed [] = []
-unhexed (one ∷ []) = []
-unhexed (one ∷ two ∷ more) = (16 * digit_of one + digit_of two) ∷ unhexed more
 
 -- ---- A nonce
 
@@ -60,31 +37,44 @@ minting_of maker = minting (key_bytes maker.secret) maker.features maker.window
 abbrev pub secret_min : ℕ
 secret_min = 16
 
+-- what a nonce begins with: the cookie, and the last 36 bits of the time, in seconds, in six
+-- characters of base64
+abbrev pub beginning : Minting → (time : ℕ) → List ℕ
+beginning minting time = cookie minting.features ++ in_base64 6 time
+
 -- what the HMAC covers. The cookie is covered, so that a nonce whose features were changed on the
 -- way is unknown (RFC 8489, section 9.2.1); place is the address and port that it was sent to, as
 -- the value of a MAPPED-ADDRESS
 abbrev pub covered_text : Minting → (time : ℕ) → (place : List ℕ) → List ℕ
-covered_text minting time place = cookie minting.features ++ (be64 time ++ place)
+covered_text minting time place = beginning minting time ++ place
 
 abbrev pub minted_mac : Minting → (time : ℕ) → (place : List ℕ) → List ℕ
 minted_mac minting time place = hmac Sha256 minting.secret (covered_text minting time place)
 
--- the nonce that is made at a time, in seconds, for a place: the cookie, the time in sixteen
--- characters, and the HMAC in sixty-four
+-- the first 96 bits of an HMAC
+abbrev pub first_bits : List ℕ → ℕ
+first_bits mac = number (take 12 mac)
+
+-- the nonce that is made at a time for a place: its beginning, and the first 96 bits of the HMAC in
+-- sixteen characters of base64
 abbrev pub minted : Minting → (time : ℕ) → (place : List ℕ) → List ℕ
 minted minting time place =
-    cookie minting.features ++ (hexed (be64 time) ++ hexed (minted_mac minting time place))
+    beginning minting time ++ in_base64 16 (first_bits (minted_mac minting time place))
 
--- the time of a nonce
+-- the 36 bits of the time in a nonce
 abbrev pub stated_time : List ℕ → ℕ
-stated_time nonce = number (unhexed (slice_range nonce 13 29))
+stated_time nonce = of_base64 (slice_range nonce 13 19)
 
 -- ---- What is known of a nonce
 
--- a nonce of the server's own, by the time since it was made: one of a time to come is stale too
+-- how many seconds before now a nonce was made. Times that are 2 ^ 36 seconds apart, 2,177 years, are
+-- the same in a nonce, so its age is below that, and a time to come is one of 2 ^ 36 seconds before it
+abbrev pub age : (now time : ℕ) → ℕ
+age now time = (now + 2 ^ 36 - time) % 2 ^ 36
+
+-- a nonce of the server's own, by its age
 abbrev pub aged : Minting → (now time : ℕ) → Freshness
-aged minting now time =
-    if nat_le time now && nat_le now (time + minting.window) then Fresh else Stale
+aged minting now time = if nat_le (age now time) minting.window then Fresh else Stale
 
 -- what is known of a nonce that comes from a place: it is the one that was made for that place at
 -- its time, or it isn't the server's

@@ -12,7 +12,7 @@ use Rattle.stun_authentication.specs.declared.answer.Refusal.{Refusal}
 use Rattle.stun_authentication.specs.declared.answer.Refusal.TheVariants.{BadRequest, Unauthenticated, StaleNonce}
 use Rattle.stun_authentication.specs.declared.challenge.ChallengeError.{ChallengeError}
 use Rattle.stun_authentication.specs.declared.challenge.ChallengeError.TheVariants.{NoList, NotPromised, TooMany}
-use Rattle.stun_authentication.specs.Asking.{Asked, listed}
+use Rattle.stun_authentication.specs.Asking.{Asked, asked_for, listed}
 use Rattle.stun_authentication.specs.Answers.{refusal_code, refusal_reason}
 use Rattle.stun_authentication.specs.Cookies.{promises_algorithms}
 use Rattle.stun_authentication.specs.Policies.{is_fingerprinted}
@@ -73,3 +73,8 @@ refusal_of r refusal asked =
 abbrev pub refusal_sizes : List ℕ → Refusal → Option Asked → List ℕ
 refusal_sizes r refusal asked =
     sizes (refusal_attributes refusal asked) ++ step_sizes (print_steps (is_fingerprinted r))
+
+-- the 401 to r by long-term credentials that asks for a login in a realm, by a nonce and algorithms
+abbrev pub login_asked : List ℕ → (realm nonce : List ℕ) → List PasswordAlgorithmValue → List ℕ
+login_asked r realm nonce algorithms =
+    refusal_of r Unauthenticated (Some (asked_for realm nonce (listed algorithms)))

@@ -10,7 +10,7 @@ use Rattle.stun_authentication.specs.declared.answer.Refusal.{Refusal}
 use Rattle.stun_authentication.specs.declared.answer.Refusal.TheVariants.{BadRequest, Unauthenticated}
 use Rattle.stun_authentication.specs.declared.policy.Policy.{Policy}
 use Rattle.stun_authentication.specs.Answers.{Decision, discard, not_a_request, rejected, Row, decides, decided, accepted}
-use Rattle.stun_authentication.specs.Identities.{value_of, shows}
+use Rattle.stun_authentication.specs.Identities.{value_of, shows, named_in}
 use Rattle.stun_authentication.specs.Lookups.{UserKey}
 use Rattle.stun_authentication.specs.Policies.{is_taken, is_signed, is_signed_for, proof_with}
 
@@ -45,7 +45,7 @@ by_key policy key d =
     ∷ (not (is_some (proof_with policy key d)), reject d Unauthenticated)
     ∷ [])
     -- 7: otherwise; the reply is signed by the same algorithm (the paragraph after the checks)
-    (accepted key (proof_with policy key d) (λ algorithm. algorithm))
+    (accepted (named_in d) key (proof_with policy key d) (λ algorithm. algorithm))
 
 -- what becomes of d
 abbrev pub short_term : Policy → (keys : List ℕ → Option UserKey) → List ℕ → Decision

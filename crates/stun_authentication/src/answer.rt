@@ -6,13 +6,17 @@ ghost use Rattle.stun_grammar.specs.Headers.{type_field};
 ghost use Rattle.stun_types.specs.Message.{message_bytes};
 ghost use Rattle.stun_authentication.specs.Answers.{Tells, rejected, refusal_code};
 
+use crate::Identity;
 use stun_types::attribute::ErrorCode;
 use stun_types::message::{IntegrityAlgorithm, IntegrityKey, Message, MessageClass};
 
-/// A message that was authenticated: the key of its user, and the algorithm by which its reply is
+/// A message that was authenticated: its user, the user's key, and the algorithm by which its reply is
 /// signed.
 #[derive(Debug, Drop)]
-pub struct Accepted {
+pub struct Accepted<'a> {
+    /// The user whose key it is: the value of the USERNAME or the USERHASH, borrowed from the bytes of
+    /// the message. [`Identity`] says how to keep it for longer.
+    pub user: Identity<'a>,
     /// The key of the user, as the look-up returned it: the reply is signed with it.
     pub key: IntegrityKey,
     /// The algorithm whose HMAC in the message was right.
@@ -73,9 +77,9 @@ impl Refusal {
 
 /// The result of authenticating a message at a server.
 #[derive(Debug, Drop)]
-pub enum Authentication {
-    /// The message is authentic, and comes from the user of this key.
-    Accepted(Accepted),
+pub enum Authentication<'a> {
+    /// The message is authentic, and comes from this user.
+    Accepted(Accepted<'a>),
     /// The request is refused by an error response, which isn't signed.
     Refused(Refusal),
     /// The message is dropped, and nothing is answered.
@@ -88,7 +92,7 @@ pub enum Authentication {
 }
 
 /// How a message is rejected: a request by an error response, and any other silently.
-pub(crate) fn rejected(message: &Message<'_>, refusal: Refusal) -> Authentication
+pub(crate) fn rejected<'a>(message: &Message<'a>, refusal: Refusal) -> Authentication<'a>
     ensures { Tells (rejected (class_of (type_field (message_bytes message.now))) refusal) result }
 {
     match message.class() {

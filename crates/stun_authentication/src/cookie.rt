@@ -2,11 +2,9 @@
 //! and 18.1).
 
 ghost use Rattle.std.specs.Prelude.{◌≡◌};
-ghost use Rattle.stun_authentication.specs.Cookies.{security_features, cookie, six_bits};
+ghost use Rattle.stun_authentication.specs.Cookies.{security_features, cookie};
 
-/// The characters of base64, in the order of the six bits that each encodes (RFC 4648, section
-/// 4).
-const BASE64: [u8; 64] = *b"ABCDEFGHIJKLMNOPQRSTUVWXYZabcdefghijklmnopqrstuvwxyz0123456789+/";
+use crate::base64::six_bits;
 
 /// The security features that a server states at the beginning of its nonces (RFC 8489,
 /// section 18.1).
@@ -41,14 +39,6 @@ pub fn nonce_cookie(features: SecurityFeatures) -> &'static str
         (false, true) => "obMatJos2QAAA",
         (true, true) => "obMatJos2wAAA",
     }
-}
-
-/// The six bits that a character of base64 encodes.
-#[tactic(auto, unfolding(crate::specs::Cookies::six_bits))]
-fn six_bits(character: u8) -> Option<usize>
-    ensures { result ≡ six_bits character }
-{
-    BASE64.iter().position(|known| *known == character)
 }
 
 /// Returns the security features of a nonce, or `None` if it doesn't begin with a nonce cookie:

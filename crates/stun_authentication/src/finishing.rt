@@ -56,7 +56,7 @@ pub fn finish_reply_with_key<B: MessageWrite>(
     sign_and_print(key, algorithm, fingerprint, write)
 }
 
-impl Accepted {
+impl Accepted<'_> {
     /// Finishes the reply to a request that is accepted: signs it with the user's key, by the
     /// algorithm of RFC 8489, section 9.1.3 or 9.2.4 ([`Accepted::reply_algorithm`]), and adds a
     /// FINGERPRINT if `fingerprint` is `true`. A reply has one if its request has one (section 7).
@@ -74,7 +74,7 @@ impl Accepted {
     /// # Examples
     ///
     /// ```
-    /// use stun_authentication::Accepted;
+    /// use stun_authentication::{Accepted, Identity};
     /// use stun_types::message::{IntegrityAlgorithm, IntegrityKey, Message, MessageWriteVec};
     /// use stun_types::prelude::*;
     ///
@@ -84,7 +84,8 @@ impl Accepted {
     /// // As `authenticate_short_term` returns it for a request that MESSAGE-INTEGRITY signs.
     /// let key = IntegrityKey::new(alloc, b"VOkJxbRl1RmTxUk/WvJxBt", None)?;
     /// let (algorithm, reply_algorithm) = (IntegrityAlgorithm::Sha1, IntegrityAlgorithm::Sha1);
-    /// let accepted = Accepted { key, algorithm, reply_algorithm };
+    /// let user = Identity::Name(b"evtj:h6vY");
+    /// let accepted = Accepted { user, key, algorithm, reply_algorithm };
     /// let mut reply = Message::builder_success(&request, MessageWriteVec::new(alloc))?;
     /// accepted.finish_reply(true, &mut reply)?;
     /// let bytes = reply.finish();

@@ -9,7 +9,21 @@ use stun_types::attribute::{AttributeStaticType, AttributeType, Userhash, Userna
 use stun_types::data::Data;
 use stun_types::message::Message;
 
-/// The user that a request names: the value of its USERNAME or of its USERHASH.
+/// The user that a request names: the value of its USERNAME or of its USERHASH, borrowed from the
+/// bytes of the request. Copy these to keep it for longer.
+///
+/// # Examples
+///
+/// ```
+/// use stun_authentication::Identity;
+///
+/// let user = Identity::Name(b"alice");
+/// let kept = match user {
+///     Identity::Name(name) => name.to_vec(alloc)?,
+///     Identity::Hash(hash) => hash.to_vec(alloc)?,
+/// };
+/// assert_eq!(rt; kept.as_slice(), b"alice".as_slice());
+/// ```
 #[derive(Clone, Copy, Debug)]
 pub enum Identity<'a> {
     /// The value of a USERNAME: UTF-8, unless the client is broken.

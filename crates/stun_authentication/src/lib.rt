@@ -2,7 +2,7 @@
 //! and of a client, without sockets, without storage and without a clock.
 //!
 //! A server calls [`authenticate_short_term`] or [`authenticate_long_term`] with a request, which
-//! returns whether it is accepted, and with which key, or how it is refused; [`refuse_short_term`]
+//! returns whether it is accepted, as whose, and with which key, or how it is refused; [`refuse_short_term`]
 //! and [`refuse_long_term`] write that response, and [`Accepted::finish_reply`] signs the reply to
 //! an accepted request. A client calls [`challenge_of`] with a 401 or a 438, which returns what its
 //! next request has to carry, and [`answer_challenge`] writes that. The server's users and nonces
@@ -68,6 +68,7 @@
 
 mod algorithms;
 mod answer;
+mod base64;
 mod challenge;
 mod codes;
 mod cookie;
@@ -92,7 +93,7 @@ pub use cookie::{SecurityFeatures, nonce_cookie, security_features};
 pub use finishing::finish_reply_with_key;
 pub use identity::Identity;
 pub use laws::{
-    accepted_is_authentic, cookie_is_read, nonces_are_texts, nonces_are_timed,
+    accepted_is_authentic, cookie_is_read, nonces_are_texts, nonces_are_timed, refusals_are_short,
     what_counts_serves_both,
 };
 pub use login::{answer_challenge, answer_challenge_with_key, key_for};

@@ -79,13 +79,15 @@ fn chosen(
 }
 
 /// The checks that need the key: the HMAC, and then the nonce.
-fn by_key(
-    request: &Message<'_>,
+fn by_key<'a>(
+    request: &Message<'a>,
     policy: Policy,
     state: NonceState<'_>,
     chosen: Option<PasswordAlgorithmValue>,
+    user: Identity<'a>,
     key: IntegrityKey,
-) -> Authentication
+) -> Authentication<'a>
+    requires { identity_of (message_bytes request.now) ≡ Some (who user) }
     ensures { Tells (by_key policy (known state.entry) chosen (Some (key_held key))
         (message_bytes request.now)) result }
 {
@@ -94,6 +96,7 @@ fn by_key(
     };
     match state {
         NonceState::Valid(_) => Authentication::Accepted(Accepted {
+            user,
             key,
             algorithm,
             reply_algorithm: reply_algorithm(chosen),
@@ -134,7 +137,7 @@ fn reply_algorithm(chosen: Option<PasswordAlgorithmValue>) -> IntegrityAlgorithm
 ///   refused with 401, like an unsigned one.
 /// - If the nonce isn't valid, it is refused with 438. It is looked at last: a wrong password
 ///   with a stale nonce is 401.
-/// - Otherwise it is accepted, with the key. The reply is signed by MESSAGE-INTEGRITY-SHA256 alone,
+/// - Otherwise it is accepted, with the user and the key. The reply is signed by MESSAGE-INTEGRITY-SHA256 alone,
 ///   but by MESSAGE-INTEGRITY alone if the request was processed as though with MD5.
 ///
 /// The realm makes the key, and not the REALM of the request, which only has to be there. A 401 and
@@ -182,14 +185,14 @@ fn reply_algorithm(chosen: Option<PasswordAlgorithmValue>) -> IntegrityAlgorithm
 /// // The password is right, and the nonce is none of this server's.
 /// assert!(rt; matches!(answer, Authentication::Refused(Refusal::StaleNonce)));
 /// ```
-pub fn authenticate_long_term<N: Nonces, K: LongTermKeys>(
+pub fn authenticate_long_term<'a, N: Nonces, K: LongTermKeys>(
     alloc: Global,
-    request: &Message<'_>,
+    request: &Message<'a>,
     realm: &str,
     policy: Policy,
     nonces: &N,
     keys: &K,
-) -> Result<Authentication, AllocError>
+) -> Result<Authentication<'a>, AllocError>
     ensures decision { IfOk result (Tells (long_term policy realm.now (N.state_of nonces.now)
         (K.key_of keys.now) (message_bytes request.now))) }
     ensures memory { needs_key policy (N.state_of nonces.now) (message_bytes request.now) ≡ false
@@ -213,7 +216,7 @@ pub fn authenticate_long_term<N: Nonces, K: LongTermKeys>(
     };
     let algorithm = chosen.unwrap_or(PasswordAlgorithmValue::MD5);
     match keys.key(alloc, user, realm, algorithm)? {
-        Some(key) => Ok(by_key(request, policy, state, chosen, key)),
+        Some(key) => Ok(by_key(request, policy, state, chosen, user, key)),
         None => Ok(Authentication::Refused(Refusal::Unauthenticated)),
     }
 }

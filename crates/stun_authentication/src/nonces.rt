@@ -1,13 +1,15 @@
 //! Nonces that a server makes and recognizes without keeping any (RFC 8489, sections 9.2 and 9.2.4).
 
-ghost use Rattle.std.specs.Prelude.{◌≡◌, ◌*◌, ◌++◌, ◌<◌, ◌≤◌, ◌%◌, ◌^◌, IfOk, IfErr, drop, length, map};
+ghost use Rattle.std.specs.Prelude.{◌≡◌, ◌++◌, ◌<◌, ◌≤◌, ◌^◌, IfOk, IfErr, length, map};
 ghost use Rattle.std.specs.List.{concat};
 ghost use Rattle.stun_attributes.specs.Texts.{text_bytes};
 ghost use Rattle.stun_keys.specs.Keys.{key_bytes};
 ghost use Rattle.stun_values.specs.Addresses.{address_value};
-ghost use Rattle.stun_authentication.specs.Nonces.{digit, digits, digit_of, hexed, minted, minted_mac, minting, stated_time, minting_of, freshness, aged, known_as, state_of};
+ghost use Rattle.stun_authentication.specs.Nonces.{minted, minted_mac, first_bits, minting, stated_time, minting_of, freshness, aged, known_as, state_of};
 
+use crate::base64::{read_bits, write_bits};
 use crate::{NonceState, Nonces, SecurityFeatures, nonce_cookie};
+use byteorder::{BigEndian, ByteOrder};
 use std::alloc::Global;
 use std::net::SocketAddr;
 use stun_attributes::same_bytes;
@@ -20,16 +22,24 @@ use thiserror::Error;
 pub const SECRET_MIN: usize = 16;
 
 /// How many bytes a nonce of a [`NonceMaker`] has.
-const LENGTH: usize = 93;
+const LENGTH: usize = 35;
+
+/// How many times a nonce can state, in seconds.
+const TIMES: u64 = 1 << 36;
 
 /// Makes nonces that the server doesn't store, and recognizes them: a nonce contains the time at
-/// which it was made, and an HMAC-SHA256, under the server's secret, of its nonce cookie, that
-/// time, and the client's address and port.
+/// which it was made, and 96 bits of an HMAC-SHA256, under the server's secret, of its nonce cookie,
+/// that time, and the client's address and port.
 ///
-/// A nonce is 93 characters: the cookie, 13; the time in seconds, 16 hexadecimal digits; and the
-/// HMAC, 64. It is valid for its client alone, until its window is over, and for any number of
-/// requests. A server that changes its secret keeps the maker of the old one for as long as a
-/// window, and asks both.
+/// A nonce is 35 characters: the cookie, 13; the last 36 bits of the time in seconds, 6 characters
+/// of base64; and the first 96 bits of the HMAC, 16 characters of base64 (RFC 4648, section 4,
+/// without padding). A nonce is short so that a 401 is, which anybody can have sent to a forged
+/// address. 96 bits are enough: whoever doesn't know the secret has one guess with each request,
+/// and a nonce alone permits nothing, since an accepted request is signed with its user's key too.
+///
+/// It is valid for its client alone, until its window is over, and for any number of requests. A
+/// server that changes its secret keeps the maker of the old one for as long as a window, and asks
+/// both. 36 bits count 2,177 years of seconds: times so far apart are the same in a nonce.
 ///
 /// # Examples
 ///
@@ -93,79 +103,41 @@ pub struct NoncesOf<'a> {
     algorithms: &'a [PasswordAlgorithmValue],
 }
 
-/// The hexadecimal digit of a number below 16, in lower case.
-fn digit(number: u8) -> u8
-    requires { number < 16 }
-    ensures { result ≡ digit number }
-{
-    if number < 10 {
-        0x30 + number
-    } else {
-        0x57 + number
-    }
-}
-
-/// Writes the two hexadecimal digits of a byte at the start of `dest`.
-fn write_byte(byte: u8, dest: &mut [u8])
-    requires { 2 ≤ length dest.old }
-    ensures { dest.new ≡ digits byte ++ drop 2 dest.old }
-{
-    dest[0] = digit(byte / 16);
-    dest[1] = digit(byte % 16);
-}
-
-/// Writes bytes in hexadecimal.
-fn write_hex(bytes: &[u8], dest: &mut [u8])
-    requires { length dest.old ≡ 2 * length bytes.now }
-    ensures { dest.new ≡ hexed bytes.now }
-{
-    for i in 0..bytes.len() {
-        write_byte(bytes[i], &mut dest[2 * i..]);
-    }
-}
-
-/// The number of a hexadecimal digit; of any other character some number.
-fn digit_of(character: u8) -> u64
-    ensures value { result ≡ digit_of character }
-    ensures bound { result < 256 }
-{
-    if character < 0x3A {
-        u64::from(character.saturating_sub(0x30))
-    } else {
-        u64::from(character.saturating_sub(0x57))
-    }
-}
-
-/// The time in a nonce, if it is one of a `NonceMaker`; else some number.
+/// The last 36 bits of the time in a nonce, if it is one of a `NonceMaker`; else some number.
 fn stated_time(nonce: &[u8]) -> u64
-    requires { length nonce.now ≡ 93 }
-    ensures { result ≡ stated_time nonce.now % 2 ^ 64 }
+    requires { length nonce.now ≡ 35 }
+    ensures value { result ≡ stated_time nonce.now }
+    ensures bound { result < 2 ^ 36 }
 {
-    let mut time = 0u64;
-    for i in 0..8 {
-        let byte = 16 * digit_of(nonce[13 + 2 * i]) + digit_of(nonce[14 + 2 * i]);
-        time = time.wrapping_mul(256).wrapping_add(byte);
-    }
-    time
+    read_bits(&nonce[13..19])
+}
+
+/// The first 96 bits of an HMAC.
+fn first_bits(mac: &[u8; 32]) -> u128
+    ensures { result ≡ first_bits mac.now }
+{
+    BigEndian::read_uint128(mac, 12)
 }
 
 /// What the HMAC of a nonce covers, in pieces.
-fn covered<'a>(cookie: &'a [u8], time: &'a [u8; 8], place: &'a [u8]) -> [&'a [u8]; 3]
-    ensures { concat (map (λ piece. piece.now) result) ≡ cookie.now ++ (time.now ++ place.now) }
+fn covered<'a>(beginning: &'a [u8], place: &'a [u8]) -> [&'a [u8]; 2]
+    ensures { concat (map (λ piece. piece.now) result) ≡ beginning.now ++ place.now }
 {
-    [cookie, time.as_slice(), place]
+    [beginning, place]
 }
 
 impl NonceMaker {
-    ghost use Rattle.std.specs.Prelude.{◌≡◌, ◌≤◌, ◌<◌, IfOk, IfErr, MatchResult, length};
+    ghost use Rattle.std.specs.Prelude.{◌≡◌, ◌≤◌, ◌<◌, ◌^◌, ◌++◌, IfOk, IfErr, MatchResult, length};
     ghost use Rattle.stun_attributes.specs.Texts.{text_bytes};
+    ghost use Rattle.stun_grammar.specs.declared.integrity_algorithm.IntegrityAlgorithm.TheVariants.{Sha256};
+    ghost use Rattle.stun_grammar.specs.Hmac.{hmac};
     ghost use Rattle.stun_keys.specs.Keys.{key_bytes};
     ghost use Rattle.stun_values.specs.Addresses.{address_value};
-    ghost use Rattle.stun_authentication.specs.Nonces.{secret_min, minted, minted_mac, minting, minting_of, freshness, aged, state_of, known_as};
+    ghost use Rattle.stun_authentication.specs.Nonces.{secret_min, minted, minting, minting_of, freshness, aged, state_of, known_as};
 
     /// Returns a maker with this secret: at least 32 random bytes that nobody else knows
     /// ([`IntegrityKey::new`]). `features` are what its nonces say of the server, and `window` is
-    /// for how many seconds a nonce is valid.
+    /// for how many seconds a nonce is valid: from 2^36 - 1 on, for ever.
     ///
     /// # Errors
     ///
@@ -190,17 +162,16 @@ impl NonceMaker {
         })
     }
 
-    /// The HMAC of a nonce.
-    fn mac(&self, time: u64, client: &SocketAddr) -> [u8; 32]
-        ensures { result ≡ minted_mac (minting_of self.now) time (address_value client.now) }
+    /// The HMAC of a nonce that begins so.
+    fn mac(&self, beginning: &[u8], client: &SocketAddr) -> [u8; 32]
+        ensures { result ≡ hmac Sha256 (key_bytes self.now.secret)
+            (beginning.now ++ address_value client.now) }
     {
         let length = address_length(client) as usize;
         let mut place = [0u8; 20];
         write_address(client, &mut place);
-        let time = time.to_be_bytes();
-        let cookie = nonce_cookie(self.features);
         self.secret
-            .hmac_sha256(&covered(cookie.as_bytes(), &time, &place[..length]))
+            .hmac_sha256(&covered(beginning, &place[..length]))
     }
 
     /// The text of a nonce.
@@ -208,11 +179,12 @@ impl NonceMaker {
         ensures { result ≡ minted (minting_of self.now) time (address_value client.now) }
     {
         let mut text = [0u8; LENGTH];
-        let (cookie, rest) = text.split_at_mut(13);
+        let (beginning, rest) = text.split_at_mut(19);
+        let (cookie, seconds) = beginning.split_at_mut(13);
         cookie.copy_from_slice(nonce_cookie(self.features).as_bytes());
-        let (digits, mac) = rest.split_at_mut(16);
-        write_hex(time.to_be_bytes().as_slice(), digits);
-        write_hex(self.mac(time, client).as_slice(), mac);
+        write_bits(u128::from(time), seconds);
+        let mac = self.mac(beginning, client);
+        write_bits(first_bits(&mac), rest);
         text
     }
 
@@ -241,7 +213,7 @@ impl NonceMaker {
     }
 
     /// Returns whether a nonce that came from a client is valid at a time, `now`. It computes at
-    /// most one HMAC, none if the nonce hasn't 93 bytes, and allocates nothing; every byte is
+    /// most one HMAC, none if the nonce hasn't 35 bytes, and allocates nothing; every byte is
     /// compared, even after a difference; constant time is not claimed.
     pub fn freshness(&self, now: u64, client: &SocketAddr, nonce: &[u8]) -> Freshness
         ensures { result
@@ -259,11 +231,12 @@ impl NonceMaker {
         }
     }
 
-    /// What is known of a nonce by the time at which it was made.
+    /// What is known of a nonce by the 36 bits of the time at which it was made.
     fn aged(&self, now: u64, time: u64) -> Freshness
+        requires { time < 2 ^ 36 }
         ensures { result ≡ aged (minting_of self.now) now time }
     {
-        if time <= now && now - time <= self.window {
+        if now.wrapping_sub(time) % TIMES <= self.window {
             Freshness::Fresh
         } else {
             Freshness::Stale

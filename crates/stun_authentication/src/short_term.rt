@@ -1,21 +1,29 @@
 //! A server's checks by the short-term credential mechanism (RFC 8489, section 9.1.3).
 
 ghost use Rattle.std.specs.Prelude.{◌≡◌, ◌≢◌, false, Some, IfOk, IsOk};
+ghost use Rattle.stun_grammar.specs.AttributeTypes.{USERNAME};
 ghost use Rattle.stun_types.specs.Message.{message_bytes};
 ghost use Rattle.stun_authentication.specs.Answers.{Tells};
+ghost use Rattle.stun_authentication.specs.Identities.{value_of};
 ghost use Rattle.stun_authentication.specs.Lookups.{key_held};
 ghost use Rattle.stun_authentication.specs.ShortTerm.{by_key, needs_key, short_term};
 
 use crate::answer::rejected;
 use crate::identity::value_of;
-use crate::{Accepted, Authentication, Policy, Refusal, ShortTermKeys};
+use crate::{Accepted, Authentication, Identity, Policy, Refusal, ShortTermKeys};
 use std::alloc::{AllocError, Global};
 use stun_types::attribute::{AttributeStaticType, Username};
 use stun_types::message::{IntegrityKey, Message};
 
 /// The checks that need the key: whether an integrity attribute counts with it, and the HMAC.
 #[tactic(auto, using(crate::proofs::ProvesLemmas::short_accepted))]
-fn by_key(message: &Message<'_>, policy: Policy, key: IntegrityKey) -> Authentication
+fn by_key<'a>(
+    message: &Message<'a>,
+    policy: Policy,
+    username: &'a [u8],
+    key: IntegrityKey,
+) -> Authentication<'a>
+    requires { value_of (message_bytes message.now) USERNAME ≡ Some username.now }
     ensures { Tells (by_key policy (Some (key_held key)) (message_bytes message.now)) result }
 {
     if !policy.is_signed_for(&key, message) {
@@ -23,6 +31,7 @@ fn by_key(message: &Message<'_>, policy: Policy, key: IntegrityKey) -> Authentic
     }
     match policy.proof_of(key, message) {
         Some((key, algorithm)) => Authentication::Accepted(Accepted {
+            user: Identity::Name(username),
             key,
             algorithm,
             reply_algorithm: algorithm,
@@ -33,12 +42,12 @@ fn by_key(message: &Message<'_>, policy: Policy, key: IntegrityKey) -> Authentic
 
 /// The checks, in their order.
 #[tactic(auto, using(crate::proofs::ProvesLemmas::short_user))]
-fn checked<K: ShortTermKeys>(
+fn checked<'a, K: ShortTermKeys>(
     alloc: Global,
-    message: &Message<'_>,
+    message: &Message<'a>,
     policy: Policy,
     keys: &K,
-) -> Result<Authentication, AllocError>
+) -> Result<Authentication<'a>, AllocError>
     ensures decision { IfOk result
         (Tells (short_term policy (K.key_of keys.now) (message_bytes message.now))) }
     ensures memory { needs_key policy (message_bytes message.now) ≡ false → IsOk result }
@@ -56,7 +65,7 @@ fn checked<K: ShortTermKeys>(
         return Ok(rejected(message, Refusal::BadRequest));
     };
     match keys.key(alloc, username)? {
-        Some(key) => Ok(by_key(message, policy, key)),
+        Some(key) => Ok(by_key(message, policy, username, key)),
         None => Ok(rejected(message, Refusal::Unauthenticated)),
     }
 }
@@ -73,8 +82,8 @@ fn checked<K: ShortTermKeys>(
 ///   the message is rejected as a bad request, like an unsigned one.
 /// - If its last integrity attribute that counts isn't the HMAC under the key, or has fewer
 ///   bytes than the policy asks for, it is rejected as unauthenticated.
-/// - Otherwise it is accepted, with the key and the algorithm of that attribute: the reply is
-///   signed by these, and by one integrity attribute alone. It has no USERNAME.
+/// - Otherwise it is accepted, with the user, the key and the algorithm of that attribute: the reply
+///   is signed by this key and algorithm, and by one integrity attribute alone. It has no USERNAME.
 ///
 /// A request is rejected by an error response, 400 or 401, without USERNAME, MESSAGE-INTEGRITY and
 /// MESSAGE-INTEGRITY-SHA256, as [`refuse_short_term`](crate::refuse_short_term) writes it; an
@@ -87,7 +96,9 @@ fn checked<K: ShortTermKeys>(
 /// # Examples
 ///
 /// ```
-/// use stun_authentication::{Authentication, Logins, Policy, authenticate_short_term};
+/// use stun_authentication::{
+///     Authentication, Identity, Logins, Policy, authenticate_short_term,
+/// };
 /// use stun_types::message::{IntegrityAlgorithm, LongTermCredentials, Message};
 ///
 /// // The check of section 2.1 of RFC 5769.
@@ -107,13 +118,14 @@ fn checked<K: ShortTermKeys>(
 ///     return Err("the request is refused".into());
 /// };
 /// assert_eq!(rt; accepted.algorithm, IntegrityAlgorithm::Sha1);
+/// assert!(rt; matches!(accepted.user, Identity::Name(name) if name == b"evtj:h6vY".as_slice()));
 /// ```
-pub fn authenticate_short_term<K: ShortTermKeys>(
+pub fn authenticate_short_term<'a, K: ShortTermKeys>(
     alloc: Global,
-    message: &Message<'_>,
+    message: &Message<'a>,
     policy: Policy,
     keys: &K,
-) -> Result<Authentication, AllocError>
+) -> Result<Authentication<'a>, AllocError>
     ensures decision { IfOk result
         (Tells (short_term policy (K.key_of keys.now) (message_bytes message.now))) }
     ensures memory { needs_key policy (message_bytes message.now) ≡ false → IsOk result }

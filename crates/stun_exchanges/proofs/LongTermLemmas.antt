@@ -218,7 +218,7 @@ one_user (Some name) (Some hash) who e = absurd cc
 rows : (policy : Policy) (realm : List ℕ) (nonces : List ℕ → Known) (keys : Who → List ℕ → PasswordAlgorithmValue → Option UserKey) (d : List ℕ) (who : Who) (reported nonce : List ℕ) (key : UserKey) (xs : List PasswordAlgorithmValue) (list : Option (List ℕ)) (algorithm : PasswordAlgorithmValue) (a : IntegrityAlgorithm)
     → is_taken policy d ≡ true → class_of (type_field d) ≡ Request → is_signed policy d ≡ true → identity_of d ≡ Some who → value_of d REALM ≡ Some reported → value_of d NONCE ≡ Some nonce → nonces nonce ≡ valid xs
     → IsProcessed (valid xs) d list algorithm → keys who realm algorithm ≡ Some key → proof_of policy key d ≡ Some a
-    → long_term policy realm nonces keys d ≡ accept key a (reply_algorithm (chosen d))
+    → long_term policy realm nonces keys d ≡ accept who key a (reply_algorithm (chosen d))
 rows policy realm nonces keys d who reported nonce key xs list algorithm a taken class shows user realm-is nonce-is state how known right =
     let names = one_user (value_of d USERNAME) (value_of d USERHASH) who user in
     let credentials-are : lacks_credentials d ≡ false =
@@ -231,13 +231,14 @@ rows policy realm nonces keys d who reported nonce key xs list algorithm a taken
     ∙ none_holds (rows_of_message policy (valid xs) d) (by_key policy (valid xs) (chosen d) (key_of_user realm keys d) d)
     (ap not taken, (ap (λ (c : MessageClass). not (is_request c)) class, (ap not shows, (credentials-are, (names.1, (how.both_shown, (how.sent, (how.chooses, tt))))))))
     ∙ ap (λ (o : Option UserKey). by_key policy (valid xs) (chosen d) o d) found
-    ∙ ap (λ (o : Option IntegrityAlgorithm). decided ((not (is_some o), refuse Unauthenticated) ∷ []) (accepted_with (Some key) o (λ _. reply_algorithm (chosen d)))) right
+    ∙ ap (λ (o : Option IntegrityAlgorithm). decided ((not (is_some o), refuse Unauthenticated) ∷ []) (accepted_with (identity_of d) (Some key) o (λ _. reply_algorithm (chosen d)))) right
+    ∙ ap (λ (o : Option Who). accepted_with o (Some key) (Some a) (λ _. reply_algorithm (chosen d))) user
 
 pub accepted : IsFirst → IsMissing → (policy : Policy) (nonces : List ℕ → Known) (keys : Who → List ℕ → PasswordAlgorithmValue → Option UserKey) (asked : Asked) (algorithms : List PasswordAlgorithmValue) (supported : List PasswordAlgorithmValue) (algorithm : PasswordAlgorithmValue) (user : User) (key : UserKey) (fingerprint : Bool) (kind id : ℕ) (before : List Attribute)
     → (let retry = retry_with asked algorithm in
     IsOffered nonces asked algorithms → Takes supported asked algorithm → IsShort asked user.name → class_of kind ≡ Request → IsOwn kind id before → HasRoom kind id (retried_attributes fingerprint retry user kind id before)
     → keys (asked_identity asked user.name) asked.realm algorithm ≡ Some key → Works (user_key retry user) (signing_algorithm retry) key → Serves policy (signing_algorithm retry) fingerprint
-    → long_term policy asked.realm nonces keys (retried_request fingerprint retry user kind id before) ≡ accept key (signing_algorithm retry) (signing_algorithm retry))
+    → long_term policy asked.realm nonces keys (retried_request fingerprint retry user kind id before) ≡ accept (asked_identity asked user.name) key (signing_algorithm retry) (signing_algorithm retry))
 accepted first missing policy nonces keys asked algorithms supported algorithm user key fingerprint kind id before offered takes short class own room known works served =
     let retry = retry_with asked algorithm in
     let bytes = user_key retry user in
@@ -269,4 +270,4 @@ accepted first missing policy nonces keys asked algorithms supported algorithm u
     (who_there first missing d before who asked.realm asked.nonce list algorithm shows) (realm_there first d before who asked.realm asked.nonce list algorithm shows) (nonce_there first d before who asked.realm asked.nonce list algorithm shows)
     offered.known how known
     (proof_is policy a d key both.served both.which hmac served.min_hmac_length right)
-    ∙ ap (λ (r : IntegrityAlgorithm). accept key a r) how.reply_by
+    ∙ ap (λ (r : IntegrityAlgorithm). accept who key a r) how.reply_by

@@ -36,17 +36,17 @@ ok_is a b r one two =
 of_asked : IsFirst → IsMissing → (policy : Policy) (nonces : List ℕ → Known) (keys : Who → List ℕ → PasswordAlgorithmValue → Option UserKey) (asked : Asked) (algorithms : List PasswordAlgorithmValue) (supported : List PasswordAlgorithmValue) (algorithm : PasswordAlgorithmValue) (retry : Retry) (user : User) (key : UserKey) (fingerprint : Bool) (kind id : ℕ) (before : List Attribute)
     → retry_with asked algorithm ≡ retry → IsOffered nonces asked algorithms → Takes supported asked algorithm → IsShort asked user.name → class_of kind ≡ Request → IsOwn kind id before → HasRoom kind id (retried_attributes fingerprint retry user kind id before)
     → keys (asked_identity retry.asked user.name) retry.asked.realm retry.algorithm ≡ Some key → Works (user_key retry user) (signing_algorithm retry) key → Serves policy (signing_algorithm retry) fingerprint
-    → long_term policy asked.realm nonces keys (retried_request fingerprint retry user kind id before) ≡ accept key (signing_algorithm retry) (signing_algorithm retry)
+    → long_term policy asked.realm nonces keys (retried_request fingerprint retry user kind id before) ≡ accept (asked_identity retry.asked user.name) key (signing_algorithm retry) (signing_algorithm retry)
 of_asked first missing policy nonces keys asked algorithms supported algorithm retry user key fingerprint kind id before same offered takes short class own =
     subst (λ (x : Retry). HasRoom kind id (retried_attributes fingerprint x user kind id before) → keys (asked_identity x.asked user.name) x.asked.realm x.algorithm ≡ Some key → Works (user_key x user) (signing_algorithm x) key → Serves policy (signing_algorithm x) fingerprint
-    → long_term policy asked.realm nonces keys (retried_request fingerprint x user kind id before) ≡ accept key (signing_algorithm x) (signing_algorithm x)) same
+    → long_term policy asked.realm nonces keys (retried_request fingerprint x user kind id before) ≡ accept (asked_identity x.asked user.name) key (signing_algorithm x) (signing_algorithm x)) same
     (accepted first missing policy nonces keys asked algorithms supported algorithm user key fingerprint kind id before offered takes short class own)
 
 pub retried : IsFirst → IsMissing → (policy : Policy) (nonces : List ℕ → Known) (keys : Who → List ℕ → PasswordAlgorithmValue → Option UserKey) (refusal : Refusal) (asked : Asked) (algorithms : List PasswordAlgorithmValue) (supported : List PasswordAlgorithmValue) (algorithm : PasswordAlgorithmValue) (tried : Option (List ℕ)) (had_algorithms : Bool) (print : Bool) (other number : ℕ) (retry : Retry) (user : User) (key : UserKey) (fingerprint : Bool) (kind id : ℕ) (before : List Attribute)
     → (asks refusal ≡ true → other < 2 ^ 14 → number < 2 ^ 96 → class_of other ≡ ErrorClass → IsLawful asked → IsOffered nonces asked algorithms → Takes supported asked algorithm → Retries tried had_algorithms refusal asked → HasRoom other number (refused_attributes print other number refusal asked)
     → challenge_of supported tried had_algorithms (refused print other number refusal asked) ≡ Ok retry → length user.name < 2 ^ 16 → class_of kind ≡ Request → IsOwn kind id before → HasRoom kind id (retried_attributes fingerprint retry user kind id before)
     → keys (asked_identity retry.asked user.name) retry.asked.realm retry.algorithm ≡ Some key → Works (user_key retry user) (signing_algorithm retry) key → Serves policy (signing_algorithm retry) fingerprint
-    → long_term policy asked.realm nonces keys (retried_request fingerprint retry user kind id before) ≡ accept key (signing_algorithm retry) (signing_algorithm retry))
+    → long_term policy asked.realm nonces keys (retried_request fingerprint retry user kind id before) ≡ accept (asked_identity retry.asked user.name) key (signing_algorithm retry) (signing_algorithm retry))
 retried first missing policy nonces keys refusal asked algorithms supported algorithm tried had_algorithms print other number retry user key fingerprint kind id before asking kind_fits id_fits error lawful offered takes retries fits read name_fits class own =
     let same : retry_with asked algorithm ≡ retry = ok_is (retry_with asked algorithm) retry (challenge_of supported tried had_algorithms (refused print other number refusal asked))
     (challenge_read first missing refusal asked supported algorithm tried had_algorithms print other number asking kind_fits id_fits error lawful offered.agrees takes retries fits) read in

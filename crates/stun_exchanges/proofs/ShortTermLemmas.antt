@@ -4,6 +4,7 @@ use Rattle.std.specs.Prelude.{◌&&◌, not, is_some, option_and_then}
 use Rattle.std.specs.List.{list_any}
 use Rattle.std.proofs.lemmas.Bool.{or_from}
 use Rattle.std.proofs.lemmas.List.Folds.{list_any-append}
+use Rattle.std.specs.Option.{option_map}
 use Rattle.stun_grammar.specs.declared.integrity_algorithm.IntegrityAlgorithm.{IntegrityAlgorithm}
 use Rattle.stun_grammar.specs.declared.integrity_algorithm.IntegrityAlgorithm.TheVariants.{Sha1, Sha256}
 use Rattle.stun_grammar.specs.Adding.{first_of}
@@ -22,7 +23,7 @@ use Rattle.stun_keys.specs.Keys.{key_algorithm}
 use Rattle.stun_authentication.specs.declared.answer.Refusal.TheVariants.{BadRequest, Unauthenticated}
 use Rattle.stun_authentication.specs.declared.policy.Policy.{Policy}
 use Rattle.stun_authentication.specs.Answers.{accept, decided, accepted as accepted_with}
-use Rattle.stun_authentication.specs.Identities.{value_of}
+use Rattle.stun_authentication.specs.Identities.{named as by_name, value_of, named_in}
 use Rattle.stun_authentication.specs.Lookups.{UserKey}
 use Rattle.stun_authentication.specs.Policies.{is_taken, is_signed, is_signed_for, counted, proof_of}
 use Rattle.stun_authentication.specs.ShortTerm.{reject, key_of_username, rows_of_message, by_key, short_term}
@@ -161,19 +162,20 @@ is_request fingerprint sent counts a kind id before name key own named room whic
     not_user Sha256 = refl
 
 rows : (policy : Policy) (keys : List ℕ → Option UserKey) (d name : List ℕ) (key : UserKey) (a : IntegrityAlgorithm) → is_taken policy d ≡ true → is_response (class_of (type_field d)) ≡ false → is_signed policy d ≡ true → value_of d USERNAME ≡ Some name → keys name ≡ Some key
-    → is_signed_for policy key.made_for d ≡ true → proof_of policy key d ≡ Some a → short_term policy keys d ≡ accept key a a
+    → is_signed_for policy key.made_for d ≡ true → proof_of policy key d ≡ Some a → short_term policy keys d ≡ accept (by_name name) key a a
 rows policy keys d name key a taken response shows user known signs right =
     let there : not (is_signed policy d && is_some (value_of d USERNAME)) ≡ false =
     ap (λ (b : Bool). not (b && is_some (value_of d USERNAME))) shows ∙ ap (λ (o : Option (List ℕ)). not (is_some o)) user in
     none_holds (rows_of_message policy d) (by_key policy (key_of_username keys d) d) (ap not taken, (response, (there, tt)))
     ∙ ap (λ (o : Option (List ℕ)). by_key policy (option_and_then keys o) d) user ∙ ap (λ (o : Option UserKey). by_key policy o d) known
-    ∙ ap (λ (b : Bool). decided ((not b, reject d BadRequest) ∷ (not (is_some (proof_of policy key d)), reject d Unauthenticated) ∷ []) (accepted_with (Some key) (proof_of policy key d) (λ b. b))) signs
-    ∙ ap (λ (o : Option IntegrityAlgorithm). decided ((not (is_some o), reject d Unauthenticated) ∷ []) (accepted_with (Some key) o (λ b. b))) right
+    ∙ ap (λ (b : Bool). decided ((not b, reject d BadRequest) ∷ (not (is_some (proof_of policy key d)), reject d Unauthenticated) ∷ []) (accepted_with (named_in d) (Some key) (proof_of policy key d) (λ b. b))) signs
+    ∙ ap (λ (o : Option IntegrityAlgorithm). decided ((not (is_some o), reject d Unauthenticated) ∷ []) (accepted_with (named_in d) (Some key) o (λ b. b))) right
+    ∙ ap (λ (o : Option (List ℕ)). accepted_with (option_map (λ (x : List ℕ). by_name x) o) (Some key) (Some a) (λ b. b)) user
 
 pub accepted : IsFirst → (policy : Policy) (keys : List ℕ → Option UserKey) (sent served : Option IntegrityAlgorithm) (a : IntegrityAlgorithm) (fingerprint : Bool) (kind id : ℕ) (before : List Attribute) (name : List ℕ) (key : UserKey)
     → is_response (class_of kind) ≡ false → IsOwn kind id before → IsNamed name → HasRoom kind id (short_term_attributes fingerprint sent kind id before name key.bytes)
     → keys name ≡ Some key → counted policy key.made_for ≡ Some served → checked served sent ≡ Some a → policy.min_hmac_length ≤ 32 → IsPrinted policy.fingerprint fingerprint
-    → short_term policy keys (short_term_request fingerprint sent kind id before name key.bytes) ≡ accept key a a
+    → short_term policy keys (short_term_request fingerprint sent kind id before name key.bytes) ≡ accept (by_name name) key a a
 accepted first policy keys sent served a fingerprint kind id before name key response own named room known common which short printed =
     let bytes = key.bytes in
     let all = short_term_attributes fingerprint sent kind id before name bytes in

@@ -86,7 +86,8 @@ pub fn login_is_accepted()
         → Serves policy (signing_algorithm retry) fingerprint
         → long_term policy asked.realm nonces keys
         (retried_request fingerprint retry user kind id before)
-        ≡ accept key (signing_algorithm retry) (signing_algorithm retry) }
+        ≡ accept (asked_identity asked user.name) key (signing_algorithm retry)
+        (signing_algorithm retry) }
     // the same if the client reads the challenge of the response by which the server refused it
     ensures retried { (policy : Policy) (nonces : List ℕ → Known)
         (keys : Who → List ℕ → PasswordAlgorithmValue → Option UserKey)
@@ -107,7 +108,8 @@ pub fn login_is_accepted()
         → Serves policy (signing_algorithm retry) fingerprint
         → long_term policy asked.realm nonces keys
         (retried_request fingerprint retry user kind id before)
-        ≡ accept key (signing_algorithm retry) (signing_algorithm retry) }
+        ≡ accept (asked_identity retry.asked user.name) key (signing_algorithm retry)
+        (signing_algorithm retry) }
     // with a transaction of a request r that was begun with the key, and waits for a response to it
     ensures heard { (a : IntegrityAlgorithm) (fingerprint : Bool) (kind id : ℕ)
         (answer : List Attribute) (r key : List ℕ) (k : IntegrityKey) (plan : Plan) (usage : ResponsePolicy)
@@ -159,7 +161,7 @@ pub fn short_term_login_is_accepted()
         → IsPrinted policy.fingerprint fingerprint
         → short_term policy keys
         (short_term_request fingerprint sent kind id before name key.bytes)
-        ≡ accept key a a }
+        ≡ accept (named name) key a a }
     // with a transaction of that request that was begun with the key, and waits for a response to it
     ensures heard { (sent counts : Option IntegrityAlgorithm) (a : IntegrityAlgorithm)
         (fingerprint finger : Bool) (kind id other : ℕ) (before answer : List Attribute)
@@ -194,7 +196,7 @@ pub fn premises_are_met()
 pub fn made_nonces_are_offered()
     ensures { (minting : Minting) (time now : ℕ) (place realm : List ℕ)
         (algorithms : List PasswordAlgorithmValue)
-        → time < 2 ^ 64 → time ≤ now → now ≤ time + minting.window
+        → time ≤ now → now ≤ time + minting.window
         → minting.features.password_algorithms ≡ is_some (listed algorithms)
         → IsOffered (λ nonce. known_as algorithms (freshness minting now place nonce))
         (asked_for realm (minted minting time place) (listed algorithms)) algorithms }

@@ -7,6 +7,7 @@ ghost use Rattle.std.specs.Prelude.{◌≡◌, ◌-◌, true, false, [], ◌∷�
 ghost use Rattle.stun_grammar.specs.declared.error.StunWriteError.TheVariants.{OutOfRange};
 ghost use Rattle.stun_grammar.specs.AttributeTypes.{SOFTWARE, USERNAME, REALM, NONCE, MESSAGE_INTEGRITY, FINGERPRINT};
 ghost use Rattle.stun_grammar.specs.Attributes.{canonical};
+ghost use Rattle.stun_grammar.specs.Numbers.{number};
 ghost use Rattle.stun_grammar.specs.Showing.{shown};
 ghost use Rattle.stun_base.specs.declared.transport.AddressFamily.TheVariants.{IPV6};
 ghost use Rattle.stun_values.specs.Addresses.{address_in, IsXored};
@@ -19,9 +20,12 @@ ghost use Rattle.stun_keys.specs.declared.keys.integrity_key.IntegrityKey.{Integ
 ghost use Rattle.stun_grammar.specs.declared.integrity_algorithm.IntegrityAlgorithm.TheVariants.{Sha1, Sha256};
 ghost use Rattle.stun_authentication.specs.declared.answer.Refusal.TheVariants.{BadRequest, Unauthenticated, StaleNonce};
 ghost use Rattle.stun_authentication.specs.Answers.{accept, refuse, discard, not_a_request};
+ghost use Rattle.stun_authentication.specs.Base64.{in_base64};
 ghost use Rattle.stun_authentication.specs.Cookies.{security_features, cookie};
+ghost use Rattle.stun_authentication.specs.Identities.{named};
 ghost use Rattle.stun_authentication.specs.Lookups.{key_made, valid, stale, unknown};
 ghost use Rattle.stun_authentication.specs.LongTerm.{long_term};
+ghost use Rattle.stun_authentication.specs.Nonces.{minted, minting};
 ghost use Rattle.stun_authentication.specs.ShortTerm.{short_term};
 ghost use Rattle.usage_vectors.specs.Authentications.{unprinted, printed, everybody, nobody, user, other, sent_with_both, sent_with_md5, unsigned, signed, promised, unpromised, sha256_chosen, sha256_listed, md5_listed, both_listed, hashed};
 ghost use Rattle.stun_transactions.specs.Rows.{moments, row_end, row_wait};
@@ -84,6 +88,13 @@ pub fn nonce_cookies_are_right()
     ensures absent { security_features (codes "f//499k954d6OL34oL9FSTvy64sA") ≡ None }
     ensures written { cookie (record { password_algorithms = true; username_anonymity = false }) ≡ codes "obMatJos2gAAA" }
     ensures anonymous { cookie (record { password_algorithms = false; username_anonymity = true }) ≡ codes "obMatJos2QAAA" }
+{}
+
+/// Base64 (RFC 4648, section 10), and a nonce for 192.0.2.1:32853 at 1790000000 seconds, as Python's
+/// hmac and base64 compute it.
+pub fn nonces_are_right()
+    ensures base64 { in_base64 8 (number (codes "foobar")) ≡ codes "Zm9vYmFy" }
+    ensures made { minted (minting (codes "a-secret-of-the-server--32-bytes") (record { password_algorithms = true; username_anonymity = true }) 600) 1790000000 (0x00 ∷ 0x01 ∷ 0x80 ∷ 0x55 ∷ 0xC0 ∷ 0x00 ∷ 0x02 ∷ 0x01 ∷ []) ≡ codes "obMatJos2wAAABqsTuAoM1irYq7fb0JFc83" }
 {}
 
 /// The userhash of RFC 8489, appendix B.1.
@@ -210,7 +221,7 @@ pub fn long_term_keys_are_right()
     ensures other_key { long_term unprinted realm (λ _. stale) (everybody other) long_term_request ≡ refuse Unauthenticated }
     ensures stale { long_term unprinted realm (λ _. stale) (everybody user) long_term_request ≡ refuse StaleNonce }
     ensures unknown { long_term unprinted realm (λ _. unknown) (everybody user) long_term_request ≡ refuse StaleNonce }
-    ensures accepted { long_term unprinted realm (λ _. valid []) (everybody user) long_term_request ≡ accept user Sha1 Sha1 }
+    ensures accepted { long_term unprinted realm (λ _. valid []) (everybody user) long_term_request ≡ accept (named user_name) user Sha1 Sha1 }
 {}
 
 /// The rows of a server's checks under short-term credentials (RFC 8489, section 9.1.3), the last
@@ -223,5 +234,5 @@ pub fn short_term_rows_are_right()
     ensures no_key { short_term unprinted (λ _. None) sample_request ≡ refuse Unauthenticated }
     ensures one_algorithm { short_term unprinted (λ _. Some (key_made (Some Sha256) password)) sample_request ≡ refuse BadRequest }
     ensures other_key { short_term unprinted (λ _. Some other) sample_request ≡ refuse Unauthenticated }
-    ensures accepted { short_term printed (λ _. Some (key_made None password)) sample_request ≡ accept (key_made None password) Sha1 Sha1 }
+    ensures accepted { short_term printed (λ _. Some (key_made None password)) sample_request ≡ accept (named (codes "evtj:h6vY")) (key_made None password) Sha1 Sha1 }
 {}

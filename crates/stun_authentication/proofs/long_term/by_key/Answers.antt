@@ -6,4 +6,4 @@ use Rattle.stun_authentication.proofs.long_term.by_key.Goals as goal
 pub returns-in-Valid : goal.returns-in-Valid
 returns-in-Valid c =
     rw (c.in-Valid.is, c.reply_algorithm.ensures)
-    (long_accepted c.args.policy (message_bytes c.args.request.now) c.in-Valid.field-0.now c.args.chosen (key_held c.args.key) c.in-Some.key c.in-Some.algorithm c.in-Some.ensures)
+    (long_accepted c.args.policy (message_bytes c.args.request.now) c.in-Valid.field-0.now c.args.chosen c.args.user (key_held c.args.key) c.in-Some.key c.in-Some.algorithm c.requires c.in-Some.ensures)

@@ -13,10 +13,10 @@ pub returns-then-same_bytes : goal.returns-then-same_bytes
 returns-then-same_bytes c =
     let nonce = c.args.nonce.now in
     let same = ap (pointwise nat_eq nonce) (sym c.text-made.ensures) ∙ sym c.same_bytes.ensures ∙ c.if-same_bytes.true in
-    c.aged.ensures ∙ sym (known_again (minting_of c.args.self.now) c.args.now c.stated_time-time.result (address_value c.args.client.now) nonce c.stated_time-time.ensures same)
+    c.aged.ensures ∙ sym (known_again (minting_of c.args.self.now) c.args.now c.stated_time-time.result (address_value c.args.client.now) nonce c.stated_time-time.ensures.value same)
 
 pub returns-else-same_bytes : goal.returns-else-same_bytes
 returns-else-same_bytes c =
     let nonce = c.args.nonce.now in
     let differs = ap (pointwise nat_eq nonce) (sym c.text-made.ensures) ∙ sym c.same_bytes.ensures ∙ c.if-same_bytes.false in
-    sym (unknown_again (minting_of c.args.self.now) c.args.now c.stated_time-time.result (address_value c.args.client.now) nonce c.stated_time-time.ensures differs)
+    sym (unknown_again (minting_of c.args.self.now) c.args.now c.stated_time-time.result (address_value c.args.client.now) nonce c.stated_time-time.ensures.value differs)
