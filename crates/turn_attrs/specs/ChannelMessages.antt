@@ -15,10 +15,13 @@ pub record IsData (channel : ℕ) (bytes : List ℕ) (message : ChannelData) : T
   pub channel_is : message.channel ≡ channel
   pub data_is : data_of message ≡ bytes
 
+-- a channel's number, the length of the data, and the data
+abbrev pub channel_message : ℕ → List ℕ → List ℕ
+channel_message channel bytes = be16 channel ++ (be16 (length bytes) ++ bytes)
+
 -- the message as it is written, and with the padding that it has on a stream
 abbrev pub message_bytes : ChannelData → List ℕ
-message_bytes message =
-    be16 message.channel ++ (be16 (length (data_of message)) ++ data_of message)
+message_bytes message = channel_message message.channel (data_of message)
 
 abbrev pub padded_bytes : ChannelData → List ℕ
 padded_bytes message =

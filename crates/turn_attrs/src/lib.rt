@@ -10,6 +10,7 @@ mod channel_data;
 mod channels;
 pub mod error_codes;
 mod family;
+mod heads;
 mod icmp;
 mod kinds;
 mod laws;
@@ -25,6 +26,7 @@ pub use attribute_types::{KNOWN, known_type};
 pub use channel_data::{ChannelData, ChannelDataError, channel_data_length};
 pub use channels::Channel;
 pub use family::Ipv6AddressFamily;
+pub use heads::{Head, write_channel_head, write_data_head};
 pub use icmp::IcmpError;
 pub use kinds::{
     AdditionalAddressFamily, AdditionalAddressFamilyKind, ChannelNumber, ChannelNumberKind,
