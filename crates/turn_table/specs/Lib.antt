@@ -1,0 +1,4 @@
+pub mod Networks
+pub mod Peers
+pub mod Registry
+pub mod Texts
