@@ -9,7 +9,7 @@ use Rattle.turn_table.specs.Allocations.{seconds, Channel, Allocation, Setup, St
 use Rattle.turn_table.specs.Events.{Offer, Request, allocate, refresh, permit, bind, unfit, Event, asks, sends, sends_on, arrives, polls, Answer, allocated, refreshed, done, Output, answers, to_client, to_client_on, nothing}
 use Rattle.turn_table.specs.Relays.{sent, sent_on, received}
 use Rattle.turn_table.specs.Rows.{is_users, uses_relay, room_fault, allocate_fault, owner_fault, refresh_fault, permit_fault, bind_fault}
-use Rattle.turn_table.specs.Steps.{Step, refreshed_for, at, opened, changed, lasting, lasting_for, lasting_state, permitting, binding, refuses, allocates_again, allocates_first, allocates_new, fulfils_for, serves, happens}
+use Rattle.turn_table.specs.Steps.{Step, refreshed_for, at, opened, changed, lasting, lasting_for, lasting_state, permitting, binding, refuses, allocates_again, allocates_first, allocates_new, fulfils_for, serves, happens, is_over}
 use Rattle.turn_table.specs.Runs.{Timed, Happening, run, happening, history}
 use Rattle.turn_table.specs.Apart.{is_own, is_others, wish_of, own_event, alone, seen, Sight, sight, all_sights, sights}
 use Rattle.turn_table.proofs.AddressesLemmas.{tuple_same, tuple_is_itself}
@@ -220,7 +220,7 @@ own_along setup tuple hs state (sends_on other number bytes) distinct own =
     subst (λ (t : FiveTuple). Along setup tuple state (sends_on t number bytes)) (tuple_same tuple other own)
     (refl, ap (λ (o : Option Allocation). seen tuple (option_map_or (sent_on setup state.clock number bytes) o nothing)) (of_alone state.clock tuple state))
 own_along setup tuple hs state (arrives relay peer bytes) distinct own = (refl, arrives_same setup state.clock relay tuple peer bytes state.allocations distinct)
-own_along setup tuple hs state polls distinct own = (state_of state.clock _ _ (filter_swap (is_live state.clock) (is_his tuple) state.allocations), refl)
+own_along setup tuple hs state (polls relays) distinct own = (state_of state.clock _ _ (filter_swap (λ (a : Allocation). not (is_over state.clock relays a)) (is_his tuple) state.allocations), refl)
 
 -- ---- A step for an event of another client
 
@@ -262,7 +262,7 @@ other_keeps setup tuple hs state (asks other user request) not_own = asks_keeps 
 other_keeps setup tuple hs state (sends other peer bytes) not_own = refl
 other_keeps setup tuple hs state (sends_on other number bytes) not_own = refl
 other_keeps setup tuple hs state (arrives relay peer bytes) not_own = refl
-other_keeps setup tuple hs state polls not_own = absurd cc
+other_keeps setup tuple hs state (polls relays) not_own = absurd cc
 
 -- ---- Runs
 

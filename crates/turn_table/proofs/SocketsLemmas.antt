@@ -4,10 +4,10 @@ use Rattle.std.specs.List.{list_any}
 use Rattle.std.specs.Prelude.{◌==◌, ◌&&◌, nat_lt, count_by}
 use Rattle.std.proofs.lemmas.Bool.{cond_both, or_parts}
 use Rattle.turn_table.specs.Endpoints.{FiveTuple}
-use Rattle.turn_table.specs.Allocations.{seconds, Allocation, Setup, State, is_live, is_of, allocation_of}
+use Rattle.turn_table.specs.Allocations.{seconds, Allocation, Setup, State, is_of, allocation_of}
 use Rattle.turn_table.specs.Events.{Offer, Request, allocate, refresh, permit, bind, unfit, Event, asks, sends, sends_on, arrives, polls, refreshed, done}
 use Rattle.turn_table.specs.Rows.{is_users, uses_relay, room_fault, allocate_fault, refresh_fault, permit_fault, bind_fault}
-use Rattle.turn_table.specs.Steps.{Step, refreshed_for, at, changed_first, changed, lasting, lasting_for, lasting_state, permitting, binding, serves, happens}
+use Rattle.turn_table.specs.Steps.{Step, refreshed_for, at, changed_first, changed, lasting, lasting_for, lasting_state, permitting, binding, serves, happens, is_over}
 use Rattle.turn_table.specs.Runs.{Timed, run}
 use Rattle.turn_table.proofs.ListsLemmas.{fails}
 use Rattle.turn_table.proofs.CasesLemmas.{fulfil_cases, allocate_cases}
@@ -84,7 +84,7 @@ step_apart setup state (asks tuple user request) distinct = asks_apart setup sta
 step_apart setup state (sends tuple peer bytes) distinct = distinct
 step_apart setup state (sends_on tuple number bytes) distinct = distinct
 step_apart setup state (arrives relay peer bytes) distinct = distinct
-step_apart setup state polls distinct = filter_apart (is_live state.clock) state.allocations distinct
+step_apart setup state (polls relays) distinct = filter_apart (λ (a : Allocation). not (is_over state.clock relays a)) state.allocations distinct
 
 pub run_apart : (setup : Setup) (events : List Timed) → AreApart (run setup events).allocations
 run_apart setup [] = tt

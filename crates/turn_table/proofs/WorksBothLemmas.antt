@@ -61,8 +61,9 @@ allows setup tuple user first dest n since state le held (inr other) =
 
 -- ---- It goes out, and back
 
-is_sent : (setup : Setup) (n : ℕ) (peer : Endpoint) (bytes : List ℕ) (a : Allocation) → is_permitted setup n peer a ≡ true → sent setup n peer bytes a ≡ to_peer a.relay peer bytes
-is_sent setup n peer bytes a has = cond-true (is_permitted setup n peer a) (to_peer a.relay peer bytes) nothing has
+is_sent : (setup : Setup) (n : ℕ) (peer : Endpoint) (bytes : List ℕ) (a : Allocation) → is_permitted setup n peer a ≡ true → setup.is_port_allowed peer ≡ true → sent setup n peer bytes a ≡ to_peer a.relay peer bytes
+is_sent setup n peer bytes a has port =
+    cond-true (is_permitted setup n peer a && setup.is_port_allowed peer) (to_peer a.relay peer bytes) nothing (and_from (is_permitted setup n peer a) (setup.is_port_allowed peer) has port)
 
 reaches_by : (tuple : FiveTuple) (peer : Endpoint) (bytes : List ℕ) (o : Option Channel) → Reaches tuple peer bytes (option_map_or (λ (channel : Channel). to_client_on tuple channel.number bytes) o (to_client tuple peer bytes))
 reaches_by tuple peer bytes None = inl refl
@@ -91,7 +92,7 @@ run_works setup earlier now tuple peer due =
     let it = and_parts (is_tuple tuple held.a.tuple) (is_live n held.a) (find_true (is_of n tuple) st.allocations held.a here) in
     record {
       relay = held.a.relay;
-      out = λ bytes. ap (λ (o : Option Allocation). option_map_or (sent setup n peer bytes) o nothing) here ∙ is_sent setup n peer bytes held.a has;
+      out = λ bytes. ap (λ (o : Option Allocation). option_map_or (sent setup n peer bytes) o nothing) here ∙ is_sent setup n peer bytes held.a has due.port;
       back = λ bytes.
           subst (λ (o : Option Allocation). Reaches tuple peer bytes (option_map_or (received setup n peer bytes) o nothing)) (sym (at_socket n tuple held.a st.allocations (run_apart setup earlier) here))
           (is_received setup n tuple peer bytes held.a (sym (tuple_same tuple held.a.tuple it.0)) has);
@@ -111,5 +112,5 @@ run_works_on setup earlier now tuple peer number bytes due some =
       held.a.relay,
       ap (λ (o : Option Allocation). option_map_or (sent_on setup n number bytes) o nothing) here
           ∙ (ap (λ (o : Option Channel). option_map_or (λ (c : Channel). sent setup n c.peer bytes held.a) o nothing) (b.found n le (le_of_eq refl))
-          ∙ (ap (λ (e : Endpoint). sent setup n e bytes held.a) b.is_dest ∙ is_sent setup n peer bytes held.a has)),
+          ∙ (ap (λ (e : Endpoint). sent setup n e bytes held.a) b.is_dest ∙ is_sent setup n peer bytes held.a has due.port)),
     )

@@ -2,20 +2,20 @@
 use Rattle.std.proofs.Common.{◌≡◌, ℕ, ◌+◌, ◌-◌, ◌/◌, ◌<◌, ◌≤◌, Bool, true, false, not, inl, inr, List, [], ◌∷◌, ◌++◌, filter, find, Option, None, Some, Ok, refl, sym, ap, ◌∙◌, subst, eqb-true, eq-eqb, ltb-true, le_of_eq, arith}
 use Rattle.std.specs.List.{list_any}
 use Rattle.std.specs.Prelude.{◌==◌, ◌&&◌, nat_lt, max}
-use Rattle.std.specs.Option.{option_map_or, option_or}
+use Rattle.std.specs.Option.{option_map_or}
 use Rattle.std.proofs.lemmas.Bool.{cond_both, cond-true, cond-false, and_parts, and_from, or_left, lt-ltb, false≢true}
 use Rattle.turn_table.specs.Endpoints.{Endpoint, FiveTuple, is_ip, is_endpoint, is_tuple}
 use Rattle.turn_table.specs.Allocations.{seconds, Permission, Channel, Allocation, Setup, State, is_live, is_of, allocation_of, is_permission, has_permission, channel_by_number, channel_by_peer}
 use Rattle.turn_table.specs.Events.{Offer, Request, allocate, refresh, permit, bind, unfit, Event, asks, sends, sends_on, arrives, polls, allocated, refreshed, done, refused, answers}
-use Rattle.turn_table.specs.Rows.{refresh_fault, permit_fault, binding_fault, channels_fault, bind_fault, is_other_channel, with_permissions}
-use Rattle.turn_table.specs.Steps.{Step, allocated_for, refreshed_for, at, opened, changed, lasting, lasting_state, permitting, binding, refuses, serves, step, happens}
+use Rattle.turn_table.specs.Rows.{refresh_fault, permit_fault, bind_fault, is_other_channel, with_permissions}
+use Rattle.turn_table.specs.Steps.{Step, allocated_for, refreshed_for, at, opened, changed, lasting, lasting_state, permitting, binding, refuses, serves, step, happens, is_over}
 use Rattle.turn_table.specs.Runs.{Timed, Happening, run, happening, history}
 use Rattle.turn_table.specs.Warrants.{Happened, names, refreshed_in, is_asked_by, refreshed_to, end_of, Opens, Permits, Binds}
 use Rattle.turn_table.specs.Works.{Lasted}
 use Rattle.turn_table.proofs.AddressesLemmas.{endpoint_same, tuple_same, tuple_is_itself}
-use Rattle.turn_table.proofs.ListsLemmas.{none_of_either, passes}
+use Rattle.turn_table.proofs.ListsLemmas.{passes}
 use Rattle.turn_table.proofs.FindsLemmas.{find_filter, find_true, find_later, find_changed_own, find_lasting_own, left_false, dead_later}
-use Rattle.turn_table.proofs.CasesLemmas.{fulfil_cases, allocate_cases, others_leave}
+use Rattle.turn_table.proofs.CasesLemmas.{fulfil_cases, allocate_cases, others_leave, bind_fits}
 use Rattle.turn_table.proofs.StayingLemmas.{cond_same, all_stay, all_new}
 
 -- ---- What holds in between, for a moment n at which the client will send
@@ -179,7 +179,7 @@ old_channel : (setup : Setup) (dest : Endpoint) (n clock number other : ℕ) (pe
     → (same : Bool) → (number == other) ≡ same → HasChannel dest n clock other (binding clock number peer a)
 old_channel setup dest n clock number other peer a le soon fit b true same =
     let number_is = eqb-true number other same in
-    let one = none_of_either (binding_fault clock number peer a) (option_or (permit_fault setup clock (peer ∷ []) a) (channels_fault setup clock a number peer)) fit in
+    let one = bind_fits setup clock number peer a fit in
     let by_number = option_map_or (λ (c : Channel). is_endpoint c.peer peer) (channel_by_number clock number a) true in
     let by_peer = option_map_or (λ (c : Channel). c.number == number) (channel_by_peer clock peer a) true in
     let both = and_parts by_number by_peer (passes (by_number && by_peer) 400 one.0) in
@@ -266,7 +266,7 @@ step_clock setup state now (asks tuple user request) = serve_clock setup (at now
 step_clock setup state now (sends tuple peer bytes) = refl
 step_clock setup state now (sends_on tuple number bytes) = refl
 step_clock setup state now (arrives relay peer bytes) = refl
-step_clock setup state now polls = refl
+step_clock setup state now (polls relays) = refl
 
 -- time goes on
 held_at : (tuple : FiveTuple) (user first : ℕ) (dest : Endpoint) (n : ℕ) (since : List Happening) (state : State) (now : ℕ) → Held tuple user first dest n since state → Held tuple user first dest n since (at now state)
@@ -323,6 +323,10 @@ asks_on setup tuple user first dest n since other owner request state le lt held
 over : (c m : ℕ) (tuple : FiveTuple) (a : Allocation) → c ≤ m → is_live c a ≡ false → is_of m tuple a ≡ false
 over c m tuple a le dead = dead_later (is_tuple tuple a.tuple) c m a.until le (false_right (is_tuple tuple a.tuple) (nat_lt c a.until) dead)
 
+not_live : (live among : Bool) → not (not live && among) ≡ false → live ≡ false
+not_live true among is = absurd (false≢true (sym is))
+not_live false among is = refl
+
 step_on : (setup : Setup) (tuple : FiveTuple) (user first : ℕ) (dest : Endpoint) (n : ℕ) (since : List Happening) (now : ℕ) (event : Event) (state : State)
     → (at now state).clock ≤ n → (at now state).clock < end_of tuple user first since → Held tuple user first dest n since (at now state)
     → Held tuple user first dest n (happening setup state (record { now = now; event = event }) ∷ since) (step setup state now event).state
@@ -334,10 +338,10 @@ step_on setup tuple user first dest n since now (sends_on other number bytes) st
     data_on tuple user first dest n (happening setup state (record { now = now; event = sends_on other number bytes })) since (at now state) (at now state) (λ _ _ _ e. absurd cc) refl refl (λ _ _. refl) held
 step_on setup tuple user first dest n since now (arrives relay peer bytes) state le lt held =
     data_on tuple user first dest n (happening setup state (record { now = now; event = arrives relay peer bytes })) since (at now state) (at now state) (λ _ _ _ e. absurd cc) refl refl (λ _ _. refl) held
-step_on setup tuple user first dest n since now polls state le lt held =
+step_on setup tuple user first dest n since now (polls relays) state le lt held =
     let c = (at now state).clock in
-    data_on tuple user first dest n (happening setup state (record { now = now; event = polls })) since (at now state) (step setup state now polls).state (λ _ _ _ e. absurd cc) refl refl
-    (λ m later. find_filter (is_of m tuple) (is_live c) (λ a dead. over c m tuple a later dead) state.allocations) held
+    data_on tuple user first dest n (happening setup state (record { now = now; event = polls relays })) since (at now state) (step setup state now (polls relays)).state (λ _ _ _ e. absurd cc) refl refl
+    (λ m later. find_filter (is_of m tuple) (λ (a : Allocation). not (is_over c relays a)) (λ a dead. over c m tuple a later (not_live (is_live c a) (list_any (λ (relay : ℕ). relay == a.relay) relays) dead)) state.allocations) held
 
 -- ---- The beginning
 

@@ -1,6 +1,6 @@
 -- What is relayed (RFC 8656, sections 9, 11.2, 11.3, 12.6 and 12.7): the last row that is not refused.
 -- No row changes what is kept.
-use Rattle.std.specs.Prelude.{ℕ, List, if◌then◌else◌}
+use Rattle.std.specs.Prelude.{ℕ, ◌&&◌, List, if◌then◌else◌}
 use Rattle.std.specs.Option.{option_map_or}
 use Rattle.turn_table.specs.Endpoints.{Endpoint}
 use Rattle.turn_table.specs.Allocations.{Allocation, Setup, State, allocation_of, allocation_at, is_permitted, channel_by_number, channel_by_peer}
@@ -8,10 +8,12 @@ use Rattle.turn_table.specs.Events.{Event, asks, sends, sends_on, arrives, polls
 
 -- from a client to a peer: there has to be a permission (11.2). Of a ChannelData message the RFC asks
 -- for none (12.6), and this server does: no datagram goes to a peer that wasn't permitted within 300
--- seconds, or 600 if the caller wants a channel to count as a permission of its peer
+-- seconds, or 600 if the caller wants a channel to count as a permission of its peer. Nothing is sent
+-- to a forbidden port, as that of the server itself, which would be a loop (21.1.7)
 abbrev pub sent : Setup → ℕ → Endpoint → List ℕ → Allocation → Output
 sent setup now peer bytes a =
-    if is_permitted setup now peer a then to_peer a.relay peer bytes else nothing
+    if is_permitted setup now peer a && setup.is_port_allowed peer
+    then to_peer a.relay peer bytes else nothing
 
 abbrev pub sent_on : Setup → ℕ → ℕ → List ℕ → Allocation → Output
 sent_on setup now number bytes a =
@@ -35,4 +37,4 @@ relays setup state now (sends_on tuple number bytes) =
 relays setup state now (arrives relay peer bytes) =
     option_map_or (received setup now peer bytes) (allocation_at now relay state) nothing
 relays setup state now (asks tuple user request) = nothing
-relays setup state now polls = nothing
+relays setup state now (polls asked) = nothing

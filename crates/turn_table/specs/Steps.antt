@@ -1,5 +1,6 @@
 -- One step of the server: what is kept after an event, and what is done.
 use Rattle.std.specs.Prelude.{ℕ, ◌+◌, ◌-◌, ◌/◌, Bool, not, ◌&&◌, List, [], ◌∷◌, map, filter, max, min, Option, None, Some, Result, Ok, Err, ◌==◌, if◌then◌else◌}
+use Rattle.std.specs.List.{list_any}
 use Rattle.std.specs.Option.{option_map_or, option_or}
 use Rattle.turn_table.specs.Endpoints.{Endpoint, FiveTuple}
 use Rattle.turn_table.specs.Allocations.{seconds, Allocation, Setup, State, is_live, is_of, allocation_of}
@@ -135,11 +136,18 @@ serves setup now tuple user (unfit code) state =
 
 -- ---- The step
 
--- the allocations that have ended are gone, and the caller closes their sockets
-abbrev pub sweeps : State → Step
-sweeps state = record {
-  state = record state { allocations = filter (is_live state.clock) state.allocations };
-  output = closes (map (λ a. a.relay) (filter (λ a. not (is_live state.clock a)) state.allocations));
+-- whether an allocation has ended, and its socket is one of these
+abbrev pub is_over : ℕ → List ℕ → Allocation → Bool
+is_over now relays a = not (is_live now a) && list_any (λ relay. relay == a.relay) relays
+
+-- of these sockets, those whose allocations have ended: the allocations are gone, and the caller closes
+-- the sockets
+abbrev pub sweeps : List ℕ → State → Step
+sweeps relays state = record {
+  state = record state {
+    allocations = filter (λ a. not (is_over state.clock relays a)) state.allocations;
+  };
+  output = closes (filter (λ relay. list_any (is_over state.clock (relay ∷ [])) state.allocations) relays);
 }
 
 abbrev pub relays_only : Setup → State → Event → Step
@@ -151,7 +159,7 @@ happens setup state (asks tuple user request) = serves setup state.clock tuple u
 happens setup state (sends tuple peer bytes) = relays_only setup state (sends tuple peer bytes)
 happens setup state (sends_on tuple number bytes) = relays_only setup state (sends_on tuple number bytes)
 happens setup state (arrives relay peer bytes) = relays_only setup state (arrives relay peer bytes)
-happens setup state polls = sweeps state
+happens setup state (polls relays) = sweeps relays state
 
 abbrev pub step : Setup → State → ℕ → Event → Step
 step setup state now event = happens setup (at now state) event

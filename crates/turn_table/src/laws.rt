@@ -1,11 +1,11 @@
 //! What holds of the table whatever comes in whatever order. Each function does nothing: its contract
 //! is the law.
 
-ghost use Rattle.std.specs.Prelude.{◌≡◌, ◌≤◌, ℕ, ◌∷◌, ◌++◌, List, filter, length, true, false};
+ghost use Rattle.std.specs.Prelude.{◌≡◌, ◌≤◌, ℕ, ◌∷◌, ◌++◌, List, filter, length, not, true, false};
 ghost use Rattle.std.specs.List.{AllByRecursion};
-ghost use Rattle.turn_table.specs.Allocations.{Setup, State, is_live};
+ghost use Rattle.turn_table.specs.Allocations.{Setup, State};
 ghost use Rattle.turn_table.specs.Events.{Event, sends_on, polls, to_peer};
-ghost use Rattle.turn_table.specs.Steps.{at, step};
+ghost use Rattle.turn_table.specs.Steps.{at, step, is_over};
 ghost use Rattle.turn_table.specs.Strangers.{is_datagram, IsQuiet, IsForgotten};
 ghost use Rattle.turn_table.specs.Endpoints.{Endpoint, FiveTuple};
 ghost use Rattle.turn_table.specs.Apart.{alone, all_sights, sights, is_own, comes_to};
@@ -34,7 +34,7 @@ pub fn relaying_is_warranted()
 
 /// A datagram that isn't a user's accepted request changes nothing but the clock, and for one that no
 /// live allocation is for, nothing is done. All that comes later is as if it had not come. Time alone
-/// takes away the allocations that have ended, and no other, and changes none.
+/// takes away allocations that have ended, and no other, and changes none.
 pub fn strangers_get_little()
     ensures unchanged { (setup : Setup) (state : State) (now : ℕ) (event : Event)
         → is_datagram event ≡ true → (step setup state now event).state ≡ at now state }
@@ -43,9 +43,9 @@ pub fn strangers_get_little()
     ensures forgotten { (setup : Setup) (later : List Timed) (next stranger : Timed)
         (earlier : List Timed) → is_datagram stranger.event ≡ true → stranger.now ≤ next.now
         → IsForgotten setup later next stranger earlier }
-    ensures time { (setup : Setup) (state : State) (now : ℕ)
-        → (step setup state now polls).state.allocations
-        ≡ filter (is_live (at now state).clock) state.allocations }
+    ensures time { (setup : Setup) (state : State) (now : ℕ) (relays : List ℕ)
+        → (step setup state now (polls relays)).state.allocations
+        ≡ filter (λ a. not (is_over (at now state).clock relays a)) state.allocations }
 {}
 
 /// The converse of `relaying_is_warranted`, so that a server that drops everything is none. Whatever
