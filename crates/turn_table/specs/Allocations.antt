@@ -23,9 +23,10 @@ pub record Allocation : Type 0 where
 
 -- what the caller sets once: how many allocations there are at most, and of one user; how many
 -- permissions and channels of one allocation; the greatest lifetime, in seconds; which IP addresses a
--- client may exchange data with, and to which of their ports it may send; and whether a channel counts
--- as a permission of its exact peer. The RFC says no: a channel lasts 600 seconds, and the permission
--- that comes with it 300. But there are clients that refresh their channels alone
+-- client may exchange data with, and to which of their ports it may send; the greatest channel number,
+-- 0x4FFF, or 0x7FFF for clients of RFC 5766; and whether a channel counts as a permission of its exact
+-- peer. The RFC says no: a channel lasts 600 seconds, and the permission that comes with it 300. But
+-- there are clients that refresh their channels alone
 pub record Setup : Type 0 where
   pub most_allocations : ℕ
   pub most_of_user : ℕ
@@ -34,6 +35,7 @@ pub record Setup : Type 0 where
   pub greatest_lifetime : ℕ
   pub is_allowed : Ip → Bool
   pub is_port_allowed : Endpoint → Bool
+  pub last_channel : ℕ
   pub channel_permits : Bool
 
 -- the latest moment of a call, and the allocations, also those that have ended and whose end no poll
