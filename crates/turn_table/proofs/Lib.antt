@@ -14,3 +14,7 @@ mod SocketsLemmas
 mod ApartLemmas
 mod WorksBothLemmas
 mod UnseenLemmas
+mod DistinctLemmas
+mod RelayingLemmas
+mod UsersLemmas
+mod FaultsLemmas

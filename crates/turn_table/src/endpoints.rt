@@ -26,7 +26,7 @@ pub struct FiveTuple {
 #[derive(Clone, Copy, Debug, Default, PartialEq, Eq)]
 pub struct Permission {
     pub ip: Ip,
-    pub until: u64,
+    pub until: u128,
 }
 
 /// A channel is bound to a peer before a moment.
@@ -34,5 +34,5 @@ pub struct Permission {
 pub struct Channel {
     pub number: u16,
     pub peer: Endpoint,
-    pub until: u64,
+    pub until: u128,
 }
