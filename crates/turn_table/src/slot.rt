@@ -135,7 +135,7 @@ impl<const P: usize, const C: usize> Slot<P, C> {
         }
     }
 
-    /// Where the data of a ChannelData message goes.
+    /// The destination of the data of a ChannelData message.
     pub(crate) fn send_on<A: PeerPolicy>(
         &self,
         limits: &Limits,
@@ -161,7 +161,7 @@ impl<const P: usize, const C: usize> Slot<P, C> {
         }
     }
 
-    /// Where a datagram of a peer goes.
+    /// The destination of a datagram of a peer.
     pub(crate) fn receive(&self, limits: &Limits, now: u128, peer: Endpoint) -> Option<ToClient>
         ensures { (address : Ip → Bool) (port : Endpoint → Bool) (bytes : List ℕ)
             → received (setup_of limits.now P C address port) now peer bytes self.now
