@@ -113,7 +113,7 @@ impl<const P: usize, const C: usize> Slot<P, C> {
         self.has_permission(now, peer.ip) || (limits.channel_permits && self.has_channel(now, peer))
     }
 
-    /// Where the data of a Send indication goes.
+    /// The destination of the data of a Send indication.
     pub(crate) fn send<A: PeerPolicy>(
         &self,
         limits: &Limits,
