@@ -131,7 +131,7 @@ fn allocation(
 fn allocated(
     alloc: Global,
     request: &Message<'_>,
-    accepted: &Accepted,
+    accepted: &Accepted<'_>,
     client: SocketAddr,
     relayed: SocketAddr,
 ) -> Result<Vec<u8>, StunWriteError>
