@@ -47,12 +47,26 @@ def check_unproved(name, given, folder):
     with checked("a release that isn't proved") as wrong:
         marked, mark = folder / "marked.a", folder / "mark"
         mark.write_text("not proved: c/build_unproved\0")
-        words = ["--remove-section=.comment", f"--add-section=.comment={mark}"]
-        said_by([os.environ.get("OBJCOPY", "objcopy"), *words, given[0], marked])
-        said_by([HERE / "release", folder / "unproved", marked, given[1]])
+        copy = [os.environ.get("OBJCOPY", "objcopy"), "--remove-section=.comment"]
+        copy += [f"--add-section=.comment={mark}"]
+        said_by([*copy, given[0], marked])
+        # (any program will do)
+        program = folder / "stun"
+        said_by([*copy, folder / "clean" / name / "bin/stun-client", program])
+        said_by([HERE / "release", folder / "unproved", marked, given[1], program])
         made = f"{name}-not-proved"
         said_by(["tar", "-xzf", folder / "unproved" / f"{made}.tar.gz", "-C", folder / "unproved"])
-        text = (folder / "unproved" / made / "share/doc/stun_types/RELEASE.txt").read_text()
+        root = folder / "unproved" / made
+        files = {*tree(folder / "clean" / name), "bin/stun", "share/man/man1/stun.1"}
+        compare(wrong, tree(root), sorted(files))
+        if (root / "bin/stun").read_bytes() != program.read_bytes():
+            wrong.append("bin/stun isn't the program")
+        mixed = [HERE / "release", folder / "mixed", given[0], given[1], program]
+        if subprocess.run(mixed, capture_output=True, stdin=subprocess.DEVNULL).returncode == 0:
+            wrong.append("a program that isn't proved is packed with an archive that is")
+        text = (root / "share/doc/stun_types/RELEASE.txt").read_text()
+        if "\nbin/stun " not in text:
+            wrong.append("RELEASE.txt doesn't name bin/stun")
         if "\nNOT PROVED. " not in text or "is proved in Rattle" in text or "Every function" in text:
             wrong.append("RELEASE.txt doesn't say it")
         wrong += [f"RELEASE.txt has {it}" for it in re.findall(r"@[\w-]*@", text)]
@@ -92,6 +106,8 @@ def check_content(wrong, root, kit):
     files = {path for path in tree(root) if not (root / path).is_symlink()}
     compare(wrong, [line[66:] for line in sums], files - {"share/doc/stun_types/SHA256SUMS"})
     text = (documents / "RELEASE.txt").read_text()
+    if "\nbin/stun " in text:
+        wrong.append("RELEASE.txt names bin/stun, which isn't there")
     git = ["git", "-c", "safe.directory=*", "-C", TOP]
     in_git = (TOP / ".git").exists() and shutil.which("git")
     commit = said_by([*git, "rev-parse", "HEAD"]).strip() if in_git else "no git repository"

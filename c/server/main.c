@@ -1,5 +1,5 @@
 /* A STUN server: it returns to each client the address that its request came from, over UDP and
- * TCP. docs/guide/SERVER.md says how to run it.
+ * TCP. docs/guide/STUN-SERVER.md says how to run it.
  *
  *     cc -std=c11 -O2 -I c FILES libstun_types.a -o stun-server
  *     ./stun-server [-t] [-j PROCESSES] [-U USER] [-m PATH|PORT] [-c FILE] [-o NAME=NUMBER]..

@@ -114,22 +114,6 @@ static stun_types_answer read_number(unsigned bits, slice message,
     return answer;
 }
 
-/* The types that have a name, but for those that end a message: how many bytes a number has that is the
-   value, and how many ignored ones follow it; 0 bytes if the value is none. */
-#define ROW_NUMBER(type, width, zeros) {type, width, zeros},
-#define ROW_ADDRESS(type, width, zeros) {type, 0, 0},
-#define ROW_XOR_ADDRESS ROW_ADDRESS
-#define ROW_ERROR ROW_ADDRESS
-#define ROW_ADDRESS_ERROR ROW_ADDRESS
-#define ROW_TYPES ROW_ADDRESS
-#define ROW_NOTHING ROW_ADDRESS
-#define ROW_ENDING(type, width, zeros)
-#define ROW(type, kind, width, zeros) ROW_##kind(type, width, zeros)
-static const struct {
-    uint16_t type;
-    unsigned width, zeros;
-} known[] = {KNOWN_TYPES(ROW)};
-
 static const unsigned widths[] = {8, 16, 32, 64};
 
 /* A binding request in a room, with its header alone. */
@@ -142,20 +126,20 @@ static uint8_t *begun(size_t size, size_t *written) {
 /* Each type that is known has the number of one width, and each other call refuses it. */
 static void test_known_widths(void) {
     size_t i, j;
-    for (i = 0; i < COUNT(known); i++) {
+    for (i = 0; i < COUNT_OF_PLAIN; i++) {
         row("numbers", "the widths of the types that are known");
         for (j = 0; j < COUNT(widths); j++) {
             unsigned bits = widths[j];
-            bool is_taken = bits / 8 == known[i].width;
-            size_t *written = NEW(size_t), length = bits / 8 + known[i].zeros;
+            bool is_taken = bits / 8 == KNOWN[i].width;
+            size_t *written = NEW(size_t), length = bits / 8 + KNOWN[i].zeros;
             size_t grown = 24 + (length + 3) / 4 * 4;
             uint8_t *bytes = begun(60, written);
-            stun_types_attribute attribute = {24, known[i].type, (uint16_t)length};
+            stun_types_attribute attribute = {24, KNOWN[i].type, (uint16_t)length};
             stun_types_answer answer = is_taken ? OK_ANSWER : PLAIN(STUN_TYPES_BAD_ARGUMENT);
             /* (a channel, a port, a family, and any other number) */
             uint64_t wanted = bits == 16 ? 0x4002 : 2, number;
             slice message;
-            ANSWERS(add_number(bits, bytes, 60, written, known[i].type, wanted), answer);
+            ANSWERS(add_number(bits, bytes, 60, written, KNOWN[i].type, wanted), answer);
             CHECK(*written == (is_taken ? grown : 20));
             message = given(bytes, is_taken ? *written : 60);
             ANSWERS(read_number(bits, message, &attribute, &number), answer);

@@ -2,39 +2,27 @@
 
 #include "known.h"
 
-/* The types with numbers: how many bytes the number has, and how many ignored ones follow it. The other
-   types that have a name have no number, but for those that end a message. */
-#define ROW_NUMBER(type, width, zeros) {type, width, zeros},
-#define ROW_ADDRESS(type, width, zeros) {type, MODEL_NO_NUMBER, 0},
-#define ROW_XOR_ADDRESS ROW_ADDRESS
-#define ROW_ERROR ROW_ADDRESS
-#define ROW_ADDRESS_ERROR ROW_ADDRESS
-#define ROW_TYPES ROW_ADDRESS
-#define ROW_NOTHING ROW_ADDRESS
-#define ROW_ENDING(type, width, zeros)
-#define ROW(type, kind, width, zeros) ROW_##kind(type, width, zeros)
-static const struct {
-    uint16_t type;
-    uint8_t width, zeros;
-} KNOWN[] = {KNOWN_TYPES(ROW)};
-enum { COUNT_OF_KNOWN = sizeof KNOWN / sizeof *KNOWN };
-
 uint16_t model_known(unsigned which) {
-    return KNOWN[which % COUNT_OF_KNOWN].type;
+    return KNOWN[which % COUNT_OF_PLAIN].type;
+}
+
+/* The row of a type that is known and doesn't end a message, or NULL. */
+static const known_type *row_of(unsigned type) {
+    unsigned i;
+    for (i = 0; i < COUNT_OF_PLAIN; i++)
+        if (KNOWN[i].type == type) return &KNOWN[i];
+    return NULL;
 }
 
 unsigned model_width(unsigned type) {
-    unsigned i;
-    for (i = 0; i < COUNT_OF_KNOWN; i++)
-        if (KNOWN[i].type == type) return KNOWN[i].width;
-    return 0;
+    const known_type *row = row_of(type);
+    if (row == NULL) return 0;
+    return row->kind == NUMBER ? row->width : MODEL_NO_NUMBER;
 }
 
 unsigned model_zeros(unsigned type) {
-    unsigned i;
-    for (i = 0; i < COUNT_OF_KNOWN; i++)
-        if (KNOWN[i].type == type) return KNOWN[i].zeros;
-    return 0;
+    const known_type *row = row_of(type);
+    return row == NULL ? 0 : row->zeros;
 }
 
 stun_types_answer model_read_number(unsigned type, unsigned width, const uint8_t *value,

@@ -6,22 +6,12 @@
 #include <stdlib.h>
 #include <string.h>
 
-typedef enum { NOTHING, ENDING, ADDRESS, XOR_ADDRESS, ERROR, ADDRESS_ERROR, TYPES, NUMBER } value_kind;
-
-typedef struct {
-    uint16_t type;
-    value_kind kind;
-    unsigned width, zeros;
-} known_type;
-
-#define ROW(type, kind, width, zeros) {type, kind, width, zeros},
-static const known_type known_types[] = {KNOWN_TYPES(ROW){0, NOTHING, 0, 0}};
-
-/* What is known of a type; of any other the last row. */
+/* What is known of a type; of any other nothing. */
 static const known_type *known(uint16_t type) {
-    const known_type *found = known_types;
-    while (found < known_types + COUNT(known_types) - 1 && found->type != type) found++;
-    return found;
+    static const known_type other = {0, NOTHING, 0, 0};
+    const known_type *found = KNOWN;
+    while (found < KNOWN + COUNT_OF_KNOWN && found->type != type) found++;
+    return found < KNOWN + COUNT_OF_KNOWN ? found : &other;
 }
 
 /* What C reads a value of this type as. */

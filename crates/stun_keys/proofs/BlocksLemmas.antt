@@ -40,6 +40,12 @@ ready_length key = omega (arith, length-append (blocks_over sha1 key) (blocks_ov
 key_before : (key : List ℕ) → key_in (key ++ ready_blocks key) ≡ key
 key_before key = take_at key (ready_blocks key) _ (omega (arith, length-append key (ready_blocks key), ready_length key))
 
+-- what a secret is that both were appended to while it was empty
+pub appended : (secret after before key : List ℕ) → secret ≡ after → after ≡ before ++ (key ++ ready_blocks key)
+    → before ≡ [] → secret ≡ key ++ ready_blocks key
+appended secret after before key is after_is before_is =
+    is ∙ (after_is ∙ ap (λ (b : List ℕ). b ++ (key ++ ready_blocks key)) before_is)
+
 pub is_long : (secret key : List ℕ) → secret ≡ key ++ ready_blocks key → 256 ≤ length secret
 is_long secret key is = omega (arith, ap length is, length-append key (ready_blocks key), ready_length key)
 

@@ -1,3 +1,4 @@
 mod AddressErrorsLemmas
 mod ProtocolsLemmas
 pub mod FramedLemmas
+mod HeadsLemmas

@@ -5,7 +5,9 @@ use Rattle.stun_grammar.specs.Numbers.{be16, padded_length}
 use Rattle.turn_attrs.specs.declared.channel_data.ChannelData.{ChannelData}
 use Rattle.turn_attrs.specs.declared.channel_data.ChannelDataError.{ChannelDataError}
 use Rattle.turn_attrs.specs.declared.channel_data.ChannelDataError.TheVariants.{Truncated, TooLarge}
-use Rattle.turn_attrs.specs.Channels.{begin_fault, channel_field, data_length}
+use Rattle.turn_attrs.specs.declared.channels.ChannelRange.{ChannelRange}
+use Rattle.turn_attrs.specs.declared.channels.ChannelRange.TheVariants.{Rfc8656}
+use Rattle.turn_attrs.specs.Channels.{begin_fault_in, channel_field, data_length}
 
 abbrev pub data_of : ChannelData → List ℕ
 data_of message = message.bytes.now
@@ -15,10 +17,13 @@ pub record IsData (channel : ℕ) (bytes : List ℕ) (message : ChannelData) : T
   pub channel_is : message.channel ≡ channel
   pub data_is : data_of message ≡ bytes
 
+-- a channel's number, the length of the data, and the data
+abbrev pub channel_message : ℕ → List ℕ → List ℕ
+channel_message channel bytes = be16 channel ++ (be16 (length bytes) ++ bytes)
+
 -- the message as it is written, and with the padding that it has on a stream
 abbrev pub message_bytes : ChannelData → List ℕ
-message_bytes message =
-    be16 message.channel ++ (be16 (length (data_of message)) ++ data_of message)
+message_bytes message = channel_message message.channel (data_of message)
 
 abbrev pub padded_bytes : ChannelData → List ℕ
 padded_bytes message =
@@ -27,13 +32,16 @@ padded_bytes message =
 
 -- why a datagram is no ChannelData message: it begins with none, or the data is cut off, or more
 -- follows than a padding has
-abbrev pub channel_fault : List ℕ → Option ChannelDataError
-channel_fault b =
+abbrev pub channel_fault_in : ChannelRange → List ℕ → Option ChannelDataError
+channel_fault_in range b =
     let n = 4 + data_length b in
-    option_or (begin_fault b) (
+    option_or (begin_fault_in range b) (
     if nat_lt (length b) n then Some (Truncated n (length b)) else (
     if nat_lt (padded_length n) (length b) then Some (TooLarge (padded_length n) (length b))
     else None))
+
+abbrev pub channel_fault : List ℕ → Option ChannelDataError
+channel_fault = channel_fault_in Rfc8656
 
 -- the message that is in a datagram which has no fault
 abbrev pub IsIn : List ℕ → ChannelData → Type 0

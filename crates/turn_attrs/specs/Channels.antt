@@ -3,15 +3,30 @@ use Rattle.std.specs.Prelude.{ℕ, ◌+◌, ◌*◌, ◌/◌, ◌^◌, Bool, fal
 use Rattle.std.specs.Fmt.{digits}
 use Rattle.std.specs.List.{list_all}
 use Rattle.stun_grammar.specs.Numbers.{number}
+use Rattle.turn_attrs.specs.declared.channels.ChannelRange.{ChannelRange}
+use Rattle.turn_attrs.specs.declared.channels.ChannelRange.TheVariants.{Rfc8656, Rfc5766}
 use Rattle.turn_attrs.specs.declared.channel_data.ChannelDataError.{ChannelDataError}
 use Rattle.turn_attrs.specs.declared.channel_data.ChannelDataError.TheVariants.{NotChannelData, Truncated}
 
+-- the greatest number of a channel, by RFC 8656, and by RFC 5766 (section 11), which it replaces
+abbrev pub greatest_channel : ChannelRange → ℕ
+greatest_channel Rfc8656 = 0x4FFF
+greatest_channel Rfc5766 = 0x7FFF
+
+-- and its first byte
+abbrev pub greatest_first : ChannelRange → ℕ
+greatest_first Rfc8656 = 0x4F
+greatest_first Rfc5766 = 0x7F
+
 -- whether a channel may have this number
-abbrev pub is_channel : ℕ → Bool
-is_channel n = nat_le 0x4000 n && nat_le n 0x4FFF
+abbrev pub is_channel_in : ChannelRange → ℕ → Bool
+is_channel_in range n = nat_le 0x4000 n && nat_le n (greatest_channel range)
+
+abbrev pub channel_of_range : ChannelRange → ℕ → Option ℕ
+channel_of_range range n = if is_channel_in range n then Some n else None
 
 abbrev pub channel_of : ℕ → Option ℕ
-channel_of n = if is_channel n then Some n else None
+channel_of = channel_of_range Rfc8656
 
 -- in a CHANNEL-NUMBER, the high half of four bytes
 abbrev pub channel_number : ℕ → ℕ
@@ -19,6 +34,9 @@ channel_number channel = 2 ^ 16 * channel
 
 abbrev pub channel_in : ℕ → Option ℕ
 channel_in n = channel_of (n / 2 ^ 16)
+
+abbrev pub old_channel_in : ℕ → Option ℕ
+old_channel_in n = channel_of_range Rfc5766 (n / 2 ^ 16)
 
 -- as it is printed
 abbrev pub channel_text : ℕ → List ℕ
@@ -32,10 +50,13 @@ channel_field b = 256 * slice_index b 0 + slice_index b 1
 abbrev pub data_length : List ℕ → ℕ
 data_length b = number (slice_range b 2 4)
 
--- why no channel and length begin the bytes: the first, if there is one, is none of 0x40 to 0x4F,
--- or there are fewer than four
-abbrev pub begin_fault : List ℕ → Option ChannelDataError
-begin_fault b =
-    if list_all (λ first. nat_le 0x40 first && nat_le first 0x4F) (take 1 b)
+-- why no channel and length begin the bytes: with the first, if there is one, no number of a channel
+-- begins, or there are fewer than four
+abbrev pub begin_fault_in : ChannelRange → List ℕ → Option ChannelDataError
+begin_fault_in range b =
+    if list_all (λ first. nat_le 0x40 first && nat_le first (greatest_first range)) (take 1 b)
     then (if nat_lt (length b) 4 then Some (Truncated 4 (length b)) else None)
     else Some NotChannelData
+
+abbrev pub begin_fault : List ℕ → Option ChannelDataError
+begin_fault = begin_fault_in Rfc8656

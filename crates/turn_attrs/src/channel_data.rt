@@ -3,9 +3,9 @@
 
 ghost use Rattle.std.specs.Prelude.{◌≡◌, ◌≤◌, ◌<◌, ◌+◌, Some, None, MatchResult, MatchOption, length};
 ghost use Rattle.stun_grammar.specs.Numbers.{padded_length};
-ghost use Rattle.turn_attrs.specs.Channels.{begin_fault, channel_field, data_length};
+ghost use Rattle.turn_attrs.specs.Channels.{begin_fault, begin_fault_in, channel_field, data_length};
 
-use crate::Channel;
+use crate::{Channel, ChannelRange};
 use byteorder::{BigEndian, ByteOrder};
 use stun_types::attribute::{AttributeHeader, AttributeType, pad_attribute_len};
 use stun_types::message::StunWriteError;
@@ -46,14 +46,15 @@ pub struct ChannelData<'a> {
 }
 
 /// The channel with whose number the bytes begin; a length follows it.
-fn read_channel(bytes: &[u8]) -> Result<Channel, ChannelDataError>
+fn read_channel(bytes: &[u8], range: ChannelRange) -> Result<Channel, ChannelDataError>
     ensures { MatchResult result
-        (λ channel. (begin_fault bytes.now ≡ None) × (4 ≤ length bytes.now)
+        (λ channel. (begin_fault_in range bytes.now ≡ None) × (4 ≤ length bytes.now)
         × (channel ≡ channel_field bytes.now))
-        (λ e. begin_fault bytes.now ≡ Some e) }
+        (λ e. begin_fault_in range bytes.now ≡ Some e) }
 {
+    let greatest = range.greatest_first();
     let is_channel = match bytes.first() {
-        Some(first) => (0x40..=0x4F).contains(first),
+        Some(first) => 0x40 <= *first && *first <= greatest,
         None => true,
     };
     if !is_channel {
@@ -97,7 +98,40 @@ pub fn channel_data_length(prefix: &[u8]) -> Result<Option<usize>, ChannelDataEr
         × (framed ≡ padded_length (4 + data_length prefix.now))))
         (λ e. (begin_fault prefix.now ≡ Some e) × (e ≡ ChannelDataError.NotChannelData)) }
 {
-    match read_channel(prefix) {
+    channel_data_length_in(prefix, ChannelRange::Rfc8656)
+}
+
+/// Returns that length, as [`channel_data_length`], for channels with the numbers of a range.
+///
+/// # Errors
+///
+/// `NotChannelData` if no number of the range begins with the first byte.
+///
+/// # Examples
+///
+/// ```
+/// use turn_attrs::{ChannelDataError, ChannelRange, channel_data_length_in};
+///
+/// let prefix = b"\x67\x80\x00\x05";
+/// assert_eq!(rt; channel_data_length_in(prefix, ChannelRange::Rfc5766), Ok(Some(12)));
+/// let other = Err(ChannelDataError::NotChannelData);
+/// assert_eq!(rt; channel_data_length_in(prefix, ChannelRange::Rfc8656), other);
+/// ```
+pub fn channel_data_length_in(
+    prefix: &[u8],
+    range: ChannelRange,
+) -> Result<Option<usize>, ChannelDataError>
+    ensures { MatchResult result
+        (λ reported. MatchOption reported
+        ((begin_fault_in range prefix.now
+        ≡ Some (ChannelDataError.Truncated 4 (length prefix.now)))
+        × (length prefix.now < 4))
+        (λ framed. (begin_fault_in range prefix.now ≡ None)
+        × (framed ≡ padded_length (4 + data_length prefix.now))))
+        (λ e. (begin_fault_in range prefix.now ≡ Some e)
+        × (e ≡ ChannelDataError.NotChannelData)) }
+{
+    match read_channel(prefix, range) {
         Ok(_) => {
             let length = BigEndian::read_u16(&prefix[2..4]) as usize;
             Ok(Some(pad_attribute_len(4 + length)))
@@ -110,7 +144,7 @@ pub fn channel_data_length(prefix: &[u8]) -> Result<Option<usize>, ChannelDataEr
 impl<'a> ChannelData<'a> {
     ghost use Rattle.std.specs.Prelude.{◌≡◌, ◌≤◌, ◌<◌, ◌+◌, ◌++◌, Ok, Err, Some, None, IsOkAnd, MatchResult, length, take, drop};
     ghost use Rattle.stun_grammar.specs.Numbers.{padded_length};
-    ghost use Rattle.turn_attrs.specs.ChannelMessages.{IsData, IsIn, channel_fault, message_bytes, padded_bytes, data_of};
+    ghost use Rattle.turn_attrs.specs.ChannelMessages.{IsData, IsIn, channel_fault, channel_fault_in, message_bytes, padded_bytes, data_of};
 
     /// Makes the message of this data on this channel, and borrows the data.
     ///
@@ -170,7 +204,33 @@ impl<'a> ChannelData<'a> {
             (λ read. (channel_fault bytes.now ≡ None) × IsIn bytes.now read)
             (λ e. channel_fault bytes.now ≡ Some e) }
     {
-        let channel = read_channel(bytes)?;
+        Self::from_bytes_in(bytes, ChannelRange::Rfc8656)
+    }
+
+    /// Reads the ChannelData message in a datagram, as [`ChannelData::from_bytes`], on a channel
+    /// with a number of a range.
+    ///
+    /// # Errors
+    ///
+    /// As for [`ChannelData::from_bytes`]: `NotChannelData` if no number of the range begins with
+    /// the first byte.
+    ///
+    /// # Examples
+    ///
+    /// ```
+    /// use turn_attrs::{ChannelData, ChannelRange};
+    ///
+    /// let datagram = b"\x67\x80\x00\x05hello";
+    /// let message = ChannelData::from_bytes_in(datagram, ChannelRange::Rfc5766)?;
+    /// assert!(rt; message.channel().number() == 0x6780);
+    /// assert!(rt; ChannelData::from_bytes(datagram).is_err());
+    /// ```
+    pub fn from_bytes_in(bytes: &'a [u8], range: ChannelRange) -> Result<Self, ChannelDataError>
+        ensures { MatchResult result
+            (λ read. (channel_fault_in range bytes.now ≡ None) × IsIn bytes.now read)
+            (λ e. channel_fault_in range bytes.now ≡ Some e) }
+    {
+        let channel = read_channel(bytes, range)?;
         let end = 4 + BigEndian::read_u16(&bytes[2..4]) as usize;
         if bytes.len() < end {
             return Err(ChannelDataError::Truncated {

@@ -40,6 +40,40 @@ impl AttributeKind for ChannelNumberKind {
     }
 }
 
+/// CHANNEL-NUMBER as RFC 5766 has it, with a number up to 0x7FFF: [`ChannelNumber`] for a server that
+/// serves clients of that RFC, [`ChannelRange::Rfc5766`](crate::ChannelRange::Rfc5766).
+///
+/// # Examples
+///
+/// ```
+/// use stun_types::attribute::RawAttribute;
+/// use stun_types::prelude::*;
+/// use turn_attrs::{ChannelNumber, OldChannelNumber};
+///
+/// let raw = RawAttribute::from_bytes(b"\x00\x0C\x00\x04\x67\x80\x00\x00")?;
+/// assert!(rt; ChannelNumber::from_raw_ref(alloc, &raw).is_err());
+/// assert!(rt; OldChannelNumber::from_raw_ref(alloc, &raw).is_ok());
+/// ```
+pub type OldChannelNumber = PackedAttribute<OldChannelNumberKind, Channel>;
+
+/// The kind of [`OldChannelNumber`].
+pub enum OldChannelNumberKind {}
+
+impl AttributeKind for OldChannelNumberKind {
+    ghost use Rattle.std.specs.Prelude.{codes};
+    ghost use Rattle.turn_attrs.specs.Turn.{CHANNEL_NUMBER};
+
+    ghost NUMBER = { CHANNEL_NUMBER };
+
+    ghost NAME = { codes "CHANNEL-NUMBER" };
+
+    const NUMBER: u16 = attribute_types::CHANNEL_NUMBER;
+
+    fn name() -> &'static str {
+        "CHANNEL-NUMBER"
+    }
+}
+
 /// XOR-PEER-ADDRESS: the address of a peer as the server sees it (RFC 8656, section 18.3). The
 /// value is that of an XOR-MAPPED-ADDRESS, 8 bytes for IPv4 and 20 for IPv6.
 ///

@@ -14,7 +14,7 @@ ghost use Rattle.turn_attrs.specs.declared.family.Ipv6AddressFamily.{Ipv6Address
 ghost use Rattle.turn_attrs.specs.declared.icmp.IcmpError.{IcmpError};
 ghost use Rattle.stun_grammar.specs.Numbers.{padded_length};
 ghost use Rattle.turn_attrs.specs.ChannelMessages.{channel_fault, data_of, padded_bytes};
-ghost use Rattle.turn_attrs.specs.Channels.{channel_in, channel_number, begin_fault, data_length};
+ghost use Rattle.turn_attrs.specs.Channels.{channel_in, old_channel_in, channel_number, begin_fault, data_length};
 ghost use Rattle.turn_attrs.specs.Turn.{address_error_value, failed_error, failed_family, family_in, family_number, icmp_in, icmp_number, ipv6_in, ipv6_number, protocol_in, protocol_number, reserve_in, reserve_number, ReadsAddressError};
 
 /// The number that encodes a channel, a family, a flag, a protocol or an ICMP error holds it, so
@@ -22,6 +22,8 @@ ghost use Rattle.turn_attrs.specs.Turn.{address_error_value, failed_error, faile
 pub fn fields_are_held()
     ensures channel { (channel : ℕ) → 0x4000 ≤ channel → channel ≤ 0x4FFF
         → channel_in (channel_number channel) ≡ Some channel }
+    ensures old_channel { (channel : ℕ) → 0x4000 ≤ channel → channel ≤ 0x7FFF
+        → old_channel_in (channel_number channel) ≡ Some channel }
     ensures family { (family : AddressFamily) → family_in (family_number family) ≡ Some family }
     ensures ipv6 { (family : Ipv6AddressFamily) → ipv6_in (ipv6_number family) ≡ Some family }
     ensures reserve { (reserve : Bool) → reserve_in (reserve_number reserve) ≡ Some reserve }

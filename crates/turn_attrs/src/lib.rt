@@ -10,6 +10,7 @@ mod channel_data;
 mod channels;
 pub mod error_codes;
 mod family;
+mod heads;
 mod icmp;
 mod kinds;
 mod laws;
@@ -22,20 +23,24 @@ mod tokens;
 
 pub use address_error_code::AddressErrorCode;
 pub use attribute_types::{KNOWN, known_type};
-pub use channel_data::{ChannelData, ChannelDataError, channel_data_length};
-pub use channels::Channel;
+pub use channel_data::{
+    ChannelData, ChannelDataError, channel_data_length, channel_data_length_in,
+};
+pub use channels::{Channel, ChannelRange};
 pub use family::Ipv6AddressFamily;
+pub use heads::{Head, write_channel_head, write_data_head};
 pub use icmp::IcmpError;
 pub use kinds::{
     AdditionalAddressFamily, AdditionalAddressFamilyKind, ChannelNumber, ChannelNumberKind,
-    DataKind, DontFragment, DontFragmentKind, EvenPort, EvenPortKind, Icmp, IcmpKind, PeerData,
-    RequestedAddressFamily, RequestedAddressFamilyKind, RequestedTransport, RequestedTransportKind,
-    XorPeerAddress, XorPeerAddressKind, XorRelayedAddress, XorRelayedAddressKind,
+    DataKind, DontFragment, DontFragmentKind, EvenPort, EvenPortKind, Icmp, IcmpKind,
+    OldChannelNumber, OldChannelNumberKind, PeerData, RequestedAddressFamily,
+    RequestedAddressFamilyKind, RequestedTransport, RequestedTransportKind, XorPeerAddress,
+    XorPeerAddressKind, XorRelayedAddress, XorRelayedAddressKind,
 };
 pub use laws::{address_error_is_read_back, channel_data_is_framed, fields_are_held};
 pub use lifetime::Lifetime;
 pub use lifetimes::{DEFAULT_LIFETIME, allocation_lifetime, refresh_lifetime};
-pub use protocols::{Protocol, protocol_of, stun_begins_low};
+pub use protocols::{Protocol, protocol_in, protocol_of, stun_begins_low};
 pub use third_party::ThirdPartyAuthorization;
 pub use tokens::{
     AccessToken, AccessTokenKind, ConnectionId, ConnectionIdKind, MobilityTicket,

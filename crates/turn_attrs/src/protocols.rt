@@ -5,7 +5,9 @@ ghost use Rattle.stun_grammar.specs.Headers.{type_field};
 ghost use Rattle.stun_grammar.specs.Numbers.{IsBytes};
 ghost use Rattle.stun_grammar.specs.Parsing.{parse_fault};
 ghost use Rattle.stun_base.specs.MessageTypes.{method_of};
-ghost use Rattle.turn_attrs.specs.Protocols.{protocol};
+ghost use Rattle.turn_attrs.specs.Protocols.{protocol, protocol_in};
+
+use crate::ChannelRange;
 
 /// A protocol that shares a port with STUN.
 #[derive(Clone, Copy, Debug, PartialEq, Eq)]
@@ -46,12 +48,34 @@ pub enum Protocol {
 pub const fn protocol_of(first_byte: u8) -> Option<Protocol>
     ensures { result ≡ protocol first_byte }
 {
+    protocol_in(first_byte, ChannelRange::Rfc8656)
+}
+
+/// Returns the protocol of a packet that begins with this byte, on a port where channels have the
+/// numbers of a range: as [`protocol_of`], and with [`ChannelRange::Rfc5766`] a TURN channel is 64
+/// to 127, and QUIC 192 to 255 alone.
+///
+/// # Examples
+///
+/// ```
+/// use turn_attrs::{ChannelRange, Protocol, protocol_in};
+///
+/// assert_eq!(rt; protocol_in(0x67, ChannelRange::Rfc5766), Some(Protocol::TurnChannel));
+/// assert_eq!(rt; protocol_in(0x67, ChannelRange::Rfc8656), Some(Protocol::Quic));
+/// ```
+pub const fn protocol_in(first_byte: u8, range: ChannelRange) -> Option<Protocol>
+    ensures { result ≡ protocol_in range first_byte }
+{
     match first_byte {
         0..=3 => Some(Protocol::Stun),
         4..=15 => None,
         16..=19 => Some(Protocol::Zrtp),
         20..=63 => Some(Protocol::Dtls),
         64..=79 => Some(Protocol::TurnChannel),
+        80..=127 => match range {
+            ChannelRange::Rfc8656 => Some(Protocol::Quic),
+            ChannelRange::Rfc5766 => Some(Protocol::TurnChannel),
+        },
         128..=191 => Some(Protocol::Rtp),
         _ => Some(Protocol::Quic),
     }

@@ -31,6 +31,7 @@ pub enum MessageIntegrityCredentials {
 
 /// Makes the key that [`MessageIntegrityCredentials::make_key`] makes, and fails only if an
 /// allocation does.
+#[inline(always)]
 pub fn key_of_credentials(
     alloc: Global,
     credentials: &MessageIntegrityCredentials,

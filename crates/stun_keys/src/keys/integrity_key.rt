@@ -41,16 +41,14 @@ pub struct IntegrityKey {
     ghost prepared_is: { ∥ IfPrepared (key_in (boxed_slice_items bytes.bytes)) prepared.both ∥₁ },
 }
 
-/// A key's bytes and its ready blocks, in memory that `alloc` gives.
-fn with_blocks(alloc: Global, key: &[u8]) -> Result<SecretBytes, AllocError>
+/// Appends a key's bytes and its ready blocks.
+fn push_with_blocks(secret: &mut Vec<u8>, key: &[u8]) -> Result<(), AllocError>
     ensures { IfOk result
-        (λ made. boxed_slice_items made.bytes ≡ key.now ++ ready_blocks key.now) }
+        (λ _. secret.new.items ≡ secret.old.items ++ (key.now ++ ready_blocks key.now)) }
 {
-    let mut secret = Vec::with_capacity(alloc, key.len() + READY)?;
     secret.extend_from_slice(key)?;
-    push_blocks::<20, Sha1>(&mut secret, key)?;
-    push_blocks::<32, Sha256>(&mut secret, key)?;
-    Ok(SecretBytes::new(secret))
+    push_blocks::<20, Sha1>(secret, key)?;
+    push_blocks::<32, Sha256>(secret, key)
 }
 
 impl IntegrityKey {
@@ -71,9 +69,11 @@ impl IntegrityKey {
     ) -> Result<Self, AllocError>
         ensures { IfOk result (IsKey algorithm bytes.now) }
     {
+        let mut secret = Vec::with_capacity(alloc, bytes.len() + READY)?;
+        push_with_blocks(&mut secret, bytes)?;
         Ok(IntegrityKey {
             algorithm,
-            bytes: with_blocks(alloc, bytes)?,
+            bytes: SecretBytes::new(secret),
             prepared: Prepared::none(),
         })
     }

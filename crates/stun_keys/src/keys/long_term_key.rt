@@ -25,6 +25,7 @@ pub struct LongTermKeyCredentials {
 
 /// Makes the key that [`LongTermKeyCredentials::make_key`] makes of these three texts, copies none of
 /// them, and fails only if an allocation does.
+#[inline(never)]
 pub fn key_of_texts(
     alloc: Global,
     username: &str,

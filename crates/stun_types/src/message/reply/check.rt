@@ -82,7 +82,7 @@ impl Message<'_> {
         msg: &Message<'_>,
         supported: &[AttributeType],
         required: &[AttributeType],
-        mut write: B,
+        write: B,
     ) -> Result<Option<B>, StunWriteError>
         requires request { class_of (type_field (message_bytes msg.now)) ≡ Request }
         requires empty { (B.state write).bytes ≡ [] }
@@ -95,11 +95,7 @@ impl Message<'_> {
             (λ reply. IfOk result (λ answer. IsSomeAnd answer
             (λ w. IsReply (B.state write) (B.state w) (message_bytes msg.now) reply))) }
     {
-        if Self::check_attribute_types_into(alloc, msg, supported, required, &mut write)? {
-            Ok(Some(write))
-        } else {
-            Ok(None)
-        }
+        Self::check_attribute_lists(alloc, msg, &[supported], required, write)
     }
 
     /// Checks the attributes of a request, writes the reply that it deserves into a borrowed

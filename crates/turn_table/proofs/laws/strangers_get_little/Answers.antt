@@ -1,0 +1,11 @@
+use Rattle.turn_table.proofs.StrangersLemmas.{unchanged, quiet, forgotten}
+use Rattle.turn_table.proofs.laws.strangers_get_little.Goals as goal
+
+pub returns-clause-unchanged : goal.returns-clause-unchanged
+returns-clause-unchanged c = unchanged
+
+pub returns-clause-quiet : goal.returns-clause-quiet
+returns-clause-quiet c = quiet
+
+pub returns-clause-forgotten : goal.returns-clause-forgotten
+returns-clause-forgotten c = forgotten

@@ -1,0 +1,22 @@
+//! What a TURN server keeps of its clients, without sockets and without a clock (RFC 8656).
+#![tactic(auto)]
+
+mod binding;
+mod endpoints;
+mod laws;
+mod limits;
+pub mod peers;
+mod permitting;
+mod reply;
+mod serving;
+mod slot;
+mod user;
+
+pub use endpoints::{Channel, Endpoint, FiveTuple, Ip, Permission};
+pub use laws::{
+    clients_are_apart, relaying_is_warranted, strangers_get_little, table_is_bounded,
+    what_is_permitted_works,
+};
+pub use limits::{Limits, PeerPolicy};
+pub use reply::{AllocateReply, Reply, Request, ToClient, ToPeer};
+pub use user::UserId;

@@ -1,0 +1,40 @@
+//! What the caller sets once, and which peers it allows.
+
+ghost use Rattle.std.specs.Prelude.{◌≡◌, Bool};
+ghost use Rattle.turn_table.specs.declared.endpoints.Ip.{Ip};
+ghost use Rattle.turn_table.specs.declared.endpoints.Endpoint.{Endpoint};
+
+use crate::endpoints::{Endpoint, Ip};
+
+/// The bounds of a table, and two departures from RFC 8656 for clients that need them.
+#[derive(Clone, Copy, Debug, PartialEq, Eq)]
+pub struct Limits {
+    /// The most allocations, also those that have ended and that no poll has reported.
+    pub allocations: u32,
+    /// The most live allocations of one user.
+    pub of_user: u32,
+    /// The longest lifetime that a client can ask for, in seconds. Each can have 600.
+    pub greatest_lifetime: u32,
+    /// Whether a channel counts as a permission of its exact peer for as long as it lasts. By RFC
+    /// 8656 it doesn't (section 9), but some clients refresh only their channels.
+    pub channel_permits: bool,
+    /// Whether channel numbers from 0x5000 to 0x7FFF are allowed too, as RFC 5766 has them.
+    pub old_channels: bool,
+}
+
+/// Which peers clients may reach.
+pub trait PeerPolicy {
+    ghost allows_address: { Self → Ip → Bool };
+
+    ghost allows_port: { Self → Endpoint → Bool };
+
+    /// Whether clients may exchange data with this IP address. If not, a request that names it is
+    /// refused with 403.
+    fn allows_address(&self, ip: Ip) -> bool
+        ensures { result ≡ allows_address self.now ip };
+
+    /// Whether clients may send to this port of an allowed address. The server's own port, for one,
+    /// would be a loop. If not, a ChannelBind request is refused with 403, and other data is dropped.
+    fn allows_port(&self, peer: Endpoint) -> bool
+        ensures { result ≡ allows_port self.now peer };
+}

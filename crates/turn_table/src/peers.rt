@@ -1,0 +1,138 @@
+//! Which peers a TURN server relays to (RFC 8656, section 21).
+//!
+//! A server that relays to any address lets its clients reach what only its own host or network
+//! should reach. [`Peers`] is what it allows: every address but those in [`DENIED_BY_DEFAULT`], with
+//! prefixes of the caller's choice, and the addresses on which it listens itself.
+
+mod defaults;
+mod facts;
+mod laws;
+mod networks;
+mod parse;
+
+pub use defaults::DENIED_BY_DEFAULT;
+pub use facts::{longer_prefixes_overrule, registry_is_held};
+pub use laws::longest_prefix_decides;
+pub use networks::{Prefix, PrefixError};
+use networks::{Address, address_of};
+use std::net::{IpAddr, SocketAddr};
+
+/// Which peers a server relays to: the caller's rules, and [`DENIED_BY_DEFAULT`] after them.
+///
+/// Of the prefixes that contain an address the longest decides. If one prefix is in several lists,
+/// `denied` comes before `allowed`, and `allowed` before [`DENIED_BY_DEFAULT`]: `10.0.0.0/8` in
+/// `allowed` opens what the default closes, and in both lists it is closed. An address that no
+/// prefix contains is allowed. A prefix contains addresses of its own version alone:
+/// `::ffff:10.0.0.1` is an IPv6 address, and denied as one of `::ffff:0:0/96`. If IPv4 addresses are
+/// translated in your network by an IPv6 prefix of its own (RFC 6052), deny that prefix.
+///
+/// # Examples
+///
+/// ```
+/// use std::net::SocketAddr;
+/// use turn_table::peers::{Peers, Prefix};
+///
+/// let office: Prefix = "10.1.0.0/16".parse()?;
+/// let own: SocketAddr = "198.51.100.7:3478".parse()?;
+/// let peers = Peers { denied: &[], allowed: &[office], listening: &[own] };
+/// assert!(rt; peers.allows("10.1.2.3:5000".parse()?));
+/// assert!(rt; !peers.allows("10.2.2.3:5000".parse()?));
+/// // Two clients of this server may be each other's peers. The server itself is nobody's.
+/// assert!(rt; peers.allows("198.51.100.7:50000".parse()?));
+/// assert!(rt; !peers.allows(own));
+/// ```
+#[derive(Clone, Copy, Debug)]
+pub struct Peers<'a> {
+    /// The prefixes that the caller denies.
+    pub denied: &'a [Prefix],
+    /// The prefixes that the caller allows.
+    pub allowed: &'a [Prefix],
+    /// The addresses and ports to which the server's clients send. Each is denied (RFC 8656, section
+    /// 21.1.7); other ports of its IP address are not. A server that listens on `0.0.0.0` or `::`
+    /// lists each address of its host, an IPv4 address as such and not mapped to IPv6.
+    pub listening: &'a [SocketAddr],
+}
+
+impl Peers<'_> {
+    ghost use Rattle.std.specs.Prelude.{◌≡◌};
+    ghost use Rattle.turn_table.specs.Peers.{allows, allows_ip};
+
+    /// Whether the server relays to this peer: `allows_ip` of its IP address, and the server doesn't
+    /// listen there. Flow information and scope ID don't count.
+    ///
+    /// It looks at each prefix and each address once, and again at `allowed` for a prefix that denies
+    /// the peer; it takes no memory.
+    ///
+    /// # Examples
+    ///
+    /// ```
+    /// use turn_table::peers::Peers;
+    ///
+    /// let peers = Peers { denied: &[], allowed: &[], listening: &["192.0.2.1:3478".parse()?] };
+    /// assert!(rt; peers.allows("192.0.2.1:49152".parse()?));
+    /// assert!(rt; !peers.allows("192.0.2.1:3478".parse()?));
+    /// assert!(rt; !peers.allows("127.0.0.1:49152".parse()?));
+    /// ```
+    pub fn allows(&self, peer: SocketAddr) -> bool
+        ensures { result ≡ allows self.now peer }
+    {
+        self.allows_ip(peer.ip()) && !is_among(self.listening, peer)
+    }
+
+    /// Whether the server relays to peers of this IP address: what it asks for a permission, which is
+    /// of no port (RFC 8656, section 9).
+    ///
+    /// # Examples
+    ///
+    /// ```
+    /// use turn_table::peers::Peers;
+    ///
+    /// let peers = Peers { denied: &["203.0.113.0/24".parse()?], allowed: &[], listening: &[] };
+    /// assert!(rt; peers.allows_ip("192.0.2.1".parse()?));
+    /// assert!(rt; !peers.allows_ip("203.0.113.9".parse()?));
+    /// assert!(rt; !peers.allows_ip("fe80::1".parse()?));
+    /// ```
+    pub fn allows_ip(&self, ip: IpAddr) -> bool
+        ensures { result ≡ allows_ip self.now ip }
+    {
+        let address = address_of(ip);
+        is_open(self.denied, self.allowed, 1, address)
+            && is_open(&DENIED_BY_DEFAULT, self.allowed, 0, address)
+    }
+}
+
+ghost use Rattle.std.specs.Prelude.{◌≡◌, ◌+◌, ◌≤◌};
+ghost use Rattle.std.specs.List.{list_any};
+ghost use Rattle.turn_table.specs.Peers.{is_same_peer, is_allowed_by, is_open};
+
+/// Whether one of these prefixes contains the address, and has at least this length.
+fn is_allowed_by(allowed: &[Prefix], least: u16, address: Address) -> bool
+    ensures { result ≡ is_allowed_by allowed.now least address }
+{
+    allowed.iter().any(|prefix| least <= prefix.length() as u16 && prefix.contains(address))
+}
+
+/// Whether for each of `denied` that contains the address there is one of `allowed` that contains
+/// it, and is longer by at least `more`.
+fn is_open(denied: &[Prefix], allowed: &[Prefix], more: u8, address: Address) -> bool
+    ensures { result ≡ is_open denied.now allowed.now more address }
+{
+    denied.iter().all(|prefix| {
+        !prefix.contains(address)
+            || is_allowed_by(allowed, prefix.length() as u16 + more as u16, address)
+    })
+}
+
+/// Whether two transport addresses have one IP address and one port.
+fn is_same_peer(peer: SocketAddr, own: SocketAddr) -> bool
+    ensures { result ≡ is_same_peer peer own }
+{
+    own.port() == peer.port() && address_of(own.ip()).is_same(address_of(peer.ip()))
+}
+
+/// Whether the server listens where a peer is.
+fn is_among(listening: &[SocketAddr], peer: SocketAddr) -> bool
+    ensures { result ≡ list_any (is_same_peer peer) listening.now }
+{
+    listening.iter().any(|own| is_same_peer(peer, *own))
+}

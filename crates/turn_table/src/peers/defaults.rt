@@ -1,0 +1,78 @@
+//! The prefixes that a TURN server denies unless its caller allows them.
+
+use super::Prefix;
+use super::networks::{Address, Version};
+
+/// A prefix of an IPv4 address.
+macro_rules! v4 {
+    ($number:literal / $length:literal) => {
+        Prefix {
+            network: Address {
+                version: Version::V4,
+                number: $number,
+            },
+            length: $length,
+        }
+    };
+}
+
+/// A prefix of an IPv6 address.
+macro_rules! v6 {
+    ($number:literal / $length:literal) => {
+        Prefix {
+            network: Address {
+                version: Version::V6,
+                number: $number,
+            },
+            length: $length,
+        }
+    };
+}
+
+/// The prefixes that are denied by default: what is in the server's own host or network, what is no
+/// single host, and what holds an IPv4 address. Of the blocks in the special-purpose registry (RFC
+/// 6890) they leave those for documentation, 192.88.99.0/24 and 100::/64.
+pub const DENIED_BY_DEFAULT: [Prefix; 21] = [
+    // 0.0.0.0/8, this network (RFC 1122, section 3.2.1.3)
+    v4!(0x0000_0000 / 8),
+    // 10.0.0.0/8, private (RFC 1918, section 3)
+    v4!(0x0A00_0000 / 8),
+    // 100.64.0.0/10, shared by the customers of a carrier (RFC 6598, section 7)
+    v4!(0x6440_0000 / 10),
+    // 127.0.0.0/8, loopback (RFC 1122, section 3.2.1.3)
+    v4!(0x7F00_0000 / 8),
+    // 169.254.0.0/16, link-local (RFC 3927, section 2.1)
+    v4!(0xA9FE_0000 / 16),
+    // 172.16.0.0/12, private (RFC 1918, section 3)
+    v4!(0xAC10_0000 / 12),
+    // 192.0.0.0/24, assignments of the IETF (RFC 6890, section 2.1)
+    v4!(0xC000_0000 / 24),
+    // 192.168.0.0/16, private (RFC 1918, section 3)
+    v4!(0xC0A8_0000 / 16),
+    // 198.18.0.0/15, benchmarks (RFC 2544, appendix C.2.2)
+    v4!(0xC612_0000 / 15),
+    // 224.0.0.0/4, multicast (RFC 1112, section 4)
+    v4!(0xE000_0000 / 4),
+    // 240.0.0.0/4, reserved (RFC 1112, section 4), and 255.255.255.255, broadcast (RFC 919, section 7)
+    v4!(0xF000_0000 / 4),
+    // ::/96, unspecified, loopback and IPv4-compatible (RFC 4291, sections 2.5.2, 2.5.3 and 2.5.5.1)
+    v6!(0x0 / 96),
+    // ::ffff:0:0/96, IPv4-mapped (RFC 4291, section 2.5.5.2)
+    v6!(0xFFFF_0000_0000 / 96),
+    // 64:ff9b::/96, translated to IPv4 (RFC 6052, section 2.1)
+    v6!(0x0064_FF9B_0000_0000_0000_0000_0000_0000 / 96),
+    // 64:ff9b:1::/48, translated to IPv4 inside a network (RFC 8215)
+    v6!(0x0064_FF9B_0001_0000_0000_0000_0000_0000 / 48),
+    // 2001::/23, assignments of the IETF (RFC 2928)
+    v6!(0x2001_0000_0000_0000_0000_0000_0000_0000 / 23),
+    // 2001::/32, Teredo (RFC 8656, section 21.4; RFC 4380, section 2.6)
+    v6!(0x2001_0000_0000_0000_0000_0000_0000_0000 / 32),
+    // 2002::/16, 6to4 (RFC 8656, section 21.4; RFC 3056, section 2)
+    v6!(0x2002_0000_0000_0000_0000_0000_0000_0000 / 16),
+    // fc00::/7, unique local (RFC 4193, section 3.1)
+    v6!(0xFC00_0000_0000_0000_0000_0000_0000_0000 / 7),
+    // fe80::/10, link-local (RFC 4291, section 2.5.6)
+    v6!(0xFE80_0000_0000_0000_0000_0000_0000_0000 / 10),
+    // ff00::/8, multicast (RFC 4291, section 2.7)
+    v6!(0xFF00_0000_0000_0000_0000_0000_0000_0000 / 8),
+];

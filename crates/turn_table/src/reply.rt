@@ -1,0 +1,54 @@
+//! What the table answers, and where data goes.
+
+use crate::endpoints::{Endpoint, FiveTuple};
+
+/// A request of a user that isn't Allocate, as its attributes say.
+#[derive(Clone, Copy)]
+pub enum Request<'a> {
+    /// Refresh: the value of REQUESTED-ADDRESS-FAMILY, if it has one, and LIFETIME in seconds.
+    Refresh(Option<u8>, Option<u32>),
+    /// CreatePermission: each XOR-PEER-ADDRESS.
+    CreatePermission(&'a [Endpoint]),
+    /// ChannelBind: CHANNEL-NUMBER and XOR-PEER-ADDRESS.
+    ChannelBind(u16, Endpoint),
+    /// One whose attributes are refused with this code, if the client has an allocation.
+    Unfit(u16),
+}
+
+/// The answer to a request that isn't Allocate.
+#[derive(Clone, Copy, Debug, PartialEq, Eq)]
+pub enum Reply {
+    /// A success response to Refresh, with this LIFETIME in seconds.
+    Refreshed(u32),
+    /// A success response.
+    Done,
+    /// An error response with this code.
+    Refused(u16),
+}
+
+/// The answer to an Allocate request.
+#[derive(Clone, Copy, Debug, PartialEq, Eq)]
+pub enum AllocateReply {
+    /// A success response, with this LIFETIME in seconds: the socket that was ready is the
+    /// allocation's now, by this number.
+    Opened(u64, u32),
+    /// A success response once more, with this relayed address and LIFETIME in seconds: the request
+    /// is the one that opened the allocation. The socket that was ready isn't used.
+    Again(Endpoint, u32),
+    /// An error response with this code.
+    Refused(u16),
+}
+
+/// Where data of a client goes: from the socket of this number to a peer.
+#[derive(Clone, Copy, Debug, PartialEq, Eq)]
+pub struct ToPeer {
+    pub relay: u64,
+    pub peer: Endpoint,
+}
+
+/// Where data of a peer goes: to the client, on a channel or in a Data indication.
+#[derive(Clone, Copy, Debug, PartialEq, Eq)]
+pub struct ToClient {
+    pub tuple: FiveTuple,
+    pub channel: Option<u16>,
+}
