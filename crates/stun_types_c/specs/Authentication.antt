@@ -93,7 +93,7 @@ used_in (LongTerm md5) = Some (borrowed_of md5)
 -- a decision in C's numbers: accepted, refused, dropped or not authenticated. The number of the
 -- password algorithm depends on the key
 abbrev pub in_c : (used : Option (Option UserKey)) → Decision → CAuthenticated
-in_c used (accept key algorithm reply) = record {
+in_c used (accept user key algorithm reply) = record {
   kind = 1;
   error_code = 0;
   algorithm = number_of algorithm;

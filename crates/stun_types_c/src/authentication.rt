@@ -219,7 +219,7 @@ fn number_used(used: KeyUsed<'_>, key: &IntegrityKey) -> u32
 }
 
 /// An answer, as C's numbers.
-fn in_c(answer: &Authentication, used: KeyUsed<'_>) -> CAuthenticated
+fn in_c(answer: &Authentication<'_>, used: KeyUsed<'_>) -> CAuthenticated
     ensures { (decision : Decision) → Tells decision answer.now
         → result ≡ in_c (used_in used.entry) decision }
 {
@@ -250,11 +250,11 @@ fn in_c(answer: &Authentication, used: KeyUsed<'_>) -> CAuthenticated
 
 /// Writes an answer for C, or that nothing is decided, since an allocation failed.
 fn tell(
-    answer: Result<Authentication, AllocError>,
+    answer: Result<Authentication<'_>, AllocError>,
     used: KeyUsed<'_>,
     out: &mut CAuthenticated,
 ) -> CResult
-    ensures { (decision : Decision) → IfOk answer (Tells decision)
+    ensures { (decision : Decision) → IfOk answer.entry (Tells decision)
         → TellsDecision (used_in used.entry) decision result out.new }
 {
     match answer {
@@ -305,13 +305,13 @@ pub extern "C" fn stun_types_authenticate_short_term(
 }
 
 /// What becomes of a message by long-term credentials, whose keys are made with the realm already.
-fn long_term_decision(
+fn long_term_decision<'a>(
     alloc: Global,
-    message: &Message<'_>,
+    message: &Message<'a>,
     policy: Policy,
     nonce: &OneNonce,
     user: &OneUser<'_>,
-) -> Result<Authentication, AllocError>
+) -> Result<Authentication<'a>, AllocError>
     ensures { IfOk result (Tells (long_term policy [] (λ _. known_of nonce.now)
         (λ _ _. long_term_key_of (borrowed_of user.now.md5) (borrowed_of user.now.sha256))
         (message_bytes message.now))) }
