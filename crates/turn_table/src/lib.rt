@@ -3,12 +3,14 @@
 
 mod binding;
 mod endpoints;
+mod hashing;
 mod laws;
 mod limits;
 mod permitting;
 mod reply;
 mod serving;
 mod slot;
+mod slots;
 mod user;
 
 pub use endpoints::{Channel, Endpoint, FiveTuple, Ip, Permission};
