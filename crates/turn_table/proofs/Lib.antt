@@ -20,3 +20,6 @@ mod DistinctLemmas
 mod RelayingLemmas
 mod UsersLemmas
 mod FaultsLemmas
+mod SlotsLemmas
+mod TablesLemmas
+mod ServedLemmas

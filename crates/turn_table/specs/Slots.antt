@@ -1,10 +1,95 @@
 -- The slots of a table, and what names them.
-use Rattle.std.specs.Prelude.{◌≡◌, false, List, [], ◌∷◌}
+use Rattle.std.specs.Prelude.{◌≡◌, ℕ, ◌+◌, ◌*◌, ◌%◌, ◌^◌, ◌<◌, ◌≤◌, Bool, false, List, [], ◌∷◌, Option, None, Some, length, slice_index_or, if◌then◌else◌, ◌⊎◌}
 use Rattle.std.specs.List.{list_any}
-use Rattle.turn_table.specs.Endpoints.{is_ip}
-use Rattle.turn_table.specs.Allocations.{Permission}
+use Rattle.std.specs.Map.{lookup}
+use Rattle.turn_table.specs.Endpoints.{FiveTuple, is_ip, is_tuple}
+use Rattle.turn_table.specs.Allocations.{Permission, Allocation, State, is_of, is_at}
+use Rattle.turn_table.specs.Steps.{at}
 
 -- no two permissions are of one IP address
 abbrev pub AreDistinct : List Permission → Type 0
 AreDistinct [] = Unit {0}
 AreDistinct (p ∷ ps) = (list_any (λ q. is_ip p.ip q.ip) ps ≡ false) × AreDistinct ps
+
+-- what is in a slot
+abbrev pub in_slot : List (Option Allocation) → ℕ → Option Allocation
+in_slot slots i = slice_index_or slots i None
+
+abbrev pub put_first : Option Allocation → List Allocation → List Allocation
+put_first None all = all
+put_first (Some a) all = a ∷ all
+
+-- the allocations in these slots, in this order
+abbrev pub listed : List (Option Allocation) → List ℕ → List Allocation
+listed slots [] = []
+listed slots (i ∷ order) = put_first (in_slot slots i) (listed slots order)
+
+-- a number is in a list, and none is there twice
+abbrev pub Has : ℕ → List ℕ → Type 0
+Has i [] = ⊥
+Has i (j ∷ js) = (j ≡ i) ⊎ Has i js
+
+abbrev pub AreApart : List ℕ → Type 0
+AreApart [] = Unit {0}
+AreApart (i ∷ is) = (Has i is → ⊥) × AreApart is
+
+-- an allocation, if it is live and of this client, or has this socket
+abbrev pub if_of : ℕ → FiveTuple → Option Allocation → Option Allocation
+if_of now tuple None = None
+if_of now tuple (Some a) = if is_of now tuple a then Some a else None
+
+abbrev pub if_at : ℕ → ℕ → Option Allocation → Option Allocation
+if_at now relay None = None
+if_at now relay (Some a) = if is_at now relay a then Some a else None
+
+-- what the index names for a 5-tuple
+abbrev pub named : List (FiveTuple × ℕ) → FiveTuple → Option ℕ
+named entries tuple = lookup (is_tuple tuple) entries
+
+abbrev pub at_place : List (Option Allocation) → Option ℕ → Option Allocation
+at_place slots None = None
+at_place slots (Some i) = in_slot slots i
+
+-- how many slots there may be
+abbrev pub places : ℕ
+places = 4_294_967_296
+
+-- the index names the slot of each live allocation
+abbrev pub Finds : ℕ → List (Option Allocation) → List (FiveTuple × ℕ) → Type 0
+Finds clock slots entries =
+    (i : ℕ) (a : Allocation) → in_slot slots i ≡ Some a → clock < a.until
+    → named entries a.tuple ≡ Some i
+
+-- a socket's number has its slot in its low bits
+abbrev pub ArePlaced : List (Option Allocation) → Type 0
+ArePlaced slots = (i : ℕ) (a : Allocation) → in_slot slots i ≡ Some a → a.relay % places ≡ i
+
+-- the index names slots
+abbrev pub IsInside : List (Option Allocation) → List (FiveTuple × ℕ) → Type 0
+IsInside slots entries = (tuple : FiveTuple) (i : ℕ) → named entries tuple ≡ Some i → i < length slots
+
+-- the slots in use are those in the order of opening, and the others are free
+pub record AreCounted (slots : List (Option Allocation)) (order free : List ℕ) : Type 0 where
+  pub used : (i : ℕ) → Has i order → (a : Allocation) × (in_slot slots i ≡ Some a)
+  pub ordered : (i : ℕ) (a : Allocation) → in_slot slots i ≡ Some a → Has i order
+  pub apart : AreApart order
+  pub unused : (i : ℕ) → Has i free → (i < length slots) × (in_slot slots i ≡ None)
+  pub free_apart : AreApart free
+  pub all : length order + length free ≡ length slots
+
+pub record IsTable (clock : ℕ) (slots : List (Option Allocation)) (order free : List ℕ)
+    (entries : List (FiveTuple × ℕ)) : Type 0 where
+  pub finds : Finds clock slots entries
+  pub placed : ArePlaced slots
+  pub inside : IsInside slots entries
+  pub counted : AreCounted slots order free
+  pub few : length slots ≤ places
+  pub early : clock < 2 ^ 100
+
+-- what is kept: how many allocations there may be, and the state
+pub record Kept : Type 0 where
+  pub most : ℕ
+  pub state : State
+
+abbrev pub kept_at : ℕ → Kept → Kept
+kept_at now kept = record { most = kept.most; state = at now kept.state }

@@ -3,6 +3,7 @@
 
 mod binding;
 mod endpoints;
+mod hashing;
 mod laws;
 mod limits;
 pub mod peers;
@@ -10,6 +11,7 @@ mod permitting;
 mod reply;
 mod serving;
 mod slot;
+mod slots;
 mod user;
 
 pub use endpoints::{Channel, Endpoint, FiveTuple, Ip, Permission};
