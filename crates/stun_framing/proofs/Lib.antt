@@ -6,3 +6,4 @@ mod RunsLemmas
 pub mod ComingLemmas
 mod ResumingLemmas
 pub mod StoredLemmas
+mod ReadingLemmas

@@ -6,6 +6,7 @@ use Rattle.stun_framing.specs.declared.error.StreamError.{StreamError}
 use Rattle.stun_framing.specs.declared.stored_stream.Pushed.{Pushed}
 use Rattle.stun_framing.specs.declared.stream_kind.StreamKind.{StreamKind}
 use Rattle.stun_framing.specs.Framing.{Room, room_of, stated_length, stream_fault}
+use Rattle.stun_framing.specs.Gathering.{wanted_for}
 
 -- what it carries and how many bytes the buffer takes, the offset in the stream of the pending bytes, which are those of a
 -- message that isn't complete, the message that the last piece completed, and how the stream ended
@@ -42,6 +43,11 @@ can_resume carries buffer held =
     nat_le 20 (length buffer) && nat_le held (length buffer)
     && not (is_some (stream_fault (room_of carries (length buffer)) (take held buffer)))
     && not (is_whole (take held buffer))
+
+-- so many more bytes are read after them, which belong to the message, or to its first four bytes
+abbrev pub can_receive : StreamKind → (buffer : List ℕ) → (held count : ℕ) → Bool
+can_receive carries buffer held count =
+    can_resume carries buffer held && nat_le count (wanted_for (take held buffer) - held)
 
 -- the bytes of b that belong to the message with which it begins
 abbrev pub of_first : List ℕ → List ℕ

@@ -2,7 +2,8 @@
 //! (RFC 8489, section 6.2.2).
 //!
 //! A [`MessageStream`] is handed the pieces, and yields each message whole. It has no socket, and it
-//! allocates nothing. [`push_raw`] does the same for a caller that keeps the buffer and two numbers.
+//! allocates nothing. [`push_raw`] does the same for a caller that keeps the buffer and two numbers,
+//! and [`receive_raw`] for one that reads the bytes straight into it.
 #![tactic(auto)]
 
 mod error;
@@ -10,6 +11,7 @@ mod fault;
 mod gather;
 mod laws;
 mod message_stream;
+mod read_stream;
 mod stored_stream;
 mod stream_kind;
 
@@ -19,5 +21,6 @@ pub use laws::{
     resuming_changes_nothing,
 };
 pub use message_stream::MessageStream;
+pub use read_stream::{missing_raw, receive_raw};
 pub use stored_stream::{Pushed, push_raw};
 pub use stream_kind::StreamKind;

@@ -27,7 +27,7 @@ pub struct Pushed {
 }
 
 /// How many bytes are the message, if it is complete.
-fn whole_length(gathered: Gathered) -> Option<usize>
+pub(crate) fn whole_length(gathered: Gathered) -> Option<usize>
     ensures { result ≡ (if is_all gathered then Some gathered.held else None) }
 {
     if gathered.held == gathered.wanted {
