@@ -13,9 +13,9 @@ use Rattle.stun_authentication.specs.Lookups.{UserKey, Known, valid}
 use Rattle.stun_authentication.specs.LongTerm.{promised, chosen, reply_algorithm}
 use Rattle.stun_authentication.specs.Policies.{is_taken, is_long_enough}
 
--- d is this user's, by short-term credentials: its USERNAME names the user, whose key it is; this works with the
--- algorithm of the HMAC, which serves the policy; the HMAC is long enough, and d has the FINGERPRINT
--- that the usage uses
+-- d is this user's, by short-term credentials: its USERNAME names the user, whose key it is; this
+-- works with the algorithm of the HMAC, which serves the policy; the HMAC is long enough, and d has
+-- the FINGERPRINT that the usage uses
 pub record IsUsers (policy : Policy) (keys : List ℕ → Option UserKey) (d : List ℕ) (user : Who)
     (key : UserKey) (a : IntegrityAlgorithm) : Type 0 where
   pub name : List ℕ
@@ -27,12 +27,12 @@ pub record IsUsers (policy : Policy) (keys : List ℕ → Option UserKey) (d : L
   pub long_enough : is_long_enough policy a d ≡ true
   pub taken : is_taken policy d ≡ true
 
--- d is this user's, by long-term credentials: the nonce is valid; its USERNAME or USERHASH names the
--- user, whose key it is in the server's realm, by the password algorithm that it chooses, or by MD5, and works
--- with the algorithm of the HMAC, which serves the policy; an algorithm that it chooses is one of
--- those that were sent with the nonce, and if it chooses none, it shows none, or the nonce promises
--- no list; the reply is signed by the algorithm that goes with it; the HMAC is long enough, and d has
--- the FINGERPRINT that the usage uses
+-- d is this user's, by long-term credentials: the nonce is valid; its USERNAME or USERHASH names
+-- the user, whose key it is in the server's realm, by the password algorithm that it chooses, or by
+-- MD5, and works with the algorithm of the HMAC, which serves the policy; an algorithm that it
+-- chooses is one of those that were sent with the nonce, and if it chooses none, it shows none, or
+-- the nonce promises no list; the reply is signed by the algorithm that goes with it; the HMAC is
+-- long enough, and d has the FINGERPRINT that the usage uses
 pub record IsLogin (policy : Policy) (realm : List ℕ) (nonces : List ℕ → Known)
     (keys : Who → List ℕ → PasswordAlgorithmValue → Option UserKey) (d : List ℕ) (user : Who)
     (key : UserKey) (a reply : IntegrityAlgorithm) : Type 0 where

@@ -40,12 +40,13 @@ pub fn what_counts_serves_both()
 {}
 
 /// A message that is accepted is its sender's: type, transaction ID and what is shown are authentic
-/// under the key of the user who is reported, by the algorithm that was answered. If only
-/// one algorithm serves both the policy and the key, this holds of what is shown through its
-/// integrity attribute. The user is the one whom the message names, the key is the one that the
-/// look-up has for that user, it works with the algorithm that was answered, and this one serves the policy; its HMAC is as long
-/// as the policy asks, and under long-term credentials its nonce is valid, and its password algorithm
-/// is one of those that were sent with the nonce, unless it is processed as though with MD5.
+/// under the key of the user who is reported, by the algorithm that was answered. If only one
+/// algorithm serves both the policy and the key, this holds of what is shown through its integrity
+/// attribute. The user is the one whom the message names, the key is the one that the look-up has
+/// for that user, it works with the algorithm that was answered, and this one serves the policy;
+/// its HMAC is as long as the policy asks, and under long-term credentials its nonce is valid, and
+/// its password algorithm is one of those that were sent with the nonce, unless it is processed as
+/// though with MD5.
 pub fn accepted_is_authentic()
     ensures users { (policy : Policy) (keys : List ℕ → Option UserKey) (d : List ℕ)
         (user : Who) (key : UserKey) (a reply : IntegrityAlgorithm)
@@ -99,11 +100,11 @@ pub fn nonces_are_texts()
 }
 
 /// A nonce of a [`NonceMaker`](crate::NonceMaker) is valid from the time at which it was made until
-/// its window is over, for the client that it was made for. It is stale afterwards and before, as long
-/// as less than 2^36 seconds, 2,177 years, separate now from its window or its time. What is valid or
-/// stale is the nonce that the server made for that client at that time; so one that was made under
-/// another secret, with other features or for another client is unknown, unless the first 96 bits of
-/// the two HMACs are equal.
+/// its window is over, for the client that it was made for. It is stale after its window, until 2^36
+/// seconds (2,177 years) after its time, and before its time, from 2^36 seconds before the end of
+/// its window on. What is valid or stale is the nonce that the server made for that client at that
+/// time; so one that was made under another secret, with other features or for another client is
+/// unknown, unless the first 96 bits of the two HMACs are equal.
 pub fn nonces_are_timed()
     ensures valid { (minting : Minting) (time now : ℕ) (place : List ℕ)
         → time ≤ now → now ≤ time + minting.window
@@ -122,10 +123,10 @@ pub fn nonces_are_timed()
         → first_bits (minted_mac other time there) ≡ first_bits (minted_mac minting time place) }
 {}
 
-/// A 401 that asks for a login, as [`refuse_long_term`](crate::refuse_long_term) writes it with a nonce
-/// of a [`NonceMaker`](crate::NonceMaker) and two password algorithms, has 100 bytes and the padded
-/// realm, and a FINGERPRINT if the request has one. With the headers of IP and UDP, 28 bytes or more, it
-/// is at most three times as long as the request, if the realm has at most 16 bytes.
+/// A 401 that asks for a login, as [`refuse_long_term`](crate::refuse_long_term) writes it with a
+/// nonce of a [`NonceMaker`](crate::NonceMaker) and two password algorithms, has 100 bytes and the
+/// padded realm, and a FINGERPRINT if the request has one. With the headers of IP and UDP, 28 bytes
+/// or more, it is at most three times as long as the request, if the realm has at most 16 bytes.
 pub fn refusals_are_short()
     ensures size { (r realm place : List ℕ) (minting : Minting) (time : ℕ)
         (one other : PasswordAlgorithmValue) → length realm < 2 ^ 16

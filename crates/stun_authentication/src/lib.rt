@@ -2,11 +2,12 @@
 //! and of a client, without sockets, without storage and without a clock.
 //!
 //! A server calls [`authenticate_short_term`] or [`authenticate_long_term`] with a request, which
-//! returns whether it is accepted, as whose, and with which key, or how it is refused; [`refuse_short_term`]
-//! and [`refuse_long_term`] write that response, and [`Accepted::finish_reply`] signs the reply to
-//! an accepted request. A client calls [`challenge_of`] with a 401 or a 438, which returns what its
-//! next request has to carry, and [`answer_challenge`] writes that. The server's users and nonces
-//! are looked up through traits of one method each.
+//! returns whether it is accepted, as whose, and with which key, or how it is refused;
+//! [`refuse_short_term`] and [`refuse_long_term`] write that response, and
+//! [`Accepted::finish_reply`] signs the reply to an accepted request. A client calls
+//! [`challenge_of`] with a 401 or a 438, which returns what its next request has to carry, and
+//! [`answer_challenge`] writes that. The server's users and nonces are looked up through traits of
+//! one method each.
 //!
 //! A login, with the messages of server and client:
 //!

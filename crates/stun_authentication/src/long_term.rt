@@ -137,8 +137,9 @@ fn reply_algorithm(chosen: Option<PasswordAlgorithmValue>) -> IntegrityAlgorithm
 ///   refused with 401, like an unsigned one.
 /// - If the nonce isn't valid, it is refused with 438. It is looked at last: a wrong password
 ///   with a stale nonce is 401.
-/// - Otherwise it is accepted, with the user and the key. The reply is signed by MESSAGE-INTEGRITY-SHA256 alone,
-///   but by MESSAGE-INTEGRITY alone if the request was processed as though with MD5.
+/// - Otherwise it is accepted, with the user and the key. The reply is signed by
+///   MESSAGE-INTEGRITY-SHA256 alone, but by MESSAGE-INTEGRITY alone if the request was processed as
+///   though with MD5.
 ///
 /// The realm makes the key, and not the REALM of the request, which only has to be there. A 401 and
 /// a 438 carry REALM and NONCE, and PASSWORD-ALGORITHMS if the nonce promises it; a 400 carries
