@@ -1,0 +1,5 @@
+pub mod Addresses
+pub mod ChannelMessages
+pub mod Values
+pub mod Comprehended
+pub mod Indications
