@@ -14,8 +14,8 @@ pub(crate) fn is_channel_byte(last_channel: u16, first: u8) -> bool
     0x40 <= first && first as u16 <= last_channel / 256
 }
 
-/// The number of a channel and the data on it, which the datagram may pad to a multiple of 4. `None` if it is cut off, or
-/// longer.
+/// The number of a channel and the data on it, which the datagram may pad to a multiple of 4. `None`
+/// if it is cut off, or longer.
 pub(crate) fn read_channel_data(datagram: &[u8]) -> Option<(u16, &[u8])>
     ensures { MatchOption result (data_in datagram.now ≡ None)
         (λ read. (data_in datagram.now ≡ Some read.1.now)

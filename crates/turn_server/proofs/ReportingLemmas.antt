@@ -1,0 +1,18 @@
+-- What is told of a request that was accepted.
+use Rattle.std.proofs.Common.{ℕ, List}
+use Rattle.stun_grammar.specs.declared.integrity_algorithm.IntegrityAlgorithm.{IntegrityAlgorithm}
+use Rattle.stun_authentication.specs.declared.answer.Accepted.{Accepted}
+use Rattle.stun_authentication.specs.declared.answer.Authentication.TheVariants.{Accepted as AcceptedBy}
+use Rattle.stun_authentication.specs.Answers.{Decision, accept, refuse, discard, not_a_request, Tells as Decides}
+use Rattle.stun_authentication.specs.Lookups.{UserKey}
+use Rattle.turn_server.specs.declared.judged.Judged.{Judged as Reported}
+use Rattle.turn_server.specs.Judging.{Site, accepted_as, decided_as}
+use Rattle.turn_server.specs.Reporting.{Signs, Tells}
+
+-- what is told by the key and the algorithm of the reply, is told by the decision that has them
+pub told_accepted : (site : Site) (method : ℕ) (d : List ℕ) (accepted : Accepted) (reported : Reported) → ((key : UserKey) (algorithm : IntegrityAlgorithm) → Signs key algorithm accepted → Tells (accepted_as site method d key algorithm) reported)
+    → (decision : Decision) → Decides decision (AcceptedBy accepted) → Tells (decided_as site method d decision) reported
+told_accepted site method d accepted reported told (accept key algorithm reply_algorithm) decides = told key reply_algorithm (record { key_is = decides.key_is; reply_is = decides.reply_is })
+told_accepted site method d accepted reported told (refuse refusal) decides = absurd decides
+told_accepted site method d accepted reported told discard decides = absurd decides
+told_accepted site method d accepted reported told not_a_request decides = absurd decides
