@@ -1,5 +1,5 @@
 -- What a judgment says of the datagram, case by case.
-use Rattle.std.proofs.Common.{◌≡◌, ℕ, Bool, true, false, List, [], ◌∷◌, Option, Some, None, if◌then◌else◌, refl}
+use Rattle.std.proofs.Common.{◌≡◌, ℕ, Bool, true, false, List, [], ◌∷◌, Option, Some, None, if◌then◌else◌, refl, subst}
 use Rattle.std.proofs.lemmas.Bool.{eqb-true}
 use Rattle.std.specs.Prelude.{is_some, ◌==◌}
 use Rattle.std.specs.Option.{option_map_or}
@@ -15,11 +15,13 @@ use Rattle.stun_authentication.specs.Identities.{identity_of}
 use Rattle.stun_authentication.specs.Lookups.{UserKey}
 use Rattle.stun_server.specs.Reply.{reply}
 use Rattle.turn_attrs.specs.Channels.{channel_field}
+use Rattle.turn_table.specs.declared.endpoints.FiveTuple.{FiveTuple}
+use Rattle.turn_table.specs.Events.{Request as TableRequest, asks}
 use Rattle.turn_server.specs.ChannelMessages.{is_channel_byte, data_in}
 use Rattle.turn_server.specs.Comprehended.{is_comprehended}
 use Rattle.turn_server.specs.Indications.{sent_by}
-use Rattle.turn_server.specs.Judging.{Site, Judged, dropped, binding, sent, sent_on, SEND, channel_message, indicated, accepted_as, decided_as, requested, by_class, message, judge}
-use Rattle.turn_server.specs.Judgments.{IsOfClass, IsDecided, IsSo, credentials}
+use Rattle.turn_server.specs.Judging.{Site, Judged, dropped, binding, refused, unknown, sent, sent_on, asked, event_of, SEND, channel_message, indicated, accepted_as, decided_as, requested, by_class, message, judge}
+use Rattle.turn_server.specs.Judgments.{IsOfClass, IsDecided, IsAsked, IsSo, credentials}
 use Rattle.turn_server.specs.Requests.{asks_table}
 
 -- what holds of both branches holds of the choice
@@ -91,3 +93,22 @@ judgment_is_so site [] = tt
 judgment_is_so site (first ∷ more) =
     either (IsSo site (first ∷ more)) (is_channel_byte site.last_channel first) (channel_message (first ∷ more)) (message site (first ∷ more))
     (λ _. channel_is_so site (first ∷ more)) (λ _. message_is_so site (first ∷ more))
+
+asked_is_so : (site : Site) (tuple : FiveTuple) (d : List ℕ) (user : ℕ) (request : TableRequest) (judged : Judged) → IsSo site d judged → event_of tuple judged ≡ Some (asks tuple user request)
+    → (key : UserKey) × (reply_algorithm : IntegrityAlgorithm) × IsAsked site d user request key reply_algorithm
+asked_is_so site tuple d user request dropped so e = absurd cc
+asked_is_so site tuple d user request binding so e = absurd cc
+asked_is_so site tuple d user request (refused refusal) so e = absurd cc
+asked_is_so site tuple d user request (unknown key reply_algorithm) so e = absurd cc
+asked_is_so site tuple d user request (sent peer bytes) so e = absurd cc
+asked_is_so site tuple d user request (sent_on channel bytes) so e = absurd cc
+asked_is_so site tuple d user request (asked by asking key reply_algorithm) so e =
+    let same_user : by ≡ user = cc in
+    let same_request : asking ≡ request = cc in
+    let of_user : IsAsked site d user asking key reply_algorithm = subst (λ (u : ℕ). IsAsked site d u asking key reply_algorithm) same_user so in
+    (key, reply_algorithm, subst (λ (r : TableRequest). IsAsked site d user r key reply_algorithm) same_request of_user)
+
+-- only what is accepted becomes a request to the table
+pub event_is_so : (site : Site) (tuple : FiveTuple) (d : List ℕ) (user : ℕ) (request : TableRequest) → event_of tuple (judge site d) ≡ Some (asks tuple user request)
+    → (key : UserKey) × (reply_algorithm : IntegrityAlgorithm) × IsAsked site d user request key reply_algorithm
+event_is_so site tuple d user request e = asked_is_so site tuple d user request (judge site d) (judgment_is_so site d) e

@@ -1,4 +1,4 @@
--- What is told of a request that was accepted.
+-- What is reported of a request that was accepted.
 use Rattle.std.proofs.Common.{ℕ, List}
 use Rattle.stun_grammar.specs.declared.integrity_algorithm.IntegrityAlgorithm.{IntegrityAlgorithm}
 use Rattle.stun_authentication.specs.declared.answer.Accepted.{Accepted}
@@ -9,10 +9,10 @@ use Rattle.turn_server.specs.declared.judged.Judged.{Judged as Reported}
 use Rattle.turn_server.specs.Judging.{Site, accepted_as, decided_as}
 use Rattle.turn_server.specs.Reporting.{Signs, Tells}
 
--- what is told by the key and the algorithm of the reply, is told by the decision that has them
-pub told_accepted : (site : Site) (method : ℕ) (d : List ℕ) (accepted : Accepted) (reported : Reported) → ((key : UserKey) (algorithm : IntegrityAlgorithm) → Signs key algorithm accepted → Tells (accepted_as site method d key algorithm) reported)
+-- what is right by the key and the algorithm of the reply is right by the decision that has them
+pub decision_reported : (site : Site) (method : ℕ) (d : List ℕ) (accepted : Accepted) (reported : Reported) → ((key : UserKey) (algorithm : IntegrityAlgorithm) → Signs key algorithm accepted → Tells (accepted_as site method d key algorithm) reported)
     → (decision : Decision) → Decides decision (AcceptedBy accepted) → Tells (decided_as site method d decision) reported
-told_accepted site method d accepted reported told (accept key algorithm reply_algorithm) decides = told key reply_algorithm (record { key_is = decides.key_is; reply_is = decides.reply_is })
-told_accepted site method d accepted reported told (refuse refusal) decides = absurd decides
-told_accepted site method d accepted reported told discard decides = absurd decides
-told_accepted site method d accepted reported told not_a_request decides = absurd decides
+decision_reported site method d accepted reported right (accept key algorithm reply_algorithm) decides = right key reply_algorithm (record { key_is = decides.key_is; reply_is = decides.reply_is })
+decision_reported site method d accepted reported right (refuse refusal) decides = absurd decides
+decision_reported site method d accepted reported right discard decides = absurd decides
+decision_reported site method d accepted reported right not_a_request decides = absurd decides

@@ -129,7 +129,7 @@ fn judge_request<'d, N: Nonces, K: LongTermKeys, A: Accounts>(
     keys: &K,
     accounts: &A,
 ) -> Result<Judged<'d>, AllocError>
-    ensures told { let d = message_bytes message.now in
+    ensures judged { let d = message_bytes message.now in
         IfOk result (Tells (requested
         (site_of site.now (N.state_of nonces.now) (K.key_of keys.now) (A.account_of accounts.now))
         (method_of (type_field d)) d)) }
@@ -166,7 +166,7 @@ fn judge_message<'d, N: Nonces, K: LongTermKeys, A: Accounts>(
     keys: &K,
     accounts: &A,
 ) -> Result<Judged<'d>, AllocError>
-    ensures told { IfOk result (Tells (message
+    ensures judged { IfOk result (Tells (message
         (site_of site.now (N.state_of nonces.now) (K.key_of keys.now) (A.account_of accounts.now))
         datagram.now)) }
     ensures memory { needs_key site.now.policy (N.state_of nonces.now) datagram.now ≡ false
@@ -267,7 +267,7 @@ pub fn judge<'d, N: Nonces, K: LongTermKeys, A: Accounts>(
     keys: &K,
     accounts: &A,
 ) -> Result<Judged<'d>, AllocError>
-    ensures told { IfOk result (Tells (judge
+    ensures judged { IfOk result (Tells (judge
         (site_of site.now (N.state_of nonces.now) (K.key_of keys.now) (A.account_of accounts.now))
         datagram.now)) }
     ensures memory { needs_key site.now.policy (N.state_of nonces.now) datagram.now ≡ false

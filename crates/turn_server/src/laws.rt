@@ -1,18 +1,21 @@
 //! What holds of every datagram of a client. Each function does nothing: its contract is the law.
 
-ghost use Rattle.std.specs.Prelude.{◌≡◌, ℕ, [], List};
-ghost use Rattle.turn_server.specs.Judging.{Site, dropped, judge};
-ghost use Rattle.turn_server.specs.Judgments.{IsSo};
+ghost use Rattle.std.specs.Prelude.{◌≡◌, ℕ, [], List, Some};
+ghost use Rattle.stun_grammar.specs.declared.integrity_algorithm.IntegrityAlgorithm.{IntegrityAlgorithm};
+ghost use Rattle.stun_authentication.specs.Lookups.{UserKey};
+ghost use Rattle.turn_table.specs.declared.endpoints.FiveTuple.{FiveTuple};
+ghost use Rattle.turn_table.specs.Events.{Request, asks};
+ghost use Rattle.turn_server.specs.Judging.{Site, dropped, event_of, judge};
+ghost use Rattle.turn_server.specs.Judgments.{IsSo, IsAsked};
 
-/// A datagram becomes a request of a user to the table only if its long-term credentials are
-/// accepted, which `stun_authentication::accepted_is_authentic` says more of: its HMAC is right
-/// under the key of the user that it names, and its nonce is valid. It then asks for what its
-/// attributes say. It becomes data for a peer only if it is a Send indication with this peer and this data,
-/// or a ChannelData message with this channel and this data; it is refused only as its credentials
-/// decide, or with 420 if they are accepted and it shows something that isn't comprehended; and
-/// only a Binding request gets the reply of `stun_server`. Anything else is dropped, as an empty
-/// datagram is.
+/// A datagram asks the table, or is data for a peer, only if it is so: as a request whose
+/// credentials are accepted, a Send indication or a ChannelData message. It is refused only as its
+/// credentials decide, or if it shows what isn't comprehended.
 pub fn judgments_are_so()
     ensures each { (site : Site) (d : List ℕ) → IsSo site d (judge site d) }
+    ensures asks { (site : Site) (tuple : FiveTuple) (d : List ℕ) (user : ℕ) (request : Request)
+        → event_of tuple (judge site d) ≡ Some (asks tuple user request)
+        → (key : UserKey) × (reply_algorithm : IntegrityAlgorithm)
+        × IsAsked site d user request key reply_algorithm }
     ensures empty { (site : Site) → judge site [] ≡ dropped }
 {}
