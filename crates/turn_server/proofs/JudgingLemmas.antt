@@ -1,0 +1,112 @@
+-- What a judgment says of the datagram, case by case.
+use Rattle.std.proofs.Common.{◌≡◌, ℕ, Bool, true, false, List, [], ◌∷◌, Option, Some, None, if◌then◌else◌, refl, subst}
+use Rattle.std.proofs.lemmas.Bool.{eqb-true}
+use Rattle.std.specs.Prelude.{is_some, ◌==◌}
+use Rattle.std.specs.Option.{option_map_or}
+use Rattle.stun_grammar.specs.declared.integrity_algorithm.IntegrityAlgorithm.{IntegrityAlgorithm}
+use Rattle.stun_grammar.specs.Headers.{type_field}
+use Rattle.stun_grammar.specs.Names.{BINDING}
+use Rattle.stun_grammar.specs.Parsing.{parse_fault}
+use Rattle.stun_base.specs.declared.message_class.MessageClass.{MessageClass}
+use Rattle.stun_base.specs.declared.message_class.MessageClass.TheVariants.{Request, Indication, Success, Error}
+use Rattle.stun_base.specs.MessageTypes.{class_of, method_of}
+use Rattle.stun_authentication.specs.Answers.{Decision, accept, refuse, discard, not_a_request}
+use Rattle.stun_authentication.specs.Identities.{Who}
+use Rattle.stun_authentication.specs.Lookups.{UserKey}
+use Rattle.stun_server.specs.Reply.{reply}
+use Rattle.turn_attrs.specs.Channels.{channel_field}
+use Rattle.turn_table.specs.declared.endpoints.FiveTuple.{FiveTuple}
+use Rattle.turn_table.specs.Events.{Request as TableRequest, asks}
+use Rattle.turn_server.specs.ChannelMessages.{is_channel_byte, data_in}
+use Rattle.turn_server.specs.Comprehended.{is_comprehended}
+use Rattle.turn_server.specs.Indications.{sent_by}
+use Rattle.turn_server.specs.Judging.{Site, Judged, dropped, binding, refused, unknown, sent, sent_on, asked, event_of, SEND, channel_message, indicated, accepted_as, decided_as, requested, by_class, message, judge}
+use Rattle.turn_server.specs.Judgments.{IsOfClass, IsDecided, IsAsked, IsSo, credentials}
+use Rattle.turn_server.specs.Requests.{asks_table}
+
+-- what holds of both branches holds of the choice
+either : (P : Judged → Type 0) (b : Bool) (x y : Judged) → (b ≡ true → P x) → (b ≡ false → P y) → P (if b then x else y)
+either P true x y met unmet = met refl
+either P false x y met unmet = unmet refl
+
+found : {X : Type 0} (P : Judged → Type 0) (o : Option X) (f : X → Judged) (n : Judged) → ((x : X) → o ≡ Some x → P (f x)) → (o ≡ None → P n) → P (option_map_or f o n)
+found P (Some x) f n some none = some x refl
+found P None f n some none = none refl
+
+no_fault : {X : Type 0} (o : Option X) → is_some o ≡ false → o ≡ None
+no_fault None e = refl
+no_fault (Some x) e = absurd cc
+
+same_number : (m n : ℕ) → (m == n) ≡ true → m ≡ n
+same_number m n e = eqb-true m n e
+
+channel_is_so : (site : Site) (d : List ℕ) → IsSo site d (channel_message d)
+channel_is_so site d = found (IsSo site d) (data_in d) (sent_on (channel_field d)) dropped (λ bytes is. (refl, is)) (λ _. tt)
+
+indication_is_so : (site : Site) (d : List ℕ) → IsOfClass Indication d → IsSo site d (indicated (method_of (type_field d)) d)
+indication_is_so site d of_class =
+    either (IsSo site d) (method_of (type_field d) == SEND) _ dropped
+    (λ is. found (IsSo site d) (sent_by d) (λ it. sent it.0 it.1) dropped
+    (λ it is_it. (record { of_class = of_class; method_is = same_number (method_of (type_field d)) SEND is }, is_it)) (λ _. tt))
+    (λ _. tt)
+
+accepted_is_so : (site : Site) (d : List ℕ) (user : Who) (key : UserKey) (algorithm reply_algorithm : IntegrityAlgorithm) → IsDecided site d (accept user key algorithm reply_algorithm)
+    → IsSo site d (accepted_as site (method_of (type_field d)) d user key reply_algorithm)
+accepted_is_so site d user key algorithm reply_algorithm decided =
+    either (IsSo site d) (is_comprehended d) _ _
+    (λ is. record { who = user; algorithm = algorithm; accepted = decided; comprehended = is; user_is = refl; request_is = refl })
+    (λ is. record { who = user; algorithm = algorithm; accepted = decided; not_comprehended = is })
+
+decision_is_so : (site : Site) (d : List ℕ) (decision : Decision) → IsDecided site d decision → IsSo site d (decided_as site (method_of (type_field d)) d decision)
+decision_is_so site d (accept user key algorithm reply_algorithm) decided = accepted_is_so site d user key algorithm reply_algorithm decided
+decision_is_so site d (refuse refusal) decided = decided
+decision_is_so site d discard decided = tt
+decision_is_so site d not_a_request decided = tt
+
+binding_is_so : (site : Site) (d : List ℕ) → IsOfClass Request d → method_of (type_field d) ≡ BINDING → IsSo site d binding
+unfolding reply
+binding_is_so site d of_class is source = rw (of_class.parses, of_class.class_is, is) refl
+
+request_is_so : (site : Site) (d : List ℕ) → IsOfClass Request d → IsSo site d (requested site (method_of (type_field d)) d)
+request_is_so site d of_class =
+    either (IsSo site d) (method_of (type_field d) == BINDING) binding _
+    (λ is. binding_is_so site d of_class (same_number (method_of (type_field d)) BINDING is))
+    (λ _. either (IsSo site d) (asks_table (method_of (type_field d))) _ dropped
+    (λ asks. decision_is_so site d (credentials site d) (record { of_class = of_class; asks = asks; decided = refl }))
+    (λ _. tt))
+
+class_is_so : (site : Site) (d : List ℕ) (class : MessageClass) → IsOfClass class d → IsSo site d (by_class site class (method_of (type_field d)) d)
+class_is_so site d Request of_class = request_is_so site d of_class
+class_is_so site d Indication of_class = indication_is_so site d of_class
+class_is_so site d Success of_class = tt
+class_is_so site d Error of_class = tt
+
+message_is_so : (site : Site) (d : List ℕ) → IsSo site d (message site d)
+message_is_so site d =
+    either (IsSo site d) (is_some (parse_fault d)) dropped _ (λ _. tt)
+    (λ none. class_is_so site d (class_of (type_field d)) (record { parses = no_fault (parse_fault d) none; class_is = refl }))
+
+pub judgment_is_so : (site : Site) (d : List ℕ) → IsSo site d (judge site d)
+judgment_is_so site [] = tt
+judgment_is_so site (first ∷ more) =
+    either (IsSo site (first ∷ more)) (is_channel_byte site.last_channel first) (channel_message (first ∷ more)) (message site (first ∷ more))
+    (λ _. channel_is_so site (first ∷ more)) (λ _. message_is_so site (first ∷ more))
+
+asked_is_so : (site : Site) (tuple : FiveTuple) (d : List ℕ) (user : ℕ) (request : TableRequest) (judged : Judged) → IsSo site d judged → event_of tuple judged ≡ Some (asks tuple user request)
+    → (key : UserKey) × (reply_algorithm : IntegrityAlgorithm) × IsAsked site d user request key reply_algorithm
+asked_is_so site tuple d user request dropped so e = absurd cc
+asked_is_so site tuple d user request binding so e = absurd cc
+asked_is_so site tuple d user request (refused refusal) so e = absurd cc
+asked_is_so site tuple d user request (unknown key reply_algorithm) so e = absurd cc
+asked_is_so site tuple d user request (sent peer bytes) so e = absurd cc
+asked_is_so site tuple d user request (sent_on channel bytes) so e = absurd cc
+asked_is_so site tuple d user request (asked by asking key reply_algorithm) so e =
+    let same_user : by ≡ user = cc in
+    let same_request : asking ≡ request = cc in
+    let of_user : IsAsked site d user asking key reply_algorithm = subst (λ (u : ℕ). IsAsked site d u asking key reply_algorithm) same_user so in
+    (key, reply_algorithm, subst (λ (r : TableRequest). IsAsked site d user r key reply_algorithm) same_request of_user)
+
+-- only what is accepted becomes a request to the table
+pub event_is_so : (site : Site) (tuple : FiveTuple) (d : List ℕ) (user : ℕ) (request : TableRequest) → event_of tuple (judge site d) ≡ Some (asks tuple user request)
+    → (key : UserKey) × (reply_algorithm : IntegrityAlgorithm) × IsAsked site d user request key reply_algorithm
+event_is_so site tuple d user request e = asked_is_so site tuple d user request (judge site d) (judgment_is_so site d) e

@@ -1,0 +1,3 @@
+mod PeersLemmas
+mod JudgingLemmas
+mod ReportingLemmas

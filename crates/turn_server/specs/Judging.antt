@@ -1,0 +1,115 @@
+-- What a client's datagram is to a server (RFC 8656, sections 5 and 12; RFC 8489, sections 6.3 and 9.2.4).
+use Rattle.std.specs.Prelude.{ℕ, List, [], ◌∷◌, Option, None, Some, is_some, ◌==◌, if◌then◌else◌}
+use Rattle.std.specs.Option.{option_map_or}
+use Rattle.stun_grammar.specs.declared.integrity_algorithm.IntegrityAlgorithm.{IntegrityAlgorithm}
+use Rattle.stun_grammar.specs.Headers.{type_field}
+use Rattle.stun_grammar.specs.Names.{BINDING}
+use Rattle.stun_grammar.specs.Parsing.{parse_fault}
+use Rattle.stun_base.specs.declared.message_class.MessageClass.{MessageClass}
+use Rattle.stun_base.specs.declared.message_class.MessageClass.TheVariants.{Request, Indication}
+use Rattle.stun_base.specs.MessageTypes.{class_of, method_of}
+use Rattle.stun_values.specs.declared.algorithm.PasswordAlgorithmValue.{PasswordAlgorithmValue}
+use Rattle.stun_authentication.specs.declared.answer.Refusal.{Refusal}
+use Rattle.stun_authentication.specs.declared.policy.Policy.{Policy}
+use Rattle.stun_authentication.specs.Answers.{Decision, accept, refuse, discard, not_a_request}
+use Rattle.stun_authentication.specs.Identities.{Who}
+use Rattle.stun_authentication.specs.Lookups.{Known, UserKey}
+use Rattle.stun_authentication.specs.LongTerm.{long_term}
+use Rattle.turn_attrs.specs.Channels.{channel_field}
+use Rattle.turn_table.specs.declared.endpoints.Endpoint.{Endpoint}
+use Rattle.turn_table.specs.declared.endpoints.FiveTuple.{FiveTuple}
+use Rattle.turn_table.specs.Events.{Request as TableRequest, Event, asks, sends, sends_on}
+use Rattle.turn_server.specs.declared.sockets.Sockets.{Sockets}
+use Rattle.turn_server.specs.ChannelMessages.{is_channel_byte, data_in}
+use Rattle.turn_server.specs.Comprehended.{is_comprehended}
+use Rattle.turn_server.specs.Indications.{sent_by}
+use Rattle.turn_server.specs.Requests.{asks_table, request_of}
+
+-- What a server is at a moment, for one client: the greatest channel number, 0x4FFF, or 0x7FFF for
+-- clients of RFC 5766; how it authenticates; what number it has for a user; and the sockets that it
+-- has ready
+pub record Site : Type 0 where
+  pub last_channel : ℕ
+  pub policy : Policy
+  pub realm : List ℕ
+  pub nonces : List ℕ → Known
+  pub keys : Who → List ℕ → PasswordAlgorithmValue → Option UserKey
+  pub account : Who → ℕ
+  pub sockets : Sockets
+
+-- What comes of a datagram: nothing; a Binding request, which gets the reply of a server without
+-- credentials; an error response that isn't signed (400, 401 or 438); an error response with the types
+-- that aren't comprehended (420), signed by the user's key; the data of a Send indication, or of a
+-- ChannelData message; or what a user's request asks the table for, whose answer is signed by the key
+pub data Judged : Type 0 where
+  dropped : Judged
+  binding : Judged
+  refused : Refusal → Judged
+  unknown : UserKey → (reply_algorithm : IntegrityAlgorithm) → Judged
+  sent : Endpoint → List ℕ → Judged
+  sent_on : (channel : ℕ) → List ℕ → Judged
+  asked : (user : ℕ) → TableRequest → UserKey → (reply_algorithm : IntegrityAlgorithm) → Judged
+
+-- the event of the table that it is, on a 5-tuple, if it is one
+abbrev pub event_of : FiveTuple → Judged → Option Event
+event_of tuple (sent peer bytes) = Some (sends tuple peer bytes)
+event_of tuple (sent_on channel bytes) = Some (sends_on tuple channel bytes)
+event_of tuple (asked user request key algorithm) = Some (asks tuple user request)
+event_of tuple _ = None
+
+-- ---- ChannelData (section 12.6)
+
+abbrev pub channel_message : List ℕ → Judged
+channel_message d = option_map_or (sent_on (channel_field d)) (data_in d) dropped
+
+-- ---- Indications (section 11.2): only Send comes from a client
+
+abbrev pub SEND : ℕ
+SEND = 0x006
+
+abbrev pub indicated : (method : ℕ) → List ℕ → Judged
+indicated method d =
+    if method == SEND then option_map_or (λ found. sent found.0 found.1) (sent_by d) dropped
+    else dropped
+
+-- ---- Requests: the credentials first, then the types that aren't comprehended, then the request
+
+abbrev pub accepted_as : Site → (method : ℕ) → List ℕ → Who → UserKey → IntegrityAlgorithm → Judged
+accepted_as site method d user key algorithm =
+    if is_comprehended d then asked (site.account user) (request_of site.sockets method d) key algorithm
+    else unknown key algorithm
+
+abbrev pub decided_as : Site → (method : ℕ) → List ℕ → Decision → Judged
+decided_as site method d (accept user key algorithm reply_algorithm) =
+    accepted_as site method d user key reply_algorithm
+decided_as site method d (refuse refusal) = refused refusal
+decided_as site method d discard = dropped
+decided_as site method d not_a_request = dropped
+
+-- a request of another method is discarded: this server doesn't support it (RFC 8489, section 6.3)
+abbrev pub requested : Site → (method : ℕ) → List ℕ → Judged
+requested site method d =
+    if method == BINDING then binding else (
+    if asks_table method
+    then decided_as site method d
+    (long_term site.policy site.realm site.nonces site.keys d)
+    else dropped)
+
+-- ---- A datagram
+
+abbrev pub by_class : Site → MessageClass → (method : ℕ) → List ℕ → Judged
+by_class site Request method d = requested site method d
+by_class site Indication method d = indicated method d
+by_class site _ method d = dropped
+
+abbrev pub message : Site → List ℕ → Judged
+message site d =
+    if is_some (parse_fault d) then dropped
+    else by_class site (class_of (type_field d)) (method_of (type_field d)) d
+
+-- by its first byte (section 12, table 3): a channel's, or that of a STUN message
+abbrev pub judge : Site → List ℕ → Judged
+judge site [] = dropped
+judge site (first ∷ more) =
+    if is_channel_byte site.last_channel first then channel_message (first ∷ more)
+    else message site (first ∷ more)

@@ -1,0 +1,69 @@
+-- What a judgment says of the datagram.
+use Rattle.std.specs.Prelude.{◌≡◌, ℕ, true, false, List, None, Some}
+use Rattle.std.specs.declared.net.socket_addr.SocketAddr.{SocketAddr}
+use Rattle.stun_grammar.specs.declared.integrity_algorithm.IntegrityAlgorithm.{IntegrityAlgorithm}
+use Rattle.stun_grammar.specs.Headers.{type_field}
+use Rattle.stun_grammar.specs.Parsing.{parse_fault}
+use Rattle.stun_base.specs.declared.message_class.MessageClass.{MessageClass}
+use Rattle.stun_base.specs.declared.message_class.MessageClass.TheVariants.{Request, Indication}
+use Rattle.stun_base.specs.MessageTypes.{class_of, method_of}
+use Rattle.stun_authentication.specs.Answers.{Decision, accept, refuse}
+use Rattle.stun_authentication.specs.Identities.{Who}
+use Rattle.stun_authentication.specs.Lookups.{UserKey}
+use Rattle.stun_authentication.specs.LongTerm.{long_term}
+use Rattle.stun_server.specs.Reply.{binding_reply, reply}
+use Rattle.turn_attrs.specs.Channels.{channel_field}
+use Rattle.turn_table.specs.Events.{Request as TableRequest}
+use Rattle.turn_server.specs.ChannelMessages.{data_in}
+use Rattle.turn_server.specs.Comprehended.{is_comprehended}
+use Rattle.turn_server.specs.Indications.{sent_by}
+use Rattle.turn_server.specs.Judging.{Site, Judged, dropped, binding, refused, unknown, sent, sent_on, asked, SEND}
+use Rattle.turn_server.specs.Requests.{asks_table, request_of}
+
+-- d parses as a message of a class
+pub record IsOfClass (class : MessageClass) (d : List ℕ) : Type 0 where
+  pub parses : parse_fault d ≡ None
+  pub class_is : class_of (type_field d) ≡ class
+
+-- what the credentials of d decide
+abbrev pub credentials : Site → List ℕ → Decision
+credentials site d = long_term site.policy site.realm site.nonces site.keys d
+
+-- d is a request to the table, and its credentials decide so
+pub record IsDecided (site : Site) (d : List ℕ) (decision : Decision) : Type 0 where
+  pub of_class : IsOfClass Request d
+  pub asks : asks_table (method_of (type_field d)) ≡ true
+  pub decided : credentials site d ≡ decision
+
+-- d is a user's, authenticated by this key, and shows nothing that isn't comprehended; it asks for
+-- this
+pub record IsAsked (site : Site) (d : List ℕ) (user : ℕ) (request : TableRequest) (key : UserKey)
+    (reply_algorithm : IntegrityAlgorithm) : Type 0 where
+  pub who : Who
+  pub algorithm : IntegrityAlgorithm
+  pub accepted : IsDecided site d (accept who key algorithm reply_algorithm)
+  pub comprehended : is_comprehended d ≡ true
+  pub user_is : user ≡ site.account who
+  pub request_is : request ≡ request_of site.sockets (method_of (type_field d)) d
+
+pub record IsUnknown (site : Site) (d : List ℕ) (key : UserKey) (reply_algorithm : IntegrityAlgorithm)
+    : Type 0 where
+  pub who : Who
+  pub algorithm : IntegrityAlgorithm
+  pub accepted : IsDecided site d (accept who key algorithm reply_algorithm)
+  pub not_comprehended : is_comprehended d ≡ false
+
+-- d is a Send indication
+pub record IsSend (d : List ℕ) : Type 0 where
+  pub of_class : IsOfClass Indication d
+  pub method_is : method_of (type_field d) ≡ SEND
+
+-- whatever isn't dropped is what it is taken for
+abbrev pub IsSo : Site → List ℕ → Judged → Type 0
+IsSo site d dropped = Unit {0}
+IsSo site d binding = (source : SocketAddr) → reply source d ≡ Some (binding_reply source d)
+IsSo site d (refused refusal) = IsDecided site d (refuse refusal)
+IsSo site d (unknown key reply_algorithm) = IsUnknown site d key reply_algorithm
+IsSo site d (sent peer bytes) = IsSend d × (sent_by d ≡ Some (peer, bytes))
+IsSo site d (sent_on channel bytes) = (channel ≡ channel_field d) × (data_in d ≡ Some bytes)
+IsSo site d (asked user request key reply_algorithm) = IsAsked site d user request key reply_algorithm

@@ -1,0 +1,13 @@
+pub mod Addresses
+pub mod ChannelMessages
+pub mod Values
+pub mod Comprehended
+pub mod Indications
+pub mod Peers
+pub mod PeersLeft
+pub mod Allocating
+pub mod Requests
+pub mod Judging
+pub mod Sites
+pub mod Reporting
+pub mod Judgments

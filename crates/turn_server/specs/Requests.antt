@@ -1,0 +1,74 @@
+-- What a request of each method asks the table for (RFC 8656, sections 7.2, 8.2, 10.2 and 12.2). What its
+-- bytes alone refuse is unfit: the table looks first whose allocation it is.
+use Rattle.std.specs.Prelude.{ℕ, Bool, ◌||◌, List, take, Option, None, Some, length, option_and_then, ◌==◌, if◌then◌else◌}
+use Rattle.std.specs.Option.{option_map_or}
+use Rattle.stun_grammar.specs.Numbers.{number}
+use Rattle.stun_authentication.specs.Identities.{value_of}
+use Rattle.turn_attrs.specs.Turn.{CHANNEL_NUMBER, LIFETIME, REQUESTED_ADDRESS_FAMILY}
+use Rattle.turn_table.specs.Events.{Request as TableRequest, refresh, permit, bind, unfit}
+use Rattle.turn_server.specs.declared.sockets.Sockets.{Sockets}
+use Rattle.turn_server.specs.declared.request.Request.{Request}
+use Rattle.turn_server.specs.declared.request.Request.TheVariants.{Allocate, Refresh, Permit, Bind, Unfit}
+use Rattle.turn_server.specs.Addresses.{peer_of}
+use Rattle.turn_server.specs.Allocating.{allocating, allocate_of}
+use Rattle.turn_server.specs.Peers.{names_peers, peers_of}
+use Rattle.turn_server.specs.PeersLeft.{peers_left}
+use Rattle.turn_server.specs.Values.{malformed, number_in, byte_in}
+
+-- ---- The methods
+
+abbrev pub ALLOCATE : ℕ
+ALLOCATE = 0x003
+
+abbrev pub REFRESH : ℕ
+REFRESH = 0x004
+
+abbrev pub CREATE_PERMISSION : ℕ
+CREATE_PERMISSION = 0x008
+
+abbrev pub CHANNEL_BIND : ℕ
+CHANNEL_BIND = 0x009
+
+-- ---- What they ask for
+
+abbrev pub refresh_of : List ℕ → TableRequest
+refresh_of d =
+    if malformed 4 REQUESTED_ADDRESS_FAMILY d || malformed 4 LIFETIME d then unfit 400
+    else refresh (byte_in REQUESTED_ADDRESS_FAMILY d) (number_in LIFETIME d)
+
+abbrev pub permit_of : List ℕ → TableRequest
+permit_of d = if names_peers d then permit (peers_of d) else unfit 400
+
+-- the number in a CHANNEL-NUMBER is the high half of four bytes (section 18.1); whether it may be a
+-- channel's the table decides
+abbrev pub channel_in : List ℕ → Option ℕ
+channel_in value = if length value == 4 then Some (number (take 2 value)) else None
+
+abbrev pub channel_of : List ℕ → Option ℕ
+channel_of d = option_and_then channel_in (value_of d CHANNEL_NUMBER)
+
+abbrev pub bind_of : List ℕ → TableRequest
+bind_of d =
+    option_map_or (λ channel. option_map_or (bind channel) (peer_of d) (unfit 400)) (channel_of d)
+    (unfit 400)
+
+-- of a method that is one of these
+abbrev pub asks_table : (method : ℕ) → Bool
+asks_table method =
+    (method == ALLOCATE)
+    || ((method == REFRESH) || ((method == CREATE_PERMISSION) || (method == CHANNEL_BIND)))
+
+abbrev pub request_of : Sockets → (method : ℕ) → List ℕ → TableRequest
+request_of sockets method d =
+    if method == ALLOCATE then allocate_of sockets d else (
+    if method == REFRESH then refresh_of d else (
+    if method == CREATE_PERMISSION then permit_of d else bind_of d))
+
+-- ---- A request that was read
+
+abbrev pub table_request : Request → TableRequest
+table_request (Allocate id lifetime wish) = allocating id lifetime wish
+table_request (Refresh family lifetime) = refresh family lifetime
+table_request (Permit peers) = permit (peers_left peers)
+table_request (Bind channel peer) = bind channel peer
+table_request (Unfit code) = unfit code

@@ -1,0 +1,35 @@
+//! ChannelData messages as datagrams (RFC 8656, sections 12.4 to 12.6).
+
+ghost use Rattle.std.specs.Prelude.{◌≡◌, None, Some, MatchOption};
+ghost use Rattle.turn_attrs.specs.Channels.{channel_field};
+ghost use Rattle.turn_server.specs.ChannelMessages.{is_channel_byte, data_in};
+
+use byteorder::{BigEndian, ByteOrder};
+use stun_types::attribute::pad_attribute_len;
+
+/// Whether the number of a channel, up to the last one, begins with this byte.
+pub(crate) fn is_channel_byte(last_channel: u16, first: u8) -> bool
+    ensures { result ≡ is_channel_byte last_channel first }
+{
+    0x40 <= first && first as u16 <= last_channel / 256
+}
+
+/// The number of a channel and the data on it, which the datagram may pad to a multiple of 4. `None`
+/// if it is cut off, or longer.
+pub(crate) fn read_channel_data(datagram: &[u8]) -> Option<(u16, &[u8])>
+    ensures { MatchOption result (data_in datagram.now ≡ None)
+        (λ read. (data_in datagram.now ≡ Some read.1.now)
+        × (read.0 ≡ channel_field datagram.now)) }
+{
+    if datagram.len() < 4 {
+        return None;
+    }
+    let channel = BigEndian::read_u16(datagram);
+    let end = 4 + BigEndian::read_u16(&datagram[2..4]) as usize;
+    if datagram.len() < end || pad_attribute_len(end) < datagram.len() {
+        return None;
+    }
+    let (_, behind) = datagram.split_at(4);
+    let (data, _) = behind.split_at(end - 4);
+    Some((channel, data))
+}

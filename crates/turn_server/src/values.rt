@@ -1,0 +1,83 @@
+//! The values of the attributes that a request shows, each by the first one of its type.
+
+ghost use Rattle.std.specs.Prelude.{◌≡◌, ◌<◌, ◌≤◌, ◌^◌, length, true, false, MatchResult};
+ghost use Rattle.std.specs.Option.{option_map, option_map_or};
+ghost use Rattle.stun_types.specs.Message.{message_bytes};
+ghost use Rattle.stun_authentication.specs.Identities.{value_of};
+ghost use Rattle.turn_server.specs.Values.{malformed, number_in, byte_in};
+
+use byteorder::{BigEndian, ByteOrder};
+use stun_types::attribute::{AttributeType, ErrorCode};
+use stun_types::data::Data;
+use stun_types::message::Message;
+
+/// The value of the first attribute of a type that a message shows, borrowed from its bytes.
+pub(crate) fn value_of<'d>(message: &Message<'d>, atype: u16) -> Option<&'d [u8]>
+    ensures value { value_of (message_bytes message.now) atype
+        ≡ option_map (λ value. value.now) result }
+    ensures short { option_map_or (λ value. length value.now) result 0 < 2 ^ 16 }
+{
+    match message.raw_attribute(AttributeType(atype))?.into_value() {
+        Data::Borrowed(value) => Some(value.take()),
+        Data::Owned(_) => unreachable!(),
+    }
+}
+
+/// The value of a type whose values have `width` bytes, if the message shows one.
+///
+/// # Errors
+///
+/// 400 if it has another length.
+pub(crate) fn fixed_value<'d>(
+    message: &Message<'d>,
+    atype: u16,
+    width: usize,
+) -> Result<Option<&'d [u8]>, u16>
+    ensures { let d = message_bytes message.now in
+        MatchResult result
+        (λ found. (malformed width atype d ≡ false)
+        × ((value_of d atype ≡ option_map (λ value. value.now) found)
+        × (option_map_or (λ value. length value.now) found width ≡ width)))
+        (λ code. (malformed width atype d ≡ true) × (code ≡ 400)) }
+{
+    match value_of(message, atype) {
+        None => Ok(None),
+        Some(value) if value.len() == width => Ok(Some(value)),
+        Some(_) => Err(ErrorCode::BAD_REQUEST),
+    }
+}
+
+/// The value of a type as a number of four bytes, if the message shows one.
+///
+/// # Errors
+///
+/// 400 if it has another length.
+pub(crate) fn number_in(message: &Message<'_>, atype: u16) -> Result<Option<u32>, u16>
+    ensures { let d = message_bytes message.now in
+        MatchResult result
+        (λ found. (malformed 4 atype d ≡ false) × (found ≡ number_in atype d))
+        (λ code. (malformed 4 atype d ≡ true) × (code ≡ 400)) }
+{
+    match fixed_value(message, atype, 4)? {
+        Some(value) => Ok(Some(BigEndian::read_u32(value))),
+        None => Ok(None),
+    }
+}
+
+/// The first byte of the value of a type whose values have `width` bytes, if the message shows one.
+///
+/// # Errors
+///
+/// 400 if it has another length.
+pub(crate) fn byte_in(message: &Message<'_>, atype: u16, width: usize) -> Result<Option<u8>, u16>
+    requires { 1 ≤ width }
+    ensures { let d = message_bytes message.now in
+        MatchResult result
+        (λ found. (malformed width atype d ≡ false) × (found ≡ byte_in atype d))
+        (λ code. (malformed width atype d ≡ true) × (code ≡ 400)) }
+{
+    match fixed_value(message, atype, width)? {
+        Some(value) => Ok(Some(value[0])),
+        None => Ok(None),
+    }
+}
