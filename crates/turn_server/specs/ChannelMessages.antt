@@ -3,6 +3,10 @@ use Rattle.std.specs.Prelude.{ℕ, ◌+◌, ◌/◌, Bool, ◌&&◌, ◌||◌, L
 use Rattle.stun_grammar.specs.Numbers.{padded_length}
 use Rattle.turn_attrs.specs.Channels.{data_length}
 
+-- the greatest number of a channel (section 12), and that of RFC 5766
+abbrev pub last_channel : (old_channels : Bool) → ℕ
+last_channel old_channels = if old_channels then 0x7FFF else 0x4FFF
+
 -- whether the number of a channel, up to the last one, begins with this byte
 abbrev pub is_channel_byte : (last_channel first : ℕ) → Bool
 is_channel_byte last_channel first = nat_le 0x40 first && nat_le first (last_channel / 256)

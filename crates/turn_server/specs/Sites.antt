@@ -4,12 +4,13 @@ use Rattle.stun_values.specs.declared.algorithm.PasswordAlgorithmValue.{Password
 use Rattle.stun_authentication.specs.Identities.{Who}
 use Rattle.stun_authentication.specs.Lookups.{Known, UserKey}
 use Rattle.turn_server.specs.declared.site.Site.{Site as SiteOfCaller}
+use Rattle.turn_server.specs.ChannelMessages.{last_channel}
 use Rattle.turn_server.specs.Judging.{Site}
 
 abbrev pub site_of : SiteOfCaller → (nonces : List ℕ → Known)
     → (keys : Who → List ℕ → PasswordAlgorithmValue → Option UserKey) → (account : Who → ℕ) → Site
 site_of site nonces keys account = record {
-  last_channel = site.last_channel;
+  last_channel = last_channel site.old_channels;
   policy = site.policy;
   realm = site.realm.now;
   nonces = nonces;

@@ -165,9 +165,9 @@ fn judge_message<'d, N: Nonces, K: LongTermKeys, A: Accounts>(
 
 /// Returns what comes of a client's datagram. The first of these that applies:
 ///
-/// - A first byte of 0x40 up to the high byte of `last_channel` begins a ChannelData message. It is
-///   [`Judged::SentOn`], or dropped if it is cut off or longer than its padding (RFC 8656, section
-///   12.6).
+/// - A first byte of 0x40 to 0x4F, or to 0x7F with `old_channels`, begins a ChannelData message. It
+///   is [`Judged::SentOn`], or dropped if it is cut off or longer than its padding (RFC 8656,
+///   section 12.6).
 /// - What doesn't parse as a message is dropped, and so is a response, an indication other than Send,
 ///   and a request of another method than Binding, Allocate, Refresh, CreatePermission and
 ///   ChannelBind (RFC 8489, section 6.3).
@@ -223,7 +223,7 @@ fn judge_message<'d, N: Nonces, K: LongTermKeys, A: Accounts>(
 /// }
 ///
 /// let site = Site {
-///     last_channel: 0x4FFF,
+///     old_channels: false,
 ///     policy: Policy::default(),
 ///     realm: "example.org",
 ///     sockets: Sockets { ipv4: None, ipv6: None },
@@ -257,7 +257,7 @@ pub fn judge<'d, N: Nonces, K: LongTermKeys, A: Accounts>(
     let Some(first) = datagram.first() else {
         return Ok(Judged::Dropped);
     };
-    if is_channel_byte(site.last_channel, *first) {
+    if is_channel_byte(site.last_channel(), *first) {
         return Ok(judge_channel_message(datagram));
     }
     judge_message(alloc, datagram, site, nonces, keys, accounts)
