@@ -21,3 +21,5 @@ mod FaultsLemmas
 mod SlotsLemmas
 mod TablesLemmas
 mod ServedLemmas
+mod OpeningLemmas
+mod StepsLemmas

@@ -11,6 +11,7 @@ mod reply;
 mod serving;
 mod slot;
 mod slots;
+mod table;
 mod user;
 
 pub use endpoints::{Channel, Endpoint, FiveTuple, Ip, Permission};
@@ -20,4 +21,6 @@ pub use laws::{
 };
 pub use limits::{Limits, PeerPolicy};
 pub use reply::{AllocateReply, Reply, Request, ToClient, ToPeer};
+pub use slots::{CHANNELS, PERMISSIONS};
+pub use table::TurnTable;
 pub use user::UserId;

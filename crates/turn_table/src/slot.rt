@@ -7,6 +7,7 @@ ghost use Rattle.turn_table.specs.Users.{user_number};
 ghost use Rattle.turn_table.specs.Allocations.{is_live, is_of, is_at, has_permission, channel_by_number, channel_by_peer, is_channel, is_permitted};
 ghost use Rattle.turn_table.specs.Relays.{sent, sent_on, received};
 ghost use Rattle.turn_table.specs.Rows.{is_users};
+ghost use Rattle.turn_table.specs.Slots.{fresh};
 ghost use Rattle.turn_table.specs.Outputs.{setup_of, sending, receiving};
 
 use crate::endpoints::{Channel, Endpoint, FiveTuple, Ip, Permission};
@@ -51,6 +52,29 @@ impl<const P: usize, const C: usize> Model for Slot<P, C> {
 }
 
 impl<const P: usize, const C: usize> Slot<P, C> {
+    /// An allocation that was opened.
+    pub(crate) fn new(
+        tuple: FiveTuple,
+        user: UserId,
+        opened_by: u128,
+        relay: u64,
+        relayed: Endpoint,
+        until: u128,
+    ) -> Self
+        ensures { result ≡ fresh tuple (user_number user) opened_by relay relayed until }
+    {
+        Slot {
+            tuple,
+            user,
+            opened_by,
+            relay,
+            relayed,
+            until,
+            permissions: ArrayVec::new(),
+            channels: ArrayVec::new(),
+        }
+    }
+
     pub(crate) fn is_live(&self, now: u128) -> bool
         ensures { result ≡ is_live now self.now }
     {
