@@ -1,5 +1,5 @@
 -- A table with no allocation, and with one more.
-use Rattle.std.proofs.Common.{◌≡◌, ℕ, zero, suc, ◌+◌, ◌%◌, ◌<◌, ◌≤◌, ◌^◌, Bool, true, false, cond, List, [], ◌∷◌, ◌++◌, length, length-set, get_or, drop, Option, None, Some, Result, Ok, Err, refl, sym, ap, subst, ◌∙◌, find, eqb-true, arith, inl, inr}
+use Rattle.std.proofs.Common.{◌≡◌, ℕ, zero, suc, ◌+◌, ◌%◌, ◌<◌, ◌≤◌, Bool, true, false, cond, List, [], ◌∷◌, ◌++◌, length, length-set, get_or, drop, Option, None, Some, Result, Ok, Err, refl, sym, ap, subst, ◌∙◌, find, eqb-true, arith, inl, inr}
 use Rattle.std.specs.Prelude.{slice_set, ◌==◌}
 use Rattle.std.specs.List.{list_any}
 use Rattle.std.specs.Result.{OnOk, is_ok}
@@ -9,8 +9,8 @@ use Rattle.std.proofs.lemmas.List.{get_or-set_same, get_or-set_other}
 use Rattle.turn_table.specs.Endpoints.{FiveTuple, is_tuple}
 use Rattle.turn_table.specs.Allocations.{Allocation, is_live, is_of}
 use Rattle.turn_table.specs.Rows.{uses_relay}
-use Rattle.turn_table.specs.Slots.{in_slot, put_first, listed, Has, AreApart, named, places, Finds, ArePlaced, AreCounted, IsTable, AreFree}
-use Rattle.turn_table.proofs.AddressesLemmas.{tuple_same, tuple_is_itself}
+use Rattle.turn_table.specs.Slots.{in_slot, put_first, listed, Has, named, places, Finds, ArePlaced, AreCounted, IsTable, AreFree}
+use Rattle.turn_table.proofs.AddressesLemmas.{tuple_is_itself}
 use Rattle.turn_table.proofs.FilteredLemmas.{neither}
 use Rattle.turn_table.proofs.SlotsLemmas.{not_true, some_is, named_at, only_one, find_unique}
 use Rattle.turn_table.proofs.ServedLemmas.{in_set}
@@ -83,15 +83,15 @@ counted_opened slots order rest place a counted =
     let long = length-set slots place (Some a) in
     let all : length order + length (place ∷ rest) ≡ length slots = counted.all in
     record {
-  used = λ j has. opened_used slots order place a free.0 free.1 counted.used j has;
-  ordered = λ j b at. in_set slots place a free.0 j b at (λ (k : ℕ) (_ : Allocation). Has k (place ∷ order)) (inl refl) (λ _ at_old. inr (counted.ordered j b at_old));
-  apart = (λ has. let its = counted.used place has in none-some its.0 (sym free.1 ∙ its.1), counted.apart);
-  unused = λ j has.
-      let its = counted.unused j (inr has) in
-      (subst (λ (n : ℕ). j < n) (sym long) its.0, get_or-set_other slots place j (Some a) None (λ (e : j ≡ place). counted.free_apart.0 (subst (λ (k : ℕ). Has k rest) e has)) ∙ its.1);
-  free_apart = counted.free_apart.1;
-  all = omega (arith, long, all);
-}
+      used = λ j has. opened_used slots order place a free.0 free.1 counted.used j has;
+      ordered = λ j b at. in_set slots place a free.0 j b at (λ (k : ℕ) (_ : Allocation). Has k (place ∷ order)) (inl refl) (λ _ at_old. inr (counted.ordered j b at_old));
+      apart = (λ has. let its = counted.used place has in none-some its.0 (sym free.1 ∙ its.1), counted.apart);
+      unused = λ j has.
+          let its = counted.unused j (inr has) in
+          (subst (λ (n : ℕ). j < n) (sym long) its.0, get_or-set_other slots place j (Some a) None (λ (e : j ≡ place). counted.free_apart.0 (subst (λ (k : ℕ). Has k rest) e has)) ∙ its.1);
+      free_apart = counted.free_apart.1;
+      all = omega (arith, long, all);
+    }
 
 pub table_opened : (now : ℕ) (slots : List (Option Allocation)) (order rest : List ℕ) (place : ℕ) (entries more : List (FiveTuple × ℕ)) → IsTable now slots order (place ∷ rest) entries → (a : Allocation) → a.relay % places ≡ place
     → find (is_of now a.tuple) (listed slots order) ≡ None → ((q : FiveTuple) → named more q ≡ cond (is_tuple a.tuple q) (Some place) (named entries q)) → IsTable now (slice_set slots place (Some a)) (place ∷ order) rest more
@@ -99,20 +99,20 @@ table_opened now slots order rest place entries more table a placed none says =
     let free = table.counted.unused place (inl refl) in
     let long = length-set slots place (Some a) in
     record {
-  finds = λ j b at. in_set slots place a free.0 j b at (λ (k : ℕ) (c : Allocation). now < c.until → named more c.tuple ≡ Some k)
-      (λ _. says a.tuple ∙ cond-true (is_tuple a.tuple a.tuple) (Some place) (named entries a.tuple) (tuple_is_itself a.tuple))
-      (λ _ at_old lives. says b.tuple ∙ cond-false (is_tuple a.tuple b.tuple) (Some place) (named entries b.tuple)
-      (not_true (is_tuple a.tuple b.tuple) (λ so. no_live now slots order (place ∷ rest) entries table.finds table.counted a.tuple none j b at_old (and_from (is_tuple a.tuple b.tuple) (is_live now b) so (lt-ltb now b.until lives))))
-      ∙ table.finds j b at_old lives);
-  placed = λ j b at. in_set slots place a free.0 j b at (λ (k : ℕ) (c : Allocation). c.relay % places ≡ k) placed (λ _ at_old. table.placed j b at_old);
-  inside = λ t k is.
-      subst (λ (n : ℕ). k < n) (sym long)
-      (cond_both (is_tuple a.tuple t) (Some place) (named entries t) (λ (o : Option ℕ). o ≡ Some k → k < length slots)
-      (λ _ e. subst (λ (m : ℕ). m < length slots) (some_is place k e) free.0) (λ _ e. table.inside t k e) (sym (says t) ∙ is));
-  counted = counted_opened slots order rest place a table.counted;
-  few = subst (λ (n : ℕ). n ≤ places) (sym long) table.few;
-  early = table.early;
-}
+      finds = λ j b at. in_set slots place a free.0 j b at (λ (k : ℕ) (c : Allocation). now < c.until → named more c.tuple ≡ Some k)
+          (λ _. says a.tuple ∙ cond-true (is_tuple a.tuple a.tuple) (Some place) (named entries a.tuple) (tuple_is_itself a.tuple))
+          (λ _ at_old lives. says b.tuple ∙ cond-false (is_tuple a.tuple b.tuple) (Some place) (named entries b.tuple)
+          (not_true (is_tuple a.tuple b.tuple) (λ so. no_live now slots order (place ∷ rest) entries table.finds table.counted a.tuple none j b at_old (and_from (is_tuple a.tuple b.tuple) (is_live now b) so (lt-ltb now b.until lives))))
+          ∙ table.finds j b at_old lives);
+      placed = λ j b at. in_set slots place a free.0 j b at (λ (k : ℕ) (c : Allocation). c.relay % places ≡ k) placed (λ _ at_old. table.placed j b at_old);
+      inside = λ t k is.
+          subst (λ (n : ℕ). k < n) (sym long)
+          (cond_both (is_tuple a.tuple t) (Some place) (named entries t) (λ (o : Option ℕ). o ≡ Some k → k < length slots)
+          (λ _ e. subst (λ (m : ℕ). m < length slots) (some_is place k e) free.0) (λ _ e. table.inside t k e) (sym (says t) ∙ is));
+      counted = counted_opened slots order rest place a table.counted;
+      few = subst (λ (n : ℕ). n ≤ places) (sym long) table.few;
+      early = table.early;
+    }
 
 -- ---- A table with no allocation
 

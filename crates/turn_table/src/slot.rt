@@ -137,7 +137,7 @@ impl<const P: usize, const C: usize> Slot<P, C> {
         self.has_permission(now, peer.ip) || (limits.channel_permits && self.has_channel(now, peer))
     }
 
-    /// Where the data of a Send indication goes.
+    /// The peer that the data of a Send indication goes to.
     pub(crate) fn send<A: PeerPolicy>(
         &self,
         limits: &Limits,
@@ -159,7 +159,7 @@ impl<const P: usize, const C: usize> Slot<P, C> {
         }
     }
 
-    /// Where the data of a ChannelData message goes.
+    /// The peer that the data of a ChannelData message goes to.
     pub(crate) fn send_on<A: PeerPolicy>(
         &self,
         limits: &Limits,
@@ -185,7 +185,7 @@ impl<const P: usize, const C: usize> Slot<P, C> {
         }
     }
 
-    /// Where a datagram of a peer goes.
+    /// The client that a datagram of a peer goes to.
     pub(crate) fn receive(&self, limits: &Limits, now: u128, peer: Endpoint) -> Option<ToClient>
         ensures { (address : Ip → Bool) (port : Endpoint → Bool) (bytes : List ℕ)
             → received (setup_of limits.now P C address port) now peer bytes self.now

@@ -32,10 +32,7 @@ type Held = Slot<PERMISSIONS, CHANNELS>;
 const PLACES: u64 = 4_294_967_296;
 
 /// Slots that are all free, and their places.
-fn free_slots(
-    alloc: Global,
-    most: u32,
-) -> Result<(Vec<Option<Held>>, VecDeque<usize>), AllocError>
+fn free_slots(alloc: Global, most: u32) -> Result<(Vec<Option<Held>>, VecDeque<usize>), AllocError>
     ensures { IfOk result (λ made. AreFree made.0.items made.1.items most) }
 {
     let mut slots = Vec::with_capacity(alloc, most as usize)?;
@@ -70,7 +67,11 @@ fn client_at<'a, const P: usize, const C: usize>(
     ensures { option_copied result ≡ if_of now tuple.now (in_slot slots.now place) }
 {
     let slot = slot_at(slots, place)?;
-    if slot.is_of(now, tuple) { Some(slot) } else { None }
+    if slot.is_of(now, tuple) {
+        Some(slot)
+    } else {
+        None
+    }
 }
 
 /// The allocation in the slot at a place, if it is live and has this socket.
@@ -83,7 +84,11 @@ fn relay_at<const P: usize, const C: usize>(
     ensures { option_copied result ≡ if_at now relay (in_slot slots.now place) }
 {
     let slot = slot_at(slots, place)?;
-    if slot.is_at(now, relay) { Some(slot) } else { None }
+    if slot.is_at(now, relay) {
+        Some(slot)
+    } else {
+        None
+    }
 }
 
 /// A request that came to the slot at a place.
@@ -132,8 +137,8 @@ impl Model for Slots {
     ghost Value = { Kept };
 
     ghost view = { λ t. record {
-        most = length t.slots.items;
-        state = record { clock = t.clock; allocations = listed t.slots.items t.order.items };
+      most = length t.slots.items;
+      state = record { clock = t.clock; allocations = listed t.slots.items t.order.items };
     } };
 
     ghost invariant = { λ t.
@@ -190,7 +195,15 @@ impl Slots {
             Some(place) => *place,
             None => return Reply::Refused(437),
         };
-        serve_in(&mut self.slots[place], limits, self.clock, tuple, user, request, policy)
+        serve_in(
+            &mut self.slots[place],
+            limits,
+            self.clock,
+            tuple,
+            user,
+            request,
+            policy,
+        )
     }
 
     /// Slots with no allocation, with all the memory that they need.
@@ -199,8 +212,11 @@ impl Slots {
     {
         let (slots, free) = free_slots(alloc, most)?;
         let order = VecDeque::with_capacity(alloc, most as usize)?;
-        let by_tuple =
-            HashMap::with_capacity_and_hasher(alloc, 2 * most as usize, Seeded::new(seed))?;
+        let by_tuple = HashMap::with_capacity_and_hasher(
+            alloc,
+            2 * most as usize,
+            Seeded::new(seed),
+        )?;
         Ok(Slots {
             clock: 0,
             slots,

@@ -47,10 +47,7 @@ impl TurnTable {
         ensures { IfOk result (λ table. table ≡ record { limits = limits; state = begun }) }
     {
         let slots = Slots::new(alloc, limits.allocations, seed)?;
-        Ok(TurnTable {
-            limits,
-            slots,
-        })
+        Ok(TurnTable { limits, slots })
     }
 
     /// Answers a request of a user that isn't Allocate, and does what it asks for (RFC 8656, sections
@@ -82,7 +79,7 @@ impl TurnTable {
         self.slots.serve(&self.limits, tuple, user, request, policy)
     }
 
-    /// Where the data of a Send indication goes, now.
+    /// The peer that the data of a Send indication goes to, now.
     fn relay_send<A: PeerPolicy>(
         &self,
         tuple: &FiveTuple,
@@ -93,7 +90,9 @@ impl TurnTable {
             → relays (setup_of self.now.limits PERMISSIONS CHANNELS address (A.allows_port policy.now))
             self.now.state self.now.state.clock (sends tuple.now peer bytes) ≡ sending result bytes }
     {
-        self.slots.of(tuple)?.send(&self.limits, self.slots.clock(), peer, policy)
+        self.slots
+            .of(tuple)?
+            .send(&self.limits, self.slots.clock(), peer, policy)
     }
 
     /// Where ChannelData of a client goes, now.
@@ -108,20 +107,24 @@ impl TurnTable {
             self.now.state self.now.state.clock (sends_on tuple.now number bytes)
             ≡ sending result bytes }
     {
-        self.slots.of(tuple)?.send_on(&self.limits, self.slots.clock(), number, policy)
+        self.slots
+            .of(tuple)?
+            .send_on(&self.limits, self.slots.clock(), number, policy)
     }
 
-    /// Where a datagram of a peer goes, now.
+    /// The client that a datagram of a peer goes to, now.
     fn relay_to_client(&self, relay: u64, peer: Endpoint) -> Option<ToClient>
         ensures { (address : Ip → Bool) (port : Endpoint → Bool) (bytes : List ℕ)
             → relays (setup_of self.now.limits PERMISSIONS CHANNELS address port)
             self.now.state self.now.state.clock (arrives relay peer bytes)
             ≡ receiving result peer bytes }
     {
-        self.slots.at(relay)?.receive(&self.limits, self.slots.clock(), peer)
+        self.slots
+            .at(relay)?
+            .receive(&self.limits, self.slots.clock(), peer)
     }
 
-    /// Where the data of a Send indication goes (RFC 8656, section 11.2).
+    /// The peer that the data of a Send indication goes to (RFC 8656, section 11.2).
     ///
     /// `None` if it is dropped: the client has no live allocation, or no permission for the peer's IP
     /// address, or the peer's port is forbidden.
@@ -142,7 +145,7 @@ impl TurnTable {
         self.relay_send(tuple, peer, policy)
     }
 
-    /// Where the data of a ChannelData message goes (RFC 8656, section 12.6).
+    /// The peer that the data of a ChannelData message goes to (RFC 8656, section 12.6).
     ///
     /// `None` if it is dropped: the channel isn't bound, or the data of a Send indication to its peer
     /// would be dropped.
@@ -163,8 +166,8 @@ impl TurnTable {
         self.relay_on_channel(tuple, number, policy)
     }
 
-    /// Where a peer's datagram goes that came to the socket of this number (RFC 8656, sections 11.3
-    /// and 12.7).
+    /// The client that a peer's datagram goes to, by the number of the socket that it came to (RFC
+    /// 8656, sections 11.3 and 12.7).
     ///
     /// `None` if it is dropped: the socket belongs to no live allocation, or there is no permission
     /// for the peer's IP address.

@@ -1,4 +1,4 @@
-use Rattle.std.proofs.Common.{◌≡◌, ℕ, ◌+◌, ◌*◌, ◌%◌, ◌<◌, ◌≤◌, Bool, true, not, List, ◌∷◌, length, length-set, drop, Option, None, Some, arith, sym, ap, subst, refl, ◌∙◌, find, inl}
+use Rattle.std.proofs.Common.{◌≡◌, ℕ, ◌+◌, ◌*◌, ◌<◌, Bool, true, not, List, ◌∷◌, length-set, drop, None, Some, arith, sym, ap, subst, refl, ◌∙◌, find, inl}
 use Rattle.std.specs.Prelude.{slice_set}
 use Rattle.std.specs.Result.{is_ok}
 use Rattle.std.proofs.lemmas.Grind.{common_steps}
@@ -6,7 +6,7 @@ use Rattle.std.proofs.lemmas.Nat.{mod-mul-add}
 use Rattle.std.proofs.lemmas.Option.{none-some}
 use Rattle.turn_table.specs.Allocations.{Allocation, State, allocation_of, is_of}
 use Rattle.turn_table.specs.Users.{user_number}
-use Rattle.turn_table.specs.Slots.{Kept, IsTable, listed, fresh, places, in_slot}
+use Rattle.turn_table.specs.Slots.{Kept, IsTable, listed, fresh, places}
 use Rattle.turn_table.proofs.SlotsLemmas.{opened_first}
 use Rattle.turn_table.proofs.OpeningLemmas.{front_is, of_ok, when_ok, table_opened, there_is_room, relay_unused}
 use Rattle.turn_table.proofs.slots.Slots.open.Goals as goal
@@ -65,7 +65,7 @@ returns c =
     let order : c.push_front.new.self.items ≡ place ∷ i.order.items = when_ok (is_ok c.push_front.result) (place ∷ i.order.items) i.order.items _ ok c.push_front.ensures.items in
     let a : Allocation = fresh c.args.tuple (user_number c.args.user) c.args.opened_by (c.args.round * 4294967296 + place) c.args.relayed c.args.until in
     let first : listed (slice_set i.slots.items place (Some a)) (place ∷ i.order.items) ≡ a ∷ listed i.slots.items i.order.items =
-        opened_first i.slots.items i.order.items place a free.0 (λ has. let its = table.counted.used place has in none-some its.0 (sym free.1 ∙ its.1)) in
+    opened_first i.slots.items i.order.items place a free.0 (λ has. let its = table.counted.used place has in none-some its.0 (sym free.1 ∙ its.1)) in
     let all : listed (slice_set i.slots.items place (Some c.new.result)) c.push_front.new.self.items ≡ a ∷ listed i.slots.items i.order.items = rw (c.new.ensures, order) first in
     rw (← c.self.view_is)
     (record {
