@@ -23,3 +23,5 @@ mod FaultsLemmas
 mod SlotsLemmas
 mod TablesLemmas
 mod ServedLemmas
+mod OpeningLemmas
+mod StepsLemmas

@@ -1,17 +1,17 @@
 -- A request that is served in its slot, as the whole table sees it.
-use Rattle.std.proofs.Common.{◌≡◌, ℕ, ◌+◌, ◌%◌, ◌<◌, ◌≤◌, Bool, true, false, List, [], ◌∷◌, length, length-set, Option, None, Some, refl, sym, ap, subst, ◌∙◌, find, ltb-true, eqb-true, arith}
+use Rattle.std.proofs.Common.{◌≡◌, ℕ, ◌+◌, ◌%◌, ◌<◌, ◌≤◌, true, false, List, length, length-set, Option, None, Some, refl, sym, ap, subst, ◌∙◌, find, ltb-true, eqb-true}
 use Rattle.std.specs.Prelude.{slice_set, ◌==◌, ◌&&◌, MatchOption}
-use Rattle.std.specs.Option.{option_map_or, option_or}
+use Rattle.std.specs.Option.{option_map_or}
 use Rattle.std.proofs.lemmas.Option.{none-some}
 use Rattle.std.proofs.lemmas.Bool.{cond_both, cond-true, cond-false, and_parts, and_from, eqb-false}
 use Rattle.std.proofs.lemmas.List.{get_or-set_same, get_or-set_other, set-get_or}
-use Rattle.turn_table.specs.Endpoints.{Endpoint, FiveTuple, is_tuple}
+use Rattle.turn_table.specs.Endpoints.{FiveTuple, is_tuple}
 use Rattle.turn_table.specs.Allocations.{seconds, Allocation, Setup, State, is_live, is_of}
 use Rattle.turn_table.specs.Events.{Request, allocate, refresh, permit, bind, unfit, Answer, refused, answers}
 use Rattle.turn_table.specs.Rows.{owner_fault}
 use Rattle.turn_table.specs.Steps.{Step, refreshed_for, lasting, lasting_for, permitting, binding, refuses, fulfils_for}
 use Rattle.turn_table.specs.Requests.{fault_for, changed_by, success_of, answer_by, kept_by, fault_of, after_request, fulfilled, IsServed}
-use Rattle.turn_table.specs.Slots.{in_slot, listed, Has, AreApart, if_of, named, places, Finds, AreCounted, IsTable}
+use Rattle.turn_table.specs.Slots.{in_slot, listed, Has, AreApart, if_of, named, places, AreCounted, IsTable}
 use Rattle.turn_table.proofs.ListsLemmas.{none_of_either, passes}
 use Rattle.turn_table.proofs.FindsLemmas.{left_false}
 use Rattle.turn_table.proofs.SlotsLemmas.{not_true, some_is, only_one, found_by_index, within, changed_at, mapped_at}
@@ -33,19 +33,20 @@ counted_changed slots order free counted i a b at =
     let lt = within slots i a at in
     let long = length-set slots i (Some b) in
     record {
-  used = λ j has.
-      cond_both (j == i) true false (λ _. (c : Allocation) × (in_slot (slice_set slots i (Some b)) j ≡ Some c))
-      (λ so. (b, ap (in_slot (slice_set slots i (Some b))) (eqb-true j i so) ∙ get_or-set_same slots i (Some b) None lt))
-      (λ isnt. let its = counted.used j has in (its.0, get_or-set_other slots i j (Some b) None (eqb-false j i isnt) ∙ its.1));
-  ordered = λ j c at_j. in_set slots i b lt j c at_j (λ (k : ℕ) (x : Allocation). Has k order) (counted.ordered i a at) (λ _ at_old. counted.ordered j c at_old);
-  apart = counted.apart;
-  unused = λ j has.
-      let its = counted.unused j has in
-      (subst (λ (n : ℕ). j < n) (sym long) its.0,
-      get_or-set_other slots i j (Some b) None (λ (e : j ≡ i). none-some a (sym its.1 ∙ (ap (in_slot slots) e ∙ at))) ∙ its.1);
-  free_apart = counted.free_apart;
-  all = counted.all ∙ sym long;
-}
+      used = λ j has.
+          cond_both (j == i) true false (λ _. (c : Allocation) × (in_slot (slice_set slots i (Some b)) j ≡ Some c))
+          (λ so. (b, ap (in_slot (slice_set slots i (Some b))) (eqb-true j i so) ∙ get_or-set_same slots i (Some b) None lt))
+          (λ isnt. let its = counted.used j has in (its.0, get_or-set_other slots i j (Some b) None (eqb-false j i isnt) ∙ its.1));
+      ordered = λ j c at_j. in_set slots i b lt j c at_j (λ (k : ℕ) (x : Allocation). Has k order) (counted.ordered i a at) (λ _ at_old. counted.ordered j c at_old);
+      apart = counted.apart;
+      unused = λ j has.
+          let its = counted.unused j has in (
+            subst (λ (n : ℕ). j < n) (sym long) its.0,
+            get_or-set_other slots i j (Some b) None (λ (e : j ≡ i). none-some a (sym its.1 ∙ (ap (in_slot slots) e ∙ at))) ∙ its.1,
+          );
+      free_apart = counted.free_apart;
+      all = counted.all ∙ sym long;
+    }
 
 pub table_changed : (now : ℕ) (slots : List (Option Allocation)) (order free : List ℕ) (entries : List (FiveTuple × ℕ)) → IsTable now slots order free entries → (i : ℕ) (a b : Allocation) → in_slot slots i ≡ Some a
     → now < a.until → b.tuple ≡ a.tuple → b.relay ≡ a.relay → IsTable now (slice_set slots i (Some b)) order free entries
@@ -53,15 +54,15 @@ table_changed now slots order free entries table i a b at live same_tuple same_r
     let lt = within slots i a at in
     let long = length-set slots i (Some b) in
     record {
-  finds = λ j c at_j. in_set slots i b lt j c at_j (λ (k : ℕ) (x : Allocation). now < x.until → named entries x.tuple ≡ Some k)
-      (λ _. subst (λ (t : FiveTuple). named entries t ≡ Some i) (sym same_tuple) (table.finds i a at live))
-      (λ _ at_old. table.finds j c at_old);
-  placed = λ j c at_j. in_set slots i b lt j c at_j (λ (k : ℕ) (x : Allocation). x.relay % places ≡ k) (ap (λ (n : ℕ). n % places) same_relay ∙ table.placed i a at) (λ _ at_old. table.placed j c at_old);
-  inside = λ t k is. subst (λ (n : ℕ). k < n) (sym long) (table.inside t k is);
-  counted = counted_changed slots order free table.counted i a b at;
-  few = subst (λ (n : ℕ). n ≤ places) (sym long) table.few;
-  early = table.early;
-}
+      finds = λ j c at_j. in_set slots i b lt j c at_j (λ (k : ℕ) (x : Allocation). now < x.until → named entries x.tuple ≡ Some k)
+          (λ _. subst (λ (t : FiveTuple). named entries t ≡ Some i) (sym same_tuple) (table.finds i a at live))
+          (λ _ at_old. table.finds j c at_old);
+      placed = λ j c at_j. in_set slots i b lt j c at_j (λ (k : ℕ) (x : Allocation). x.relay % places ≡ k) (ap (λ (n : ℕ). n % places) same_relay ∙ table.placed i a at) (λ _ at_old. table.placed j c at_old);
+      inside = λ t k is. subst (λ (n : ℕ). k < n) (sym long) (table.inside t k is);
+      counted = counted_changed slots order free table.counted i a b at;
+      few = subst (λ (n : ℕ). n ≤ places) (sym long) table.few;
+      early = table.early;
+    }
 
 -- ---- The state after a request with no fault
 
@@ -155,9 +156,10 @@ pub served_at : (setup : Setup) (now : ℕ) (tuple : FiveTuple) (user : ℕ) (r 
     → Serves setup now tuple user r order slots answer (slice_set slots i new) × IsTable now (slice_set slots i new) order free entries
 served_at setup now tuple user r order free slots entries table i is None at answer new told =
     let none : find (is_of now tuple) (listed slots order) ≡ None = found_by_index now slots order free entries table.finds table.counted tuple (Some i) is ∙ ap (if_of now tuple) at in
-    let same : slice_set slots i new ≡ slots = set_same slots i new (at ∙ sym told.1) in
-    (subst (λ (l : List (Option Allocation)). Serves setup now tuple user r order slots answer l) (sym same) (not_served setup now tuple user r order slots answer none told.0),
-    table_same now slots order free entries table i new (at ∙ sym told.1))
+    let same : slice_set slots i new ≡ slots = set_same slots i new (at ∙ sym told.1) in (
+      subst (λ (l : List (Option Allocation)). Serves setup now tuple user r order slots answer l) (sym same) (not_served setup now tuple user r order slots answer none told.0),
+      table_same now slots order free entries table i new (at ∙ sym told.1),
+    )
 served_at setup now tuple user r order free slots entries table i is (Some a) at answer new served =
     let found : find (is_of now tuple) (listed slots order) ≡ if_of now tuple (Some a) = found_by_index now slots order free entries table.finds table.counted tuple (Some i) is ∙ ap (if_of now tuple) at in
     cond_both (is_of now tuple a) (Some a) None
@@ -167,12 +169,14 @@ served_at setup now tuple user r order free slots entries table i is (Some a) at
     → Serves setup now tuple user r order slots answer (slice_set slots i new) × IsTable now (slice_set slots i new) order free entries)
     (λ yes f told.
     let own : IsOwn now tuple user slots order i a = record { at = at; of = yes; one = only_one now slots entries table.finds tuple i is; apart = table.counted.apart } in
-    let live : now < a.until = ltb-true now a.until (and_parts (is_tuple tuple a.tuple) (is_live now a) yes).1 in
-    (served_by setup now tuple user r order slots i a own f answer new (fault_of setup now user r a) refl told.0 told.1,
-    subst (λ (o : Option Allocation). IsTable now (slice_set slots i o) order free entries) (sym told.1)
-    (table_kept setup now slots order free entries table r i a at live (fault_of setup now user r a))))
+    let live : now < a.until = ltb-true now a.until (and_parts (is_tuple tuple a.tuple) (is_live now a) yes).1 in (
+      served_by setup now tuple user r order slots i a own f answer new (fault_of setup now user r a) refl told.0 told.1,
+      subst (λ (o : Option Allocation). IsTable now (slice_set slots i o) order free entries) (sym told.1)
+          (table_kept setup now slots order free entries table r i a at live (fault_of setup now user r a)),
+    ))
     (λ no f told.
-    let same : slice_set slots i new ≡ slots = set_same slots i new (at ∙ sym told.1) in
-    (subst (λ (l : List (Option Allocation)). Serves setup now tuple user r order slots answer l) (sym same) (not_served setup now tuple user r order slots answer f told.0),
-    table_same now slots order free entries table i new (at ∙ sym told.1)))
+    let same : slice_set slots i new ≡ slots = set_same slots i new (at ∙ sym told.1) in (
+      subst (λ (l : List (Option Allocation)). Serves setup now tuple user r order slots answer l) (sym same) (not_served setup now tuple user r order slots answer f told.0),
+      table_same now slots order free entries table i new (at ∙ sym told.1),
+    ))
     found served

@@ -1,12 +1,12 @@
 -- The allocations of the slots in their order: a search, a change and an insertion, by the slot.
-use Rattle.std.proofs.Common.{◌≡◌, ℕ, zero, suc, ◌%◌, ◌<◌, ◌≤◌, Bool, true, false, List, [], ◌∷◌, Option, None, Some, length, get_or, map, refl, sym, ap, subst, ◌∙◌, find, arith, ltb-true, eqb-true, inl, inr}
-use Rattle.std.specs.Prelude.{nat_lt, slice_set, ◌==◌, ◌&&◌}
+use Rattle.std.proofs.Common.{◌≡◌, ℕ, zero, suc, ◌%◌, ◌<◌, Bool, true, false, List, [], ◌∷◌, Option, None, Some, length, get_or, map, refl, sym, ap, subst, ◌∙◌, find, arith, ltb-true, eqb-true, inl, inr}
+use Rattle.std.specs.Prelude.{slice_set, ◌==◌}
 use Rattle.std.proofs.lemmas.Option.{none-some, get_or_from_slice_get, slice_get_read}
-use Rattle.std.proofs.lemmas.Bool.{cond_both, cond-true, cond-false, and_parts, and_from, eqb-false}
+use Rattle.std.proofs.lemmas.Bool.{cond_both, cond-true, cond-false, and_parts, eqb-false}
 use Rattle.std.proofs.lemmas.List.{get_or-set_same, get_or-set_other}
 use Rattle.turn_table.specs.Endpoints.{FiveTuple, is_tuple}
 use Rattle.turn_table.specs.Allocations.{Allocation, is_live, is_of, is_at}
-use Rattle.turn_table.specs.Steps.{changed_first, lasting, lasting_for}
+use Rattle.turn_table.specs.Steps.{changed_first}
 use Rattle.turn_table.specs.Slots.{in_slot, put_first, listed, Has, AreApart, if_of, if_at, named, at_place, places, Finds, ArePlaced, AreCounted}
 use Rattle.turn_table.proofs.AddressesLemmas.{tuple_same}
 

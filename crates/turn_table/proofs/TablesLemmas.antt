@@ -1,5 +1,5 @@
 -- A table as time passes.
-use Rattle.std.proofs.Common.{◌≡◌, ℕ, ◌+◌, ◌<◌, ◌≤◌, ◌^◌, List, Option, arith}
+use Rattle.std.proofs.Common.{ℕ, ◌<◌, ◌≤◌, ◌^◌, List, Option, arith}
 use Rattle.turn_table.specs.Endpoints.{FiveTuple}
 use Rattle.turn_table.specs.Allocations.{Allocation}
 use Rattle.turn_table.specs.Slots.{IsTable}

@@ -1,9 +1,10 @@
 -- The slots of a table, and what names them.
-use Rattle.std.specs.Prelude.{◌≡◌, ℕ, ◌+◌, ◌*◌, ◌%◌, ◌^◌, ◌<◌, ◌≤◌, Bool, false, List, [], ◌∷◌, Option, None, Some, length, slice_index_or, if◌then◌else◌, ◌⊎◌}
+use Rattle.std.specs.Prelude.{◌≡◌, ℕ, ◌+◌, ◌%◌, ◌^◌, ◌<◌, ◌≤◌, false, List, [], ◌∷◌, Option, None, Some, length, slice_index_or, if◌then◌else◌, ◌⊎◌}
 use Rattle.std.specs.List.{list_any}
 use Rattle.std.specs.Map.{lookup}
-use Rattle.turn_table.specs.Endpoints.{FiveTuple, is_ip, is_tuple}
+use Rattle.turn_table.specs.Endpoints.{Endpoint, FiveTuple, is_ip, is_tuple}
 use Rattle.turn_table.specs.Allocations.{Permission, Allocation, State, is_of, is_at}
+use Rattle.turn_table.specs.Rows.{uses_relay}
 use Rattle.turn_table.specs.Steps.{at}
 
 -- no two permissions are of one IP address
@@ -93,3 +94,31 @@ pub record Kept : Type 0 where
 
 abbrev pub kept_at : ℕ → Kept → Kept
 kept_at now kept = record { most = kept.most; state = at now kept.state }
+
+-- an allocation that was opened
+abbrev pub fresh : FiveTuple → (user opened_by relay : ℕ) → Endpoint → (until : ℕ) → Allocation
+fresh tuple user opened_by relay relayed until = record {
+  tuple = tuple;
+  user = user;
+  opened_by = opened_by;
+  relay = relay;
+  relayed = relayed;
+  until = until;
+  permissions = [];
+  channels = [];
+}
+
+-- it is the first, there was room for it, and its socket was no other's
+pub record Opens (a : Allocation) (old new : Kept) : Type 0 where
+  pub most : new.most ≡ old.most
+  pub state : new.state ≡ record old.state { allocations = a ∷ old.state.allocations }
+  pub room : length old.state.allocations < old.most
+  pub unused : list_any (uses_relay a.relay) old.state.allocations ≡ false
+
+-- all slots are free, and these are their places
+pub record AreFree (slots : List (Option Allocation)) (free : List ℕ) (most : ℕ) : Type 0 where
+  pub none : (i : ℕ) → in_slot slots i ≡ None
+  pub all : length slots ≡ most
+  pub long : length free ≡ most
+  pub small : (i : ℕ) → Has i free → i < most
+  pub apart : AreApart free

@@ -15,9 +15,7 @@ impl Seeded {
         let mut begun = DefaultHasher::new();
         seed[0].hash(&mut begun);
         seed[1].hash(&mut begun);
-        Seeded {
-            begun,
-        }
+        Seeded { begun }
     }
 }
 

@@ -12,6 +12,7 @@ mod reply;
 mod serving;
 mod slot;
 mod slots;
+mod table;
 mod user;
 
 pub use endpoints::{Channel, Endpoint, FiveTuple, Ip, Permission};
@@ -21,4 +22,6 @@ pub use laws::{
 };
 pub use limits::{Limits, PeerPolicy};
 pub use reply::{AllocateReply, Reply, Request, ToClient, ToPeer};
+pub use slots::{CHANNELS, PERMISSIONS};
+pub use table::TurnTable;
 pub use user::UserId;

@@ -7,6 +7,7 @@ ghost use Rattle.turn_table.specs.Users.{user_number};
 ghost use Rattle.turn_table.specs.Allocations.{is_live, is_of, is_at, has_permission, channel_by_number, channel_by_peer, is_channel, is_permitted};
 ghost use Rattle.turn_table.specs.Relays.{sent, sent_on, received};
 ghost use Rattle.turn_table.specs.Rows.{is_users};
+ghost use Rattle.turn_table.specs.Slots.{fresh};
 ghost use Rattle.turn_table.specs.Outputs.{setup_of, sending, receiving};
 
 use crate::endpoints::{Channel, Endpoint, FiveTuple, Ip, Permission};
@@ -51,6 +52,29 @@ impl<const P: usize, const C: usize> Model for Slot<P, C> {
 }
 
 impl<const P: usize, const C: usize> Slot<P, C> {
+    /// An allocation that was opened.
+    pub(crate) fn new(
+        tuple: FiveTuple,
+        user: UserId,
+        opened_by: u128,
+        relay: u64,
+        relayed: Endpoint,
+        until: u128,
+    ) -> Self
+        ensures { result ≡ fresh tuple (user_number user) opened_by relay relayed until }
+    {
+        Slot {
+            tuple,
+            user,
+            opened_by,
+            relay,
+            relayed,
+            until,
+            permissions: ArrayVec::new(),
+            channels: ArrayVec::new(),
+        }
+    }
+
     pub(crate) fn is_live(&self, now: u128) -> bool
         ensures { result ≡ is_live now self.now }
     {
@@ -113,7 +137,7 @@ impl<const P: usize, const C: usize> Slot<P, C> {
         self.has_permission(now, peer.ip) || (limits.channel_permits && self.has_channel(now, peer))
     }
 
-    /// The destination of the data of a Send indication.
+    /// The peer that the data of a Send indication goes to.
     pub(crate) fn send<A: PeerPolicy>(
         &self,
         limits: &Limits,
@@ -135,7 +159,7 @@ impl<const P: usize, const C: usize> Slot<P, C> {
         }
     }
 
-    /// The destination of the data of a ChannelData message.
+    /// The peer that the data of a ChannelData message goes to.
     pub(crate) fn send_on<A: PeerPolicy>(
         &self,
         limits: &Limits,
@@ -161,7 +185,7 @@ impl<const P: usize, const C: usize> Slot<P, C> {
         }
     }
 
-    /// The destination of a datagram of a peer.
+    /// The client that a datagram of a peer goes to.
     pub(crate) fn receive(&self, limits: &Limits, now: u128, peer: Endpoint) -> Option<ToClient>
         ensures { (address : Ip → Bool) (port : Endpoint → Bool) (bytes : List ℕ)
             → received (setup_of limits.now P C address port) now peer bytes self.now

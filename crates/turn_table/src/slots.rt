@@ -3,7 +3,8 @@
 ghost use Rattle.std.specs.Prelude.{◌≡◌, ℕ, ◌+◌, ◌*◌, ◌<◌, ◌≤◌, ◌^◌, List, [], ◌∷◌, Option, None, Some, length, option_copied, IfOk, IfSome, MatchOption, Bool};
 ghost use Rattle.turn_table.specs.Users.{user_number};
 ghost use Rattle.turn_table.specs.Allocations.{seconds, Allocation, State, is_live, allocation_of, allocation_at};
-ghost use Rattle.turn_table.specs.Slots.{in_slot, listed, if_of, if_at, kept_at};
+ghost use Rattle.turn_table.specs.Slots.{in_slot, listed, if_of, if_at, kept_at, fresh, Opens, AreFree};
+ghost use Rattle.turn_table.specs.Runs.{begun};
 ghost use Rattle.turn_table.specs.Outputs.{setup_of, answer_of};
 ghost use Rattle.turn_table.specs.Requests.{asked, fulfilled, IsServed};
 ghost use Rattle.turn_table.specs.Events.{answers};
@@ -14,6 +15,7 @@ use crate::limits::{Limits, PeerPolicy};
 use crate::reply::{Reply, Request};
 use crate::slot::Slot;
 use crate::user::UserId;
+use std::alloc::{AllocError, Global};
 use std::collections::{HashMap, VecDeque};
 use std::marker::Model;
 
@@ -23,8 +25,24 @@ pub const PERMISSIONS: usize = 16;
 /// How many channels an allocation may have.
 pub const CHANNELS: usize = 16;
 
+/// An allocation of a table.
+type Held = Slot<PERMISSIONS, CHANNELS>;
+
 /// How many slots there may be: a socket's number has its slot in its low 32 bits.
 const PLACES: u64 = 4_294_967_296;
+
+/// Slots that are all free, and their places.
+fn free_slots(alloc: Global, most: u32) -> Result<(Vec<Option<Held>>, VecDeque<usize>), AllocError>
+    ensures { IfOk result (λ made. AreFree made.0.items made.1.items most) }
+{
+    let mut slots = Vec::with_capacity(alloc, most as usize)?;
+    let mut free = VecDeque::with_capacity(alloc, most as usize)?;
+    for place in 0..most {
+        slots.push(None)?;
+        free.push_front(place as usize)?;
+    }
+    Ok((slots, free))
+}
 
 /// What is in the slot at a place.
 fn slot_at<const P: usize, const C: usize>(
@@ -49,7 +67,11 @@ fn client_at<'a, const P: usize, const C: usize>(
     ensures { option_copied result ≡ if_of now tuple.now (in_slot slots.now place) }
 {
     let slot = slot_at(slots, place)?;
-    if slot.is_of(now, tuple) { Some(slot) } else { None }
+    if slot.is_of(now, tuple) {
+        Some(slot)
+    } else {
+        None
+    }
 }
 
 /// The allocation in the slot at a place, if it is live and has this socket.
@@ -62,7 +84,11 @@ fn relay_at<const P: usize, const C: usize>(
     ensures { option_copied result ≡ if_at now relay (in_slot slots.now place) }
 {
     let slot = slot_at(slots, place)?;
-    if slot.is_at(now, relay) { Some(slot) } else { None }
+    if slot.is_at(now, relay) {
+        Some(slot)
+    } else {
+        None
+    }
 }
 
 /// A request that came to the slot at a place.
@@ -111,8 +137,8 @@ impl Model for Slots {
     ghost Value = { Kept };
 
     ghost view = { λ t. record {
-        most = length t.slots.items;
-        state = record { clock = t.clock; allocations = listed t.slots.items t.order.items };
+      most = length t.slots.items;
+      state = record { clock = t.clock; allocations = listed t.slots.items t.order.items };
     } };
 
     ghost invariant = { λ t.
@@ -169,6 +195,63 @@ impl Slots {
             Some(place) => *place,
             None => return Reply::Refused(437),
         };
-        serve_in(&mut self.slots[place], limits, self.clock, tuple, user, request, policy)
+        serve_in(
+            &mut self.slots[place],
+            limits,
+            self.clock,
+            tuple,
+            user,
+            request,
+            policy,
+        )
+    }
+
+    /// Slots with no allocation, with all the memory that they need.
+    pub(crate) fn new(alloc: Global, most: u32, seed: [u64; 2]) -> Result<Self, AllocError>
+        ensures { IfOk result (λ table. table ≡ record { most = most; state = begun }) }
+    {
+        let (slots, free) = free_slots(alloc, most)?;
+        let order = VecDeque::with_capacity(alloc, most as usize)?;
+        let by_tuple = HashMap::with_capacity_and_hasher(
+            alloc,
+            2 * most as usize,
+            Seeded::new(seed),
+        )?;
+        Ok(Slots {
+            clock: 0,
+            slots,
+            order,
+            free,
+            by_tuple,
+        })
+    }
+
+    /// Opens an allocation of a client that has no live one, and returns its socket's number.
+    pub(crate) fn open(
+        &mut self,
+        tuple: FiveTuple,
+        user: UserId,
+        opened_by: u128,
+        round: u32,
+        relayed: Endpoint,
+        until: u128,
+    ) -> Option<u64>
+        requires { allocation_of self.old.state.clock tuple self.old.state ≡ None }
+        ensures { MatchOption result (self.new ≡ self.old)
+            (λ relay. Opens (fresh tuple (user_number user) opened_by relay relayed until)
+            self.old self.new) }
+    {
+        let place = *self.free.front()?;
+        let relay = round as u64 * PLACES + place as u64;
+        if self.order.push_front(place).is_err() {
+            return None;
+        }
+        if self.by_tuple.insert(tuple, place).is_err() {
+            self.order.pop_front();
+            return None;
+        }
+        self.free.pop_front();
+        self.slots[place] = Some(Slot::new(tuple, user, opened_by, relay, relayed, until));
+        Some(relay)
     }
 }

@@ -1,4 +1,4 @@
-use Rattle.std.proofs.Common.{◌≡◌, ℕ, ◌%◌, List, Option, sym, refl}
+use Rattle.std.proofs.Common.{◌%◌, sym, refl}
 use Rattle.turn_table.specs.Slots.{in_slot, places}
 use Rattle.turn_table.proofs.SlotsLemmas.{found_by_relay}
 use Rattle.turn_table.proofs.slots.Slots.at.Goals as goal

@@ -1,4 +1,4 @@
-use Rattle.std.proofs.Common.{◌≡◌, ℕ, List, Option, None, Some, sym, ◌∙◌}
+use Rattle.std.proofs.Common.{None, Some, sym}
 use Rattle.turn_table.proofs.SlotsLemmas.{found_by_index}
 use Rattle.turn_table.proofs.slots.Slots.of.Goals as goal
 

@@ -1,6 +1,5 @@
-use Rattle.std.proofs.Common.{◌≡◌, ◌<◌, None, length, length-set, arith, sym, refl, ◌∙◌}
+use Rattle.std.proofs.Common.{None, length-set, arith, sym, refl}
 use Rattle.std.proofs.lemmas.Grind.{common_steps}
-use Rattle.turn_table.specs.Allocations.{is_of}
 use Rattle.turn_table.specs.Events.{refused}
 use Rattle.turn_table.specs.Outputs.{setup_of, answer_of}
 use Rattle.turn_table.specs.Requests.{asked}
@@ -41,6 +40,6 @@ returns g c =
     let setup = setup_of c.args.limits.now 16 16 (g.A.PeerPolicy.allows_address c.args.policy.now) (g.A.PeerPolicy.allows_port c.args.policy.now) in
     let is = sym c.in-Some.ensures.value in
     let told = served_at setup i.clock c.args.tuple.now (user_number c.args.user) (asked c.args.request) i.order.items i.free.items i.slots.items i.by_tuple.entries c.self.invariant c.in-Some.place.now is
-        c.index_mut.result.now (was_in i.slots.items c.in-Some.place.now c.index_mut.result.now (c.self.invariant.inside c.args.tuple.now c.in-Some.place.now is) c.index_mut.ensures.value)
-        (answer_of c.serve_in.result) c.serve_in.new.slot c.serve_in.ensures in
+    c.index_mut.result.now (was_in i.slots.items c.in-Some.place.now c.index_mut.result.now (c.self.invariant.inside c.args.tuple.now c.in-Some.place.now is) c.index_mut.ensures.value)
+    (answer_of c.serve_in.result) c.serve_in.new.slot c.serve_in.ensures in
     rw (← c.self.view_is) (told.0, length-set i.slots.items c.in-Some.place.now c.serve_in.new.slot)

@@ -1,0 +1,184 @@
+//! The table of a TURN server.
+
+ghost use Rattle.std.specs.Prelude.{◌≡◌, ℕ, List, Bool, IfOk};
+ghost use Rattle.turn_table.specs.Endpoints.{Ip, Endpoint};
+ghost use Rattle.turn_table.specs.Users.{user_number};
+ghost use Rattle.turn_table.specs.Events.{asks, sends, sends_on, arrives, answers};
+ghost use Rattle.turn_table.specs.Relays.{relays};
+ghost use Rattle.turn_table.specs.Steps.{step};
+ghost use Rattle.turn_table.specs.Runs.{begun};
+ghost use Rattle.turn_table.specs.Outputs.{setup_of, answer_of, sending, receiving};
+ghost use Rattle.turn_table.specs.Requests.{asked};
+
+use crate::endpoints::{Endpoint, FiveTuple};
+use crate::limits::{Limits, PeerPolicy};
+use crate::reply::{Reply, Request, ToClient, ToPeer};
+use crate::slots::{CHANNELS, PERMISSIONS, Slots};
+use crate::user::UserId;
+use std::alloc::{AllocError, Global};
+use std::marker::Model;
+
+/// The allocations that a TURN server has, with their permissions and channels (RFC 8656).
+///
+/// Each call takes the caller's clock: nanoseconds since a beginning of its choice. A clock that
+/// steps back counts as stopped. No call but [`TurnTable::new`] allocates.
+#[derive(Drop)]
+pub struct TurnTable {
+    limits: Limits,
+    slots: Slots,
+}
+
+impl Model for TurnTable {
+    ghost use Rattle.std.specs.Prelude.{◌≡◌};
+    ghost use Rattle.turn_table.specs.Tables.{Table};
+
+    ghost Value = { Table };
+
+    ghost view = { λ t. record { limits = t.limits; state = t.slots.state } };
+
+    ghost invariant = { λ t. t.slots.most ≡ t.limits.allocations };
+}
+
+impl TurnTable {
+    /// A table with no allocation. `seed` keys the hash of 5-tuples: take random numbers.
+    ///
+    /// Fails if memory runs out. It takes all memory that the table ever needs.
+    pub fn new(alloc: Global, limits: Limits, seed: [u64; 2]) -> Result<Self, AllocError>
+        ensures { IfOk result (λ table. table ≡ record { limits = limits; state = begun }) }
+    {
+        let slots = Slots::new(alloc, limits.allocations, seed)?;
+        Ok(TurnTable { limits, slots })
+    }
+
+    /// Answers a request of a user that isn't Allocate, and does what it asks for (RFC 8656, sections
+    /// 8, 10 and 12).
+    ///
+    /// Refuses with 437 if the client has no live allocation, and with 441 if it is another user's.
+    /// Refuses a Refresh request with 443 if it names another address family than the
+    /// allocation's. Refuses a CreatePermission request with 443 if a peer is of another family, 403
+    /// if one is forbidden, and 508 if there is no room for all of them. Refuses a ChannelBind request
+    /// with 400 if the number is none of a channel, or the number or the peer is bound otherwise, then
+    /// as CreatePermission, and with 508 if there is no room for the channel. A request that is
+    /// refused changes nothing.
+    pub fn request<A: PeerPolicy>(
+        &mut self,
+        now: u64,
+        tuple: &FiveTuple,
+        user: UserId,
+        request: Request<'_>,
+        policy: &A,
+    ) -> Reply
+        ensures step { let setup = setup_of self.old.limits PERMISSIONS CHANNELS
+            (A.allows_address policy.now) (A.allows_port policy.now) in
+            step setup self.old.state now
+            (asks tuple.now (user_number user) (asked request.entry))
+            ≡ record { state = self.new.state; output = answers tuple.now (answer_of result) } }
+        ensures limits { self.new.limits ≡ self.old.limits }
+    {
+        self.slots.advance(now as u128);
+        self.slots.serve(&self.limits, tuple, user, request, policy)
+    }
+
+    /// The peer that the data of a Send indication goes to, now.
+    fn relay_send<A: PeerPolicy>(
+        &self,
+        tuple: &FiveTuple,
+        peer: Endpoint,
+        policy: &A,
+    ) -> Option<ToPeer>
+        ensures { (address : Ip → Bool) (bytes : List ℕ)
+            → relays (setup_of self.now.limits PERMISSIONS CHANNELS address (A.allows_port policy.now))
+            self.now.state self.now.state.clock (sends tuple.now peer bytes) ≡ sending result bytes }
+    {
+        self.slots
+            .of(tuple)?
+            .send(&self.limits, self.slots.clock(), peer, policy)
+    }
+
+    /// Where ChannelData of a client goes, now.
+    fn relay_on_channel<A: PeerPolicy>(
+        &self,
+        tuple: &FiveTuple,
+        number: u16,
+        policy: &A,
+    ) -> Option<ToPeer>
+        ensures { (address : Ip → Bool) (bytes : List ℕ)
+            → relays (setup_of self.now.limits PERMISSIONS CHANNELS address (A.allows_port policy.now))
+            self.now.state self.now.state.clock (sends_on tuple.now number bytes)
+            ≡ sending result bytes }
+    {
+        self.slots
+            .of(tuple)?
+            .send_on(&self.limits, self.slots.clock(), number, policy)
+    }
+
+    /// The client that a datagram of a peer goes to, now.
+    fn relay_to_client(&self, relay: u64, peer: Endpoint) -> Option<ToClient>
+        ensures { (address : Ip → Bool) (port : Endpoint → Bool) (bytes : List ℕ)
+            → relays (setup_of self.now.limits PERMISSIONS CHANNELS address port)
+            self.now.state self.now.state.clock (arrives relay peer bytes)
+            ≡ receiving result peer bytes }
+    {
+        self.slots
+            .at(relay)?
+            .receive(&self.limits, self.slots.clock(), peer)
+    }
+
+    /// The peer that the data of a Send indication goes to (RFC 8656, section 11.2).
+    ///
+    /// `None` if it is dropped: the client has no live allocation, or no permission for the peer's IP
+    /// address, or the peer's port is forbidden.
+    pub fn on_send<A: PeerPolicy>(
+        &mut self,
+        now: u64,
+        tuple: &FiveTuple,
+        peer: Endpoint,
+        policy: &A,
+    ) -> Option<ToPeer>
+        ensures step { (address : Ip → Bool) (bytes : List ℕ)
+            → step (setup_of self.old.limits PERMISSIONS CHANNELS address (A.allows_port policy.now))
+            self.old.state now (sends tuple.now peer bytes)
+            ≡ record { state = self.new.state; output = sending result bytes } }
+        ensures limits { self.new.limits ≡ self.old.limits }
+    {
+        self.slots.advance(now as u128);
+        self.relay_send(tuple, peer, policy)
+    }
+
+    /// The peer that the data of a ChannelData message goes to (RFC 8656, section 12.6).
+    ///
+    /// `None` if it is dropped: the channel isn't bound, or the data of a Send indication to its peer
+    /// would be dropped.
+    pub fn on_channel_data<A: PeerPolicy>(
+        &mut self,
+        now: u64,
+        tuple: &FiveTuple,
+        number: u16,
+        policy: &A,
+    ) -> Option<ToPeer>
+        ensures step { (address : Ip → Bool) (bytes : List ℕ)
+            → step (setup_of self.old.limits PERMISSIONS CHANNELS address (A.allows_port policy.now))
+            self.old.state now (sends_on tuple.now number bytes)
+            ≡ record { state = self.new.state; output = sending result bytes } }
+        ensures limits { self.new.limits ≡ self.old.limits }
+    {
+        self.slots.advance(now as u128);
+        self.relay_on_channel(tuple, number, policy)
+    }
+
+    /// The client that a peer's datagram goes to, by the number of the socket that it came to (RFC
+    /// 8656, sections 11.3 and 12.7).
+    ///
+    /// `None` if it is dropped: the socket belongs to no live allocation, or there is no permission
+    /// for the peer's IP address.
+    pub fn on_peer_data(&mut self, now: u64, relay: u64, peer: Endpoint) -> Option<ToClient>
+        ensures step { (address : Ip → Bool) (port : Endpoint → Bool) (bytes : List ℕ)
+            → step (setup_of self.old.limits PERMISSIONS CHANNELS address port)
+            self.old.state now (arrives relay peer bytes)
+            ≡ record { state = self.new.state; output = receiving result peer bytes } }
+        ensures limits { self.new.limits ≡ self.old.limits }
+    {
+        self.slots.advance(now as u128);
+        self.relay_to_client(relay, peer)
+    }
+}
