@@ -48,9 +48,11 @@ ghost use Rattle.ice_attrs.specs.Ice.{PRIORITY, USE_CANDIDATE, ICE_CONTROLLED, I
 ghost use Rattle.turn_attrs.specs.declared.channel_data.ChannelDataError.TheVariants.{NotChannelData, Truncated, TooLarge};
 ghost use Rattle.turn_attrs.specs.declared.protocols.Protocol.TheVariants.{Stun, Zrtp, Dtls, TurnChannel, Rtp};
 ghost use Rattle.turn_attrs.specs.Turn.{LIFETIME, XOR_PEER_ADDRESS, DATA, CHANNEL_NUMBER, XOR_RELAYED_ADDRESS, REQUESTED_ADDRESS_FAMILY, EVEN_PORT, REQUESTED_TRANSPORT, DONT_FRAGMENT, RESERVATION_TOKEN, ADDITIONAL_ADDRESS_FAMILY, ADDRESS_ERROR_CODE, ICMP, family_in, reserve_in, protocol_in, icmp_in};
-ghost use Rattle.turn_attrs.specs.Channels.{channel_in, channel_field, data_length};
-ghost use Rattle.turn_attrs.specs.ChannelMessages.{channel_fault};
-ghost use Rattle.turn_attrs.specs.Protocols.{protocol};
+ghost use Rattle.turn_attrs.specs.declared.channels.ChannelRange.TheVariants.{Rfc5766};
+ghost use Rattle.turn_attrs.specs.Channels.{channel_in, old_channel_in, channel_field, data_length};
+ghost use Rattle.turn_attrs.specs.ChannelMessages.{channel_fault, channel_fault_in};
+ghost use Rattle.turn_attrs.specs.Heads.{data_indication as indication_of};
+ghost use Rattle.turn_attrs.specs.Protocols.{protocol, protocol_in as protocol_in_range};
 ghost use Rattle.usage_vectors.specs.TurnMessages.{allocate_success, allocate_success_id, allocate_success_attributes, channel_bind, channel_bind_id, channel_bind_attributes, data_indication, data_indication_id, data_indication_attributes, relayed, peer, peer_ipv6};
 ghost use Rattle.usage_vectors.specs.Streams.{with_channels, padded_data, whole_stream, pieces, unsigned_error};
 ghost use Rattle.usage_vectors.specs.Reasons.{all_codes, all_reasons};
@@ -109,20 +111,25 @@ pub fn attribute_types_are_right()
     ensures turn { CHANNEL_NUMBER ∷ LIFETIME ∷ XOR_PEER_ADDRESS ∷ DATA ∷ XOR_RELAYED_ADDRESS ∷ REQUESTED_ADDRESS_FAMILY ∷ EVEN_PORT ∷ REQUESTED_TRANSPORT ∷ DONT_FRAGMENT ∷ RESERVATION_TOKEN ∷ ADDITIONAL_ADDRESS_FAMILY ∷ ADDRESS_ERROR_CODE ∷ ICMP ∷ [] ≡ 0x000C ∷ 0x000D ∷ 0x0012 ∷ 0x0013 ∷ 0x0016 ∷ 0x0017 ∷ 0x0018 ∷ 0x0019 ∷ 0x001A ∷ 0x0022 ∷ 0x8000 ∷ 0x8001 ∷ 0x8004 ∷ [] }
 {}
 
-/// Three messages of RFC 8656, section 20, and their addresses, of both families.
+/// Three messages of RFC 8656, section 20, and their addresses, of both families; and the last one as it
+/// is written.
 pub fn turn_messages_are_right()
     ensures allocate { IsRead allocate_success 0x0103 allocate_success_id allocate_success_attributes }
     ensures relayed { IsXored allocate_success_id relayed (address_in (slice_range allocate_success 32 40)) }
     ensures bind { IsRead channel_bind 0x0009 channel_bind_id channel_bind_attributes }
     ensures peer { IsXored channel_bind_id peer (address_in (slice_range channel_bind 32 40)) }
     ensures indication { IsRead data_indication 0x0017 data_indication_id data_indication_attributes }
+    ensures written { indication_of data_indication_id peer_ipv6 (codes "hello") ≡ data_indication }
     ensures peer_ipv6 { IsXored data_indication_id peer_ipv6 (address_in (slice_range data_indication 24 44)) }
 {}
 
-/// Values of TURN's attributes, read as numbers, in the layout of RFC 8656, section 18.
+/// Values of TURN's attributes, read as numbers, in the layout of RFC 8656, section 18; and channels of
+/// RFC 5766.
 pub fn turn_values_are_right()
     ensures channel { channel_in 0x40000000 ≡ Some 0x4000 }
     ensures no_channel { channel_in 0x50000000 ≡ None }
+    ensures old_channel { old_channel_in 0x7FFF0000 ≡ Some 0x7FFF }
+    ensures no_old_channel { old_channel_in 0x80000000 ≡ None }
     ensures family { family_in 0x02000000 ≡ Some IPV6 }
     ensures reserve { reserve_in 0x80 ≡ Some true }
     ensures udp { protocol_in 0x11000000 ≡ Some 17 }
@@ -130,7 +137,8 @@ pub fn turn_values_are_right()
 {}
 
 /// A ChannelData message with five bytes of data, in the layout of RFC 8656, section 12.4: alone, with
-/// the padding of section 12.5, truncated, with too many bytes, and with a wrong first byte.
+/// the padding of section 12.5, truncated, with too many bytes, on a channel of RFC 5766 (section 11),
+/// and with a wrong first byte.
 pub fn channel_data_is_right()
     ensures lawful { channel_fault (0x40 ∷ 0x00 ∷ 0x00 ∷ 0x05 ∷ codes "hello") ≡ None }
     ensures channel { channel_field (0x40 ∷ 0x01 ∷ 0x00 ∷ 0x05 ∷ codes "hello") ≡ 0x4001 }
@@ -138,10 +146,12 @@ pub fn channel_data_is_right()
     ensures padded { channel_fault (0x40 ∷ 0x00 ∷ 0x00 ∷ 0x05 ∷ codes "hello" ++ replicate 3 0) ≡ None }
     ensures cut { channel_fault (0x40 ∷ 0x00 ∷ 0x00 ∷ 0x05 ∷ codes "hell") ≡ Some (Truncated 9 8) }
     ensures longer { channel_fault (0x40 ∷ 0x00 ∷ 0x00 ∷ 0x05 ∷ codes "hello" ++ replicate 4 0) ≡ Some (TooLarge 12 13) }
+    ensures old_channel { channel_fault_in Rfc5766 (0x67 ∷ 0x80 ∷ 0x00 ∷ 0x05 ∷ codes "hello") ≡ None }
     ensures no_channel { channel_fault (0x50 ∷ 0x00 ∷ 0x00 ∷ 0x05 ∷ codes "hello") ≡ Some NotChannelData }
 {}
 
-/// The protocol of a packet by its first byte, in the ranges of RFC 7983, section 7.
+/// The protocol of a packet by its first byte, in the ranges of RFC 7983, section 7, and with the
+/// channels of RFC 5766.
 pub fn first_bytes_are_right()
     ensures stun { protocol 3 ≡ Some Stun }
     ensures none { protocol 4 ≡ None }
@@ -149,6 +159,7 @@ pub fn first_bytes_are_right()
     ensures dtls { protocol 63 ≡ Some Dtls }
     ensures channel { protocol 64 ≡ Some TurnChannel }
     ensures channels { protocol 79 ≡ Some TurnChannel }
+    ensures old_channels { protocol_in_range Rfc5766 127 ≡ Some TurnChannel }
     ensures rtp { protocol 191 ≡ Some Rtp }
 {}
 

@@ -29,3 +29,7 @@ returns-clause-longer c = refl
 pub returns-clause-no_channel : goal.returns-clause-no_channel
 unfolding computing
 returns-clause-no_channel c = refl
+
+pub returns-clause-old_channel : goal.returns-clause-old_channel
+unfolding computing
+returns-clause-old_channel c = refl

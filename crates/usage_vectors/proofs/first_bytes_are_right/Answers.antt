@@ -29,3 +29,7 @@ returns-clause-channels c = refl
 pub returns-clause-rtp : goal.returns-clause-rtp
 unfolding computing
 returns-clause-rtp c = refl
+
+pub returns-clause-old_channels : goal.returns-clause-old_channels
+unfolding computing
+returns-clause-old_channels c = refl

@@ -70,3 +70,7 @@ returns-clause-peer_ipv6 c = record {
     scope_id = refl;
   };
 }
+
+pub returns-clause-written : goal.returns-clause-written
+unfolding computing
+returns-clause-written c = refl

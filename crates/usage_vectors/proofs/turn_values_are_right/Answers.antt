@@ -25,3 +25,11 @@ returns-clause-udp c = refl
 pub returns-clause-icmp : goal.returns-clause-icmp
 unfolding computing
 returns-clause-icmp c = refl
+
+pub returns-clause-old_channel : goal.returns-clause-old_channel
+unfolding computing
+returns-clause-old_channel c = refl
+
+pub returns-clause-no_old_channel : goal.returns-clause-no_old_channel
+unfolding computing
+returns-clause-no_old_channel c = refl
