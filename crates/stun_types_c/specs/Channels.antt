@@ -5,7 +5,8 @@ use Rattle.turn_attrs.specs.declared.protocols.Protocol.{Protocol}
 use Rattle.turn_attrs.specs.declared.protocols.Protocol.TheVariants.{Stun, Zrtp, Dtls, TurnChannel, Quic, Rtp}
 use Rattle.turn_attrs.specs.declared.channel_data.ChannelDataError.{ChannelDataError}
 use Rattle.turn_attrs.specs.declared.channel_data.ChannelDataError.TheVariants.{NotChannelData, Truncated, TooLarge}
-use Rattle.turn_attrs.specs.Channels.{begin_fault, channel_field, data_length, is_channel}
+use Rattle.turn_attrs.specs.declared.channels.ChannelRange.TheVariants.{Rfc8656}
+use Rattle.turn_attrs.specs.Channels.{begin_fault, channel_field, data_length, is_channel_in}
 use Rattle.turn_attrs.specs.ChannelMessages.{channel_fault}
 use Rattle.stun_types_c.specs.declared.call_result.CResult.{CResult}
 use Rattle.stun_types_c.specs.declared.channels.CChannelMessage.{CChannelMessage}
@@ -64,7 +65,7 @@ abbrev pub channel_refusal : (padded : Bool) → (channel : ℕ) → (sent slice
     → Option CResult
 channel_refusal padded channel sent slice =
     let n = length (channel_message padded channel sent) in
-    if is_channel channel then (
+    if is_channel_in Rfc8656 channel then (
     if nat_lt 65535 (length sent) then Some (counted TOO_LARGE 65535 (length sent)) else (
     if nat_lt (length slice) n then Some (counted TOO_SMALL n (length slice)) else None))
     else Some (counted OUT_OF_RANGE 0x4FFF channel)
