@@ -107,7 +107,7 @@ message site d =
     if is_some (parse_fault d) then dropped
     else by_class site (class_of (type_field d)) (method_of (type_field d)) d
 
--- by its first byte (section 12, table 3): a channel's, or that of a STUN message
+-- by its first byte (section 12): a channel's, or that of a STUN message
 abbrev pub judge : Site → List ℕ → Judged
 judge site [] = dropped
 judge site (first ∷ more) =
