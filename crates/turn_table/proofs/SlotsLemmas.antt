@@ -1,13 +1,15 @@
 -- The allocations of the slots in their order: a search, a change and an insertion, by the slot.
-use Rattle.std.proofs.Common.{◌≡◌, ℕ, zero, suc, ◌%◌, ◌<◌, Bool, true, false, List, [], ◌∷◌, Option, None, Some, length, get_or, map, refl, sym, ap, subst, ◌∙◌, find, arith, ltb-true, eqb-true, inl, inr}
-use Rattle.std.specs.Prelude.{slice_set, ◌==◌}
+use Rattle.std.proofs.Common.{◌≡◌, ℕ, zero, suc, ◌%◌, ◌<◌, Bool, true, false, List, [], ◌∷◌, Option, None, Some, length, get_or, map, refl, sym, ap, subst, ◌∙◌, find, arith, ltb-true, eqb-true, inl, inr, cond, filter}
+use Rattle.std.specs.Prelude.{slice_set, ◌==◌, count_by}
 use Rattle.std.proofs.lemmas.Option.{none-some, get_or_from_slice_get, slice_get_read}
 use Rattle.std.proofs.lemmas.Bool.{cond_both, cond-true, cond-false, and_parts, eqb-false}
 use Rattle.std.proofs.lemmas.List.{get_or-set_same, get_or-set_other}
+use Rattle.std.proofs.lemmas.List.Sums.{length-filter}
+use Rattle.turn_table.specs.Rows.{is_users}
 use Rattle.turn_table.specs.Endpoints.{FiveTuple, is_tuple}
 use Rattle.turn_table.specs.Allocations.{Allocation, is_live, is_of, is_at}
 use Rattle.turn_table.specs.Steps.{changed_first}
-use Rattle.turn_table.specs.Slots.{in_slot, put_first, listed, Has, AreApart, if_of, if_at, named, at_place, places, Finds, ArePlaced, AreCounted}
+use Rattle.turn_table.specs.Slots.{in_slot, users_at, put_first, listed, Has, AreApart, if_of, if_at, named, at_place, places, Finds, ArePlaced, AreCounted}
 use Rattle.turn_table.proofs.AddressesLemmas.{tuple_same}
 
 pub not_true : (v : Bool) → (v ≡ true → ⊥) → v ≡ false
@@ -163,3 +165,22 @@ pub opened_first : (slots : List (Option Allocation)) (order : List ℕ) (i : �
 opened_first slots order i a lt out =
     ap (λ (o : Option Allocation). put_first o (listed (slice_set slots i (Some a)) order)) (get_or-set_same slots i (Some a) None lt)
     ∙ ap (λ (l : List Allocation). a ∷ l) (untouched slots order i (Some a) out)
+
+-- ---- How many are a user's
+
+as_long : (b : Bool) (i : ℕ) (is : List ℕ) (a : Allocation) (all : List Allocation) → length is ≡ length all → length (cond b (i ∷ is) is) ≡ length (cond b (a ∷ all) all)
+as_long true i is a all same = ap suc same
+as_long false i is a all same = same
+
+filter_next : (now user : ℕ) (o : Option Allocation) (i : ℕ) (is : List ℕ) (all : List Allocation) → length is ≡ length (filter (is_users now user) all)
+    → length (cond (users_at now user o) (i ∷ is) is) ≡ length (filter (is_users now user) (put_first o all))
+filter_next now user None i is all same = same
+filter_next now user (Some a) i is all same = as_long (is_users now user a) i is a (filter (is_users now user) all) same
+
+filter_listed : (now user : ℕ) (slots : List (Option Allocation)) (order : List ℕ) → length (filter (λ (i : ℕ). users_at now user (in_slot slots i)) order) ≡ length (filter (is_users now user) (listed slots order))
+filter_listed now user slots [] = refl
+filter_listed now user slots (i ∷ order) =
+    filter_next now user (in_slot slots i) i (filter (λ (j : ℕ). users_at now user (in_slot slots j)) order) (listed slots order) (filter_listed now user slots order)
+
+pub count_listed : (now user : ℕ) (slots : List (Option Allocation)) (order : List ℕ) → length (filter (λ (i : ℕ). users_at now user (in_slot slots i)) order) ≡ count_by (is_users now user) (listed slots order)
+count_listed now user slots order = filter_listed now user slots order ∙ length-filter (is_users now user) (listed slots order)

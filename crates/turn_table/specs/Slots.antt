@@ -1,10 +1,10 @@
 -- The slots of a table, and what names them.
-use Rattle.std.specs.Prelude.{◌≡◌, ℕ, ◌+◌, ◌%◌, ◌^◌, ◌<◌, ◌≤◌, false, List, [], ◌∷◌, Option, None, Some, length, slice_index_or, if◌then◌else◌, ◌⊎◌}
+use Rattle.std.specs.Prelude.{◌≡◌, ℕ, ◌+◌, ◌%◌, ◌^◌, ◌<◌, ◌≤◌, false, List, [], ◌∷◌, Option, None, Some, length, slice_index_or, if◌then◌else◌, ◌⊎◌, Bool}
 use Rattle.std.specs.List.{list_any}
 use Rattle.std.specs.Map.{lookup}
 use Rattle.turn_table.specs.Endpoints.{Endpoint, FiveTuple, is_ip, is_tuple}
 use Rattle.turn_table.specs.Allocations.{Permission, Allocation, State, is_of, is_at}
-use Rattle.turn_table.specs.Rows.{uses_relay}
+use Rattle.turn_table.specs.Rows.{is_users, uses_relay}
 use Rattle.turn_table.specs.Steps.{at}
 
 -- no two permissions are of one IP address
@@ -42,6 +42,11 @@ if_of now tuple (Some a) = if is_of now tuple a then Some a else None
 abbrev pub if_at : ℕ → ℕ → Option Allocation → Option Allocation
 if_at now relay None = None
 if_at now relay (Some a) = if is_at now relay a then Some a else None
+
+-- whether an allocation is live and this user's
+abbrev pub users_at : ℕ → (user : ℕ) → Option Allocation → Bool
+users_at now user None = false
+users_at now user (Some a) = is_users now user a
 
 -- what the index names for a 5-tuple
 abbrev pub named : List (FiveTuple × ℕ) → FiveTuple → Option ℕ

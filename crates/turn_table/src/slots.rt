@@ -1,9 +1,10 @@
 //! The slots of a table, and an index of them by 5-tuples.
 
-ghost use Rattle.std.specs.Prelude.{◌≡◌, ℕ, ◌+◌, ◌*◌, ◌<◌, ◌≤◌, ◌^◌, List, [], ◌∷◌, Option, None, Some, length, option_copied, IfOk, IfSome, MatchOption, Bool};
+ghost use Rattle.std.specs.Prelude.{◌≡◌, ℕ, ◌+◌, ◌*◌, ◌<◌, ◌≤◌, ◌^◌, List, [], ◌∷◌, Option, None, Some, length, filter, count_by, option_copied, IfOk, IfSome, MatchOption, Bool};
 ghost use Rattle.turn_table.specs.Users.{user_number};
+ghost use Rattle.turn_table.specs.Rows.{is_users};
 ghost use Rattle.turn_table.specs.Allocations.{seconds, Allocation, State, is_live, allocation_of, allocation_at};
-ghost use Rattle.turn_table.specs.Slots.{in_slot, listed, if_of, if_at, kept_at, fresh, Opens, AreFree};
+ghost use Rattle.turn_table.specs.Slots.{in_slot, users_at, listed, if_of, if_at, kept_at, fresh, Opens, AreFree};
 ghost use Rattle.turn_table.specs.Runs.{begun};
 ghost use Rattle.turn_table.specs.Outputs.{setup_of, answer_of};
 ghost use Rattle.turn_table.specs.Requests.{asked, fulfilled, IsServed};
@@ -89,6 +90,27 @@ fn relay_at<const P: usize, const C: usize>(
     } else {
         None
     }
+}
+
+/// Whether the allocation in the slot at a place is live and this user's.
+fn is_users_at(slots: &[Option<Held>], place: usize, now: u128, user: UserId) -> bool
+    ensures { result ≡ users_at now (user_number user) (in_slot slots.now place) }
+{
+    match slot_at(slots, place) {
+        Some(slot) => slot.is_users(now, user),
+        None => false,
+    }
+}
+
+/// How many of the slots at these places are live and this user's.
+fn count_users(slots: &[Option<Held>], order: &VecDeque<usize>, now: u128, user: UserId) -> usize
+    ensures { result ≡ length
+        (filter (λ i. users_at now (user_number user) (in_slot slots.now i)) order.now.items) }
+{
+    order
+        .iter()
+        .filter(|place| is_users_at(slots, **place, now, user))
+        .count()
 }
 
 /// A request that came to the slot at a place.
@@ -253,5 +275,13 @@ impl Slots {
         self.free.pop_front();
         self.slots[place] = Some(Slot::new(tuple, user, opened_by, relay, relayed, until));
         Some(relay)
+    }
+
+    /// How many live allocations a user has.
+    pub(crate) fn count_of(&self, user: UserId) -> usize
+        ensures { result ≡ count_by (is_users self.now.state.clock (user_number user))
+            self.now.state.allocations }
+    {
+        count_users(&self.slots, &self.order, self.clock, user)
     }
 }
