@@ -28,7 +28,7 @@ static struct {
 
 static int count;
 static long taken, unused, revealed;
-static size_t asked, refused, is_refused_on;
+static size_t asked, refused, is_refused_on, is_reserved;
 
 /* From now on the request with this number is refused, 1 the next and 0 none, and if `on` isn't 0, every
  * later one. */
@@ -54,6 +54,9 @@ void *__interceptor_malloc(size_t size) { return is_refused() ? NULL : ___interc
 void *__interceptor_realloc(void *block, size_t size) {
     return is_refused() ? NULL : ___interceptor_realloc(block, size);
 }
+
+/* Memory that is reserved for later counts as used. */
+void memory_reserve(size_t on) { is_reserved = on; }
 
 static void add(const char *name, const void *bytes, size_t length) {
     secrets[count].name = name;
@@ -92,7 +95,7 @@ __attribute__((constructor)) static void begin(void) {
 void __sanitizer_malloc_hook(const volatile void *block, size_t size) {
     if (!block) return;
     taken++;
-    memset((void *) block, FILL, size);
+    memset((void *) block, is_reserved ? 0 : FILL, size);
 }
 
 void __sanitizer_free_hook(const volatile void *block) {
