@@ -21,9 +21,7 @@ use crate::indication::read_send;
 use crate::request::{asks_table, read_request};
 use crate::{Accounts, Judged, Site};
 use std::alloc::{AllocError, Global};
-use stun_authentication::{
-    Accepted, Authentication, LongTermKeys, Nonces, authenticate_long_term,
-};
+use stun_authentication::{Accepted, Authentication, LongTermKeys, Nonces, authenticate_long_term};
 use stun_types::message::{BINDING, Message, MessageClass};
 use turn_attrs::methods::SEND;
 
