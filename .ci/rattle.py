@@ -91,10 +91,6 @@ class Item:
         lines = (it for it in self.doc.section(title) if it and not DEFINITION.match(it))
         return links_gone(" ".join(it.strip().removeprefix("- ") for it in lines))
 
-    def examples(self):
-        """The lines of each block of code in the doc that has no word after its backquotes."""
-        return [it.code for it in self.doc.blocks if not it.word]
-
     def members(self):
         """The functions and constants of a block: of a trait all, of an `impl` the public ones."""
         for at, line in enumerate(self.body):
