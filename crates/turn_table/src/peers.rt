@@ -58,7 +58,7 @@ pub struct Peers<'a> {
 
 impl Peers<'_> {
     ghost use Rattle.std.specs.Prelude.{◌≡◌};
-    ghost use Rattle.turn_table.specs.Peers.{allows, allows_ip, allows_address};
+    ghost use Rattle.turn_table.specs.Peers.{allows, allows_ip, allows_address, listens_at};
 
     /// Whether the server relays to this peer: `allows_ip` of its IP address, and the server doesn't
     /// listen there. Flow information and scope ID don't count.
@@ -79,7 +79,7 @@ impl Peers<'_> {
     pub fn allows(&self, peer: SocketAddr) -> bool
         ensures { result ≡ allows self.now peer }
     {
-        self.allows_ip(peer.ip()) && !is_among(self.listening, peer)
+        self.allows_ip(peer.ip()) && !self.listens_at(address_of(peer.ip()), peer.port())
     }
 
     /// Whether the server relays to peers of this IP address: what it asks for a permission, which is
@@ -101,11 +101,19 @@ impl Peers<'_> {
         self.allows_number(address_of(ip))
     }
 
+    /// Whether the prefixes allow an address.
     fn allows_number(&self, address: Address) -> bool
         ensures { result ≡ allows_address self.now.denied.now self.now.allowed.now address }
     {
         is_open(self.denied, self.allowed, 1, address)
             && is_open(&DENIED_BY_DEFAULT, self.allowed, 0, address)
+    }
+
+    /// Whether the server listens at an address and a port.
+    fn listens_at(&self, address: Address, port: u16) -> bool
+        ensures { result ≡ listens_at self.now address port }
+    {
+        self.listening.iter().any(|own| own.port() == port && address_of(own.ip()).is_same(address))
     }
 }
 
@@ -128,11 +136,11 @@ impl Peers<'_> {
 /// assert!(rt; !peers.allows_address(Ip { family: 1, number: 0xA9FE_A9FE }));
 /// ```
 impl PeerPolicy for Peers<'_> {
-    ghost use Rattle.turn_table.specs.Peers.{is_peer_allowed, is_port_open};
+    ghost use Rattle.turn_table.specs.Peers.{is_peer_allowed, is_port_allowed};
 
     ghost allows_address = { is_peer_allowed };
 
-    ghost allows_port = { is_port_open };
+    ghost allows_port = { is_port_allowed };
 
     fn allows_address(&self, ip: Ip) -> bool {
         match address_in(ip) {
@@ -142,13 +150,15 @@ impl PeerPolicy for Peers<'_> {
     }
 
     fn allows_port(&self, peer: Endpoint) -> bool {
-        !is_own(self.listening, peer)
+        match address_in(peer.ip) {
+            Some(address) => !self.listens_at(address, peer.port),
+            None => false,
+        }
     }
 }
 
 ghost use Rattle.std.specs.Prelude.{◌≡◌, ◌+◌, ◌≤◌};
-ghost use Rattle.std.specs.List.{list_any};
-ghost use Rattle.turn_table.specs.Peers.{is_same_peer, is_own_endpoint, is_allowed_by, is_open};
+ghost use Rattle.turn_table.specs.Peers.{is_allowed_by, is_open};
 
 /// Whether one of these prefixes contains the address, and has at least this length.
 fn is_allowed_by(allowed: &[Prefix], least: u16, address: Address) -> bool
@@ -166,33 +176,4 @@ fn is_open(denied: &[Prefix], allowed: &[Prefix], more: u8, address: Address) ->
         !prefix.contains(address)
             || is_allowed_by(allowed, prefix.length() as u16 + more as u16, address)
     })
-}
-
-/// Whether two transport addresses have one IP address and one port.
-fn is_same_peer(peer: SocketAddr, own: SocketAddr) -> bool
-    ensures { result ≡ is_same_peer peer own }
-{
-    own.port() == peer.port() && address_of(own.ip()).is_same(address_of(peer.ip()))
-}
-
-/// Whether the server listens where a peer is.
-fn is_among(listening: &[SocketAddr], peer: SocketAddr) -> bool
-    ensures { result ≡ list_any (is_same_peer peer) listening.now }
-{
-    listening.iter().any(|own| is_same_peer(peer, *own))
-}
-
-/// Whether the server listens at `own` alone, and that is where a peer of a table is.
-fn is_own_endpoint(peer: Endpoint, own: SocketAddr) -> bool
-    ensures { result ≡ is_own_endpoint peer own }
-{
-    own.port() == peer.port
-        && address_in(peer.ip).is_some_and(|address| address_of(own.ip()).is_same(address))
-}
-
-/// Whether the server listens where a peer of a table is.
-fn is_own(listening: &[SocketAddr], peer: Endpoint) -> bool
-    ensures { result ≡ list_any (is_own_endpoint peer) listening.now }
-{
-    listening.iter().any(|own| is_own_endpoint(peer, *own))
 }
