@@ -1,14 +1,17 @@
 -- Which peers a TURN server relays to (RFC 8656, section 21).
-use Rattle.std.specs.Prelude.{ℕ, ◌+◌, Bool, ◌&&◌, ◌||◌, not, ◌==◌, nat_le, List}
+use Rattle.std.specs.Prelude.{ℕ, ◌+◌, Bool, false, ◌&&◌, ◌||◌, not, ◌==◌, nat_le, List}
 use Rattle.std.specs.List.{list_all, list_any}
+use Rattle.std.specs.Option.{option_map_or}
 use Rattle.std.specs.Net.Socket.{socket_ip, socket_port}
 use Rattle.std.specs.declared.net.ip_addr.IpAddr.{IpAddr}
 use Rattle.std.specs.declared.net.socket_addr.SocketAddr.{SocketAddr}
+use Rattle.turn_table.specs.declared.endpoints.Ip.{Ip}
+use Rattle.turn_table.specs.declared.endpoints.Endpoint.{Endpoint}
 use Rattle.turn_table.specs.declared.peers.defaults.TheConstants.{DENIED_BY_DEFAULT}
 use Rattle.turn_table.specs.declared.peers.networks.Address.{Address}
 use Rattle.turn_table.specs.declared.peers.networks.Prefix.{Prefix}
 use Rattle.turn_table.specs.declared.peers.Peers.{Peers}
-use Rattle.turn_table.specs.Networks.{is_same, address_of, contains}
+use Rattle.turn_table.specs.Networks.{is_same, address_of, address_in, contains}
 
 -- whether a prefix of at least this length allows an address
 abbrev pub is_allowed_by : List Prefix → ℕ → Address → Bool
@@ -29,13 +32,24 @@ allows_address denied allowed a =
 abbrev pub allows_ip : Peers → IpAddr → Bool
 allows_ip peers ip = allows_address peers.denied.now peers.allowed.now (address_of ip)
 
--- whether two transport addresses have one port and one IP address
-abbrev pub is_same_peer : SocketAddr → SocketAddr → Bool
-is_same_peer peer own =
-    (socket_port own == socket_port peer)
-    && is_same (address_of (socket_ip own)) (address_of (socket_ip peer))
+-- whether the server listens at an address and a port, where its clients send to
+abbrev pub is_own : Address → (port : ℕ) → SocketAddr → Bool
+is_own a port own = (socket_port own == port) && is_same (address_of (socket_ip own)) a
 
--- and a peer isn't the server itself, where its clients send to (section 21.1.7)
+abbrev pub listens_at : Peers → Address → (port : ℕ) → Bool
+listens_at peers a port = list_any (is_own a port) peers.listening.now
+
+-- and a peer isn't the server itself (section 21.1.7)
 abbrev pub allows : Peers → SocketAddr → Bool
 allows peers peer =
-    allows_ip peers (socket_ip peer) && not (list_any (is_same_peer peer) peers.listening.now)
+    allows_ip peers (socket_ip peer)
+    && not (listens_at peers (address_of (socket_ip peer)) (socket_port peer))
+
+-- the same for a table: what is no address is denied
+abbrev pub is_peer_allowed : Peers → Ip → Bool
+is_peer_allowed peers ip =
+    option_map_or (allows_address peers.denied.now peers.allowed.now) (address_in ip) false
+
+abbrev pub is_port_allowed : Peers → Endpoint → Bool
+is_port_allowed peers peer =
+    option_map_or (λ a. not (listens_at peers a peer.port)) (address_in peer.ip) false
