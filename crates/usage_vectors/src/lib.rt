@@ -48,7 +48,7 @@ ghost use Rattle.ice_attrs.specs.Ice.{PRIORITY, USE_CANDIDATE, ICE_CONTROLLED, I
 ghost use Rattle.turn_attrs.specs.declared.channel_data.ChannelDataError.TheVariants.{NotChannelData, Truncated, TooLarge};
 ghost use Rattle.turn_attrs.specs.declared.protocols.Protocol.TheVariants.{Stun, Zrtp, Dtls, TurnChannel, Rtp};
 ghost use Rattle.turn_attrs.specs.Turn.{LIFETIME, XOR_PEER_ADDRESS, DATA, CHANNEL_NUMBER, XOR_RELAYED_ADDRESS, REQUESTED_ADDRESS_FAMILY, EVEN_PORT, REQUESTED_TRANSPORT, DONT_FRAGMENT, RESERVATION_TOKEN, ADDITIONAL_ADDRESS_FAMILY, ADDRESS_ERROR_CODE, ICMP, family_in, reserve_in, protocol_in, icmp_in};
-ghost use Rattle.turn_attrs.specs.declared.channels.ChannelRange.TheVariants.{Rfc5766};
+ghost use Rattle.stun_framing.specs.declared.channel_range.ChannelRange.TheVariants.{Rfc5766};
 ghost use Rattle.turn_attrs.specs.Channels.{channel_in, old_channel_in, channel_field, data_length};
 ghost use Rattle.turn_attrs.specs.ChannelMessages.{channel_fault, channel_fault_in};
 ghost use Rattle.turn_attrs.specs.Heads.{data_indication as indication_of};
