@@ -1091,18 +1091,29 @@ bool stun_types_transaction_round_trip(const stun_types_transaction *transaction
 /* Greatest length of a message in a stream: a buffer of that size takes any. */
 #define STUN_TYPES_GREATEST_MESSAGE 65552
 
+/* What a stream carries: STUN messages alone, or ChannelData of TURN too, padded to a multiple of 4
+   (RFC 8656, section 12.5), as between a TURN client and its server. */
+typedef STUN_TYPES_ENUM(stun_types_stream_kind) {
+    STUN_TYPES_STREAM_MESSAGES = 0,
+    STUN_TYPES_STREAM_CHANNEL_DATA = 1,    /* on channels 0x4000 to 0x4FFF (RFC 8656, section 12) */
+    STUN_TYPES_STREAM_OLD_CHANNEL_DATA = 2 /* on channels 0x4000 to 0x7FFF (RFC 5766, section 11) */
+} stun_types_stream_kind;
+
 /* The messages of a stream that comes in pieces, as over TCP (RFC 8489, section 6.2.2), gathered in
-   a buffer of the caller's: all zeros at first. */
+   a buffer of the caller's: all zeros at first, but for what it carries. */
 typedef struct {
     uint64_t offset; /* in the stream, of the bytes that are pending */
     size_t pending;  /* how many bytes at the start of the buffer belong to a message that isn't whole */
     size_t message;  /* how many bytes the message there has that the last call completed, or 0 */
-    uint64_t reserved;
+    stun_types_stream_kind carries;
+    uint32_t reserved;
 } stun_types_stream;
 
 /* Takes the bytes at the start of a piece that belong to the message that is coming; *taken is how
-   many. If they complete it, it is at the start of the buffer until the next call.
-   BAD_ARGUMENT: fewer than 20 bytes of buffer, or what is pending isn't the beginning of a message.
+   many. If they complete it, it is at the start of the buffer until the next call. It is ChannelData
+   with its padding if its first byte is 0x40 or more.
+   BAD_ARGUMENT: fewer than 20 bytes of buffer, what is pending isn't the beginning of a message, or
+   no stream carries that.
    NOT_STUN, NOT_PADDED, TOO_LARGE (expected is the buffer's size): no message begins where one had
    to, at stream->offset; close the connection. The bytes that were pending stay, and stream->message
    is 0. */
@@ -1163,6 +1174,7 @@ STUN_TYPES_LAYOUT(protection_size, sizeof(stun_types_protection) == 4);
 STUN_TYPES_LAYOUT(action_kind_size, sizeof(stun_types_action_kind) == 4);
 STUN_TYPES_LAYOUT(end_size, sizeof(stun_types_end) == 4);
 STUN_TYPES_LAYOUT(received_kind_size, sizeof(stun_types_received_kind) == 4);
+STUN_TYPES_LAYOUT(stream_kind_size, sizeof(stun_types_stream_kind) == 4);
 STUN_TYPES_LAYOUT(answer_size, sizeof(stun_types_answer) == 24);
 STUN_TYPES_LAYOUT(answer_code, offsetof(stun_types_answer, code) == 0);
 STUN_TYPES_LAYOUT(answer_type, offsetof(stun_types_answer, type) == 4);
@@ -1262,7 +1274,8 @@ STUN_TYPES_LAYOUT(stream_size, sizeof(stun_types_stream) == 32);
 STUN_TYPES_LAYOUT(stream_offset, offsetof(stun_types_stream, offset) == 0);
 STUN_TYPES_LAYOUT(stream_pending, offsetof(stun_types_stream, pending) == 8);
 STUN_TYPES_LAYOUT(stream_message, offsetof(stun_types_stream, message) == 16);
-STUN_TYPES_LAYOUT(stream_reserved, offsetof(stun_types_stream, reserved) == 24);
+STUN_TYPES_LAYOUT(stream_carries, offsetof(stun_types_stream, carries) == 24);
+STUN_TYPES_LAYOUT(stream_reserved, offsetof(stun_types_stream, reserved) == 28);
 STUN_TYPES_LAYOUT(channel_data_size, sizeof(stun_types_channel_data) == 16);
 STUN_TYPES_LAYOUT(channel_data_data_at, offsetof(stun_types_channel_data, data_at) == 0);
 STUN_TYPES_LAYOUT(channel_data_channel, offsetof(stun_types_channel_data, channel) == 8);

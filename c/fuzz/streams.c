@@ -3,20 +3,43 @@
 
 #include "fuzz.h"
 
+/* ChannelData of a few bytes, with padding, on a channel up to 0x7FFF; how many bytes it has. */
+static size_t channel_data_at(source *from, uint8_t *bytes) {
+    size_t data = take(from) % 40, length = 4 + model_padded(data), i;
+    bytes[0] = (uint8_t)(0x40 + take(from) % 0x40);
+    bytes[1] = (uint8_t)take(from);
+    bytes[2] = 0;
+    bytes[3] = (uint8_t)data;
+    for (i = 4; i < length; i++) bytes[i] = (uint8_t)i;
+    return length;
+}
+
 void check_stream(source *from) {
     static const size_t buffers[] = {20, 32, 60, 300, 65552};
-    static uint8_t bytes[16 * 1024];
+    static uint8_t bytes[17 * 1024];
     static text message;
     size_t size = buffers[take(from) % COUNT(buffers)], length = 0, at = 0, whole = 0, i;
-    unsigned count = take(from) % 6, cut = take(from);
+    unsigned count = take(from) % 6, cut = take(from), kind = take(from);
     uint8_t *buffer = big_place(WRITTEN, size);
-    stun_types_stream stream = {0, 0, 0, 0};
+    stun_types_stream stream = {0};
     stun_types_answer end = FINE;
+    stream.carries = (stun_types_stream_kind)(kind % 3);
     for (i = 0; i < count; i++) {
-        seed(&message, take(from) % 64);
-        if (length + message.length > sizeof bytes) break;
-        memcpy(bytes + length, message.bytes, message.length);
-        length += message.length;
+        if (kind % 3 != 0 && take(from) % 2 == 0) length += channel_data_at(from, bytes + length);
+        else {
+            seed(&message, take(from) % 64);
+            if (length + message.length > 16 * 1024) break;
+            memcpy(bytes + length, message.bytes, message.length);
+            length += message.length;
+        }
+    }
+    if (kind == 255) stream.carries = (stun_types_stream_kind)(3 + take(from));
+    if (stream.carries > 2) {
+        size_t taken = 99;
+        stun_types_answer answer =
+            stun_types_stream_push(&stream, buffer, size, give(bytes, 1), 1, &taken);
+        HOLDS(answer.code == STUN_TYPES_BAD_ARGUMENT && taken == 99 && stream.pending == 0);
+        return;
     }
     if (length > 0 && take(from) % 3 == 0)
         bytes[take_two(from) % length] ^= (uint8_t)(1u << take(from) % 8);
@@ -31,7 +54,7 @@ void check_stream(source *from) {
         given = big_place(OTHER, piece);
         memcpy(given, bytes + at, piece);
         answer = stun_types_stream_push(&stream, buffer, size, given, piece, &taken);
-        end = model_cut(bytes + whole, at + piece - whole, size, &next);
+        end = model_cut(stream.carries, bytes + whole, at + piece - whole, size, &next);
         HOLDS(is_same(answer, end));
         HOLDS(stream.offset == (answer.code == STUN_TYPES_OK ? whole + next : whole));
         if (answer.code != STUN_TYPES_OK) {

@@ -312,13 +312,27 @@ stun_types_answer model_error(const uint8_t *value, size_t length, uint16_t *cod
     return model_answer(OK, 0, 0, 0);
 }
 
-stun_types_answer model_cut(const uint8_t *bytes, size_t length, size_t buffer,
-                            size_t *message_length) {
+/* Whether a stream that carries this has channels whose number begins with a byte (RFC 8656, section
+   12, and RFC 5766, section 11). */
+static bool is_carried(stun_types_stream_kind carries, uint8_t first) {
+    if (carries == STUN_TYPES_STREAM_CHANNEL_DATA) return first >> 4 == 4;
+    return carries == STUN_TYPES_STREAM_OLD_CHANNEL_DATA && first >> 6 == 1;
+}
+
+stun_types_answer model_cut(stun_types_stream_kind carries, const uint8_t *bytes, size_t length,
+                            size_t buffer, size_t *message_length) {
+    bool is_channel = length >= 1 && is_carried(carries, bytes[0]);
     size_t stated, i;
     *message_length = 0;
-    if (length >= 1 && bytes[0] >= 64) return model_answer(NOT_STUN, 0, 0, 0);
+    if (length >= 1 && bytes[0] >= 64 && !is_channel) return model_answer(NOT_STUN, 0, 0, 0);
     if (length < 4) return model_answer(OK, 0, 0, 0);
     stated = model_number(bytes + 2);
+    if (is_channel) {
+        size_t whole = 4 + model_padded(stated);
+        if (whole > buffer) return model_answer(STUN_TYPES_TOO_LARGE, 0, buffer, whole);
+        if (length >= whole) *message_length = whole;
+        return model_answer(OK, 0, 0, 0);
+    }
     if (stated % 4 != 0) return model_answer(STUN_TYPES_NOT_PADDED, 0, 0, stated);
     if (20 + stated > buffer) return model_answer(STUN_TYPES_TOO_LARGE, 0, buffer, 20 + stated);
     for (i = 4; i < 8 && i < length; i++)

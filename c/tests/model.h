@@ -88,11 +88,11 @@ stun_types_answer model_read_number(unsigned type, unsigned width, const uint8_t
 /* The address that is written if this one is to be XORed, and the other way round. */
 void model_xor(const uint8_t *bytes, stun_types_address *address);
 
-/* The end of the first message of a stream, of which these are the bytes from its beginning on
-   and which is read into a buffer of so many: its length, 0 if more bytes are needed, or why
-   no message begins there. */
-stun_types_answer model_cut(const uint8_t *bytes, size_t length, size_t buffer,
-                            size_t *message_length);
+/* The end of the first message of a stream that carries this, of which these are the bytes from its
+   beginning on and which is read into a buffer of so many: its length, 0 if more bytes are needed, or
+   why no message begins there. */
+stun_types_answer model_cut(stun_types_stream_kind carries, const uint8_t *bytes, size_t length,
+                            size_t buffer, size_t *message_length);
 
 /* Whether bytes are UTF-8 (RFC 3629). */
 bool model_is_utf8(const uint8_t *bytes, size_t length);

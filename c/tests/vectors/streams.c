@@ -56,9 +56,19 @@ static stun_types_answer push_rest(stun_types_stream *stream, size_t at, size_t 
     return result;
 }
 
+/* What the streams of a call carry. */
+static stun_types_stream_kind carried;
+
+/* A stream of which nothing has come. */
+static stun_types_stream begun(void) {
+    stun_types_stream stream = {0};
+    stream.carries = carried;
+    return stream;
+}
+
 /* Answers with what a stream yields that is cut at these places. */
 static void yields(const cut_places *cuts) {
-    stun_types_stream stream = {0, 0, 0, 0};
+    stun_types_stream stream = begun();
     size_t at = 0, taken;
     while (at < octets.length) {
         size_t end = end_of(cuts, at, octets.length);
@@ -111,9 +121,10 @@ static void yields_in_way(uint32_t number) {
     yields(&cuts);
 }
 
-static void stream(void) {
+static void stream_of(stun_types_stream_kind carries) {
     uint32_t ways = 1;
     size_t size;
+    carried = carries;
     buffer_size = (size_t)call_count();
     octets = call_octets();
     piece_room = room(octets.length);
@@ -143,10 +154,12 @@ static stun_types_answer push_piece(stun_types_stream *kept, slice piece) {
 }
 
 /* (a connection is closed at the end: what more comes is no more pushed, and answered as before) */
-static void pieces(void) {
-    stun_types_stream kept = {0, 0, 0, 0};
+static void pieces_of(stun_types_stream_kind carries) {
+    stun_types_stream kept;
     stun_types_answer result = OK_ANSWER;
     char *word;
+    carried = carries;
+    kept = begun();
     buffer_size = (size_t)call_count();
     buffer = room(buffer_size);
     while ((word = call_word()) != NULL) {
@@ -156,11 +169,13 @@ static void pieces(void) {
     }
 }
 
-static void push(void) {
-    stun_types_stream kept = {0, 0, 0, 0};
+static void push_of(stun_types_stream_kind carries) {
+    stun_types_stream kept;
     stun_types_answer result;
     slice held, piece;
     size_t shown;
+    carried = carries;
+    kept = begun();
     buffer_size = (size_t)call_count();
     kept.offset = call_count();
     held = call_octets();
@@ -175,6 +190,16 @@ static void push(void) {
     if (result.code == STUN_TYPES_BAD_ARGUMENT)
         CHECK(kept.pending == held.length && is_untouched(buffer + shown, buffer_size - shown));
 }
+
+static void stream(void) { stream_of(STUN_TYPES_STREAM_MESSAGES); }
+static void turn_stream(void) { stream_of(STUN_TYPES_STREAM_CHANNEL_DATA); }
+static void old_turn_stream(void) { stream_of(STUN_TYPES_STREAM_OLD_CHANNEL_DATA); }
+static void pieces(void) { pieces_of(STUN_TYPES_STREAM_MESSAGES); }
+static void turn_pieces(void) { pieces_of(STUN_TYPES_STREAM_CHANNEL_DATA); }
+static void old_turn_pieces(void) { pieces_of(STUN_TYPES_STREAM_OLD_CHANNEL_DATA); }
+static void push(void) { push_of(STUN_TYPES_STREAM_MESSAGES); }
+static void turn_push(void) { push_of(STUN_TYPES_STREAM_CHANNEL_DATA); }
+static void old_turn_push(void) { push_of(STUN_TYPES_STREAM_OLD_CHANNEL_DATA); }
 
 /* How many octets the message or ChannelData has that begins here, or 0. */
 static stun_types_answer frame_length(const uint8_t *bytes, size_t length, size_t *found) {
@@ -282,6 +307,12 @@ const verb verbs_of_streams[] = {
     {"stream", stream, false},
     {"pieces", pieces, false},
     {"push", push, false},
+    {"turn-stream", turn_stream, false},
+    {"turn-pieces", turn_pieces, false},
+    {"turn-push", turn_push, false},
+    {"old-turn-stream", old_turn_stream, false},
+    {"old-turn-pieces", old_turn_pieces, false},
+    {"old-turn-push", old_turn_push, false},
     {"frames", frames, false},
     {"channel-data", channel_data, false},
     {"channel-data-length", channel_data_length, false},

@@ -8,42 +8,44 @@ use Rattle.stun_grammar.specs.Numbers.{IsBytes}
 use Rattle.stun_grammar.specs.Headers.{begins, length_field}
 use Rattle.stun_grammar.specs.Showing.{frame_fault}
 use Rattle.stun_grammar.proofs.HeadersLemmas.{header, header_there, header_length, frame_there, framed_length, field_fits, frame-whole, begins_some, begins_from, whole_begins, begins_whole}
+use Rattle.stun_framing.specs.declared.channel_range.ChannelRange.{ChannelRange}
 use Rattle.stun_framing.specs.declared.error.StreamFault.{StreamFault}
-use Rattle.stun_framing.specs.Framing.{Room, begins_channel, channel_length, stated_length, IsStunMessage, IsChannelData, IsMessage, IsCut, MayBegin, begins_either, header_refusal, length_refusal, stream_fault}
+use Rattle.stun_framing.specs.Framing.{Room, begins_any_channel, channel_length, stated_length, IsStunMessage, IsChannelData, IsMessage, IsCut, MayBegin, begins_either, header_refusal, length_refusal, stream_fault}
 use Rattle.stun_framing.specs.Gathering.{IsGathered}
 use Rattle.stun_framing.specs.Streams.{is_whole}
-use Rattle.stun_framing.proofs.FramingLemmas.{begun_is_stun, channel_stays, either_stun, either_channel, either_parts, begun_if, unrefused, begins_stays, no_fault, faultless, header_passes, field_passes, stun_refusal, channel_refusal, stun_length, channel_stated, least_stated, stated_stays, field_stays, fault_passes, whole_sound, fits, padded, wanted_short, wanted_long, whole_if, whole_parts}
+use Rattle.stun_framing.proofs.FramingLemmas.{begun_is_stun, any_channel, any_stays, carried_any, carried_stays, carried_begins, carried_data, carried_is, either_stun, either_channel, either_parts, begun_if, unrefused, begins_stays, no_fault, faultless, header_passes, field_passes, stun_refusal, channel_refusal, stun_length, channel_stated, least_stated, stated_stays, field_stays, fault_passes, whole_sound, fits, padded, wanted_short, wanted_long, whole_if, whole_parts}
 
 -- ---- A message and what follows it
 
 stun_begins : (size : ℕ) (m : List ℕ) → IsStunMessage size m → begins m ≡ true
 stun_begins size m is = begins_from m (whole_begins m (header_length m is.header) is.header)
 
-pub stun_apart : (size : ℕ) (m : List ℕ) → IsStunMessage size m → begins_channel m ≡ false
+pub stun_apart : (size : ℕ) (m : List ℕ) → IsStunMessage size m → begins_any_channel m ≡ false
 stun_apart size m is = begun_is_stun m (stun_begins size m is)
 
-pub apart : (size : ℕ) (m : List ℕ) → IsStunMessage size m → IsChannelData size m → ⊥
-apart size m is other = let stun = stun_apart size m is in let channel : begins_channel m ≡ true = other.channel in cc (stun, channel)
+pub apart : (range : ChannelRange) (size : ℕ) (m : List ℕ) → IsStunMessage size m → IsChannelData range size m → ⊥
+apart range size m is other = let stun = stun_apart size m is in let channel = any_channel range m other.channel in cc (stun, channel)
 
 pub least_length : (room : Room) (m : List ℕ) → IsMessage room m → 4 ≤ length m
 least_length room m (inl is) = omega (arith, header_length m is.header)
-least_length room m (inr (there, is)) = is.header
+least_length room m (inr is) = (carried_data room.carries room.size m is).header
 
 pub stated_is : (room : Room) (m : List ℕ) → IsMessage room m → length m ≡ stated_length m
 stated_is room m (inl is) = is.whole ∙ sym (stun_length m (stun_apart room.size m is))
-stated_is room m (inr (there, is)) = is.whole ∙ sym (channel_stated m is.channel)
+stated_is room m (inr is) = let of_channel = carried_data room.carries room.size m is in of_channel.whole ∙ sym (channel_stated m of_channel.channel)
 
 either_in : (room : Room) (m : List ℕ) → IsMessage room m → begins_either room.carries m ≡ true
 either_in room m (inl is) = either_stun room.carries m (stun_begins room.size m is)
-either_in room m (inr (there, is)) = either_channel room.carries m there is.channel
+either_in room m (inr is) = either_channel room.carries m (carried_begins room.carries room.size m is)
 
 refusal_in : (room : Room) (m : List ℕ) → IsMessage room m → length_refusal room.size m ≡ None
 refusal_in room m (inl is) =
     stun_refusal room.size m (omega (arith, header_length m is.header)) (stun_apart room.size m is)
     ∙ field_passes room.size (length_field m) is.padded (omega (arith, is.whole, is.fits))
-refusal_in room m (inr (there, is)) =
-    channel_refusal room.size m is.header is.channel
-    ∙ (let e : leb (channel_length m) room.size ≡ true = le-leb (channel_length m) room.size (omega (arith, is.whole, is.fits)) in rw e refl)
+refusal_in room m (inr is) =
+    let of_channel = carried_data room.carries room.size m is in
+    channel_refusal room.size m of_channel.header of_channel.channel
+    ∙ (let e : leb (channel_length m) room.size ≡ true = le-leb (channel_length m) room.size (omega (arith, of_channel.whole, of_channel.fits)) in rw e refl)
 
 sound_in : (room : Room) (m : List ℕ) → IsMessage room m → stream_fault room m ≡ None
 sound_in room m is =
@@ -77,15 +79,14 @@ message_is room m sound long whole = elim (either_parts room.carries m (begun_if
         padded = padded room m sound long stun;
         fits = omega (arith, whole, fits room m sound long);
       })
-  | inr (there, channel) ↦ inr (
-    there,
-    record {
-      channel = channel;
-      header = long;
-      whole = whole ∙ channel_stated m channel;
-      fits = omega (arith, whole, fits room m sound long);
-    },
-  )
+  | inr carried ↦
+      let channel = carried_any room.carries m carried in
+      inr (carried_is room.carries room.size m carried (record {
+        channel = channel;
+        header = long;
+        whole = whole ∙ channel_stated m channel;
+        fits = omega (arith, whole, fits room m sound long);
+      }))
 ]
 
 -- the first message of bytes that have no fault
@@ -112,7 +113,7 @@ taken size m e fours fits =
 -- no message is longer than the greatest
 pub longest : (room : Room) (m : List ℕ) → IsMessage room m → IsBytes m → length m ≤ 65552
 longest room m (inl is) bytes = omega (arith, is.whole, is.padded, field_fits m bytes)
-longest room m (inr (there, is)) bytes = omega (arith, is.whole, field_fits m bytes)
+longest room m (inr is) bytes = omega (arith, (carried_data room.carries room.size m is).whole, field_fits m bytes)
 
 -- what is gathered is a message once all is there that is wanted
 pub gathered_message : (room : Room) (m : List ℕ) (wanted : ℕ) → IsGathered room m wanted → length m ≡ wanted → IsMessage room m
@@ -165,7 +166,7 @@ made_whole room b more sound long enough either =
     let all : length m ≡ n = omega (arith, length-take n w, enough) in
     let least : 4 ≤ length m = omega (arith, all, least_stated b) in
     let stated : stated_length m ≡ n = sym (stated_stays m (drop n w) least) ∙ ap stated_length joined ∙ stated_stays b more long in
-    let channel : begins_channel m ≡ begins_channel b = sym (channel_stays m (drop n w) (omega (arith, least))) ∙ ap begins_channel joined ∙ channel_stays b more (omega arith) in
+    let channel : begins_any_channel m ≡ begins_any_channel b = sym (any_stays m (drop n w) (omega (arith, least))) ∙ ap begins_any_channel joined ∙ any_stays b more (omega arith) in
     let field : length_field m ≡ length_field b = sym (field_stays m (drop n w) least) ∙ ap length_field joined ∙ field_stays b more long in
     let begun : header_refusal room.carries m ≡ None = header_passes room.carries m (drop n w) (ap (header_refusal room.carries) joined ∙ unrefused room.carries w either) in
     let is : IsMessage room m = elim (either_parts room.carries m (begun_if room.carries m begun)) [
@@ -178,15 +179,14 @@ made_whole room b more sound long enough either =
             padded = ap (λ (k : ℕ). k % 4) field ∙ padded room b sound long (sym channel ∙ stun);
             fits = omega (arith, all, fits room b sound long);
           })
-      | inr (there, is_channel) ↦ inr (
-        there,
-        record {
-          channel = is_channel;
-          header = least;
-          whole = all ∙ sym stated ∙ channel_stated m is_channel;
-          fits = omega (arith, all, fits room b sound long);
-        },
-      )
+      | inr carried ↦
+          let is_channel = carried_any room.carries m carried in
+          inr (carried_is room.carries room.size m carried (record {
+            channel = is_channel;
+            header = least;
+            whole = all ∙ sym stated ∙ channel_stated m is_channel;
+            fits = omega (arith, all, fits room b sound long);
+          }))
     ] in
     (more, m, drop n w, is, sym joined)
 
@@ -206,9 +206,9 @@ goes_on room b long sound =
           made_whole room b more sound long
           (omega (arith, length-append b more, length-append some.0 (replicate n 0), length-replicate {A = ℕ} n 0))
           (either_stun room.carries (b ++ more) begins_w)
-      | inr (there, channel) ↦
+      | inr carried ↦
           let more : List ℕ = replicate n 0 in
           made_whole room b more sound long
           (omega (arith, length-append b more, length-replicate {A = ℕ} n 0))
-          (either_channel room.carries (b ++ more) there (channel_stays b more (omega arith) ∙ channel))
+          (either_channel room.carries (b ++ more) (carried_stays room.carries b more (omega arith) ∙ carried))
     ]

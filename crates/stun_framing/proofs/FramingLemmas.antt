@@ -1,7 +1,7 @@
 -- Why no message begins, and what does not change by what follows.
 use Rattle.std.proofs.Common.{◌≡◌, ℕ, ◌+◌, ◌-◌, ◌%◌, ◌<◌, ◌≤◌, ◌⊎◌, Bool, true, false, leb, eqb, List, [], ◌∷◌, ◌++◌, length, take, drop, Option, Some, None, refl, sym, ap, ◌∙◌, inl, inr, append_assoc, arith}
 use Rattle.std.specs.Prelude.{◌&&◌, ◌||◌, if◌then◌else◌}
-use Rattle.std.specs.List.{zip}
+use Rattle.std.specs.List.{list_any, zip}
 use Rattle.std.specs.Option.{option_or}
 use Rattle.std.proofs.lemmas.Bool.{cases_lt, cases_Bool, lt-ltb, le-ltb, le-leb, lt-leb, leb-true, eqb-true, eq-eqb, and_parts}
 use Rattle.std.proofs.lemmas.List.{length-append, length-take, length-drop, take_all, take-append-le, drop-append-le, take-append-drop}
@@ -13,8 +13,12 @@ use Rattle.stun_grammar.specs.Headers.{magic_cookie, is_header, begins, header_f
 use Rattle.stun_grammar.proofs.HeadersLemmas.{not_begun, begun, not_header, header, header_there, begins_some, begins_from, whole_begins, begins_whole}
 use Rattle.stun_framing.specs.declared.error.StreamFault.{StreamFault}
 use Rattle.stun_framing.specs.declared.error.StreamFault.TheVariants.{NotStun, NotPadded, TooLong}
+use Rattle.stun_framing.specs.declared.channel_range.ChannelRange.{ChannelRange}
+use Rattle.stun_framing.specs.declared.channel_range.ChannelRange.TheVariants.{Rfc8656, Rfc5766}
 use Rattle.stun_framing.specs.declared.stream_kind.StreamKind.{StreamKind}
-use Rattle.stun_framing.specs.Framing.{Room, has_channels, begins_channel, channel_length, stated_length, begins_either, header_refusal, size_refusal, field_refusal, length_refusal, stream_fault}
+use Rattle.stun_framing.specs.declared.stream_kind.StreamKind.TheVariants.{Messages, ChannelDataToo}
+use Rattle.stun_framing.specs.Channels.{greatest_first, begins_number}
+use Rattle.stun_framing.specs.Framing.{Room, begins_channel, begins_any_channel, begins_carried, channel_length, stated_length, IsChannelData, IsCarried, begins_either, header_refusal, size_refusal, field_refusal, length_refusal, stream_fault}
 use Rattle.stun_framing.specs.Streams.{is_whole, of_first}
 use Rattle.stun_framing.specs.Gathering.{wanted_for, IsGathered}
 
@@ -50,24 +54,27 @@ begins_cut b reported e other = elim (cases_Bool (begins b)) [
 -- ---- Which kind of message begins
 
 -- no header of a STUN message begins a ChannelData message
-pub channel_high : (b : List ℕ) → begins_channel b ≡ true → begins b ≡ false
+pub channel_high : (b : List ℕ) → begins_any_channel b ≡ true → begins b ≡ false
 unfolding begins
 channel_high [] e = absurd cc
 channel_high (x ∷ b) e = elim (cases_lt x 64) [
-  | inl low ↦ absurd (let none : begins_channel (x ∷ b) ≡ false = rw (lt-leb 64 x low) refl in cc (none, e))
+  | inl low ↦ absurd (let none : begins_any_channel (x ∷ b) ≡ false = rw (lt-leb 64 x low) refl in cc (none, e))
   | inr high ↦ rw (le-ltb x 64 high) refl
 ]
 
-pub begun_is_stun : (b : List ℕ) → begins b ≡ true → begins_channel b ≡ false
-begun_is_stun b begun = elim (cases_Bool (begins_channel b)) [
+pub begun_is_stun : (b : List ℕ) → begins b ≡ true → begins_any_channel b ≡ false
+begun_is_stun b begun = elim (cases_Bool (begins_any_channel b)) [
   | inr stun ↦ stun
   | inl channel ↦ absurd (let none = channel_high b channel in cc (none, begun))
 ]
 
-pub channel_stays : (b more : List ℕ) → 1 ≤ length b → begins_channel (b ++ more) ≡ begins_channel b
-channel_stays b more long =
+pub channel_stays : (range : ChannelRange) (b more : List ℕ) → 1 ≤ length b → begins_channel range (b ++ more) ≡ begins_channel range b
+channel_stays range b more long =
     let first : take 1 (b ++ more) ≡ take 1 b = take-append-le 1 b more long in
     rw first refl
+
+pub any_stays : (b more : List ℕ) → 1 ≤ length b → begins_any_channel (b ++ more) ≡ begins_any_channel b
+any_stays = channel_stays Rfc5766
 
 -- two lists beside each other, of which the first is as long
 zip_long : (xs more c : List ℕ) → length c ≤ length xs → zip (xs ++ more) c ≡ zip xs c
@@ -94,22 +101,62 @@ field_stays b more long =
 
 pub stated_stays : (b more : List ℕ) → 4 ≤ length b → stated_length (b ++ more) ≡ stated_length b
 stated_stays b more long =
-    let channel = channel_stays b more (omega arith) in
+    let channel = any_stays b more (omega arith) in
     let field = field_stays b more long in
     rw (channel, field) refl
+
+-- ---- Channels of a range, and of a stream
+
+greatest_most : (range : ChannelRange) → greatest_first range ≤ 127
+greatest_most Rfc8656 = omega arith
+greatest_most Rfc5766 = omega arith
+
+-- the channels of a range are among all
+pub any_channel : (range : ChannelRange) (b : List ℕ) → begins_channel range b ≡ true → begins_any_channel b ≡ true
+any_channel range [] e = absurd cc
+any_channel range (x ∷ b) e = elim (cases_Bool (begins_number range x)) [
+  | inr none ↦ absurd (let no : begins_channel range (x ∷ b) ≡ false = ap (λ (t : Bool). list_any (λ (f : ℕ). t) (x ∷ [])) none in cc (no, e))
+  | inl is ↦
+      let parts = and_parts (leb 64 x) (leb x (greatest_first range)) is in
+      let low : 64 ≤ x = leb-true 64 x parts.0 in
+      let high : x ≤ 127 = omega (arith, leb-true x (greatest_first range) parts.1, greatest_most range) in
+      rw (le-leb 64 x low, le-leb x 127 high) refl
+]
+
+pub carried_any : (c : StreamKind) (b : List ℕ) → begins_carried c b ≡ true → begins_any_channel b ≡ true
+carried_any Messages b e = absurd cc
+carried_any (ChannelDataToo range) b e = any_channel range b e
+
+pub carried_stays : (c : StreamKind) (b more : List ℕ) → 1 ≤ length b → begins_carried c (b ++ more) ≡ begins_carried c b
+carried_stays Messages b more long = refl
+carried_stays (ChannelDataToo range) b more long = channel_stays range b more long
+
+-- a message that a stream carries is ChannelData on any channel, which begins with a number of one that
+-- it carries
+pub carried_begins : (c : StreamKind) (size : ℕ) (m : List ℕ) → IsCarried c size m → begins_carried c m ≡ true
+carried_begins Messages size m is = absurd is
+carried_begins (ChannelDataToo range) size m is = is.channel
+
+pub carried_data : (c : StreamKind) (size : ℕ) (m : List ℕ) → IsCarried c size m → IsChannelData Rfc5766 size m
+carried_data Messages size m is = absurd is
+carried_data (ChannelDataToo range) size m is = record { channel = any_channel range m is.channel; header = is.header; whole = is.whole; fits = is.fits }
+
+pub carried_is : (c : StreamKind) (size : ℕ) (m : List ℕ) → begins_carried c m ≡ true → IsChannelData Rfc5766 size m → IsCarried c size m
+carried_is Messages size m e is = absurd cc
+carried_is (ChannelDataToo range) size m e is = record { channel = e; header = is.header; whole = is.whole; fits = is.fits }
 
 -- ---- Whether a header of either kind begins
 
 pub either_stun : (c : StreamKind) (b : List ℕ) → begins b ≡ true → begins_either c b ≡ true
 either_stun c b begun = rw begun refl
 
-pub either_channel : (c : StreamKind) (b : List ℕ) → has_channels c ≡ true → begins_channel b ≡ true → begins_either c b ≡ true
-either_channel c b there channel = rw (channel_high b channel, there, channel) refl
+pub either_channel : (c : StreamKind) (b : List ℕ) → begins_carried c b ≡ true → begins_either c b ≡ true
+either_channel c b carried = rw (channel_high b (carried_any c b carried), carried) refl
 
-pub either_parts : (c : StreamKind) (b : List ℕ) → begins_either c b ≡ true → (begins b ≡ true) ⊎ ((has_channels c ≡ true) × (begins_channel b ≡ true))
+pub either_parts : (c : StreamKind) (b : List ℕ) → begins_either c b ≡ true → (begins b ≡ true) ⊎ (begins_carried c b ≡ true)
 either_parts c b e = elim (cases_Bool (begins b)) [
   | inl begun ↦ inl begun
-  | inr none ↦ inr (and_parts (has_channels c) (begins_channel b) (sym (ap (λ (x : Bool). x || has_channels c && begins_channel b) none) ∙ e))
+  | inr none ↦ inr (sym (ap (λ (x : Bool). x || begins_carried c b) none) ∙ e)
 ]
 
 pub begun_if : (c : StreamKind) (b : List ℕ) → header_refusal c b ≡ None → begins_either c b ≡ true
@@ -159,7 +206,7 @@ field_passes size n padded fits = rw (eq-eqb (n % 4) 0 padded, le-leb (20 + n) s
 
 -- by the kind, once the length field is there
 abbrev pub kind_refusal : (size : ℕ) → List ℕ → Option StreamFault
-kind_refusal size b = if begins_channel b then size_refusal size (channel_length b) else field_refusal size (length_field b)
+kind_refusal size b = if begins_any_channel b then size_refusal size (channel_length b) else field_refusal size (length_field b)
 
 pub length_there : (size : ℕ) (b : List ℕ) → 4 ≤ length b → length_refusal size b ≡ kind_refusal size b
 length_there size b long = ap (λ (x : Bool). if x then None else kind_refusal size b) (le-ltb (length b) 4 long)
@@ -167,26 +214,26 @@ length_there size b long = ap (λ (x : Bool). if x then None else kind_refusal s
 length_stays : (size : ℕ) (b more : List ℕ) → 4 ≤ length b → length_refusal size (b ++ more) ≡ length_refusal size b
 length_stays size b more long =
     let longer : 4 ≤ length (b ++ more) = omega (arith, length-append b more) in
-    let channel = channel_stays b more (omega arith) in
+    let channel = any_stays b more (omega arith) in
     let field = field_stays b more long in
     let same : kind_refusal size (b ++ more) ≡ kind_refusal size b = rw (channel, field) refl in
     length_there size (b ++ more) longer ∙ same ∙ sym (length_there size b long)
 
-pub stun_refusal : (size : ℕ) (b : List ℕ) → 4 ≤ length b → begins_channel b ≡ false → length_refusal size b ≡ field_refusal size (length_field b)
+pub stun_refusal : (size : ℕ) (b : List ℕ) → 4 ≤ length b → begins_any_channel b ≡ false → length_refusal size b ≡ field_refusal size (length_field b)
 stun_refusal size b long stun = length_there size b long ∙ ap (λ (x : Bool). if x then size_refusal size (channel_length b) else field_refusal size (length_field b)) stun
 
-pub channel_refusal : (size : ℕ) (b : List ℕ) → 4 ≤ length b → begins_channel b ≡ true → length_refusal size b ≡ size_refusal size (channel_length b)
+pub channel_refusal : (size : ℕ) (b : List ℕ) → 4 ≤ length b → begins_any_channel b ≡ true → length_refusal size b ≡ size_refusal size (channel_length b)
 channel_refusal size b long channel = length_there size b long ∙ ap (λ (x : Bool). if x then size_refusal size (channel_length b) else field_refusal size (length_field b)) channel
 
 -- the length by the kind
-pub stun_length : (b : List ℕ) → begins_channel b ≡ false → stated_length b ≡ 20 + length_field b
+pub stun_length : (b : List ℕ) → begins_any_channel b ≡ false → stated_length b ≡ 20 + length_field b
 stun_length b stun = ap (λ (x : Bool). if x then channel_length b else 20 + length_field b) stun
 
-pub channel_stated : (b : List ℕ) → begins_channel b ≡ true → stated_length b ≡ channel_length b
+pub channel_stated : (b : List ℕ) → begins_any_channel b ≡ true → stated_length b ≡ channel_length b
 channel_stated b channel = ap (λ (x : Bool). if x then channel_length b else 20 + length_field b) channel
 
 pub least_stated : (b : List ℕ) → 4 ≤ stated_length b
-least_stated b = elim (cases_Bool (begins_channel b)) [
+least_stated b = elim (cases_Bool (begins_any_channel b)) [
   | inl channel ↦ omega (arith, channel_stated b channel)
   | inr stun ↦ omega (arith, stun_length b stun)
 ]
@@ -195,12 +242,12 @@ least_stated b = elim (cases_Bool (begins_channel b)) [
 pub fits : (room : Room) (b : List ℕ) → stream_fault room b ≡ None → 4 ≤ length b → stated_length b ≤ room.size
 fits room b e long =
     let reported = (faultless room b e).1 in
-    elim (cases_Bool (begins_channel b)) [
+    elim (cases_Bool (begins_any_channel b)) [
       | inl channel ↦ omega (arith, channel_stated b channel, size_is room.size (channel_length b) (sym (channel_refusal room.size b long channel) ∙ reported))
       | inr stun ↦ omega (arith, stun_length b stun, (field_is room.size (length_field b) (sym (stun_refusal room.size b long stun) ∙ reported)).1)
     ]
 
-pub padded : (room : Room) (b : List ℕ) → stream_fault room b ≡ None → 4 ≤ length b → begins_channel b ≡ false → length_field b % 4 ≡ 0
+pub padded : (room : Room) (b : List ℕ) → stream_fault room b ≡ None → 4 ≤ length b → begins_any_channel b ≡ false → length_field b % 4 ≡ 0
 padded room b e long stun = (field_is room.size (length_field b) (sym (stun_refusal room.size b long stun) ∙ (faultless room b e).1)).0
 
 -- ---- What follows
@@ -216,9 +263,9 @@ either_passes c b more e = elim (either_parts c (b ++ more) e) [
   | inl begun ↦
       let some = begins_some (b ++ more) begun in
       either_stun c b (begins_from b (more ++ some.0, ap is_header (sym (append_assoc b more some.0)) ∙ some.1))
-  | inr (there, channel) ↦ elim (cases_lt (length b) 1) [
+  | inr carried ↦ elim (cases_lt (length b) 1) [
     | inl none ↦ either_stun c b (nothing_begins b none)
-    | inr some ↦ either_channel c b there (sym (channel_stays b more some) ∙ channel)
+    | inr some ↦ either_channel c b (sym (carried_stays c b more some) ∙ carried)
   ]
 ]
 
@@ -251,7 +298,7 @@ whole_sound room m more e long whole =
       | inl begun ↦
           let stated = stun_length m (begun_is_stun m begun) in
           either_stun room.carries (m ++ more) (begins_stays m more (omega (arith, stated, whole)) ∙ begun)
-      | inr (there, channel) ↦ either_channel room.carries (m ++ more) there (channel_stays m more (omega arith) ∙ channel)
+      | inr carried ↦ either_channel room.carries (m ++ more) (carried_stays room.carries m more (omega arith) ∙ carried)
     ] in
     no_fault room (m ++ more)
     (ap (header_refusal room.carries) first ∙ parts.0)

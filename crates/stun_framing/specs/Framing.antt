@@ -1,15 +1,18 @@
 -- Messages in the bytes of a stream, one after another, and nothing between them (RFC 8489,
 -- sections 5 and 6.2.2); in a stream between a TURN client and its server, ChannelData messages among
 -- them (RFC 8656, section 12.5).
-use Rattle.std.specs.Prelude.{◌≡◌, ℕ, ◌+◌, ◌%◌, ◌≤◌, ◌⊎◌, Bool, true, false, ◌&&◌, ◌||◌, List, ◌++◌, length, take, nat_lt, nat_le, ◌==◌, if◌then◌else◌, IsTrue, Option, None, Some}
+use Rattle.std.specs.Prelude.{◌≡◌, ℕ, ◌+◌, ◌%◌, ◌≤◌, ◌⊎◌, Bool, false, ◌||◌, List, ◌++◌, length, take, nat_lt, nat_le, ◌==◌, if◌then◌else◌, IsTrue, Option, None, Some}
 use Rattle.std.specs.List.{All, concat, list_any}
 use Rattle.std.specs.Option.{option_or}
 use Rattle.stun_grammar.specs.Numbers.{padded_length}
 use Rattle.stun_grammar.specs.Headers.{is_header, begins, length_field}
+use Rattle.stun_framing.specs.declared.channel_range.ChannelRange.{ChannelRange}
+use Rattle.stun_framing.specs.declared.channel_range.ChannelRange.TheVariants.{Rfc5766}
 use Rattle.stun_framing.specs.declared.stream_kind.StreamKind.{StreamKind}
 use Rattle.stun_framing.specs.declared.stream_kind.StreamKind.TheVariants.{Messages, ChannelDataToo}
 use Rattle.stun_framing.specs.declared.error.StreamFault.{StreamFault}
 use Rattle.stun_framing.specs.declared.error.StreamFault.TheVariants.{NotStun, NotPadded, TooLong}
+use Rattle.stun_framing.specs.Channels.{begins_number}
 
 -- what a stream carries, and how many bytes of a message a buffer takes
 pub record Room : Type 0 where
@@ -21,13 +24,18 @@ room_of carries size = record { carries = carries; size = size }
 
 -- ---- ChannelData
 
-abbrev pub has_channels : StreamKind → Bool
-has_channels Messages = false
-has_channels ChannelDataToo = true
+-- b begins with the number of a channel of this range, as its first byte shows (RFC 8656, section 12)
+abbrev pub begins_channel : ChannelRange → List ℕ → Bool
+begins_channel range b = list_any (begins_number range) (take 1 b)
 
--- b begins with the number of a channel: its first byte is one of 0x40 to 0x4F (RFC 8656, section 12)
-abbrev pub begins_channel : List ℕ → Bool
-begins_channel b = list_any (λ first. nat_le 0x40 first && nat_le first 0x4F) (take 1 b)
+-- and of any channel: its first two bits are 01, those of a STUN message 00 (RFC 5766, section 11)
+abbrev pub begins_any_channel : List ℕ → Bool
+begins_any_channel = begins_channel Rfc5766
+
+-- b begins with the number of a channel that such a stream carries
+abbrev pub begins_carried : StreamKind → List ℕ → Bool
+begins_carried Messages b = false
+begins_carried (ChannelDataToo range) b = begins_channel range b
 
 -- the length of the ChannelData message that begins with b: a header of four bytes, and as many bytes
 -- as that states, padded to a multiple of 4 (RFC 8656, section 12.5)
@@ -36,7 +44,7 @@ channel_length b = padded_length (4 + length_field b)
 
 -- the length of the message that begins with b, as its first four bytes state it
 abbrev pub stated_length : List ℕ → ℕ
-stated_length b = if begins_channel b then channel_length b else 20 + length_field b
+stated_length b = if begins_any_channel b then channel_length b else 20 + length_field b
 
 -- ---- What a stream is
 
@@ -48,17 +56,21 @@ pub record IsStunMessage (size : ℕ) (m : List ℕ) : Type 0 where
   pub padded : length_field m % 4 ≡ 0
   pub fits : length m ≤ size
 
--- m is a ChannelData message with its padding
-pub record IsChannelData (size : ℕ) (m : List ℕ) : Type 0 where
-  pub channel : IsTrue (begins_channel m)
+-- m is a ChannelData message with its padding, on a channel of this range
+pub record IsChannelData (range : ChannelRange) (size : ℕ) (m : List ℕ) : Type 0 where
+  pub channel : IsTrue (begins_channel range m)
   pub header : 4 ≤ length m
   pub whole : length m ≡ channel_length m
   pub fits : length m ≤ size
 
+-- m is a ChannelData message that such a stream carries
+abbrev pub IsCarried : StreamKind → (size : ℕ) → (m : List ℕ) → Type 0
+IsCarried Messages size m = ⊥
+IsCarried (ChannelDataToo range) size m = IsChannelData range size m
+
 -- m is a message of such a stream
 abbrev pub IsMessage : Room → (m : List ℕ) → Type 0
-IsMessage room m =
-    IsStunMessage room.size m ⊎ (IsTrue (has_channels room.carries) × IsChannelData room.size m)
+IsMessage room m = IsStunMessage room.size m ⊎ IsCarried room.carries room.size m
 
 -- the bytes of a stream are these messages, and then a rest that no message begins
 pub record IsCut (room : Room) (bytes : List ℕ) (messages : List (List ℕ)) (rest : List ℕ)
@@ -76,7 +88,7 @@ MayBegin room b =
 
 -- a header of either kind begins with b
 abbrev pub begins_either : StreamKind → List ℕ → Bool
-begins_either carries b = begins b || has_channels carries && begins_channel b
+begins_either carries b = begins b || begins_carried carries b
 
 -- no header begins with b
 abbrev pub header_refusal : StreamKind → List ℕ → Option StreamFault
@@ -94,7 +106,7 @@ field_refusal size n = if n % 4 == 0 then size_refusal size (20 + n) else Some (
 abbrev pub length_refusal : (size : ℕ) → List ℕ → Option StreamFault
 length_refusal size b =
     if nat_lt (length b) 4 then None else (
-    if begins_channel b then size_refusal size (channel_length b)
+    if begins_any_channel b then size_refusal size (channel_length b)
     else field_refusal size (length_field b))
 
 -- why no message begins with b, whatever follows it, by the first byte that shows it: the first one,

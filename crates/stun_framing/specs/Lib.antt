@@ -1,3 +1,4 @@
+pub mod Channels
 pub mod Framing
 pub mod Streams
 pub mod Runs

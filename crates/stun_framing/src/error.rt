@@ -6,8 +6,8 @@ use thiserror::Error;
 #[derive(Clone, Copy, Debug, PartialEq, Eq, Error)]
 pub enum StreamFault {
     /// The two highest bits of the first byte aren't zero, or the magic cookie isn't at offset 4
-    /// (RFC 8489, section 5); and no ChannelData message, if the stream carries them, begins with
-    /// the first byte.
+    /// (RFC 8489, section 5); and no ChannelData message that the stream carries begins with the
+    /// first byte.
     #[error("Not a STUN message")]
     NotStun,
     /// The length field has this value, which is no multiple of 4 (RFC 8489, section 5).

@@ -2,9 +2,10 @@
 
 ghost use Rattle.std.specs.Prelude.{◌≡◌, ◌≤◌, length, take, MatchResult, None, Some};
 ghost use Rattle.stun_grammar.specs.Headers.{begins};
-ghost use Rattle.stun_framing.specs.Framing.{room_of, begins_channel, begins_either, stated_length, header_refusal, size_refusal, field_refusal, length_refusal, stream_fault};
+ghost use Rattle.stun_framing.specs.Framing.{room_of, begins_channel, begins_carried, begins_either, stated_length, header_refusal, size_refusal, field_refusal, length_refusal, stream_fault};
 ghost use Rattle.stun_framing.specs.Gathering.{wanted_for};
 
+use crate::channel_range::ChannelRange;
 use crate::error::StreamFault;
 use crate::stream_kind::StreamKind;
 use stun_base::{MessageHeader, StunParseError, check_header, number_at, pad_attribute_len};
@@ -12,6 +13,10 @@ use stun_base::{MessageHeader, StunParseError, check_header, number_at, pad_attr
 /// How many bytes state the length of a message: its type, or the number of a channel, and its
 /// length field.
 pub(crate) const START: usize = 4;
+
+/// The numbers of any channel: the first two bits are 01, those of a STUN message 00 (RFC 5766,
+/// section 11).
+const ANY_CHANNEL: ChannelRange = ChannelRange::Rfc5766;
 
 /// Whether a header can begin with these bytes.
 fn may_begin(bytes: &[u8]) -> bool
@@ -26,13 +31,23 @@ fn may_begin(bytes: &[u8]) -> bool
     }
 }
 
-/// Whether a ChannelData message begins with these bytes.
-fn begins_channel(bytes: &[u8]) -> bool
-    ensures { result ≡ begins_channel bytes.now }
+/// Whether a ChannelData message on a channel of the range begins with these bytes.
+fn begins_channel(range: ChannelRange, bytes: &[u8]) -> bool
+    ensures { result ≡ begins_channel range bytes.now }
 {
     match bytes.first() {
-        Some(first) => (0x40..=0x4F).contains(first),
+        Some(first) => range.begins_with(*first),
         None => false,
+    }
+}
+
+/// Whether a ChannelData message that the stream carries begins with these bytes.
+fn begins_carried(carries: StreamKind, bytes: &[u8]) -> bool
+    ensures { result ≡ begins_carried carries bytes.now }
+{
+    match carries {
+        StreamKind::Messages => false,
+        StreamKind::ChannelDataToo(range) => begins_channel(range, bytes),
     }
 }
 
@@ -40,10 +55,7 @@ fn begins_channel(bytes: &[u8]) -> bool
 fn begins_either(carries: StreamKind, bytes: &[u8]) -> bool
     ensures { result ≡ begins_either carries bytes.now }
 {
-    match carries {
-        StreamKind::Messages => may_begin(bytes),
-        StreamKind::ChannelDataToo => may_begin(bytes) || begins_channel(bytes),
-    }
+    may_begin(bytes) || begins_carried(carries, bytes)
 }
 
 /// How many bytes the message has that begins with these.
@@ -52,7 +64,7 @@ fn stated_length(bytes: &[u8]) -> usize
     ensures { result ≡ stated_length bytes.now }
 {
     let field = number_at(bytes, 2) as usize;
-    if begins_channel(bytes) {
+    if begins_channel(ANY_CHANNEL, bytes) {
         return pad_attribute_len(4 + field);
     }
     MessageHeader::LENGTH + field
@@ -95,7 +107,7 @@ fn length_refusal(room: usize, bytes: &[u8]) -> Option<StreamFault>
     if bytes.len() < START {
         return None;
     }
-    if begins_channel(bytes) {
+    if begins_channel(ANY_CHANNEL, bytes) {
         return size_refusal(room, stated_length(bytes));
     }
     field_refusal(room, number_at(bytes, 2))

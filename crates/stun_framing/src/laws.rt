@@ -3,6 +3,7 @@
 ghost use Rattle.std.specs.Prelude.{◌≡◌, ℕ, ◌%◌, ◌≤◌, List, [], ◌++◌, length, take, true, None, Some, Ok, Err};
 ghost use Rattle.stun_grammar.specs.Numbers.{IsBytes};
 ghost use Rattle.stun_grammar.specs.Showing.{frame_fault};
+ghost use Rattle.stun_framing.specs.declared.channel_range.ChannelRange.{ChannelRange};
 ghost use Rattle.stun_framing.specs.declared.error.StreamError.{StreamError};
 ghost use Rattle.stun_framing.specs.declared.error.StreamFault.{StreamFault};
 ghost use Rattle.stun_framing.specs.Framing.{Room, IsStunMessage, IsChannelData, IsMessage, IsCut, MayBegin, stream_fault};
@@ -37,7 +38,8 @@ pub fn messages_are_framed()
         → length m ≤ size → IsStunMessage size m }
     ensures longest { (room : Room) (m : List ℕ) → IsMessage room m → IsBytes m
         → length m ≤ GREATEST_MESSAGE }
-    ensures apart { (size : ℕ) (m : List ℕ) → IsStunMessage size m → ¬ (IsChannelData size m) }
+    ensures apart { (range : ChannelRange) (size : ℕ) (m : List ℕ) → IsStunMessage size m
+        → ¬ (IsChannelData range size m) }
 {}
 
 /// A stream ends only at bytes with which no message may begin; and from the fourth byte on, with

@@ -6,6 +6,7 @@
 //! and [`receive_raw`] for one that reads the bytes straight into it.
 #![tactic(auto)]
 
+mod channel_range;
 mod error;
 mod fault;
 mod gather;
@@ -15,6 +16,7 @@ mod read_stream;
 mod stored_stream;
 mod stream_kind;
 
+pub use channel_range::ChannelRange;
 pub use error::{StreamError, StreamFault};
 pub use laws::{
     calls_go_on, cuts_change_nothing, faults_are_right, messages_are_framed, one_cut,

@@ -103,7 +103,7 @@ impl<'b> MessageStream<'b> {
 
     /// Returns a stream of the messages that `carries` names, which gathers them in `buffer`. A
     /// message of [`MessageStream::message`] is ChannelData, with its padding, if its first byte is
-    /// 0x40 to 0x4F; `ChannelData::from_bytes` of `turn_attrs` reads it.
+    /// 0x40 or more; `ChannelData::from_bytes_in` of `turn_attrs` reads it.
     ///
     /// # Requires
     ///
@@ -112,11 +112,12 @@ impl<'b> MessageStream<'b> {
     /// # Examples
     ///
     /// ```
-    /// use stun_framing::{StreamKind, MessageStream};
+    /// use stun_framing::{ChannelRange, MessageStream, StreamKind};
     ///
     /// // Three bytes of data on the channel 0x4000, and one of padding (RFC 8656, section 12.5).
+    /// let carries = StreamKind::ChannelDataToo(ChannelRange::Rfc8656);
     /// let mut buffer = [0; 1500];
-    /// let mut stream = MessageStream::carrying(StreamKind::ChannelDataToo, &mut buffer);
+    /// let mut stream = MessageStream::carrying(carries, &mut buffer);
     /// assert_eq!(rt; stream.push(b"\x40\x00\x00\x03abc\x00"), Ok(8));
     /// assert_eq!(rt; stream.message(), Some(b"\x40\x00\x00\x03abc\x00".as_slice()));
     /// ```

@@ -5,7 +5,7 @@ use Rattle.turn_attrs.specs.declared.protocols.Protocol.{Protocol}
 use Rattle.turn_attrs.specs.declared.protocols.Protocol.TheVariants.{Stun, Zrtp, Dtls, TurnChannel, Quic, Rtp}
 use Rattle.turn_attrs.specs.declared.channel_data.ChannelDataError.{ChannelDataError}
 use Rattle.turn_attrs.specs.declared.channel_data.ChannelDataError.TheVariants.{NotChannelData, Truncated, TooLarge}
-use Rattle.turn_attrs.specs.declared.channels.ChannelRange.TheVariants.{Rfc8656}
+use Rattle.stun_framing.specs.declared.channel_range.ChannelRange.TheVariants.{Rfc8656}
 use Rattle.turn_attrs.specs.Channels.{begin_fault, channel_field, data_length, is_channel_in}
 use Rattle.turn_attrs.specs.ChannelMessages.{channel_fault}
 use Rattle.stun_types_c.specs.declared.call_result.CResult.{CResult}

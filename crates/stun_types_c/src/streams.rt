@@ -1,11 +1,11 @@
 //! The messages of a stream that comes in pieces.
 
 ghost use Rattle.std.specs.Prelude.{◌≡◌};
-ghost use Rattle.stun_types_c.specs.Streams.{fault_result, PushesPiece};
+ghost use Rattle.stun_types_c.specs.Streams.{kind_numbered, fault_result, PushesPiece};
 
 use crate::call_result::{CResult, counted, plain};
 use crate::codes;
-use stun_framing::{StreamFault, StreamKind, push_raw};
+use stun_framing::{ChannelRange, StreamFault, StreamKind, push_raw};
 
 /// A stream, as C keeps it.
 #[repr(C)]
@@ -17,8 +17,23 @@ pub struct CStream {
     pub pending: usize,
     /// How many bytes the message there has that the last call completed, or 0.
     pub message: usize,
+    /// The number of what the stream carries: 0 for STUN messages alone, and 1 for ChannelData too,
+    /// or 2 for ChannelData on channels of RFC 5766.
+    pub carries: u32,
     /// 0.
-    pub reserved: u64,
+    pub reserved: u32,
+}
+
+/// What a stream carries, by its number.
+fn kind_numbered(number: u32) -> Option<StreamKind>
+    ensures { result ≡ kind_numbered number }
+{
+    match number {
+        0 => Some(StreamKind::Messages),
+        1 => Some(StreamKind::ChannelDataToo(ChannelRange::Rfc8656)),
+        2 => Some(StreamKind::ChannelDataToo(ChannelRange::Rfc5766)),
+        _ => None,
+    }
 }
 
 /// Why no message begins after the last one.
@@ -46,14 +61,11 @@ pub extern "C" fn stun_types_stream_push(
     if kept.reserved != 0 {
         return plain(codes::BAD_ARGUMENT);
     }
+    let Some(carries) = kind_numbered(kept.carries) else {
+        return plain(codes::BAD_ARGUMENT);
+    };
     let size = buffer.len();
-    let Some(answer) = push_raw(
-        StreamKind::Messages,
-        buffer,
-        kept.pending,
-        kept.offset,
-        piece,
-    ) else {
+    let Some(answer) = push_raw(carries, buffer, kept.pending, kept.offset, piece) else {
         return plain(codes::BAD_ARGUMENT);
     };
     match answer {
@@ -63,6 +75,7 @@ pub extern "C" fn stun_types_stream_push(
                 offset: pushed.offset,
                 pending: pushed.pending,
                 message: pushed.message.unwrap_or(0),
+                carries: kept.carries,
                 reserved: 0,
             };
             plain(codes::OK)

@@ -5,8 +5,8 @@ use Rattle.stun_grammar.specs.Numbers.{be16, padded_length}
 use Rattle.turn_attrs.specs.declared.channel_data.ChannelData.{ChannelData}
 use Rattle.turn_attrs.specs.declared.channel_data.ChannelDataError.{ChannelDataError}
 use Rattle.turn_attrs.specs.declared.channel_data.ChannelDataError.TheVariants.{Truncated, TooLarge}
-use Rattle.turn_attrs.specs.declared.channels.ChannelRange.{ChannelRange}
-use Rattle.turn_attrs.specs.declared.channels.ChannelRange.TheVariants.{Rfc8656}
+use Rattle.stun_framing.specs.declared.channel_range.ChannelRange.{ChannelRange}
+use Rattle.stun_framing.specs.declared.channel_range.ChannelRange.TheVariants.{Rfc8656}
 use Rattle.turn_attrs.specs.Channels.{begin_fault_in, channel_field, data_length}
 
 abbrev pub data_of : ChannelData → List ℕ

@@ -3,20 +3,11 @@ use Rattle.std.specs.Prelude.{ℕ, ◌+◌, ◌*◌, ◌/◌, ◌^◌, Bool, fal
 use Rattle.std.specs.Fmt.{digits}
 use Rattle.std.specs.List.{list_all}
 use Rattle.stun_grammar.specs.Numbers.{number}
-use Rattle.turn_attrs.specs.declared.channels.ChannelRange.{ChannelRange}
-use Rattle.turn_attrs.specs.declared.channels.ChannelRange.TheVariants.{Rfc8656, Rfc5766}
+use Rattle.stun_framing.specs.declared.channel_range.ChannelRange.{ChannelRange}
+use Rattle.stun_framing.specs.declared.channel_range.ChannelRange.TheVariants.{Rfc8656, Rfc5766}
+use Rattle.stun_framing.specs.Channels.{greatest_channel, begins_number}
 use Rattle.turn_attrs.specs.declared.channel_data.ChannelDataError.{ChannelDataError}
 use Rattle.turn_attrs.specs.declared.channel_data.ChannelDataError.TheVariants.{NotChannelData, Truncated}
-
--- the greatest number of a channel, by RFC 8656, and by RFC 5766 (section 11), which it replaces
-abbrev pub greatest_channel : ChannelRange → ℕ
-greatest_channel Rfc8656 = 0x4FFF
-greatest_channel Rfc5766 = 0x7FFF
-
--- and its first byte
-abbrev pub greatest_first : ChannelRange → ℕ
-greatest_first Rfc8656 = 0x4F
-greatest_first Rfc5766 = 0x7F
 
 -- whether a channel may have this number
 abbrev pub is_channel_in : ChannelRange → ℕ → Bool
@@ -54,7 +45,7 @@ data_length b = number (slice_range b 2 4)
 -- begins, or there are fewer than four
 abbrev pub begin_fault_in : ChannelRange → List ℕ → Option ChannelDataError
 begin_fault_in range b =
-    if list_all (λ first. nat_le 0x40 first && nat_le first (greatest_first range)) (take 1 b)
+    if list_all (begins_number range) (take 1 b)
     then (if nat_lt (length b) 4 then Some (Truncated 4 (length b)) else None)
     else Some NotChannelData
 

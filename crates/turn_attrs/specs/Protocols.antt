@@ -1,10 +1,10 @@
 -- Protocols by the first byte of a packet (RFC 7983, section 7, and RFC 9443, section 3).
 use Rattle.std.specs.Prelude.{ℕ, Option, Some, None, nat_lt, nat_le, if◌then◌else◌}
-use Rattle.turn_attrs.specs.declared.channels.ChannelRange.{ChannelRange}
-use Rattle.turn_attrs.specs.declared.channels.ChannelRange.TheVariants.{Rfc8656}
+use Rattle.stun_framing.specs.declared.channel_range.ChannelRange.{ChannelRange}
+use Rattle.stun_framing.specs.declared.channel_range.ChannelRange.TheVariants.{Rfc8656}
 use Rattle.turn_attrs.specs.declared.protocols.Protocol.{Protocol}
 use Rattle.turn_attrs.specs.declared.protocols.Protocol.TheVariants.{Stun, Zrtp, Dtls, TurnChannel, Quic, Rtp}
-use Rattle.turn_attrs.specs.Channels.{greatest_first}
+use Rattle.stun_framing.specs.Channels.{greatest_first}
 
 -- on a port where channels have the numbers of a range
 abbrev pub protocol_in : ChannelRange → ℕ → Option Protocol

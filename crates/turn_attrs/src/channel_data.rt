@@ -52,9 +52,8 @@ fn read_channel(bytes: &[u8], range: ChannelRange) -> Result<Channel, ChannelDat
         × (channel ≡ channel_field bytes.now))
         (λ e. begin_fault_in range bytes.now ≡ Some e) }
 {
-    let greatest = range.greatest_first();
     let is_channel = match bytes.first() {
-        Some(first) => 0x40 <= *first && *first <= greatest,
+        Some(first) => range.begins_with(*first),
         None => true,
     };
     if !is_channel {

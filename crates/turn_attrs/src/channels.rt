@@ -1,46 +1,10 @@
 //! Channels of TURN (RFC 8656, section 12), and CHANNEL-NUMBER, which holds one.
 
-use crate::{ChannelNumberKind, OldChannelNumberKind};
+use crate::{ChannelNumberKind, ChannelRange, OldChannelNumberKind};
 use std::fmt;
 use std::marker::Model;
 use stun_types::attribute::PackedKind;
 use stun_types::{PrintText, TextSink, put_hex};
-
-/// Which numbers channels have. A server takes those of RFC 5766 only for clients that still draw
-/// them, such as `turnutils_uclient` of coturn 4.6.1.
-#[derive(Clone, Copy, Debug, PartialEq, Eq)]
-pub enum ChannelRange {
-    /// 0x4000 to 0x4FFF (RFC 8656, section 12).
-    Rfc8656,
-    /// 0x4000 to 0x7FFF (RFC 5766, section 11, which RFC 8656 replaces).
-    Rfc5766,
-}
-
-impl ChannelRange {
-    ghost use Rattle.std.specs.Prelude.{◌≡◌, ◌≤◌};
-    ghost use Rattle.turn_attrs.specs.Channels.{greatest_channel, greatest_first};
-
-    /// The greatest number of a channel.
-    fn greatest(self) -> u16
-        ensures { result ≡ greatest_channel self }
-    {
-        match self {
-            ChannelRange::Rfc8656 => 0x4FFF,
-            ChannelRange::Rfc5766 => 0x7FFF,
-        }
-    }
-
-    /// The first byte of that.
-    pub(crate) fn greatest_first(self) -> u8
-        ensures value { result ≡ greatest_first self }
-        ensures bound { result ≤ 0x7F }
-    {
-        match self {
-            ChannelRange::Rfc8656 => 0x4F,
-            ChannelRange::Rfc5766 => 0x7F,
-        }
-    }
-}
 
 /// The number of a channel: 0x4000 to 0x4FFF (RFC 8656, section 12), and to 0x7FFF if it was asked
 /// for by [`ChannelRange::Rfc5766`].

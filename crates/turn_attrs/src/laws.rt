@@ -3,6 +3,7 @@
 //! nothing: its contract is the law.
 
 ghost use Rattle.std.specs.Prelude.{◌≡◌, ◌≤◌, ◌<◌, ◌^◌, ◌+◌, ℕ, Bool, List, length, None, Some, Result, IsTrue, MatchResult};
+ghost use Rattle.stun_framing.specs.declared.channel_range.ChannelRange.{ChannelRange};
 ghost use Rattle.stun_framing.specs.Framing.{IsChannelData, begins_channel, channel_length};
 ghost use Rattle.stun_grammar.specs.declared.error.StunParseError.{StunParseError};
 ghost use Rattle.stun_grammar.specs.declared.error.StunParseError.TheVariants.{OutOfMemory};
@@ -13,8 +14,8 @@ ghost use Rattle.turn_attrs.specs.declared.channel_data.ChannelData.{ChannelData
 ghost use Rattle.turn_attrs.specs.declared.family.Ipv6AddressFamily.{Ipv6AddressFamily};
 ghost use Rattle.turn_attrs.specs.declared.icmp.IcmpError.{IcmpError};
 ghost use Rattle.stun_grammar.specs.Numbers.{padded_length};
-ghost use Rattle.turn_attrs.specs.ChannelMessages.{channel_fault, data_of, padded_bytes};
-ghost use Rattle.turn_attrs.specs.Channels.{channel_in, old_channel_in, channel_number, begin_fault, data_length};
+ghost use Rattle.turn_attrs.specs.ChannelMessages.{channel_fault_in, data_of, padded_bytes};
+ghost use Rattle.turn_attrs.specs.Channels.{channel_in, old_channel_in, channel_number, is_channel_in, begin_fault_in, data_length};
 ghost use Rattle.turn_attrs.specs.Turn.{address_error_value, failed_error, failed_family, family_in, family_number, icmp_in, icmp_number, ipv6_in, ipv6_number, protocol_in, protocol_number, reserve_in, reserve_number, ReadsAddressError};
 
 /// The number that encodes a channel, a family, a flag, a protocol or an ICMP error holds it, so
@@ -45,13 +46,16 @@ pub fn address_error_is_read_back()
 {}
 
 /// The ChannelData that a stream between a TURN client and its server cuts is read
-/// (`ChannelData::from_bytes`), and is as long as `channel_data_length` says; both know it by the
-/// same first byte; and what is written with its padding is ChannelData of such a stream.
+/// (`ChannelData::from_bytes_in`), and is as long as `channel_data_length_in` says; both know it by
+/// the same first byte; and what is written with its padding is ChannelData of such a stream: for
+/// channels with the numbers of either range.
 pub fn channel_data_is_framed()
-    ensures read { (size : ℕ) (m : List ℕ) → IsChannelData size m → channel_fault m ≡ None }
+    ensures read { (range : ChannelRange) (size : ℕ) (m : List ℕ) → IsChannelData range size m
+        → channel_fault_in range m ≡ None }
     ensures long { (b : List ℕ) → channel_length b ≡ padded_length (4 + data_length b) }
-    ensures begins { (b : List ℕ) → begin_fault b ≡ None → IsTrue (begins_channel b) }
-    ensures written { (message : ChannelData) (size : ℕ) → 0x4000 ≤ message.channel
-        → message.channel ≤ 0x4FFF → length (data_of message) ≤ 65535
-        → length (padded_bytes message) ≤ size → IsChannelData size (padded_bytes message) }
+    ensures begins { (range : ChannelRange) (b : List ℕ) → begin_fault_in range b ≡ None
+        → IsTrue (begins_channel range b) }
+    ensures written { (range : ChannelRange) (message : ChannelData) (size : ℕ)
+        → IsTrue (is_channel_in range message.channel) → length (data_of message) ≤ 65535
+        → length (padded_bytes message) ≤ size → IsChannelData range size (padded_bytes message) }
 {}

@@ -26,7 +26,7 @@ pub use attribute_types::{KNOWN, known_type};
 pub use channel_data::{
     ChannelData, ChannelDataError, channel_data_length, channel_data_length_in,
 };
-pub use channels::{Channel, ChannelRange};
+pub use channels::Channel;
 pub use family::Ipv6AddressFamily;
 pub use heads::{Head, write_channel_head, write_data_head};
 pub use icmp::IcmpError;
@@ -41,6 +41,7 @@ pub use laws::{address_error_is_read_back, channel_data_is_framed, fields_are_he
 pub use lifetime::Lifetime;
 pub use lifetimes::{DEFAULT_LIFETIME, allocation_lifetime, refresh_lifetime};
 pub use protocols::{Protocol, protocol_in, protocol_of, stun_begins_low};
+pub use stun_framing::ChannelRange;
 pub use third_party::ThirdPartyAuthorization;
 pub use tokens::{
     AccessToken, AccessTokenKind, ConnectionId, ConnectionIdKind, MobilityTicket,

@@ -1,12 +1,13 @@
 -- A stream between a TURN client and its server, and an error response.
 use Rattle.std.specs.Prelude.{ℕ, List, [], ◌∷◌, ◌++◌, take, drop}
+use Rattle.stun_framing.specs.declared.channel_range.ChannelRange.TheVariants.{Rfc8656}
 use Rattle.stun_framing.specs.declared.stream_kind.StreamKind.TheVariants.{ChannelDataToo}
 use Rattle.stun_framing.specs.Framing.{Room, room_of}
 use Rattle.standard_vectors.specs.Messages.{sample_request, ipv4_response}
 
 -- a stream that carries ChannelData too, with a buffer of 200 bytes
 abbrev pub with_channels : Room
-with_channels = room_of ChannelDataToo 200
+with_channels = room_of (ChannelDataToo Rfc8656) 200
 
 -- five bytes of data on channel 0x4001, and the three of padding that a stream has (RFC 8656, sections
 -- 12.4 and 12.5)

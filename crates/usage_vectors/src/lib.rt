@@ -48,7 +48,7 @@ ghost use Rattle.ice_attrs.specs.Ice.{PRIORITY, USE_CANDIDATE, ICE_CONTROLLED, I
 ghost use Rattle.turn_attrs.specs.declared.channel_data.ChannelDataError.TheVariants.{NotChannelData, Truncated, TooLarge};
 ghost use Rattle.turn_attrs.specs.declared.protocols.Protocol.TheVariants.{Stun, Zrtp, Dtls, TurnChannel, Rtp};
 ghost use Rattle.turn_attrs.specs.Turn.{LIFETIME, XOR_PEER_ADDRESS, DATA, CHANNEL_NUMBER, XOR_RELAYED_ADDRESS, REQUESTED_ADDRESS_FAMILY, EVEN_PORT, REQUESTED_TRANSPORT, DONT_FRAGMENT, RESERVATION_TOKEN, ADDITIONAL_ADDRESS_FAMILY, ADDRESS_ERROR_CODE, ICMP, family_in, reserve_in, protocol_in, icmp_in};
-ghost use Rattle.turn_attrs.specs.declared.channels.ChannelRange.TheVariants.{Rfc5766};
+ghost use Rattle.stun_framing.specs.declared.channel_range.ChannelRange.TheVariants.{Rfc8656, Rfc5766};
 ghost use Rattle.turn_attrs.specs.Channels.{channel_in, old_channel_in, channel_field, data_length};
 ghost use Rattle.turn_attrs.specs.ChannelMessages.{channel_fault, channel_fault_in};
 ghost use Rattle.turn_attrs.specs.Heads.{data_indication as indication_of};
@@ -184,7 +184,8 @@ pub fn reasons_are_right()
 {}
 
 /// A stream with messages of RFC 5769 and ChannelData among them, in the layout of RFC 8656, section
-/// 12.4, with the padding of section 12.5: how it is cut, what pieces of it yield, and what ends it.
+/// 12.4, with the padding of section 12.5: how it is cut, what pieces of it yield, and what ends it;
+/// and on channels of RFC 5766, section 11.
 pub fn streams_are_right()
     ensures cut { IsCut with_channels whole_stream (sample_request ∷ padded_data ∷ ipv4_response ∷ []) [] }
     ensures yields { yielded (begun with_channels) pieces ≡ sample_request ∷ padded_data ∷ ipv4_response ∷ [] }
@@ -194,7 +195,11 @@ pub fn streams_are_right()
     ensures beyond_channels { stream_fault with_channels (0x50 ∷ []) ≡ Some NotStun }
     ensures not_padded { stream_fault with_channels (0x00 ∷ 0x01 ∷ 0x00 ∷ 0x06 ∷ []) ≡ Some (NotPadded 6) }
     ensures too_long { stream_fault (room_of Messages 107) sample_request ≡ Some (TooLong 108) }
-    ensures data_too_long { stream_fault (room_of ChannelDataToo 11) padded_data ≡ Some (TooLong 12) }
+    ensures data_too_long { stream_fault (room_of (ChannelDataToo Rfc8656) 11) padded_data ≡ Some (TooLong 12) }
+    ensures old_length { stated_length (0x67 ∷ 0x80 ∷ 0x00 ∷ 0x05 ∷ []) ≡ 12 }
+    ensures old_channel { stream_fault (room_of (ChannelDataToo Rfc5766) 200) (0x7F ∷ []) ≡ None }
+    ensures old_too_long { stream_fault (room_of (ChannelDataToo Rfc5766) 11) (0x67 ∷ 0x80 ∷ 0x00 ∷ 0x05 ∷ []) ≡ Some (TooLong 12) }
+    ensures beyond_old_channels { stream_fault (room_of (ChannelDataToo Rfc5766) 200) (0x80 ∷ []) ≡ Some NotStun }
 {}
 
 /// Which refusal comes first if two apply: of a response that a transaction begins with, that it is no

@@ -9,7 +9,7 @@ use Rattle.usage_vectors.proofs.streams_are_right.Goals as goal
 none_begins : (m behind : List ℕ) → IsMessage with_channels m → ([] ≡ m ++ behind) → ⊥
 unfolding computing
 none_begins [] behind (inl is) e = absurd (cc is.header)
-none_begins [] behind (inr (there, is)) e = absurd (omega (arith, is.header))
+none_begins [] behind (inr is) e = absurd (omega (arith, is.header))
 none_begins (x ∷ m) behind is e = absurd (cc e)
 
 pub returns-clause-cut : goal.returns-clause-cut
@@ -20,7 +20,7 @@ returns-clause-cut c = record {
       All-cons (IsMessage with_channels) sample_request (padded_data ∷ ipv4_response ∷ [])
       (inl (record { header = refl; whole = refl; padded = refl; fits = lit≤ tt }))
       (All-cons (IsMessage with_channels) padded_data (ipv4_response ∷ [])
-      (inr (refl, record { channel = refl; header = lit≤ tt; whole = refl; fits = lit≤ tt }))
+      (inr (record { channel = refl; header = lit≤ tt; whole = refl; fits = lit≤ tt }))
       (All-cons (IsMessage with_channels) ipv4_response []
       (inl (record { header = refl; whole = refl; padded = refl; fits = lit≤ tt }))
       (All-nil (IsMessage with_channels))));
@@ -58,3 +58,19 @@ returns-clause-too_long c = refl
 pub returns-clause-data_too_long : goal.returns-clause-data_too_long
 unfolding computing
 returns-clause-data_too_long c = refl
+
+pub returns-clause-old_length : goal.returns-clause-old_length
+unfolding computing
+returns-clause-old_length c = refl
+
+pub returns-clause-old_channel : goal.returns-clause-old_channel
+unfolding computing
+returns-clause-old_channel c = refl
+
+pub returns-clause-old_too_long : goal.returns-clause-old_too_long
+unfolding computing
+returns-clause-old_too_long c = refl
+
+pub returns-clause-beyond_old_channels : goal.returns-clause-beyond_old_channels
+unfolding computing
+returns-clause-beyond_old_channels c = refl
