@@ -92,15 +92,15 @@ judgment_is_so site (first ∷ more) =
     either (IsSo site (first ∷ more)) (is_channel_byte site.last_channel first) (channel_message (first ∷ more)) (message site (first ∷ more))
     (λ _. channel_is_so site (first ∷ more)) (λ _. message_is_so site (first ∷ more))
 
-asked_is_so : (site : Site) (tuple : FiveTuple) (d : List ℕ) (user : ℕ) (request : TableRequest) (judged : Judged) → IsSo site d judged → event_of tuple judged ≡ Some (asks tuple user request)
+pub asked_is_so : (site : Site) (other tuple : FiveTuple) (d : List ℕ) (user : ℕ) (request : TableRequest) (judged : Judged) → IsSo site d judged → event_of other judged ≡ Some (asks tuple user request)
     → (key : UserKey) × (reply_algorithm : IntegrityAlgorithm) × IsAsked site d user request key reply_algorithm
-asked_is_so site tuple d user request dropped so e = absurd cc
-asked_is_so site tuple d user request binding so e = absurd cc
-asked_is_so site tuple d user request (refused refusal) so e = absurd cc
-asked_is_so site tuple d user request (unknown key reply_algorithm) so e = absurd cc
-asked_is_so site tuple d user request (sent peer bytes) so e = absurd cc
-asked_is_so site tuple d user request (sent_on channel bytes) so e = absurd cc
-asked_is_so site tuple d user request (asked by asking key reply_algorithm) so e =
+asked_is_so site other tuple d user request dropped so e = absurd cc
+asked_is_so site other tuple d user request binding so e = absurd cc
+asked_is_so site other tuple d user request (refused refusal) so e = absurd cc
+asked_is_so site other tuple d user request (unknown key reply_algorithm) so e = absurd cc
+asked_is_so site other tuple d user request (sent peer bytes) so e = absurd cc
+asked_is_so site other tuple d user request (sent_on channel bytes) so e = absurd cc
+asked_is_so site other tuple d user request (asked by asking key reply_algorithm) so e =
     let same_user : by ≡ user = cc in
     let same_request : asking ≡ request = cc in
     let of_user : IsAsked site d user asking key reply_algorithm = subst (λ (u : ℕ). IsAsked site d u asking key reply_algorithm) same_user so in
@@ -109,4 +109,4 @@ asked_is_so site tuple d user request (asked by asking key reply_algorithm) so e
 -- only what is accepted becomes a request to the table
 pub event_is_so : (site : Site) (tuple : FiveTuple) (d : List ℕ) (user : ℕ) (request : TableRequest) → event_of tuple (judge site d) ≡ Some (asks tuple user request)
     → (key : UserKey) × (reply_algorithm : IntegrityAlgorithm) × IsAsked site d user request key reply_algorithm
-event_is_so site tuple d user request e = asked_is_so site tuple d user request (judge site d) (judgment_is_so site d) e
+event_is_so site tuple d user request e = asked_is_so site tuple tuple d user request (judge site d) (judgment_is_so site d) e

@@ -1,3 +1,6 @@
 mod PeersLemmas
 mod JudgingLemmas
 mod ReportingLemmas
+mod DatagramsLemmas
+mod RelayedLemmas
+mod StrangersLemmas

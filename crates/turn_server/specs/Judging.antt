@@ -1,5 +1,5 @@
 -- What a client's datagram is to a server (RFC 8656, sections 5 and 12; RFC 8489, sections 6.3 and 9.2.4).
-use Rattle.std.specs.Prelude.{ℕ, List, [], ◌∷◌, Option, None, Some, is_some, ◌==◌, if◌then◌else◌}
+use Rattle.std.specs.Prelude.{ℕ, Bool, true, false, List, [], ◌∷◌, Option, None, Some, is_some, ◌==◌, if◌then◌else◌}
 use Rattle.std.specs.Option.{option_map_or}
 use Rattle.stun_grammar.specs.declared.integrity_algorithm.IntegrityAlgorithm.{IntegrityAlgorithm}
 use Rattle.stun_grammar.specs.Headers.{type_field}
@@ -24,18 +24,19 @@ use Rattle.turn_server.specs.ChannelMessages.{is_channel_byte, data_in}
 use Rattle.turn_server.specs.Comprehended.{is_comprehended}
 use Rattle.turn_server.specs.Indications.{sent_by}
 use Rattle.turn_server.specs.Requests.{asks_table, request_of}
+use Rattle.turn_server.specs.Accounts.{account_of}
 
 -- What a server is at a moment, for one client: the greatest channel number, 0x4FFF, or 0x7FFF for
--- clients of RFC 5766; how it authenticates; what number it has for a user; and the sockets that it
--- has ready
+-- clients of RFC 5766; how it authenticates; the sockets that it has ready, and the number that one of
+-- them gets if an allocation is opened
 pub record Site : Type 0 where
   pub last_channel : ℕ
   pub policy : Policy
   pub realm : List ℕ
   pub nonces : List ℕ → Known
   pub keys : Who → List ℕ → PasswordAlgorithmValue → Option UserKey
-  pub account : Who → ℕ
   pub sockets : Sockets
+  pub relay : ℕ
 
 -- What comes of a datagram: nothing; a Binding request, which gets the reply of a server without
 -- credentials; an error response that isn't signed (400, 401 or 438); an error response with the types
@@ -57,6 +58,11 @@ event_of tuple (sent_on channel bytes) = Some (sends_on tuple channel bytes)
 event_of tuple (asked user request key algorithm) = Some (asks tuple user request)
 event_of tuple _ = None
 
+-- whether it asks the table
+abbrev pub is_asked : Judged → Bool
+is_asked (asked user request key algorithm) = true
+is_asked _ = false
+
 -- ---- ChannelData (section 12.6)
 
 abbrev pub channel_message : List ℕ → Judged
@@ -76,7 +82,8 @@ indicated method d =
 
 abbrev pub accepted_as : Site → (method : ℕ) → List ℕ → Who → UserKey → IntegrityAlgorithm → Judged
 accepted_as site method d user key algorithm =
-    if is_comprehended d then asked (site.account user) (request_of site.sockets method d) key algorithm
+    if is_comprehended d
+    then asked (account_of site.realm user) (request_of site.relay site.sockets method d) key algorithm
     else unknown key algorithm
 
 abbrev pub decided_as : Site → (method : ℕ) → List ℕ → Decision → Judged

@@ -19,6 +19,7 @@ use Rattle.turn_server.specs.Comprehended.{is_comprehended}
 use Rattle.turn_server.specs.Indications.{sent_by}
 use Rattle.turn_server.specs.Judging.{Site, Judged, dropped, binding, refused, unknown, sent, sent_on, asked, SEND}
 use Rattle.turn_server.specs.Requests.{asks_table, request_of}
+use Rattle.turn_server.specs.Accounts.{account_of}
 
 -- d parses as a message of a class
 pub record IsOfClass (class : MessageClass) (d : List ℕ) : Type 0 where
@@ -43,8 +44,8 @@ pub record IsAsked (site : Site) (d : List ℕ) (user : ℕ) (request : TableReq
   pub algorithm : IntegrityAlgorithm
   pub accepted : IsDecided site d (accept who key algorithm reply_algorithm)
   pub comprehended : is_comprehended d ≡ true
-  pub user_is : user ≡ site.account who
-  pub request_is : request ≡ request_of site.sockets (method_of (type_field d)) d
+  pub user_is : user ≡ account_of site.realm who
+  pub request_is : request ≡ request_of site.relay site.sockets (method_of (type_field d)) d
 
 pub record IsUnknown (site : Site) (d : List ℕ) (key : UserKey) (reply_algorithm : IntegrityAlgorithm)
     : Type 0 where

@@ -7,7 +7,12 @@ pub mod Peers
 pub mod PeersLeft
 pub mod Allocating
 pub mod Requests
+pub mod Accounts
 pub mod Judging
 pub mod Sites
 pub mod Reporting
+pub mod Answers
+pub mod Acting
+pub mod Actions
 pub mod Judgments
+pub mod Datagrams

@@ -1,5 +1,5 @@
 -- What a server is at a moment, by what the caller passes.
-use Rattle.std.specs.Prelude.{ℕ, List, Option}
+use Rattle.std.specs.Prelude.{ℕ, Bool, List, Option}
 use Rattle.stun_values.specs.declared.algorithm.PasswordAlgorithmValue.{PasswordAlgorithmValue}
 use Rattle.stun_authentication.specs.Identities.{Who}
 use Rattle.stun_authentication.specs.Lookups.{Known, UserKey}
@@ -7,14 +7,14 @@ use Rattle.turn_server.specs.declared.site.Site.{Site as SiteOfCaller}
 use Rattle.turn_server.specs.ChannelMessages.{last_channel}
 use Rattle.turn_server.specs.Judging.{Site}
 
-abbrev pub site_of : SiteOfCaller → (nonces : List ℕ → Known)
-    → (keys : Who → List ℕ → PasswordAlgorithmValue → Option UserKey) → (account : Who → ℕ) → Site
-site_of site nonces keys account = record {
-  last_channel = last_channel site.old_channels;
+abbrev pub site_of : (relay : ℕ) → (old_channels : Bool) → SiteOfCaller → (nonces : List ℕ → Known)
+    → (keys : Who → List ℕ → PasswordAlgorithmValue → Option UserKey) → Site
+site_of relay old_channels site nonces keys = record {
+  last_channel = last_channel old_channels;
   policy = site.policy;
   realm = site.realm.now;
   nonces = nonces;
   keys = keys;
-  account = account;
   sockets = site.sockets;
+  relay = relay;
 }

@@ -8,7 +8,7 @@ ghost use Rattle.turn_server.specs.Allocating.{transport_fault, has_malformed, o
 ghost use Rattle.turn_server.specs.Values.{number_in};
 
 use crate::values::{byte_in, fixed_value, number_in};
-use crate::{Offer, Ready, Sockets};
+use crate::{Ready, Sockets};
 use stun_types::attribute::ErrorCode;
 use stun_types::message::Message;
 use turn_attrs::attribute_types::{
@@ -18,6 +18,7 @@ use turn_attrs::attribute_types::{
 use turn_attrs::error_codes::{
     ADDRESS_FAMILY_NOT_SUPPORTED, INSUFFICIENT_CAPACITY, UNSUPPORTED_TRANSPORT_PROTOCOL,
 };
+use turn_table::Endpoint;
 
 /// The number of UDP as a protocol.
 const UDP: u8 = 17;
@@ -74,8 +75,8 @@ fn read_options(request: &Message<'_>) -> Result<Options, u16>
     })
 }
 
-/// The socket of a family that is wished.
-fn chosen(even: Option<bool>, ready: Ready) -> Option<Offer>
+/// The address of the socket of a family that is wished.
+fn chosen(even: Option<bool>, ready: Ready) -> Option<Endpoint>
     ensures { result ≡ chosen even ready }
 {
     match even {
@@ -116,12 +117,12 @@ impl Options {
             || self.additional.unwrap_or(2) != 2
     }
 
-    /// The socket that a request with these wishes gets.
+    /// The address of the socket that a request with these wishes gets.
     ///
     /// # Errors
     ///
     /// 440 or 508.
-    fn socket(&self, sockets: &Sockets) -> Result<Offer, u16>
+    fn socket(&self, sockets: &Sockets) -> Result<Endpoint, u16>
         ensures { result ≡ socket_for sockets.now self.now }
     {
         if self.token {
@@ -131,13 +132,14 @@ impl Options {
             return Err(ADDRESS_FAMILY_NOT_SUPPORTED);
         };
         match chosen(self.even, ready) {
-            Some(offer) => Ok(offer),
+            Some(address) => Ok(address),
             None => Err(INSUFFICIENT_CAPACITY),
         }
     }
 }
 
-/// The lifetime that an Allocate request wishes, in seconds, and the socket that it gets.
+/// The lifetime that an Allocate request wishes, in seconds, and the address of the socket that it
+/// gets.
 ///
 /// # Errors
 ///
@@ -145,7 +147,7 @@ impl Options {
 pub(crate) fn read_wish(
     request: &Message<'_>,
     sockets: &Sockets,
-) -> Result<(Option<u32>, Offer), u16>
+) -> Result<(Option<u32>, Endpoint), u16>
     ensures { let d = message_bytes request.now in
         MatchResult result
         (λ wish. (wish.0 ≡ number_in LIFETIME d) × (wish_of sockets.now d ≡ Ok wish.1))
@@ -156,6 +158,6 @@ pub(crate) fn read_wish(
     if options.conflict() {
         return Err(ErrorCode::BAD_REQUEST);
     }
-    let offer = options.socket(sockets)?;
-    Ok((options.lifetime, offer))
+    let address = options.socket(sockets)?;
+    Ok((options.lifetime, address))
 }

@@ -1,7 +1,7 @@
 //! What a client's datagram is: the data of a Send indication or of a ChannelData message, or a
 //! request, which is authenticated (RFC 8656, sections 5 and 12; RFC 8489, section 9.2.4).
 
-ghost use Rattle.std.specs.Prelude.{◌≡◌, ℕ, false, List, Option, IfOk, IsOk};
+ghost use Rattle.std.specs.Prelude.{◌≡◌, ℕ, Bool, false, List, Option, IfOk, IsOk};
 ghost use Rattle.stun_base.specs.MessageTypes.{class_of, method_of};
 ghost use Rattle.stun_grammar.specs.Headers.{type_field};
 ghost use Rattle.stun_grammar.specs.declared.integrity_algorithm.IntegrityAlgorithm.{IntegrityAlgorithm};
@@ -19,7 +19,8 @@ use crate::channel_message::{is_channel_byte, read_channel_data};
 use crate::comprehended::is_comprehended;
 use crate::indication::read_send;
 use crate::request::{asks_table, read_request};
-use crate::{Accounts, Judged, Site};
+use crate::accounts::user_of;
+use crate::{Judged, Site};
 use std::alloc::{AllocError, Global};
 use stun_authentication::{Accepted, Authentication, LongTermKeys, Nonces, authenticate_long_term};
 use stun_types::message::{BINDING, Message, MessageClass};
@@ -27,7 +28,7 @@ use turn_attrs::methods::SEND;
 
 /// What comes of a datagram that begins as a ChannelData message.
 fn judge_channel_message<'d>(datagram: &'d [u8]) -> Judged<'d>
-    ensures { Tells (channel_message datagram.now) result }
+    ensures { (relay : ℕ) → Tells relay (channel_message datagram.now) result }
 {
     match read_channel_data(datagram) {
         Some((channel, data)) => Judged::SentOn { channel, data },
@@ -38,7 +39,7 @@ fn judge_channel_message<'d>(datagram: &'d [u8]) -> Judged<'d>
 /// What comes of an indication.
 fn judge_indication<'d>(message: &Message<'d>) -> Judged<'d>
     ensures { let d = message_bytes message.now in
-        Tells (indicated (method_of (type_field d)) d) result }
+        (relay : ℕ) → Tells relay (indicated (method_of (type_field d)) d) result }
 {
     if !message.has_method(SEND) {
         return Judged::Dropped;
@@ -50,46 +51,44 @@ fn judge_indication<'d>(message: &Message<'d>) -> Judged<'d>
 }
 
 /// What comes of a request that was accepted.
-fn judge_accepted<'d, A: Accounts>(
+fn judge_accepted<'d>(
     message: &Message<'d>,
     site: &Site<'_>,
     accepted: Accepted<'d>,
-    accounts: &A,
 ) -> Judged<'d>
-    ensures { (nonces : List ℕ → Known)
+    ensures { (relay : ℕ) (old_channels : Bool) (nonces : List ℕ → Known)
         (keys : Who → List ℕ → PasswordAlgorithmValue → Option UserKey)
         (user : Who) (key : UserKey) (algorithm : IntegrityAlgorithm)
         → who accepted.entry.user ≡ user → Signs key algorithm accepted.entry
         → let d = message_bytes message.now in
-        Tells (accepted_as (site_of site.now nonces keys (A.account_of accounts.now))
+        Tells relay (accepted_as (site_of relay old_channels site.now nonces keys)
         (method_of (type_field d)) d user key algorithm) result }
 {
     if !is_comprehended(message) {
         return Judged::Unknown(accepted);
     }
     Judged::Asked {
-        user: accounts.account(accepted.user),
+        user: user_of(accepted.user, site.realm),
         request: read_request(message, &site.sockets),
         accepted,
     }
 }
 
 /// What comes of a request, by what its authentication decided.
-fn judge_decided<'d, A: Accounts>(
+fn judge_decided<'d>(
     message: &Message<'d>,
     site: &Site<'_>,
     authentication: Authentication<'d>,
-    accounts: &A,
 ) -> Judged<'d>
-    ensures { (nonces : List ℕ → Known)
+    ensures { (relay : ℕ) (old_channels : Bool) (nonces : List ℕ → Known)
         (keys : Who → List ℕ → PasswordAlgorithmValue → Option UserKey)
         (decision : Decision) → Decides decision authentication.entry
         → let d = message_bytes message.now in
-        Tells (decided_as (site_of site.now nonces keys (A.account_of accounts.now))
+        Tells relay (decided_as (site_of relay old_channels site.now nonces keys)
         (method_of (type_field d)) d decision) result }
 {
     match authentication {
-        Authentication::Accepted(accepted) => judge_accepted(message, site, accepted, accounts),
+        Authentication::Accepted(accepted) => judge_accepted(message, site, accepted),
         Authentication::Refused(refusal) => Judged::Refused(refusal),
         Authentication::Discarded | Authentication::NotARequest => Judged::Dropped,
     }
@@ -100,18 +99,16 @@ fn judge_decided<'d, A: Accounts>(
 /// # Errors
 ///
 /// Only if an allocation failed, while `keys` looked for the key.
-fn judge_request<'d, N: Nonces, K: LongTermKeys, A: Accounts>(
+fn judge_request<'d, N: Nonces, K: LongTermKeys>(
     alloc: Global,
     message: &Message<'d>,
     site: &Site<'_>,
     nonces: &N,
     keys: &K,
-    accounts: &A,
 ) -> Result<Judged<'d>, AllocError>
     ensures judged { let d = message_bytes message.now in
-        IfOk result (Tells (requested
-        (site_of site.now (N.state_of nonces.now) (K.key_of keys.now) (A.account_of accounts.now))
-        (method_of (type_field d)) d)) }
+        (relay : ℕ) (old_channels : Bool) → IfOk result (Tells relay (requested
+        (site_of relay old_channels site.now (N.state_of nonces.now) (K.key_of keys.now)) (method_of (type_field d)) d)) }
     ensures memory { needs_key site.now.policy (N.state_of nonces.now) (message_bytes message.now)
         ≡ false → IsOk result }
 {
@@ -129,7 +126,7 @@ fn judge_request<'d, N: Nonces, K: LongTermKeys, A: Accounts>(
         nonces,
         keys,
     )?;
-    Ok(judge_decided(message, site, authentication, accounts))
+    Ok(judge_decided(message, site, authentication))
 }
 
 /// What comes of a datagram that doesn't begin as a ChannelData message.
@@ -137,17 +134,15 @@ fn judge_request<'d, N: Nonces, K: LongTermKeys, A: Accounts>(
 /// # Errors
 ///
 /// Only if an allocation failed, while `keys` looked for the key.
-fn judge_message<'d, N: Nonces, K: LongTermKeys, A: Accounts>(
+fn judge_message<'d, N: Nonces, K: LongTermKeys>(
     alloc: Global,
     datagram: &'d [u8],
     site: &Site<'_>,
     nonces: &N,
     keys: &K,
-    accounts: &A,
 ) -> Result<Judged<'d>, AllocError>
-    ensures judged { IfOk result (Tells (message
-        (site_of site.now (N.state_of nonces.now) (K.key_of keys.now) (A.account_of accounts.now))
-        datagram.now)) }
+    ensures judged { (relay : ℕ) (old_channels : Bool) → IfOk result (Tells relay (message
+        (site_of relay old_channels site.now (N.state_of nonces.now) (K.key_of keys.now)) datagram.now)) }
     ensures memory { needs_key site.now.policy (N.state_of nonces.now) datagram.now ≡ false
         → IsOk result }
 {
@@ -155,7 +150,7 @@ fn judge_message<'d, N: Nonces, K: LongTermKeys, A: Accounts>(
         return Ok(Judged::Dropped);
     };
     match message.class() {
-        MessageClass::Request => judge_request(alloc, &message, site, nonces, keys, accounts),
+        MessageClass::Request => judge_request(alloc, &message, site, nonces, keys),
         MessageClass::Indication => Ok(judge_indication(&message)),
         MessageClass::Success | MessageClass::Error => Ok(Judged::Dropped),
     }
@@ -205,23 +200,11 @@ fn judge_message<'d, N: Nonces, K: LongTermKeys, A: Accounts>(
 /// # Examples
 ///
 /// ```
-/// use stun_authentication::{Identity, Logins, NonceMaker, Policy, Refusal, SecurityFeatures};
+/// use stun_authentication::{Logins, NonceMaker, Policy, Refusal, SecurityFeatures};
 /// use stun_types::message::IntegrityKey;
-/// use turn_server::{Accounts, Judged, Site, Sockets, judge};
-///
-/// // The server has one user.
-/// struct Sole;
-///
-/// impl Accounts for Sole {
-///     ghost account_of = { λ _ who. 1 };
-///
-///     fn account(&self, _user: Identity<'_>) -> u128 {
-///         1
-///     }
-/// }
+/// use turn_server::{Judged, Site, Sockets, judge};
 ///
 /// let site = Site {
-///     old_channels: false,
 ///     policy: Policy::default(),
 ///     realm: "example.org",
 ///     sockets: Sockets { ipv4: None, ipv6: None },
@@ -231,32 +214,31 @@ fn judge_message<'d, N: Nonces, K: LongTermKeys, A: Accounts>(
 /// let nonces = maker.nonces(1000, "192.0.2.1:32853".parse()?, &[]);
 /// let keys = Logins::new(&[]);
 /// // Five bytes on a channel.
-/// let judged = judge(alloc, b"\x40\x01\x00\x05hello", &site, &nonces, &keys, &Sole)?;
+/// let judged = judge(alloc, b"\x40\x01\x00\x05hello", false, &site, &nonces, &keys)?;
 /// assert!(rt; matches!(judged, Judged::SentOn { channel: 0x4001, .. }));
 /// // An Allocate request that isn't signed.
 /// let request = b"\x00\x03\x00\x08\x21\x12\xA4\x42abcdefghijkl\x00\x19\x00\x04\x11\x00\x00\x00";
-/// let judged = judge(alloc, request, &site, &nonces, &keys, &Sole)?;
+/// let judged = judge(alloc, request, false, &site, &nonces, &keys)?;
 /// assert!(rt; matches!(judged, Judged::Refused(Refusal::Unauthenticated)));
 /// ```
-pub fn judge<'d, N: Nonces, K: LongTermKeys, A: Accounts>(
+pub fn judge<'d, N: Nonces, K: LongTermKeys>(
     alloc: Global,
     datagram: &'d [u8],
+    old_channels: bool,
     site: &Site<'_>,
     nonces: &N,
     keys: &K,
-    accounts: &A,
 ) -> Result<Judged<'d>, AllocError>
-    ensures judged { IfOk result (Tells (judge
-        (site_of site.now (N.state_of nonces.now) (K.key_of keys.now) (A.account_of accounts.now))
-        datagram.now)) }
+    ensures judged { (relay : ℕ) → IfOk result (Tells relay (judge
+        (site_of relay old_channels site.now (N.state_of nonces.now) (K.key_of keys.now)) datagram.now)) }
     ensures memory { needs_key site.now.policy (N.state_of nonces.now) datagram.now ≡ false
         → IsOk result }
 {
     let Some(first) = datagram.first() else {
         return Ok(Judged::Dropped);
     };
-    if is_channel_byte(site.last_channel(), *first) {
+    if is_channel_byte(old_channels, *first) {
         return Ok(judge_channel_message(datagram));
     }
-    judge_message(alloc, datagram, site, nonces, keys, accounts)
+    judge_message(alloc, datagram, site, nonces, keys)
 }

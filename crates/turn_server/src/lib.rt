@@ -2,8 +2,11 @@
 //! the table a client's datagram is.
 #![tactic(auto)]
 
+mod accounts;
+mod action;
 mod addresses;
 mod allocate;
+mod answer;
 mod channel_message;
 mod comprehended;
 mod indication;
@@ -16,12 +19,18 @@ mod site;
 mod sockets;
 mod values;
 
+pub use accounts::user_of;
+pub use action::Action;
 pub use addresses::endpoint_of;
+pub use answer::Answer;
 pub use comprehended::COMPREHENDED;
 pub use judged::Judged;
 pub use judging::judge;
-pub use laws::judgments_are_so;
+pub use laws::{
+    clients_do_not_meet, datagrams_are_warranted, judgments_are_so, permitted_datagrams_pass,
+    strangers_change_nothing,
+};
 pub use peers::Peers;
 pub use request::Request;
-pub use site::{Accounts, Site};
-pub use sockets::{Offer, Ready, Sockets};
+pub use site::Site;
+pub use sockets::{Ready, Sockets};

@@ -1,6 +1,6 @@
 //! What a request of each method asks the table for (RFC 8656, sections 7.2, 8.2, 10.2 and 12.2).
 
-ghost use Rattle.std.specs.Prelude.{◌≡◌, MatchResult};
+ghost use Rattle.std.specs.Prelude.{◌≡◌, ℕ, MatchResult};
 ghost use Rattle.stun_grammar.specs.Headers.{type_field};
 ghost use Rattle.stun_base.specs.MessageTypes.{method_of};
 ghost use Rattle.stun_types.specs.Message.{message_bytes};
@@ -11,7 +11,7 @@ ghost use Rattle.turn_server.specs.Requests.{refresh_of, permit_of, channel_of, 
 use crate::addresses::peer_of;
 use crate::allocate::read_wish;
 use crate::values::{byte_in, number_in, value_of};
-use crate::{Offer, Peers, Sockets};
+use crate::{Peers, Sockets};
 use byteorder::{BigEndian, ByteOrder};
 use stun_types::attribute::ErrorCode;
 use stun_types::message::{Message, Method, TransactionId};
@@ -23,12 +23,12 @@ use turn_table::Endpoint;
 /// request has no LIFETIME.
 #[derive(Debug, Drop)]
 pub enum Request<'d> {
-    /// Allocate, by the transaction ID of the request: the socket that it gets, or the code by which
-    /// it is refused if it isn't a request that comes again (RFC 8656, section 7.2).
+    /// Allocate, by the transaction ID of the request: the address of the socket that it gets, or
+    /// the code by which it is refused if it isn't a request that comes again (RFC 8656, section 7.2).
     Allocate {
         id: TransactionId,
         lifetime: Option<u32>,
-        wish: Result<Offer, u16>,
+        wish: Result<Endpoint, u16>,
     },
     /// Refresh: the address family that it names, 1 for IPv4 and 2 for IPv6, as its byte (RFC 8656,
     /// section 8.2).
@@ -50,14 +50,15 @@ pub enum Request<'d> {
 
 /// What an Allocate request asks for.
 fn read_allocate<'d>(request: &Message<'d>, sockets: &Sockets) -> Request<'d>
-    ensures { table_request result ≡ allocate_of sockets.now (message_bytes request.now) }
+    ensures { (relay : ℕ) → table_request relay result
+        ≡ allocate_of relay sockets.now (message_bytes request.now) }
 {
     let id = request.transaction_id();
     match read_wish(request, sockets) {
-        Ok((lifetime, offer)) => Request::Allocate {
+        Ok((lifetime, address)) => Request::Allocate {
             id,
             lifetime,
-            wish: Ok(offer),
+            wish: Ok(address),
         },
         Err(code) => Request::Allocate {
             id,
@@ -85,7 +86,7 @@ fn refresh_fields(request: &Message<'_>) -> Result<(Option<u8>, Option<u32>), u1
 
 /// What a Refresh request asks for.
 fn read_refresh<'d>(request: &Message<'d>) -> Request<'d>
-    ensures { table_request result ≡ refresh_of (message_bytes request.now) }
+    ensures { (relay : ℕ) → table_request relay result ≡ refresh_of (message_bytes request.now) }
 {
     match refresh_fields(request) {
         Ok((family, lifetime)) => Request::Refresh { family, lifetime },
@@ -95,7 +96,7 @@ fn read_refresh<'d>(request: &Message<'d>) -> Request<'d>
 
 /// What a CreatePermission request asks for.
 fn read_permit<'d>(request: &Message<'d>) -> Request<'d>
-    ensures { table_request result ≡ permit_of (message_bytes request.now) }
+    ensures { (relay : ℕ) → table_request relay result ≡ permit_of (message_bytes request.now) }
 {
     match Peers::named_by(request) {
         Some(peers) => Request::Permit(peers),
@@ -116,7 +117,7 @@ fn channel_of(request: &Message<'_>) -> Option<u16>
 
 /// What a ChannelBind request asks for.
 fn read_bind<'d>(request: &Message<'d>) -> Request<'d>
-    ensures { table_request result ≡ bind_of (message_bytes request.now) }
+    ensures { (relay : ℕ) → table_request relay result ≡ bind_of (message_bytes request.now) }
 {
     match (channel_of(request), peer_of(request)) {
         (Some(channel), Some(peer)) => Request::Bind { channel, peer },
@@ -137,7 +138,8 @@ pub(crate) fn asks_table(method: Method) -> bool
 /// What a request of such a method asks the table for.
 pub(crate) fn read_request<'d>(request: &Message<'d>, sockets: &Sockets) -> Request<'d>
     ensures { let d = message_bytes request.now in
-        table_request result ≡ request_of sockets.now (method_of (type_field d)) d }
+        (relay : ℕ) → table_request relay result
+        ≡ request_of relay sockets.now (method_of (type_field d)) d }
 {
     match request.method() {
         ALLOCATE => read_allocate(request, sockets),
