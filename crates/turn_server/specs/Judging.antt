@@ -16,7 +16,7 @@ use Rattle.stun_authentication.specs.Identities.{Who}
 use Rattle.stun_authentication.specs.Lookups.{Known, UserKey}
 use Rattle.stun_authentication.specs.LongTerm.{long_term}
 use Rattle.turn_attrs.specs.Channels.{channel_field}
-use Rattle.turn_table.specs.declared.endpoints.Endpoint.{Endpoint}
+use Rattle.turn_table.specs.Endpoints.{Ip, Endpoint}
 use Rattle.turn_table.specs.declared.endpoints.FiveTuple.{FiveTuple}
 use Rattle.turn_table.specs.Events.{Request as TableRequest, Event, asks, sends, sends_on}
 use Rattle.turn_server.specs.declared.sockets.Sockets.{Sockets}
@@ -27,14 +27,15 @@ use Rattle.turn_server.specs.Requests.{asks_table, request_of}
 use Rattle.turn_server.specs.Accounts.{account_of}
 
 -- What a server is at a moment, for one client: the greatest channel number, 0x4FFF, or 0x7FFF for
--- clients of RFC 5766; how it authenticates; the sockets that it has ready, and the number that one of
--- them gets if an allocation is opened
+-- clients of RFC 5766; how it authenticates; the client's IP address; the sockets that the server has
+-- ready, and the number that one of them gets if an allocation is opened
 pub record Site : Type 0 where
   pub last_channel : ℕ
   pub policy : Policy
   pub realm : List ℕ
   pub nonces : List ℕ → Known
   pub keys : Who → List ℕ → PasswordAlgorithmValue → Option UserKey
+  pub client : Ip
   pub sockets : Sockets
   pub relay : ℕ
 
@@ -83,7 +84,7 @@ indicated method d =
 abbrev pub accepted_as : Site → (method : ℕ) → List ℕ → Who → UserKey → IntegrityAlgorithm → Judged
 accepted_as site method d user key algorithm =
     if is_comprehended d
-    then asked (account_of site.realm user) (request_of site.relay site.sockets method d) key algorithm
+    then asked (account_of site.realm user) (request_of site.relay site.client site.sockets method d) key algorithm
     else unknown key algorithm
 
 abbrev pub decided_as : Site → (method : ℕ) → List ℕ → Decision → Judged

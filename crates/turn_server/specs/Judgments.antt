@@ -45,7 +45,7 @@ pub record IsAsked (site : Site) (d : List ℕ) (user : ℕ) (request : TableReq
   pub accepted : IsDecided site d (accept who key algorithm reply_algorithm)
   pub comprehended : is_comprehended d ≡ true
   pub user_is : user ≡ account_of site.realm who
-  pub request_is : request ≡ request_of site.relay site.sockets (method_of (type_field d)) d
+  pub request_is : request ≡ request_of site.relay site.client site.sockets (method_of (type_field d)) d
 
 pub record IsUnknown (site : Site) (d : List ℕ) (key : UserKey) (reply_algorithm : IntegrityAlgorithm)
     : Type 0 where

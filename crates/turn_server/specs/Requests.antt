@@ -6,7 +6,7 @@ use Rattle.stun_grammar.specs.Numbers.{number}
 use Rattle.stun_authentication.specs.Identities.{value_of}
 use Rattle.turn_attrs.specs.Turn.{CHANNEL_NUMBER, LIFETIME, REQUESTED_ADDRESS_FAMILY}
 use Rattle.turn_table.specs.Events.{Request as TableRequest, refresh, permit, bind, unfit}
-use Rattle.turn_table.specs.declared.endpoints.Endpoint.{Endpoint}
+use Rattle.turn_table.specs.Endpoints.{Ip, Endpoint}
 use Rattle.turn_server.specs.declared.sockets.Sockets.{Sockets}
 use Rattle.turn_server.specs.declared.request.Request.{Request}
 use Rattle.turn_server.specs.declared.request.Request.TheVariants.{Allocate, Refresh, Permit, Bind, Unfit}
@@ -66,9 +66,9 @@ asks_table method =
     (method == ALLOCATE)
     || ((method == REFRESH) || ((method == CREATE_PERMISSION) || (method == CHANNEL_BIND)))
 
-abbrev pub request_of : (relay : ℕ) → Sockets → (method : ℕ) → List ℕ → TableRequest
-request_of relay sockets method d =
-    if method == ALLOCATE then allocate_of relay sockets d else (
+abbrev pub request_of : (relay : ℕ) → (client : Ip) → Sockets → (method : ℕ) → List ℕ → TableRequest
+request_of relay client sockets method d =
+    if method == ALLOCATE then allocate_of relay client sockets d else (
     if method == REFRESH then refresh_of d else (
     if method == CREATE_PERMISSION then permit_of d else bind_of d))
 

@@ -4,7 +4,7 @@
 ghost use Rattle.std.specs.Prelude.{◌≡◌, ◌||◌, true, false, None, Some, Ok, Err, MatchResult};
 ghost use Rattle.stun_types.specs.Message.{message_bytes};
 ghost use Rattle.turn_attrs.specs.Turn.{LIFETIME};
-ghost use Rattle.turn_server.specs.Allocating.{transport_fault, has_malformed, options_of, chosen, wish_of};
+ghost use Rattle.turn_server.specs.Allocating.{transport_fault, has_malformed, options_of, chosen, wish_from};
 ghost use Rattle.turn_server.specs.Values.{number_in};
 
 use crate::values::{byte_in, fixed_value, number_in};
@@ -16,9 +16,9 @@ use turn_attrs::attribute_types::{
     RESERVATION_TOKEN,
 };
 use turn_attrs::error_codes::{
-    ADDRESS_FAMILY_NOT_SUPPORTED, INSUFFICIENT_CAPACITY, UNSUPPORTED_TRANSPORT_PROTOCOL,
+    ADDRESS_FAMILY_NOT_SUPPORTED, FORBIDDEN, INSUFFICIENT_CAPACITY, UNSUPPORTED_TRANSPORT_PROTOCOL,
 };
-use turn_table::Endpoint;
+use turn_table::{Endpoint, Ip, is_tunnelled};
 
 /// The number of UDP as a protocol.
 const UDP: u8 = 17;
@@ -138,21 +138,26 @@ impl Options {
     }
 }
 
-/// The lifetime that an Allocate request wishes, in seconds, and the address of the socket that it
-/// gets.
+/// The lifetime that an Allocate request of a client wishes, in seconds, and the address of the socket
+/// that it gets.
 ///
 /// # Errors
 ///
-/// The code by which its bytes alone refuse it, or by which there is no socket for it.
+/// The code by which its client's address or its bytes refuse it, or by which there is no socket for
+/// it.
 pub(crate) fn read_wish(
     request: &Message<'_>,
+    client: Ip,
     sockets: &Sockets,
 ) -> Result<(Option<u32>, Endpoint), u16>
     ensures { let d = message_bytes request.now in
         MatchResult result
-        (λ wish. (wish.0 ≡ number_in LIFETIME d) × (wish_of sockets.now d ≡ Ok wish.1))
-        (λ code. wish_of sockets.now d ≡ Err code) }
+        (λ wish. (wish.0 ≡ number_in LIFETIME d) × (wish_from client sockets.now d ≡ Ok wish.1))
+        (λ code. wish_from client sockets.now d ≡ Err code) }
 {
+    if is_tunnelled(client) {
+        return Err(FORBIDDEN);
+    }
     check_transport(request)?;
     let options = read_options(request)?;
     if options.conflict() {

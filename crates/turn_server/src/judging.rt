@@ -25,6 +25,7 @@ use std::alloc::{AllocError, Global};
 use stun_authentication::{Accepted, Authentication, LongTermKeys, Nonces, authenticate_long_term};
 use stun_types::message::{BINDING, Message, MessageClass};
 use turn_attrs::methods::SEND;
+use turn_table::Ip;
 
 /// What comes of a datagram that begins as a ChannelData message.
 fn judge_channel_message<'d>(datagram: &'d [u8]) -> Judged<'d>
@@ -53,6 +54,7 @@ fn judge_indication<'d>(message: &Message<'d>) -> Judged<'d>
 /// What comes of a request that was accepted.
 fn judge_accepted<'d>(
     message: &Message<'d>,
+    client: Ip,
     site: &Site<'_>,
     accepted: Accepted<'d>,
 ) -> Judged<'d>
@@ -61,7 +63,7 @@ fn judge_accepted<'d>(
         (user : Who) (key : UserKey) (algorithm : IntegrityAlgorithm)
         → who accepted.entry.user ≡ user → Signs key algorithm accepted.entry
         → let d = message_bytes message.now in
-        Tells relay (accepted_as (site_of relay old_channels site.now nonces keys)
+        Tells relay (accepted_as (site_of relay client old_channels site.now nonces keys)
         (method_of (type_field d)) d user key algorithm) result }
 {
     if !is_comprehended(message) {
@@ -69,7 +71,7 @@ fn judge_accepted<'d>(
     }
     Judged::Asked {
         user: user_of(accepted.user, site.realm),
-        request: read_request(message, &site.sockets),
+        request: read_request(message, client, &site.sockets),
         accepted,
     }
 }
@@ -77,6 +79,7 @@ fn judge_accepted<'d>(
 /// What comes of a request, by what its authentication decided.
 fn judge_decided<'d>(
     message: &Message<'d>,
+    client: Ip,
     site: &Site<'_>,
     authentication: Authentication<'d>,
 ) -> Judged<'d>
@@ -84,11 +87,11 @@ fn judge_decided<'d>(
         (keys : Who → List ℕ → PasswordAlgorithmValue → Option UserKey)
         (decision : Decision) → Decides decision authentication.entry
         → let d = message_bytes message.now in
-        Tells relay (decided_as (site_of relay old_channels site.now nonces keys)
+        Tells relay (decided_as (site_of relay client old_channels site.now nonces keys)
         (method_of (type_field d)) d decision) result }
 {
     match authentication {
-        Authentication::Accepted(accepted) => judge_accepted(message, site, accepted),
+        Authentication::Accepted(accepted) => judge_accepted(message, client, site, accepted),
         Authentication::Refused(refusal) => Judged::Refused(refusal),
         Authentication::Discarded | Authentication::NotARequest => Judged::Dropped,
     }
@@ -102,13 +105,14 @@ fn judge_decided<'d>(
 fn judge_request<'d, N: Nonces, K: LongTermKeys>(
     alloc: Global,
     message: &Message<'d>,
+    client: Ip,
     site: &Site<'_>,
     nonces: &N,
     keys: &K,
 ) -> Result<Judged<'d>, AllocError>
     ensures judged { let d = message_bytes message.now in
         (relay : ℕ) (old_channels : Bool) → IfOk result (Tells relay (requested
-        (site_of relay old_channels site.now (N.state_of nonces.now) (K.key_of keys.now)) (method_of (type_field d)) d)) }
+        (site_of relay client old_channels site.now (N.state_of nonces.now) (K.key_of keys.now)) (method_of (type_field d)) d)) }
     ensures memory { needs_key site.now.policy (N.state_of nonces.now) (message_bytes message.now)
         ≡ false → IsOk result }
 {
@@ -126,7 +130,7 @@ fn judge_request<'d, N: Nonces, K: LongTermKeys>(
         nonces,
         keys,
     )?;
-    Ok(judge_decided(message, site, authentication))
+    Ok(judge_decided(message, client, site, authentication))
 }
 
 /// What comes of a datagram that doesn't begin as a ChannelData message.
@@ -137,12 +141,13 @@ fn judge_request<'d, N: Nonces, K: LongTermKeys>(
 fn judge_message<'d, N: Nonces, K: LongTermKeys>(
     alloc: Global,
     datagram: &'d [u8],
+    client: Ip,
     site: &Site<'_>,
     nonces: &N,
     keys: &K,
 ) -> Result<Judged<'d>, AllocError>
     ensures judged { (relay : ℕ) (old_channels : Bool) → IfOk result (Tells relay (message
-        (site_of relay old_channels site.now (N.state_of nonces.now) (K.key_of keys.now)) datagram.now)) }
+        (site_of relay client old_channels site.now (N.state_of nonces.now) (K.key_of keys.now)) datagram.now)) }
     ensures memory { needs_key site.now.policy (N.state_of nonces.now) datagram.now ≡ false
         → IsOk result }
 {
@@ -150,13 +155,14 @@ fn judge_message<'d, N: Nonces, K: LongTermKeys>(
         return Ok(Judged::Dropped);
     };
     match message.class() {
-        MessageClass::Request => judge_request(alloc, &message, site, nonces, keys),
+        MessageClass::Request => judge_request(alloc, &message, client, site, nonces, keys),
         MessageClass::Indication => Ok(judge_indication(&message)),
         MessageClass::Success | MessageClass::Error => Ok(Judged::Dropped),
     }
 }
 
-/// Returns what comes of a client's datagram. The first of these that applies:
+/// Returns what comes of a datagram of a client with the IP address `client`. The first of these that
+/// applies:
 ///
 /// - A first byte of 0x40 to 0x4F, or to 0x7F with `old_channels`, begins a ChannelData message. It
 ///   is [`Judged::SentOn`], or dropped if it is cut off or longer than its padding (RFC 8656,
@@ -178,6 +184,7 @@ fn judge_message<'d, N: Nonces, K: LongTermKeys>(
 /// the code that refuses it: the table first looks whose allocation it is (RFC 8656, sections 5 and
 /// 7.2). An Allocate request has the first of these that applies:
 ///
+/// - 403 if the client's own address is of Teredo or 6to4 (RFC 8656, section 21.4);
 /// - 400 if REQUESTED-TRANSPORT is missing or malformed, and 442 if it isn't UDP;
 /// - 400 if LIFETIME, REQUESTED-ADDRESS-FAMILY, EVEN-PORT, RESERVATION-TOKEN or
 ///   ADDITIONAL-ADDRESS-FAMILY has another length than its type; if RESERVATION-TOKEN is beside one of
@@ -202,7 +209,7 @@ fn judge_message<'d, N: Nonces, K: LongTermKeys>(
 /// ```
 /// use stun_authentication::{Logins, NonceMaker, Policy, Refusal, SecurityFeatures};
 /// use stun_types::message::IntegrityKey;
-/// use turn_server::{Judged, Site, Sockets, judge};
+/// use turn_server::{Judged, Site, Sockets, endpoint_of, judge};
 ///
 /// let site = Site {
 ///     policy: Policy::default(),
@@ -214,15 +221,17 @@ fn judge_message<'d, N: Nonces, K: LongTermKeys>(
 /// let nonces = maker.nonces(1000, "192.0.2.1:32853".parse()?, &[]);
 /// let keys = Logins::new(&[]);
 /// // Five bytes on a channel.
-/// let judged = judge(alloc, b"\x40\x01\x00\x05hello", false, &site, &nonces, &keys)?;
+/// let client = endpoint_of("192.0.2.1:32853".parse()?).ip;
+/// let judged = judge(alloc, client, b"\x40\x01\x00\x05hello", false, &site, &nonces, &keys)?;
 /// assert!(rt; matches!(judged, Judged::SentOn { channel: 0x4001, .. }));
 /// // An Allocate request that isn't signed.
 /// let request = b"\x00\x03\x00\x08\x21\x12\xA4\x42abcdefghijkl\x00\x19\x00\x04\x11\x00\x00\x00";
-/// let judged = judge(alloc, request, false, &site, &nonces, &keys)?;
+/// let judged = judge(alloc, client, request, false, &site, &nonces, &keys)?;
 /// assert!(rt; matches!(judged, Judged::Refused(Refusal::Unauthenticated)));
 /// ```
 pub fn judge<'d, N: Nonces, K: LongTermKeys>(
     alloc: Global,
+    client: Ip,
     datagram: &'d [u8],
     old_channels: bool,
     site: &Site<'_>,
@@ -230,7 +239,7 @@ pub fn judge<'d, N: Nonces, K: LongTermKeys>(
     keys: &K,
 ) -> Result<Judged<'d>, AllocError>
     ensures judged { (relay : ℕ) → IfOk result (Tells relay (judge
-        (site_of relay old_channels site.now (N.state_of nonces.now) (K.key_of keys.now)) datagram.now)) }
+        (site_of relay client old_channels site.now (N.state_of nonces.now) (K.key_of keys.now)) datagram.now)) }
     ensures memory { needs_key site.now.policy (N.state_of nonces.now) datagram.now ≡ false
         → IsOk result }
 {
@@ -240,5 +249,5 @@ pub fn judge<'d, N: Nonces, K: LongTermKeys>(
     if is_channel_byte(old_channels, *first) {
         return Ok(judge_channel_message(datagram));
     }
-    judge_message(alloc, datagram, site, nonces, keys)
+    judge_message(alloc, datagram, client, site, nonces, keys)
 }

@@ -17,7 +17,7 @@ use stun_types::attribute::ErrorCode;
 use stun_types::message::{Message, Method, TransactionId};
 use turn_attrs::attribute_types::{CHANNEL_NUMBER, LIFETIME, REQUESTED_ADDRESS_FAMILY};
 use turn_attrs::methods::{ALLOCATE, CHANNEL_BIND, CREATE_PERMISSION, REFRESH};
-use turn_table::Endpoint;
+use turn_table::{Endpoint, Ip};
 
 /// What an authenticated request asks the table for. Lifetimes are in seconds, and `None` if the
 /// request has no LIFETIME.
@@ -36,7 +36,8 @@ pub enum Request<'d> {
         family: Option<u8>,
         lifetime: Option<u32>,
     },
-    /// CreatePermission for these peers (RFC 8656, section 10.2).
+    /// CreatePermission for these peers (RFC 8656, section 10.2). If there are more than
+    /// [`PEERS`](crate::PEERS), the server refuses it with 508.
     Permit(Peers<'d>),
     /// ChannelBind: the channel, by any number of 16 bits, and the peer (RFC 8656, section 12.2).
     Bind {
@@ -49,12 +50,12 @@ pub enum Request<'d> {
 }
 
 /// What an Allocate request asks for.
-fn read_allocate<'d>(request: &Message<'d>, sockets: &Sockets) -> Request<'d>
+fn read_allocate<'d>(request: &Message<'d>, client: Ip, sockets: &Sockets) -> Request<'d>
     ensures { (relay : ℕ) → table_request relay result
-        ≡ allocate_of relay sockets.now (message_bytes request.now) }
+        ≡ allocate_of relay client sockets.now (message_bytes request.now) }
 {
     let id = request.transaction_id();
-    match read_wish(request, sockets) {
+    match read_wish(request, client, sockets) {
         Ok((lifetime, address)) => Request::Allocate {
             id,
             lifetime,
@@ -136,13 +137,17 @@ pub(crate) fn asks_table(method: Method) -> bool
 }
 
 /// What a request of such a method asks the table for.
-pub(crate) fn read_request<'d>(request: &Message<'d>, sockets: &Sockets) -> Request<'d>
+pub(crate) fn read_request<'d>(
+    request: &Message<'d>,
+    client: Ip,
+    sockets: &Sockets,
+) -> Request<'d>
     ensures { let d = message_bytes request.now in
         (relay : ℕ) → table_request relay result
-        ≡ request_of relay sockets.now (method_of (type_field d)) d }
+        ≡ request_of relay client sockets.now (method_of (type_field d)) d }
 {
     match request.method() {
-        ALLOCATE => read_allocate(request, sockets),
+        ALLOCATE => read_allocate(request, client, sockets),
         REFRESH => read_refresh(request),
         CREATE_PERMISSION => read_permit(request),
         _ => read_bind(request),

@@ -226,8 +226,8 @@ impl<const P: usize, const C: usize> TurnServer<P, C> {
     ) -> Result<Action<'d>, AllocError>
         ensures acts { let setup = setup_of self.old.limits P C (A.allows_address policy.now)
             (A.allows_port policy.now) in
-            IfOk result (λ action. (relay : ℕ) × Acts (site_of relay self.old.limits.old_channels
-            site.now (N.state_of nonces.now) (K.key_of keys.now)) setup from.now now datagram.now
+            IfOk result (λ action. (relay : ℕ) × Acts (site_of relay from.now.client.ip
+            self.old.limits.old_channels site.now (N.state_of nonces.now) (K.key_of keys.now)) setup from.now now datagram.now
             self.old.state self.new.state action) }
         ensures limits { self.new.limits ≡ self.old.limits }
         ensures memory { needs_key site.now.policy (N.state_of nonces.now) datagram.now ≡ false
@@ -235,7 +235,7 @@ impl<const P: usize, const C: usize> TurnServer<P, C> {
         ensures err { OnErr result (self.new ≡ self.old) }
     {
         let old_channels = self.table.limits().old_channels;
-        let judged = judge(alloc, datagram, old_channels, site, nonces, keys)?;
+        let judged = judge(alloc, from.client.ip, datagram, old_channels, site, nonces, keys)?;
         Ok(self.act(now, from, judged, policy))
     }
 
