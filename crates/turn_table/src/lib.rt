@@ -13,6 +13,7 @@ mod serving;
 mod slot;
 mod slots;
 mod table;
+mod tunnels;
 mod user;
 
 pub use endpoints::{Channel, Endpoint, FiveTuple, Ip, Permission};
@@ -24,4 +25,5 @@ pub use limits::{Limits, PeerPolicy};
 pub use reply::{AllocateReply, Reply, Request, ToClient, ToPeer};
 pub use slots::{CHANNELS, PERMISSIONS};
 pub use table::TurnTable;
+pub use tunnels::is_tunnelled;
 pub use user::UserId;
