@@ -1,6 +1,6 @@
 -- What a server does for a client's datagram: what it keeps, and what it sends (RFC 8656, sections 5 to
 -- 12).
-use Rattle.std.specs.Prelude.{◌≡◌, ◌×◌, ℕ, List, Option, None, Some, Ok}
+use Rattle.std.specs.Prelude.{◌≡◌, ℕ, List, Option, None, Some, Ok}
 use Rattle.stun_grammar.specs.declared.integrity_algorithm.IntegrityAlgorithm.{IntegrityAlgorithm}
 use Rattle.stun_authentication.specs.declared.answer.Refusal.{Refusal}
 use Rattle.stun_authentication.specs.Lookups.{UserKey}
@@ -9,6 +9,7 @@ use Rattle.turn_table.specs.declared.endpoints.FiveTuple.{FiveTuple}
 use Rattle.turn_table.specs.Allocations.{Allocation, Setup, State, allocation_of}
 use Rattle.turn_table.specs.Events.{Request, allocate, asks, sends, sends_on, Answer, allocated, Output, answers, to_peer}
 use Rattle.turn_table.specs.Steps.{Step, at, step}
+use Rattle.turn_server.specs.Wanted.{request_with}
 use Rattle.turn_server.specs.Judging.{Site, Judged, dropped, binding, refused, unknown, sent, sent_on, asked, judge}
 
 -- nothing; the reply of a server without credentials, to a Binding request; an error response that isn't
@@ -53,18 +54,21 @@ abbrev pub answering : Option Allocation → Request → UserKey → IntegrityAl
 answering found request key algorithm s =
     acting s.state (answer_act found request key algorithm s.output)
 
--- for a datagram that is taken for this. Only a user's request and data for a peer reach the table
-abbrev pub acted : Setup → FiveTuple → State → (now : ℕ) → Judged → Acted
-acted setup tuple state now dropped = acting state drops
-acted setup tuple state now binding = acting state binds
-acted setup tuple state now (refused refusal) = acting state (refuses refusal)
-acted setup tuple state now (unknown key algorithm) = acting state (refuses_types key algorithm)
-acted setup tuple state now (sent peer bytes) = relaying (step setup state now (sends tuple peer bytes))
-acted setup tuple state now (sent_on channel bytes) =
+-- for a datagram that is taken for this, if a socket gets this number when an allocation is opened. Only
+-- a user's request and data for a peer reach the table
+abbrev pub acted : Setup → FiveTuple → (relay : ℕ) → State → (now : ℕ) → Judged → Acted
+acted setup tuple relay state now dropped = acting state drops
+acted setup tuple relay state now binding = acting state binds
+acted setup tuple relay state now (refused refusal) = acting state (refuses refusal)
+acted setup tuple relay state now (unknown key algorithm) = acting state (refuses_types key algorithm)
+acted setup tuple relay state now (sent peer bytes) = relaying (step setup state now (sends tuple peer bytes))
+acted setup tuple relay state now (sent_on channel bytes) =
     relaying (step setup state now (sends_on tuple channel bytes))
-acted setup tuple state now (asked user request key algorithm) =
+acted setup tuple relay state now (asked user wanted key algorithm) =
+    let request = request_with relay wanted in
     let found = allocation_of (at now state).clock tuple (at now state) in
     answering found request key algorithm (step setup state now (asks tuple user request))
 
-abbrev pub acts : Site → Setup → FiveTuple → State → (now : ℕ) → List ℕ → Acted
-acts site setup tuple state now d = acted setup tuple state now (judge site d)
+abbrev pub acts : Site → Setup → FiveTuple → (relay : ℕ) → State → (now : ℕ) → List ℕ → Acted
+acts site setup tuple relay state now d =
+    acted setup tuple relay state now (judge setup.last_channel site d)

@@ -1,5 +1,5 @@
 -- What the code does for a datagram, in the terms of what a server does.
-use Rattle.std.specs.Prelude.{◌≡◌, ◌×◌, ℕ, List, Option}
+use Rattle.std.specs.Prelude.{◌≡◌, ℕ, List, Option}
 use Rattle.turn_table.specs.declared.endpoints.FiveTuple.{FiveTuple}
 use Rattle.turn_table.specs.Allocations.{Setup, State, allocation_of}
 use Rattle.turn_table.specs.Events.{Request, asks, answers}
@@ -29,7 +29,8 @@ IsDone a new action = (new ≡ a.state) × Does a.act action
 
 -- for a datagram
 abbrev pub Acts : Site → Setup → FiveTuple → (now : ℕ) → List ℕ → (old new : State) → Action → Type 0
-Acts site setup tuple now d old new action = IsDone (acts site setup tuple old now d) new action
+Acts site setup tuple now d old new action =
+    (relay : ℕ) × IsDone (acts site setup tuple relay old now d) new action
 
 -- a user's request has this answer, and an allocation gets this socket
 pub record IsAnswered (setup : Setup) (tuple : FiveTuple) (user : ℕ) (request : Request) (now : ℕ)

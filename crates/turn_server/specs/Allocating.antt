@@ -4,12 +4,13 @@ use Rattle.std.specs.Option.{option_map, option_map_or}
 use Rattle.stun_grammar.specs.Headers.{id_field}
 use Rattle.stun_authentication.specs.Identities.{shows}
 use Rattle.turn_attrs.specs.Turn.{LIFETIME, REQUESTED_ADDRESS_FAMILY, EVEN_PORT, REQUESTED_TRANSPORT, RESERVATION_TOKEN, ADDITIONAL_ADDRESS_FAMILY}
-use Rattle.turn_table.specs.Endpoints.{Ip, Endpoint}
-use Rattle.turn_table.specs.Events.{Offer, Request, allocate}
+use Rattle.turn_table.specs.declared.endpoints.Ip.{Ip}
+use Rattle.turn_table.specs.declared.endpoints.Endpoint.{Endpoint}
 use Rattle.turn_table.specs.Tunnels.{is_tunnelled}
 use Rattle.turn_server.specs.declared.sockets.Ready.{Ready}
 use Rattle.turn_server.specs.declared.sockets.Sockets.{Sockets}
 use Rattle.turn_server.specs.declared.allocate.Options.{Options}
+use Rattle.turn_server.specs.Wanted.{Wanted, opening}
 use Rattle.turn_server.specs.Values.{malformed, number_in, byte_in}
 
 -- the protocol between the server and the peers
@@ -88,14 +89,10 @@ wish_of sockets d =
 abbrev pub wish_from : (client : Ip) → Sockets → List ℕ → Result Endpoint ℕ
 wish_from client sockets d = if is_tunnelled client then Err 403 else wish_of sockets d
 
--- the socket gets this number if an allocation is opened
-abbrev pub offer_of : (relay : ℕ) → Endpoint → Offer
-offer_of relay address = record { relay = relay; address = address }
+abbrev pub allocating : (id : ℕ) → (lifetime : Option ℕ) → Result Endpoint ℕ → Wanted
+allocating id lifetime (Ok address) = opening id lifetime (Ok address)
+allocating id lifetime (Err code) = opening id None (Err code)
 
-abbrev pub allocating : (relay id : ℕ) → (lifetime : Option ℕ) → Result Endpoint ℕ → Request
-allocating relay id lifetime (Ok address) = allocate id lifetime (Ok (offer_of relay address))
-allocating relay id lifetime (Err code) = allocate id None (Err code)
-
-abbrev pub allocate_of : (relay : ℕ) → (client : Ip) → Sockets → List ℕ → Request
-allocate_of relay client sockets d =
-    allocating relay (id_field d) (number_in LIFETIME d) (wish_from client sockets d)
+abbrev pub allocate_of : (client : Ip) → Sockets → List ℕ → Wanted
+allocate_of client sockets d =
+    allocating (id_field d) (number_in LIFETIME d) (wish_from client sockets d)

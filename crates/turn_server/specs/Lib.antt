@@ -5,6 +5,7 @@ pub mod Comprehended
 pub mod Indications
 pub mod Peers
 pub mod PeersLeft
+pub mod Wanted
 pub mod Allocating
 pub mod Requests
 pub mod Accounts

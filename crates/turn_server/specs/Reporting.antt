@@ -1,5 +1,5 @@
 -- What the code says of a datagram.
-use Rattle.std.specs.Prelude.{◌≡◌, ℕ}
+use Rattle.std.specs.Prelude.{◌≡◌}
 use Rattle.stun_grammar.specs.declared.integrity_algorithm.IntegrityAlgorithm.{IntegrityAlgorithm}
 use Rattle.stun_keys.specs.Keys.{IsKey}
 use Rattle.stun_authentication.specs.declared.answer.Accepted.{Accepted}
@@ -7,7 +7,7 @@ use Rattle.stun_authentication.specs.Lookups.{UserKey}
 use Rattle.turn_server.specs.declared.judged.Judged.{Judged as Reported}
 use Rattle.turn_server.specs.declared.judged.Judged.TheVariants.{Dropped, Binding, Refused, Unknown, Sent, SentOn, Asked}
 use Rattle.turn_server.specs.Judging.{Judged, dropped, binding, refused, unknown, sent, sent_on, asked}
-use Rattle.turn_server.specs.Requests.{table_request}
+use Rattle.turn_server.specs.Requests.{wanted_by}
 use Rattle.turn_table.specs.Users.{user_number}
 
 -- the user's key, and the algorithm that the answer is signed by
@@ -16,13 +16,13 @@ pub record Signs (key : UserKey) (reply_algorithm : IntegrityAlgorithm) (accepte
   pub key_is : IsKey key.made_for key.bytes accepted.key
   pub reply_is : accepted.reply_algorithm ≡ reply_algorithm
 
-abbrev pub Tells : (relay : ℕ) → Judged → Reported → Type 0
-Tells relay dropped Dropped = Unit {0}
-Tells relay binding Binding = Unit {0}
-Tells relay (refused refusal) (Refused reported) = reported ≡ refusal
-Tells relay (unknown key algorithm) (Unknown accepted) = Signs key algorithm accepted
-Tells relay (sent peer bytes) (Sent to held) = (to ≡ peer) × (held.now ≡ bytes)
-Tells relay (sent_on channel bytes) (SentOn on held) = (on ≡ channel) × (held.now ≡ bytes)
-Tells relay (asked user request key algorithm) (Asked by read accepted) =
-    (user_number by ≡ user) × ((table_request relay read ≡ request) × Signs key algorithm accepted)
-Tells relay _ _ = ⊥
+abbrev pub Tells : Judged → Reported → Type 0
+Tells dropped Dropped = Unit {0}
+Tells binding Binding = Unit {0}
+Tells (refused refusal) (Refused reported) = reported ≡ refusal
+Tells (unknown key algorithm) (Unknown accepted) = Signs key algorithm accepted
+Tells (sent peer bytes) (Sent to held) = (to ≡ peer) × (held.now ≡ bytes)
+Tells (sent_on channel bytes) (SentOn on held) = (on ≡ channel) × (held.now ≡ bytes)
+Tells (asked user wanted key algorithm) (Asked by read accepted) =
+    (user_number by ≡ user) × ((wanted_by read ≡ wanted) × Signs key algorithm accepted)
+Tells _ _ = ⊥

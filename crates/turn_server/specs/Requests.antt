@@ -6,7 +6,8 @@ use Rattle.stun_grammar.specs.Numbers.{number}
 use Rattle.stun_authentication.specs.Identities.{value_of}
 use Rattle.turn_attrs.specs.Turn.{CHANNEL_NUMBER, LIFETIME, REQUESTED_ADDRESS_FAMILY}
 use Rattle.turn_table.specs.Events.{Request as TableRequest, refresh, permit, bind, unfit}
-use Rattle.turn_table.specs.Endpoints.{Ip, Endpoint}
+use Rattle.turn_table.specs.declared.endpoints.Ip.{Ip}
+use Rattle.turn_table.specs.declared.endpoints.Endpoint.{Endpoint}
 use Rattle.turn_server.specs.declared.sockets.Sockets.{Sockets}
 use Rattle.turn_server.specs.declared.request.Request.{Request}
 use Rattle.turn_server.specs.declared.request.Request.TheVariants.{Allocate, Refresh, Permit, Bind, Unfit}
@@ -14,6 +15,7 @@ use Rattle.turn_server.specs.Addresses.{peer_of}
 use Rattle.turn_server.specs.Allocating.{allocating, allocate_of}
 use Rattle.turn_server.specs.Peers.{names_peers, peers_of}
 use Rattle.turn_server.specs.PeersLeft.{peers_left}
+use Rattle.turn_server.specs.Wanted.{Wanted, other}
 use Rattle.turn_server.specs.Values.{malformed, number_in, byte_in}
 
 -- ---- The methods
@@ -66,17 +68,17 @@ asks_table method =
     (method == ALLOCATE)
     || ((method == REFRESH) || ((method == CREATE_PERMISSION) || (method == CHANNEL_BIND)))
 
-abbrev pub request_of : (relay : ℕ) → (client : Ip) → Sockets → (method : ℕ) → List ℕ → TableRequest
-request_of relay client sockets method d =
-    if method == ALLOCATE then allocate_of relay client sockets d else (
-    if method == REFRESH then refresh_of d else (
-    if method == CREATE_PERMISSION then permit_of d else bind_of d))
+abbrev pub request_of : (client : Ip) → Sockets → (method : ℕ) → List ℕ → Wanted
+request_of client sockets method d =
+    if method == ALLOCATE then allocate_of client sockets d else (
+    if method == REFRESH then other (refresh_of d) else (
+    if method == CREATE_PERMISSION then other (permit_of d) else other (bind_of d)))
 
 -- ---- A request that was read
 
-abbrev pub table_request : (relay : ℕ) → Request → TableRequest
-table_request relay (Allocate id lifetime wish) = allocating relay id lifetime wish
-table_request relay (Refresh family lifetime) = refresh family lifetime
-table_request relay (Permit peers) = permitting (peers_left peers)
-table_request relay (Bind channel peer) = bind channel peer
-table_request relay (Unfit code) = unfit code
+abbrev pub wanted_by : Request → Wanted
+wanted_by (Allocate id lifetime wish) = allocating id lifetime wish
+wanted_by (Refresh family lifetime) = other (refresh family lifetime)
+wanted_by (Permit peers) = other (permitting (peers_left peers))
+wanted_by (Bind channel peer) = other (bind channel peer)
+wanted_by (Unfit code) = other (unfit code)

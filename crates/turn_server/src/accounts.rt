@@ -1,6 +1,6 @@
 //! The number by which the table names a user.
 
-ghost use Rattle.std.specs.Prelude.{◌≡◌, ◌++◌, take, replicate};
+ghost use Rattle.std.specs.Prelude.{◌≡◌, ◌==◌, length, replicate, if◌then◌else◌};
 ghost use Rattle.stun_attributes.specs.Userhash.{user_hash};
 ghost use Rattle.stun_authentication.specs.Identities.{who};
 ghost use Rattle.turn_table.specs.Users.{user_number};
@@ -21,19 +21,21 @@ fn hash_of_name(name: &[u8], realm: &str) -> [u8; 32]
     hasher.finalize()
 }
 
-/// The first 32 bytes of a hash, with zeros after it if it has fewer.
-fn filled(hash: &[u8]) -> [u8; 32]
-    ensures { result ≡ take 32 (hash.now ++ replicate 32 0) }
+/// A hash, or zeros if it hasn't 32 bytes.
+fn whole_hash(hash: &[u8]) -> [u8; 32]
+    ensures { result ≡ (if length hash.now == 32 then hash.now else replicate 32 0) }
 {
     let mut bytes = [0; 32];
-    let length = hash.len().min(32);
-    bytes[..length].copy_from_slice(&hash[..length]);
+    if hash.len() == 32 {
+        bytes.copy_from_slice(hash);
+    }
     bytes
 }
 
 /// Returns the number by which the table names a user of a realm: its USERHASH, the SHA-256 of the
 /// name, a colon and the realm (RFC 8489, section 14.4), so that a user has one number by name and
-/// by USERHASH. A hash of another length than 32 bytes is cut, or gets zeros at its end.
+/// by USERHASH. A hash of another length than
+/// 32 bytes is nobody's: its number is 0.
 ///
 /// # Examples
 ///
@@ -52,6 +54,6 @@ pub fn user_of(user: Identity<'_>, realm: &str) -> UserId
 {
     match user {
         Identity::Name(name) => UserId(hash_of_name(name, realm)),
-        Identity::Hash(hash) => UserId(filled(hash)),
+        Identity::Hash(hash) => UserId(whole_hash(hash)),
     }
 }

@@ -6,10 +6,7 @@ use turn_table::Endpoint;
 #[derive(Clone, Copy, Debug, PartialEq, Eq)]
 pub enum Answer {
     /// Allocate: the relayed address and the lifetime in seconds.
-    Allocated {
-        relayed: Endpoint,
-        lifetime: u32,
-    },
+    Allocated { relayed: Endpoint, lifetime: u32 },
     /// Refresh: the lifetime in seconds.
     Refreshed(u32),
     /// CreatePermission, ChannelBind.

@@ -1,7 +1,7 @@
 //! What a client's datagram is: the data of a Send indication or of a ChannelData message, or a
 //! request, which is authenticated (RFC 8656, sections 5 and 12; RFC 8489, section 9.2.4).
 
-ghost use Rattle.std.specs.Prelude.{◌≡◌, ℕ, Bool, false, List, Option, IfOk, IsOk};
+ghost use Rattle.std.specs.Prelude.{◌≡◌, ℕ, false, List, Option, IfOk, IsOk};
 ghost use Rattle.stun_base.specs.MessageTypes.{class_of, method_of};
 ghost use Rattle.stun_grammar.specs.Headers.{type_field};
 ghost use Rattle.stun_grammar.specs.declared.integrity_algorithm.IntegrityAlgorithm.{IntegrityAlgorithm};
@@ -11,15 +11,16 @@ ghost use Rattle.stun_authentication.specs.Answers.{Decision, Tells as Decides};
 ghost use Rattle.stun_authentication.specs.Identities.{Who, who};
 ghost use Rattle.stun_authentication.specs.Lookups.{Known, UserKey};
 ghost use Rattle.stun_authentication.specs.LongTerm.{needs_key};
+ghost use Rattle.turn_server.specs.ChannelMessages.{last_channel};
 ghost use Rattle.turn_server.specs.Judging.{channel_message, indicated, accepted_as, decided_as, requested, message, judge};
 ghost use Rattle.turn_server.specs.Reporting.{Signs, Tells};
 ghost use Rattle.turn_server.specs.Sites.{site_of};
 
+use crate::accounts::user_of;
 use crate::channel_message::{is_channel_byte, read_channel_data};
 use crate::comprehended::is_comprehended;
 use crate::indication::read_send;
 use crate::request::{asks_table, read_request};
-use crate::accounts::user_of;
 use crate::{Judged, Site};
 use std::alloc::{AllocError, Global};
 use stun_authentication::{Accepted, Authentication, LongTermKeys, Nonces, authenticate_long_term};
@@ -29,7 +30,7 @@ use turn_table::Ip;
 
 /// What comes of a datagram that begins as a ChannelData message.
 fn judge_channel_message<'d>(datagram: &'d [u8]) -> Judged<'d>
-    ensures { (relay : ℕ) → Tells relay (channel_message datagram.now) result }
+    ensures { Tells (channel_message datagram.now) result }
 {
     match read_channel_data(datagram) {
         Some((channel, data)) => Judged::SentOn { channel, data },
@@ -40,7 +41,7 @@ fn judge_channel_message<'d>(datagram: &'d [u8]) -> Judged<'d>
 /// What comes of an indication.
 fn judge_indication<'d>(message: &Message<'d>) -> Judged<'d>
     ensures { let d = message_bytes message.now in
-        (relay : ℕ) → Tells relay (indicated (method_of (type_field d)) d) result }
+        Tells (indicated (method_of (type_field d)) d) result }
 {
     if !message.has_method(SEND) {
         return Judged::Dropped;
@@ -58,12 +59,12 @@ fn judge_accepted<'d>(
     site: &Site<'_>,
     accepted: Accepted<'d>,
 ) -> Judged<'d>
-    ensures { (relay : ℕ) (old_channels : Bool) (nonces : List ℕ → Known)
+    ensures { (nonces : List ℕ → Known)
         (keys : Who → List ℕ → PasswordAlgorithmValue → Option UserKey)
         (user : Who) (key : UserKey) (algorithm : IntegrityAlgorithm)
         → who accepted.entry.user ≡ user → Signs key algorithm accepted.entry
         → let d = message_bytes message.now in
-        Tells relay (accepted_as (site_of relay client old_channels site.now nonces keys)
+        Tells (accepted_as (site_of client site.now nonces keys)
         (method_of (type_field d)) d user key algorithm) result }
 {
     if !is_comprehended(message) {
@@ -83,11 +84,11 @@ fn judge_decided<'d>(
     site: &Site<'_>,
     authentication: Authentication<'d>,
 ) -> Judged<'d>
-    ensures { (relay : ℕ) (old_channels : Bool) (nonces : List ℕ → Known)
+    ensures { (nonces : List ℕ → Known)
         (keys : Who → List ℕ → PasswordAlgorithmValue → Option UserKey)
         (decision : Decision) → Decides decision authentication.entry
         → let d = message_bytes message.now in
-        Tells relay (decided_as (site_of relay client old_channels site.now nonces keys)
+        Tells (decided_as (site_of client site.now nonces keys)
         (method_of (type_field d)) d decision) result }
 {
     match authentication {
@@ -111,8 +112,9 @@ fn judge_request<'d, N: Nonces, K: LongTermKeys>(
     keys: &K,
 ) -> Result<Judged<'d>, AllocError>
     ensures judged { let d = message_bytes message.now in
-        (relay : ℕ) (old_channels : Bool) → IfOk result (Tells relay (requested
-        (site_of relay client old_channels site.now (N.state_of nonces.now) (K.key_of keys.now)) (method_of (type_field d)) d)) }
+        IfOk result (Tells (requested
+        (site_of client site.now (N.state_of nonces.now) (K.key_of keys.now))
+        (method_of (type_field d)) d)) }
     ensures memory { needs_key site.now.policy (N.state_of nonces.now) (message_bytes message.now)
         ≡ false → IsOk result }
 {
@@ -146,8 +148,9 @@ fn judge_message<'d, N: Nonces, K: LongTermKeys>(
     nonces: &N,
     keys: &K,
 ) -> Result<Judged<'d>, AllocError>
-    ensures judged { (relay : ℕ) (old_channels : Bool) → IfOk result (Tells relay (message
-        (site_of relay client old_channels site.now (N.state_of nonces.now) (K.key_of keys.now)) datagram.now)) }
+    ensures judged { IfOk result (Tells (message
+        (site_of client site.now (N.state_of nonces.now) (K.key_of keys.now))
+        datagram.now)) }
     ensures memory { needs_key site.now.policy (N.state_of nonces.now) datagram.now ≡ false
         → IsOk result }
 {
@@ -220,8 +223,8 @@ fn judge_message<'d, N: Nonces, K: LongTermKeys>(
 /// let maker = NonceMaker::new(secret, SecurityFeatures::default(), 600)?;
 /// let nonces = maker.nonces(1000, "192.0.2.1:32853".parse()?, &[]);
 /// let keys = Logins::new(&[]);
-/// // Five bytes on a channel.
 /// let client = endpoint_of("192.0.2.1:32853".parse()?).ip;
+/// // Five bytes on a channel.
 /// let judged = judge(alloc, client, b"\x40\x01\x00\x05hello", false, &site, &nonces, &keys)?;
 /// assert!(rt; matches!(judged, Judged::SentOn { channel: 0x4001, .. }));
 /// // An Allocate request that isn't signed.
@@ -238,8 +241,9 @@ pub fn judge<'d, N: Nonces, K: LongTermKeys>(
     nonces: &N,
     keys: &K,
 ) -> Result<Judged<'d>, AllocError>
-    ensures judged { (relay : ℕ) → IfOk result (Tells relay (judge
-        (site_of relay client old_channels site.now (N.state_of nonces.now) (K.key_of keys.now)) datagram.now)) }
+    ensures judged { IfOk result (Tells (judge (last_channel old_channels)
+        (site_of client site.now (N.state_of nonces.now) (K.key_of keys.now))
+        datagram.now)) }
     ensures memory { needs_key site.now.policy (N.state_of nonces.now) datagram.now ≡ false
         → IsOk result }
 {

@@ -1,7 +1,7 @@
 //! What holds of every datagram, and of all that come in whatever order. Each function does nothing:
 //! its contract is the law.
 
-ghost use Rattle.std.specs.Prelude.{◌≡◌, ◌≢◌, ◌×◌, ◌≤◌, ℕ, [], List, Some, None, IsSomeAnd, length, false};
+ghost use Rattle.std.specs.Prelude.{◌≡◌, ◌≢◌, ◌≤◌, ℕ, [], List, Some, None, IsSomeAnd, length, false};
 ghost use Rattle.std.specs.List.{AllByRecursion};
 ghost use Rattle.stun_grammar.specs.declared.integrity_algorithm.IntegrityAlgorithm.{IntegrityAlgorithm};
 ghost use Rattle.stun_grammar.specs.Accepting.{IsAuthenticThrough};
@@ -22,7 +22,7 @@ ghost use Rattle.turn_table.specs.Works.{IsDue, Reaches};
 ghost use Rattle.turn_server.specs.Acting.{acts, sends_to};
 ghost use Rattle.turn_server.specs.Datagrams.{Moment, events_in, past, kept, clock_at, Came, IsRequest, IsRelayed};
 ghost use Rattle.turn_server.specs.Judging.{Site, dropped, sent, event_of, is_asked, judge};
-ghost use Rattle.turn_server.specs.Judgments.{IsSo, IsAsked, IsDecided};
+ghost use Rattle.turn_server.specs.Judgments.{IsSo, Asks, IsDecided};
 ghost use Rattle.stun_authentication.specs.Answers.{accept};
 
 use stun_authentication::accepted_is_authentic;
@@ -37,11 +37,12 @@ use turn_table::{
 /// accepted is of the user whom it names, under the key that the look-up has for that user, and what
 /// it shows is authentic under it.
 pub fn judgments_are_so()
-    ensures each { (site : Site) (d : List ℕ) → IsSo site d (judge site d) }
-    ensures asks { (site : Site) (tuple : FiveTuple) (d : List ℕ) (user : ℕ) (request : Request)
-        → event_of tuple (judge site d) ≡ Some (asks tuple user request)
-        → (key : UserKey) × (reply_algorithm : IntegrityAlgorithm)
-        × IsAsked site d user request key reply_algorithm }
+    ensures each { (last_channel : ℕ) (site : Site) (d : List ℕ)
+        → IsSo site d (judge last_channel site d) }
+    ensures asks { (last_channel relay : ℕ) (site : Site) (tuple : FiveTuple) (d : List ℕ)
+        (user : ℕ) (request : Request)
+        → event_of tuple relay (judge last_channel site d) ≡ Some (asks tuple user request)
+        → Asks site d user request }
     ensures login { (site : Site) (d : List ℕ) (user : Who) (key : UserKey)
         (algorithm reply : IntegrityAlgorithm)
         → IsDecided site d (accept user key algorithm reply)
@@ -51,7 +52,7 @@ pub fn judgments_are_so()
         → IsBytes d → IsDecided site d (accept user key algorithm reply)
         → IsSomeAnd (counted site.policy key.made_for)
         (λ served. IsAuthenticThrough served (λ _. key.bytes) d algorithm) }
-    ensures empty { (site : Site) → judge site [] ≡ dropped }
+    ensures empty { (last_channel : ℕ) (site : Site) → judge last_channel site [] ≡ dropped }
 {
     accepted_is_authentic();
 }
@@ -65,14 +66,14 @@ pub fn judgments_are_so()
 /// requests came as a datagram of that client, whose credentials were accepted as that user's.
 pub fn datagrams_are_warranted()
     ensures kept { (setup : Setup) (moments : List Moment)
-        → kept setup moments ≡ run setup (events_in moments) }
+        → kept setup moments ≡ run setup (events_in setup moments) }
     ensures allocations { (setup : Setup) (moments : List Moment)
         → length (kept setup moments).allocations ≤ setup.most_allocations }
     ensures within { (setup : Setup) (moments : List Moment)
         → AllByRecursion (IsWithin setup) (kept setup moments).allocations }
     ensures data { (setup : Setup) (earlier : List Moment) (now : ℕ) (site : Site)
-        (tuple : FiveTuple) (d : List ℕ) (relay : ℕ) (peer : Endpoint) (bytes : List ℕ)
-        → (acts site setup tuple (kept setup earlier) now d).act ≡ sends_to relay peer bytes
+        (tuple : FiveTuple) (d : List ℕ) (new relay : ℕ) (peer : Endpoint) (bytes : List ℕ)
+        → (acts site setup tuple new (kept setup earlier) now d).act ≡ sends_to relay peer bytes
         → IsRelayed setup earlier now tuple d relay peer bytes }
     ensures back { (setup : Setup) (earlier : List Moment) (now relay : ℕ) (peer : Endpoint)
         (bytes : List ℕ) → IsRight setup (past setup earlier) (clock_at setup earlier now)
@@ -89,13 +90,13 @@ pub fn datagrams_are_warranted()
 /// A datagram that isn't a user's accepted request changes no allocation, permission or channel; and
 /// nothing of it goes to a peer if its client has no live allocation.
 pub fn strangers_change_nothing()
-    ensures unchanged { (site : Site) (setup : Setup) (tuple : FiveTuple) (state : State) (now : ℕ)
-        (d : List ℕ) → is_asked (judge site d) ≡ false
-        → (acts site setup tuple state now d).state.allocations ≡ state.allocations }
-    ensures quiet { (site : Site) (setup : Setup) (tuple : FiveTuple) (state : State) (now relay : ℕ)
-        (d bytes : List ℕ) (peer : Endpoint)
+    ensures unchanged { (site : Site) (setup : Setup) (tuple : FiveTuple) (state : State)
+        (new now : ℕ) (d : List ℕ) → is_asked (judge setup.last_channel site d) ≡ false
+        → (acts site setup tuple new state now d).state.allocations ≡ state.allocations }
+    ensures quiet { (site : Site) (setup : Setup) (tuple : FiveTuple) (state : State)
+        (new now relay : ℕ) (d bytes : List ℕ) (peer : Endpoint)
         → allocation_of (at now state).clock tuple (at now state) ≡ None
-        → (acts site setup tuple state now d).act ≢ sends_to relay peer bytes }
+        → (acts site setup tuple new state now d).act ≢ sends_to relay peer bytes }
 {
     strangers_get_little();
 }
@@ -109,8 +110,8 @@ pub fn permitted_datagrams_pass()
     ensures { (setup : Setup) (earlier : List Moment) (now : ℕ) (tuple : FiveTuple)
         (peer : Endpoint) → IsDue setup (past setup earlier) (clock_at setup earlier now) tuple peer
         → (relay : ℕ)
-        × (((site : Site) (d bytes : List ℕ) → judge site d ≡ sent peer bytes
-        → (acts site setup tuple (kept setup earlier) now d).act ≡ sends_to relay peer bytes)
+        × (((site : Site) (new : ℕ) (d bytes : List ℕ) → judge setup.last_channel site d ≡ sent peer bytes
+        → (acts site setup tuple new (kept setup earlier) now d).act ≡ sends_to relay peer bytes)
         × ((bytes : List ℕ) → Reaches tuple peer bytes
         (step setup (kept setup earlier) now (arrives relay peer bytes)).output)) }
 {

@@ -1,12 +1,13 @@
 //! What a request of each method asks the table for (RFC 8656, sections 7.2, 8.2, 10.2 and 12.2).
 
-ghost use Rattle.std.specs.Prelude.{◌≡◌, ℕ, MatchResult};
+ghost use Rattle.std.specs.Prelude.{◌≡◌, MatchResult};
 ghost use Rattle.stun_grammar.specs.Headers.{type_field};
 ghost use Rattle.stun_base.specs.MessageTypes.{method_of};
 ghost use Rattle.stun_types.specs.Message.{message_bytes};
 ghost use Rattle.turn_table.specs.Events.{refresh, unfit};
 ghost use Rattle.turn_server.specs.Allocating.{allocate_of};
-ghost use Rattle.turn_server.specs.Requests.{refresh_of, permit_of, channel_of, bind_of, asks_table, request_of, table_request};
+ghost use Rattle.turn_server.specs.Wanted.{other};
+ghost use Rattle.turn_server.specs.Requests.{refresh_of, permit_of, channel_of, bind_of, asks_table, request_of, wanted_by};
 
 use crate::addresses::peer_of;
 use crate::allocate::read_wish;
@@ -51,8 +52,8 @@ pub enum Request<'d> {
 
 /// What an Allocate request asks for.
 fn read_allocate<'d>(request: &Message<'d>, client: Ip, sockets: &Sockets) -> Request<'d>
-    ensures { (relay : ℕ) → table_request relay result
-        ≡ allocate_of relay client sockets.now (message_bytes request.now) }
+    ensures { wanted_by result
+        ≡ allocate_of client sockets.now (message_bytes request.now) }
 {
     let id = request.transaction_id();
     match read_wish(request, client, sockets) {
@@ -87,7 +88,7 @@ fn refresh_fields(request: &Message<'_>) -> Result<(Option<u8>, Option<u32>), u1
 
 /// What a Refresh request asks for.
 fn read_refresh<'d>(request: &Message<'d>) -> Request<'d>
-    ensures { (relay : ℕ) → table_request relay result ≡ refresh_of (message_bytes request.now) }
+    ensures { wanted_by result ≡ other (refresh_of (message_bytes request.now)) }
 {
     match refresh_fields(request) {
         Ok((family, lifetime)) => Request::Refresh { family, lifetime },
@@ -97,7 +98,7 @@ fn read_refresh<'d>(request: &Message<'d>) -> Request<'d>
 
 /// What a CreatePermission request asks for.
 fn read_permit<'d>(request: &Message<'d>) -> Request<'d>
-    ensures { (relay : ℕ) → table_request relay result ≡ permit_of (message_bytes request.now) }
+    ensures { wanted_by result ≡ other (permit_of (message_bytes request.now)) }
 {
     match Peers::named_by(request) {
         Some(peers) => Request::Permit(peers),
@@ -118,7 +119,7 @@ fn channel_of(request: &Message<'_>) -> Option<u16>
 
 /// What a ChannelBind request asks for.
 fn read_bind<'d>(request: &Message<'d>) -> Request<'d>
-    ensures { (relay : ℕ) → table_request relay result ≡ bind_of (message_bytes request.now) }
+    ensures { wanted_by result ≡ other (bind_of (message_bytes request.now)) }
 {
     match (channel_of(request), peer_of(request)) {
         (Some(channel), Some(peer)) => Request::Bind { channel, peer },
@@ -137,14 +138,9 @@ pub(crate) fn asks_table(method: Method) -> bool
 }
 
 /// What a request of such a method asks the table for.
-pub(crate) fn read_request<'d>(
-    request: &Message<'d>,
-    client: Ip,
-    sockets: &Sockets,
-) -> Request<'d>
+pub(crate) fn read_request<'d>(request: &Message<'d>, client: Ip, sockets: &Sockets) -> Request<'d>
     ensures { let d = message_bytes request.now in
-        (relay : ℕ) → table_request relay result
-        ≡ request_of relay client sockets.now (method_of (type_field d)) d }
+        wanted_by result ≡ request_of client sockets.now (method_of (type_field d)) d }
 {
     match request.method() {
         ALLOCATE => read_allocate(request, client, sockets),

@@ -13,11 +13,11 @@ returns-clause-kept c = kept_is_run
 
 pub returns-clause-allocations : goal.returns-clause-allocations
 returns-clause-allocations c = λ setup moments.
-    subst (λ (s : State). length s.allocations ≤ setup.most_allocations) (sym (kept_is_run setup moments)) (c.table_is_bounded.ensures-allocations setup (events_in moments))
+    subst (λ (s : State). length s.allocations ≤ setup.most_allocations) (sym (kept_is_run setup moments)) (c.table_is_bounded.ensures.allocations setup (events_in setup moments))
 
 pub returns-clause-within : goal.returns-clause-within
 returns-clause-within c = λ setup moments.
-    subst (λ (s : State). AllByRecursion (IsWithin setup) s.allocations) (sym (kept_is_run setup moments)) (c.table_is_bounded.ensures-each setup (events_in moments))
+    subst (λ (s : State). AllByRecursion (IsWithin setup) s.allocations) (sym (kept_is_run setup moments)) (c.table_is_bounded.ensures.each setup (events_in setup moments))
 
 pub returns-clause-data : goal.returns-clause-data
 returns-clause-data c = relayed c.relaying_is_warranted.ensures
