@@ -4,3 +4,4 @@ mod ReportingLemmas
 mod DatagramsLemmas
 mod RelayedLemmas
 mod StrangersLemmas
+mod ActingLemmas

@@ -1,9 +1,11 @@
 -- What the code does for a datagram, in the terms of what a server does.
-use Rattle.std.specs.Prelude.{◌≡◌, ℕ, List, Option}
+use Rattle.std.specs.Prelude.{◌≡◌, ℕ, List, Option, None, Some}
 use Rattle.turn_table.specs.declared.endpoints.FiveTuple.{FiveTuple}
 use Rattle.turn_table.specs.Allocations.{Setup, State, allocation_of}
 use Rattle.turn_table.specs.Events.{Request, asks, answers}
 use Rattle.turn_table.specs.Steps.{at, step}
+use Rattle.turn_table.specs.declared.reply.AllocateReply.{AllocateReply}
+use Rattle.turn_table.specs.declared.reply.AllocateReply.TheVariants.{Opened, Again, Refused as NotAllocated}
 use Rattle.turn_server.specs.declared.action.Action.{Action}
 use Rattle.turn_server.specs.declared.action.Action.TheVariants.{Dropped, Binding, Refused, Unknown, Answered, ToPeer}
 use Rattle.turn_server.specs.declared.answer.Answer.{Answer}
@@ -39,3 +41,9 @@ pub record IsAnswered (setup : Setup) (tuple : FiveTuple) (user : ℕ) (request 
       ≡ record { state = new; output = answers tuple (table_answer answer) }
   pub taken_is : taken ≡ took (allocation_of (at now old).clock tuple (at now old)) request
       (table_answer answer)
+
+-- the socket that an allocation got, by the table's reply
+abbrev pub opened_in : AllocateReply → Option ℕ
+opened_in (Opened relay relayed lifetime) = Some relay
+opened_in (Again relayed lifetime) = None
+opened_in (NotAllocated code) = None

@@ -12,10 +12,10 @@ use Rattle.turn_server.specs.declared.sockets.Sockets.{Sockets}
 use Rattle.turn_server.specs.declared.request.Request.{Request}
 use Rattle.turn_server.specs.declared.request.Request.TheVariants.{Allocate, Refresh, Permit, Bind, Unfit}
 use Rattle.turn_server.specs.Addresses.{peer_of}
-use Rattle.turn_server.specs.Allocating.{allocating, allocate_of}
+use Rattle.turn_server.specs.Allocating.{allocate_of}
 use Rattle.turn_server.specs.Peers.{names_peers, peers_of}
 use Rattle.turn_server.specs.PeersLeft.{peers_left}
-use Rattle.turn_server.specs.Wanted.{Wanted, other}
+use Rattle.turn_server.specs.Wanted.{Wanted, opening, other}
 use Rattle.turn_server.specs.Values.{malformed, number_in, byte_in}
 
 -- ---- The methods
@@ -77,7 +77,7 @@ request_of client sockets method d =
 -- ---- A request that was read
 
 abbrev pub wanted_by : Request → Wanted
-wanted_by (Allocate id lifetime wish) = allocating id lifetime wish
+wanted_by (Allocate id lifetime wish) = opening id lifetime wish
 wanted_by (Refresh family lifetime) = other (refresh family lifetime)
 wanted_by (Permit peers) = other (permitting (peers_left peers))
 wanted_by (Bind channel peer) = other (bind channel peer)

@@ -13,8 +13,10 @@ mod indication;
 mod judged;
 mod judging;
 mod laws;
+mod peer_list;
 mod peers;
 mod request;
+mod server;
 mod site;
 mod sockets;
 mod values;
@@ -30,7 +32,9 @@ pub use laws::{
     clients_do_not_meet, datagrams_are_warranted, judgments_are_so, permitted_datagrams_pass,
     strangers_change_nothing,
 };
+pub use peer_list::PEERS;
 pub use peers::Peers;
 pub use request::Request;
+pub use server::TurnServer;
 pub use site::Site;
 pub use sockets::{Ready, Sockets};
