@@ -1,3 +1,5 @@
 mod PeersLemmas
 mod JudgingLemmas
 mod ReportingLemmas
+mod EndpointsLemmas
+mod AnswersLemmas

@@ -11,3 +11,6 @@ pub mod Judging
 pub mod Sites
 pub mod Reporting
 pub mod Judgments
+pub mod Endpoints
+pub mod Answers
+pub mod Unfinished

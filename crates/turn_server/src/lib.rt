@@ -4,8 +4,11 @@
 
 mod addresses;
 mod allocate;
+mod answer;
+mod answers;
 mod channel_message;
 mod comprehended;
+mod endpoints;
 mod indication;
 mod judged;
 mod judging;
@@ -14,10 +17,14 @@ mod peers;
 mod request;
 mod site;
 mod sockets;
+mod unknown;
 mod values;
 
 pub use addresses::endpoint_of;
+pub use answer::Answer;
+pub use answers::{codes_are_written, write_answer};
 pub use comprehended::COMPREHENDED;
+pub use endpoints::{socket_of, sockets_are_of_endpoints};
 pub use judged::Judged;
 pub use judging::judge;
 pub use laws::judgments_are_so;
@@ -25,3 +32,4 @@ pub use peers::Peers;
 pub use request::Request;
 pub use site::{Accounts, Site};
 pub use sockets::{Offer, Ready, Sockets};
+pub use unknown::write_unknown;
