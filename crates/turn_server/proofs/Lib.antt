@@ -5,3 +5,5 @@ mod DatagramsLemmas
 mod RelayedLemmas
 mod StrangersLemmas
 mod ActingLemmas
+mod EndpointsLemmas
+mod AnswersLemmas

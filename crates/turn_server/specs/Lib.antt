@@ -12,7 +12,9 @@ pub mod Accounts
 pub mod Judging
 pub mod Sites
 pub mod Reporting
+pub mod Endpoints
 pub mod Answers
+pub mod Unfinished
 pub mod Acting
 pub mod Actions
 pub mod Judgments

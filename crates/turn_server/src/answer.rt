@@ -1,15 +1,15 @@
-//! The answer of the table to a user's request.
+//! What the table answers to a user's request.
 
 use turn_table::Endpoint;
 
 /// The answer of the table to a user's request.
 #[derive(Clone, Copy, Debug, PartialEq, Eq)]
 pub enum Answer {
-    /// Allocate: the relayed address and the lifetime in seconds.
+    /// A success response to Allocate: the relayed address, and the lifetime in seconds.
     Allocated { relayed: Endpoint, lifetime: u32 },
-    /// Refresh: the lifetime in seconds.
+    /// A success response to Refresh: the lifetime in seconds.
     Refreshed(u32),
-    /// CreatePermission, ChannelBind.
+    /// A success response to CreatePermission or ChannelBind.
     Done,
     /// An error response with this code.
     Refused(u16),
