@@ -1,6 +1,6 @@
 -- What is done for a datagram, by what it was taken for.
 use Rattle.std.proofs.Common.{◌≡◌, ◌≤◌, ◌<◌, ℕ, List, length, Option, None, Some, Result, Ok, Err, refl, sym, ap, subst, ◌∙◌}
-use Rattle.std.proofs.lemmas.Bool.{le-ltb, lt-ltb}
+use Rattle.std.proofs.lemmas.Bool.{le-ltb, lt-ltb, false≢true}
 use Rattle.std.specs.Borrow.{Bor}
 use Rattle.std.specs.Option.{option_map_or}
 use Rattle.stun_authentication.specs.declared.answer.Accepted.{Accepted}
@@ -113,10 +113,11 @@ of_asked setup tuple relay state now by read accepted new answer taken answered 
 of_asked setup tuple relay state now by read accepted new answer taken answered (asked user wanted key algorithm) tells =
     let request = request_with relay wanted in
     let same : request_with relay (wanted_by read) ≡ request = ap (λ (w : Wanted). request_with relay w) tells.1.0 in
-    let is = ap (λ (u : ℕ). step setup state now (asks tuple u request)) (sym tells.0) ∙ ap (λ (r : TableRequest). step setup state now (asks tuple (user_number by) r)) (sym same) ∙ answered.stepped in
-    (sym (ap (λ (t : Step). t.state) is),
-    subst (λ (t : Step). Does (answer_act (allocation_of (at now state).clock tuple (at now state)) request key algorithm t.output) (Answered answer taken accepted)) (sym is)
-    (refl, (answered.taken_is ∙ ap (λ (r : TableRequest). took (allocation_of (at now state).clock tuple (at now state)) r (table_answer answer)) same, tells.1.1)))
+    let is = ap (λ (u : ℕ). step setup state now (asks tuple u request)) (sym tells.0) ∙ ap (λ (r : TableRequest). step setup state now (asks tuple (user_number by) r)) (sym same) ∙ answered.stepped in (
+      sym (ap (λ (t : Step). t.state) is),
+      subst (λ (t : Step). Does (answer_act (allocation_of (at now state).clock tuple (at now state)) request key algorithm t.output) (Answered answer taken accepted)) (sym is)
+          (refl, (answered.taken_is ∙ ap (λ (r : TableRequest). took (allocation_of (at now state).clock tuple (at now state)) r (table_answer answer)) same, tells.1.1)),
+    )
 
 -- ---- Requests other than Allocate open nothing
 
@@ -152,7 +153,7 @@ opened_by : (setup : Setup) (tuple : FiveTuple) (now user id : ℕ) (lifetime : 
 opened_by setup tuple now user id lifetime (Ok address) state None relay (Opened number relayed seconds) is out = ap Some is.1
 opened_by setup tuple now user id lifetime (Err code) state known relay (Opened number relayed seconds) is out = no_socket setup tuple now user id lifetime code state known relayed seconds is.0 out
 opened_by setup tuple now user id lifetime (Ok address) state (Some a) relay (Opened number relayed seconds) is out = let e = is.0 in absurd cc
-opened_by setup tuple now user id lifetime wish state None relay (Again relayed seconds) is out = absurd is
+opened_by setup tuple now user id lifetime wish state None relay (Again relayed seconds) is out = absurd (false≢true is)
 opened_by setup tuple now user id lifetime wish state (Some a) relay (Again relayed seconds) is out = refl
 opened_by setup tuple now user id lifetime (Ok address) state None relay (NotAllocated code) is out = refl
 opened_by setup tuple now user id lifetime (Err other) state None relay (NotAllocated code) is out = refl
@@ -161,13 +162,15 @@ opened_by setup tuple now user id lifetime wish state (Some a) relay (NotAllocat
 pub allocated_by : (setup : Setup) (tuple : FiveTuple) (user id : ℕ) (lifetime : Option ℕ) (wish : Result Endpoint ℕ) (now : ℕ) (old new : State) (reply : AllocateReply) (answer : Answer) (taken : Option ℕ)
     → Allocates setup old now tuple user id lifetime wish reply new → table_answer answer ≡ answer_to reply → taken ≡ opened_in reply
     → (relay : ℕ) × IsAnswered setup tuple user (allocate id lifetime (offered relay wish)) now old new answer taken
-allocated_by setup tuple user id lifetime wish now old new reply answer taken allocates answer_is taken_is =
-    (allocates.relay, record {
-      stepped = allocates.step ∙ ap (λ (a : TableAnswer). record { state = new; output = answers tuple a }) (sym answer_is);
-      taken_is = taken_is
-          ∙ opened_by setup tuple (at now old).clock user id lifetime wish (at now old) (allocation_of (at now old).clock tuple (at now old)) allocates.relay reply allocates.kind (ap (λ (t : Step). t.output) allocates.step)
-          ∙ ap (λ (a : TableAnswer). took (allocation_of (at now old).clock tuple (at now old)) (allocate id lifetime (offered allocates.relay wish)) a) (sym answer_is);
-    })
+allocated_by setup tuple user id lifetime wish now old new reply answer taken allocates answer_is taken_is = (
+  allocates.relay,
+  record {
+    stepped = allocates.step ∙ ap (λ (a : TableAnswer). record { state = new; output = answers tuple a }) (sym answer_is);
+    taken_is = taken_is
+        ∙ opened_by setup tuple (at now old).clock user id lifetime wish (at now old) (allocation_of (at now old).clock tuple (at now old)) allocates.relay reply allocates.kind (ap (λ (t : Step). t.output) allocates.step)
+        ∙ ap (λ (a : TableAnswer). took (allocation_of (at now old).clock tuple (at now old)) (allocate id lifetime (offered allocates.relay wish)) a) (sym answer_is);
+  },
+)
 
 -- ---- CreatePermission requests
 

@@ -4,36 +4,39 @@ ghost use Rattle.std.specs.Prelude.{◌≡◌, ◌≤◌, ◌<◌, ℕ, List, Bo
 ghost use Rattle.stun_authentication.specs.LongTerm.{needs_key};
 ghost use Rattle.turn_table.specs.declared.endpoints.Ip.{Ip};
 ghost use Rattle.turn_table.specs.declared.endpoints.Endpoint.{Endpoint};
-ghost use Rattle.turn_table.specs.Outputs.{setup_of, answer_of, sending};
+ghost use Rattle.turn_table.specs.Outputs.{setup_of, answer_of, sending, receiving};
 ghost use Rattle.turn_table.specs.Allocates.{offered, answer_to};
-ghost use Rattle.turn_table.specs.Events.{allocate};
+ghost use Rattle.turn_table.specs.Events.{allocate, arrives};
 ghost use Rattle.turn_table.specs.Requests.{asked};
+ghost use Rattle.turn_table.specs.Polls.{Polls};
 ghost use Rattle.turn_table.specs.Runs.{begun};
+ghost use Rattle.turn_table.specs.Steps.{step};
 ghost use Rattle.turn_table.specs.Users.{user_number};
 ghost use Rattle.turn_server.specs.Acting.{data_act, acted};
 ghost use Rattle.turn_server.specs.Actions.{Acts, Does, IsDone, IsAnswered, opened_in};
 ghost use Rattle.turn_server.specs.Answers.{table_answer};
 ghost use Rattle.turn_server.specs.Judging.{Judged as TakenFor};
+ghost use Rattle.turn_server.specs.PeersLeft.{peers_left};
 ghost use Rattle.turn_server.specs.Reporting.{Tells};
-ghost use Rattle.turn_server.specs.Requests.{wanted_by};
+ghost use Rattle.turn_server.specs.Requests.{permitting, wanted_by};
 ghost use Rattle.turn_server.specs.Sites.{site_of};
 ghost use Rattle.turn_server.specs.Wanted.{request_with};
 
 use crate::peer_list::collected;
-use crate::{Action, Answer, Judged, Request, Site, judge};
+use crate::{Action, Answer, Judged, Peers, Request, Site, judge};
 use std::alloc::{AllocError, Global};
 use std::marker::Model;
 use stun_authentication::{LongTermKeys, Nonces};
 use stun_types::message::TransactionId;
 use turn_attrs::error_codes::INSUFFICIENT_CAPACITY;
 use turn_table::{
-    AllocateReply, Endpoint, FiveTuple, Limits, PeerPolicy, Reply, Request as TableRequest, ToPeer,
-    TurnTable, UserId,
+    AllocateReply, Endpoint, FiveTuple, Limits, PeerPolicy, Reply, Request as TableRequest,
+    ToClient, ToPeer, TurnTable, UserId,
 };
 
 /// Data that goes to a peer, or is dropped.
 fn relayed<'d>(to: Option<ToPeer>, data: &'d [u8]) -> Action<'d>
-    ensures { Does (data_act (sending to data.now)) result }
+    ensures { Does (data_act (sending to «data».now)) result }
 {
     match to {
         Some(ToPeer { relay, peer }) => Action::ToPeer { relay, peer, data },
@@ -145,55 +148,65 @@ impl<const P: usize, const C: usize> TurnServer<P, C> {
         answer_to_allocate(reply)
     }
 
+    /// Answers a CreatePermission request.
+    #[tactic(auto, using(crate::proofs::ActingLemmas::few_permitted, crate::proofs::ActingLemmas::many_refused))]
+    fn permit<A: PeerPolicy>(
+        &mut self,
+        now: u64,
+        from: &FiveTuple,
+        user: UserId,
+        peers: &mut Peers<'_>,
+        policy: &A,
+    ) -> (Answer, Option<u64>)
+        ensures answer { let setup = setup_of self.old.limits P C (A.allows_address policy.now)
+            (A.allows_port policy.now) in
+            IsAnswered setup from.now (user_number user) (permitting (peers_left peers.old)) now
+            self.old.state self.new.state result.0 result.1 }
+        ensures limits { self.new.limits ≡ self.old.limits }
+    {
+        match collected(peers) {
+            Some(all) => {
+                let request = TableRequest::CreatePermission(&all);
+                self.fulfil(now, from, user, request, policy)
+            }
+            None => {
+                let request = TableRequest::Unfit(INSUFFICIENT_CAPACITY);
+                self.fulfil(now, from, user, request, policy)
+            }
+        }
+    }
+
     /// Answers a user's request.
     fn answer<A: PeerPolicy>(
         &mut self,
         now: u64,
         from: &FiveTuple,
         user: UserId,
-        request: Request<'_>,
+        request: &mut Request<'_>,
         policy: &A,
     ) -> (Answer, Option<u64>)
         ensures answer { let setup = setup_of self.old.limits P C (A.allows_address policy.now)
             (A.allows_port policy.now) in
             (relay : ℕ) × IsAnswered setup from.now (user_number user)
-            (request_with relay (wanted_by request.entry)) now self.old.state self.new.state result.0 result.1 }
+            (request_with relay (wanted_by request.old)) now self.old.state self.new.state
+            result.0 result.1 }
         ensures limits { self.new.limits ≡ self.old.limits }
     {
         match request {
             Request::Allocate { id, lifetime, wish } => {
-                self.allocate(now, from, user, id, lifetime, wish)
+                self.allocate(now, from, user, *id, *lifetime, *wish)
             }
             Request::Refresh { family, lifetime } => {
-                self.fulfil(
-                    now,
-                    from,
-                    user,
-                    TableRequest::Refresh(family, lifetime),
-                    policy,
-                )
+                let request = TableRequest::Refresh(*family, *lifetime);
+                self.fulfil(now, from, user, request, policy)
             }
-            Request::Permit(mut peers) => match collected(&mut peers) {
-                Some(peers) => {
-                    let request = TableRequest::CreatePermission(&peers);
-                    self.fulfil(now, from, user, request, policy)
-                }
-                None => {
-                    let request = TableRequest::Unfit(INSUFFICIENT_CAPACITY);
-                    self.fulfil(now, from, user, request, policy)
-                }
-            },
+            Request::Permit(peers) => self.permit(now, from, user, peers, policy),
             Request::Bind { channel, peer } => {
-                self.fulfil(
-                    now,
-                    from,
-                    user,
-                    TableRequest::ChannelBind(channel, peer),
-                    policy,
-                )
+                let request = TableRequest::ChannelBind(*channel, *peer);
+                self.fulfil(now, from, user, request, policy)
             }
             Request::Unfit(code) => {
-                self.fulfil(now, from, user, TableRequest::Unfit(code), policy)
+                self.fulfil(now, from, user, TableRequest::Unfit(*code), policy)
             }
         }
     }
@@ -243,6 +256,32 @@ impl<const P: usize, const C: usize> TurnServer<P, C> {
         Ok(self.act(now, from, judged, policy))
     }
 
+    /// Takes a peer's datagram, which came to the socket of this number: returns the client that its
+    /// data goes to, on a channel or in a Data indication (RFC 8656, sections 11.3 and 12.7).
+    /// `turn_attrs::write_channel_head` and `write_data_head` write what comes before the data.
+    ///
+    /// `None` if it is dropped: the socket belongs to no live allocation, or there is no permission
+    /// for the peer's IP address.
+    pub fn on_peer_datagram(&mut self, now: u64, relay: u64, peer: Endpoint) -> Option<ToClient>
+        ensures step { (address : Ip → Bool) (port : Endpoint → Bool) (bytes : List ℕ)
+            → step (setup_of self.old.limits P C address port) self.old.state now
+            (arrives relay peer bytes)
+            ≡ record { state = self.new.state; output = receiving result peer bytes } }
+        ensures limits { self.new.limits ≡ self.old.limits }
+    {
+        self.table.on_peer_data(now, relay, peer)
+    }
+
+    /// Closes allocations that have ended, as many as `ended` has room for, and writes the numbers of
+    /// their sockets at its start, for the caller to close them. Returns how many. If that is less
+    /// than the length of `ended`, no allocation is left that has ended.
+    pub fn poll(&mut self, now: u64, ended: &mut [u64]) -> usize
+        ensures polls { Polls self.old.state now ended.old result ended.new self.new.state }
+        ensures limits { self.new.limits ≡ self.old.limits }
+    {
+        self.table.poll(now, ended)
+    }
+
     /// Does what a datagram that was judged asks for.
     fn act<'d, A: PeerPolicy>(
         &mut self,
@@ -271,10 +310,10 @@ impl<const P: usize, const C: usize> TurnServer<P, C> {
             }
             Judged::Asked {
                 user,
-                request,
+                mut request,
                 accepted,
             } => {
-                let (answer, took) = self.answer(now, from, user, request, policy);
+                let (answer, took) = self.answer(now, from, user, &mut request, policy);
                 Action::Answered {
                     answer,
                     took,
