@@ -2,6 +2,7 @@
 //! the table a client's datagram is.
 #![tactic(auto)]
 
+mod adding;
 mod addresses;
 mod allocate;
 mod answer;
