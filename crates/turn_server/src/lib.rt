@@ -4,6 +4,7 @@
 
 mod accounts;
 mod action;
+mod adding;
 mod addresses;
 mod allocate;
 mod answer;

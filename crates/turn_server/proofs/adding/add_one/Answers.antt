@@ -1,5 +1,5 @@
 use Rattle.stun_authentication.proofs.AddedLemmas.{added}
-use Rattle.turn_server.proofs.answers.add_one.Goals as goal
+use Rattle.turn_server.proofs.adding.add_one.Goals as goal
 
 pub returns : goal.returns
 returns g c =

@@ -5,7 +5,7 @@ use Rattle.stun_grammar.specs.AttributeTypes.{XOR_MAPPED_ADDRESS}
 use Rattle.stun_authentication.specs.Writing.{Lengthens}
 use Rattle.turn_server.specs.Endpoints.{socket_of}
 use Rattle.turn_server.proofs.AnswersLemmas.{xored_spelled}
-use Rattle.turn_server.proofs.answers.add_mapped.Goals as goal
+use Rattle.turn_server.proofs.adding.add_mapped.Goals as goal
 
 pub returns : goal.returns
 returns g c =

@@ -2,7 +2,7 @@ use Rattle.std.specs.Option.{option_map}
 use Rattle.stun_attributes.specs.Texts.{text_bytes}
 use Rattle.stun_authentication.proofs.AddedLemmas.{in_turn, failed}
 use Rattle.turn_server.specs.Answers.{table_answer, answer_content, software_attributes}
-use Rattle.turn_server.proofs.answers.add_success.Goals as goal
+use Rattle.turn_server.proofs.adding.add_success.Goals as goal
 
 pub returns-in_err-add_content : goal.returns-in_err-add_content
 returns-in_err-add_content g c =

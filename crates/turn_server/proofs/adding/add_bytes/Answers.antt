@@ -1,6 +1,6 @@
 use Rattle.std.proofs.Common.{arith}
 use Rattle.stun_authentication.proofs.AddedLemmas.{added}
-use Rattle.turn_server.proofs.answers.add_bytes.Goals as goal
+use Rattle.turn_server.proofs.adding.add_bytes.Goals as goal
 
 pub returns : goal.returns
 returns g c =

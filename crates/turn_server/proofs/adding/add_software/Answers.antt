@@ -1,5 +1,5 @@
 use Rattle.stun_authentication.proofs.AddedLemmas.{nothing_more}
-use Rattle.turn_server.proofs.answers.add_software.Goals as goal
+use Rattle.turn_server.proofs.adding.add_software.Goals as goal
 
 pub returns-in-Some : goal.returns-in-Some
 returns-in-Some g c = rw c.in-Some.is c.push_software.ensures

@@ -5,7 +5,7 @@ use Rattle.stun_attributes.specs.Texts.{text_bytes}
 use Rattle.stun_types.specs.Replies.{error_attribute}
 use Rattle.stun_authentication.proofs.AddedLemmas.{in_turn, failed}
 use Rattle.turn_server.specs.Answers.{software_attributes}
-use Rattle.turn_server.proofs.answers.add_refusal.Goals as goal
+use Rattle.turn_server.proofs.adding.add_refusal.Goals as goal
 
 pub returns-in_err-push_error : goal.returns-in_err-push_error
 returns-in_err-push_error g c =

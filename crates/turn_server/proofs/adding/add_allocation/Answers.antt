@@ -3,7 +3,7 @@ use Rattle.stun_grammar.specs.AttributeTypes.{XOR_MAPPED_ADDRESS}
 use Rattle.stun_authentication.proofs.AddedLemmas.{in_turn, failed}
 use Rattle.turn_attrs.specs.Turn.{XOR_RELAYED_ADDRESS}
 use Rattle.turn_server.specs.Answers.{address_attribute, lifetime_attribute}
-use Rattle.turn_server.proofs.answers.add_allocation.Goals as goal
+use Rattle.turn_server.proofs.adding.add_allocation.Goals as goal
 
 pub returns-in_err-add_relayed : goal.returns-in_err-add_relayed
 returns-in_err-add_relayed g c =

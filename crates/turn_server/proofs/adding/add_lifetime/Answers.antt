@@ -1,7 +1,7 @@
 use Rattle.std.proofs.Common.{[], ◌∷◌, ℕ, subst}
 use Rattle.stun_authentication.specs.Writing.{Lengthens}
 use Rattle.turn_server.specs.Answers.{lifetime_attribute}
-use Rattle.turn_server.proofs.answers.add_lifetime.Goals as goal
+use Rattle.turn_server.proofs.adding.add_lifetime.Goals as goal
 
 pub returns : goal.returns
 returns g c =

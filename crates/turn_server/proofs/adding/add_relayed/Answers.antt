@@ -5,7 +5,7 @@ use Rattle.stun_authentication.specs.Writing.{Lengthens}
 use Rattle.turn_attrs.specs.Turn.{XOR_RELAYED_ADDRESS}
 use Rattle.turn_server.specs.Endpoints.{socket_of}
 use Rattle.turn_server.proofs.AnswersLemmas.{xored_spelled}
-use Rattle.turn_server.proofs.answers.add_relayed.Goals as goal
+use Rattle.turn_server.proofs.adding.add_relayed.Goals as goal
 
 pub returns : goal.returns
 returns g c =
