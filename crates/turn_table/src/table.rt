@@ -9,45 +9,163 @@ ghost use Rattle.turn_table.specs.Steps.{step};
 ghost use Rattle.turn_table.specs.Runs.{begun};
 ghost use Rattle.turn_table.specs.Outputs.{setup_of, answer_of, sending, receiving};
 ghost use Rattle.turn_table.specs.Requests.{asked};
+ghost use Rattle.turn_table.specs.Rows.{has_quota};
+ghost use Rattle.turn_table.specs.Allocates.{Allocates};
+ghost use Rattle.turn_table.specs.Polls.{Polls};
 
+use crate::allocating::{allocated_for, unmet_code};
 use crate::endpoints::{Endpoint, FiveTuple};
 use crate::limits::{Limits, PeerPolicy};
-use crate::reply::{Reply, Request, ToClient, ToPeer};
-use crate::slots::{CHANNELS, PERMISSIONS, Slots};
+use crate::polling::close_ended;
+use crate::reply::{AllocateReply, Reply, Request, ToClient, ToPeer};
+use crate::slots::Slots;
 use crate::user::UserId;
 use std::alloc::{AllocError, Global};
 use std::marker::Model;
 
-/// The allocations that a TURN server has, with their permissions and channels (RFC 8656).
+/// The allocations that a TURN server has (RFC 8656), each with up to `P` permissions and `C` channels.
 ///
 /// Each call takes the caller's clock: nanoseconds since a beginning of its choice. A clock that
 /// steps back counts as stopped. No call but [`TurnTable::new`] allocates.
+///
+/// ```
+/// use turn_table::{AllocateReply, Endpoint, FiveTuple, Limits, TurnTable, UserId};
+///
+/// let limits = Limits {
+///     allocations: 100,
+///     of_user: 10,
+///     greatest_lifetime: 3600,
+///     channel_permits: false,
+///     old_channels: false,
+/// };
+/// let mut table = TurnTable::<16, 16>::new(alloc, limits, [1, 2])?;
+/// let tuple = FiveTuple::default();
+/// let user = UserId([1; 32]);
+/// let relayed = Endpoint::default();
+/// let opened = table.allocate(0, &tuple, user, 7, None, Ok(relayed));
+/// assert!(rt; matches!(opened, AllocateReply::Opened { lifetime: 600, .. }));
+/// let mut ended = [0; 8];
+/// assert_eq!(rt; table.poll(600_000_000_000, &mut ended), 1);
+/// ```
 #[derive(Drop)]
-pub struct TurnTable {
+pub struct TurnTable<const P: usize, const C: usize> {
     limits: Limits,
-    slots: Slots,
+    slots: Slots<P, C>,
 }
 
-impl Model for TurnTable {
-    ghost use Rattle.std.specs.Prelude.{◌≡◌};
+impl<const P: usize, const C: usize> Model for TurnTable<P, C> {
+    ghost use Rattle.std.specs.Prelude.{◌≡◌, ◌≤◌};
     ghost use Rattle.turn_table.specs.Tables.{Table};
 
     ghost Value = { Table };
 
     ghost view = { λ t. record { limits = t.limits; state = t.slots.state } };
 
-    ghost invariant = { λ t. t.slots.most ≡ t.limits.allocations };
+    ghost invariant = { λ t. record {
+      most : t.slots.most ≡ t.limits.allocations;
+      permissions : P ≤ 65_535;
+      channels : C ≤ 65_535;
+    } };
 }
 
-impl TurnTable {
+impl<const P: usize, const C: usize> TurnTable<P, C> {
     /// A table with no allocation. `seed` keys the hash of 5-tuples: take random numbers.
     ///
-    /// Fails if memory runs out. It takes all memory that the table ever needs.
+    /// Fails if memory runs out, or `P` or `C` is above 65,535. It takes all memory that the table ever
+    /// needs.
     pub fn new(alloc: Global, limits: Limits, seed: [u64; 2]) -> Result<Self, AllocError>
         ensures { IfOk result (λ table. table ≡ record { limits = limits; state = begun }) }
     {
         let slots = Slots::new(alloc, limits.allocations, seed)?;
         Ok(TurnTable { limits, slots })
+    }
+
+    /// Returns the bounds of the table.
+    pub fn limits(&self) -> Limits
+        ensures { result ≡ self.now.limits }
+    {
+        self.limits
+    }
+
+    /// Whether a user may have one more allocation.
+    fn has_quota(&self, user: UserId) -> bool
+        ensures { (permissions channels : ℕ) (address : Ip → Bool) (port : Endpoint → Bool)
+            → result ≡ has_quota (setup_of self.now.limits permissions channels address port)
+            self.now.state self.now.state.clock (user_number user) }
+    {
+        self.slots.count_of(user) < self.limits.of_user as usize
+    }
+
+    /// Answers an Allocate request of a user (RFC 8656, section 7.2).
+    ///
+    /// `id` is its transaction ID and `lifetime` its LIFETIME in seconds. `wish` is the address of the
+    /// socket that the caller has ready for it, or the code by which it gets none, such as 508 if
+    /// there is none of that kind. The table chooses the socket's number: a slot of the table in its
+    /// low 32 bits, and in its high 32 bits a counter of allocations, so that a number is used again
+    /// only after 2^32 of them.
+    ///
+    /// Refuses with 437 if the client has a live allocation, unless this is the request that opened
+    /// it. Refuses with 486 if the user has as many live allocations as one may have, and with 508 if
+    /// the table is full. The code of `wish` comes before both, except that 486 comes before its 508.
+    /// A request that is refused changes nothing.
+    ///
+    /// ```
+    /// use turn_table::{AllocateReply, Endpoint, FiveTuple, Limits, TurnTable, UserId};
+    ///
+    /// let limits = Limits {
+    ///     allocations: 100,
+    ///     of_user: 10,
+    ///     greatest_lifetime: 3600,
+    ///     channel_permits: false,
+    ///     old_channels: false,
+    /// };
+    /// let mut table = TurnTable::<16, 16>::new(alloc, limits, [1, 2])?;
+    /// let tuple = FiveTuple::default();
+    /// let user = UserId([1; 32]);
+    /// let relayed = Endpoint::default();
+    /// let opened = table.allocate(0, &tuple, user, 7, None, Ok(relayed));
+    /// assert!(rt; matches!(opened, AllocateReply::Opened { lifetime: 600, .. }));
+    /// let again = AllocateReply::Again {
+    ///     relayed,
+    ///     lifetime: 590,
+    /// };
+    /// assert_eq!(rt; table.allocate(10_000_000_000, &tuple, user, 7, None, Err(508)), again);
+    /// ```
+    pub fn allocate(
+        &mut self,
+        now: u64,
+        tuple: &FiveTuple,
+        user: UserId,
+        id: u128,
+        lifetime: Option<u32>,
+        wish: Result<Endpoint, u16>,
+    ) -> AllocateReply
+        ensures step { (address : Ip → Bool) (port : Endpoint → Bool)
+            → Allocates (setup_of self.old.limits P C address port) self.old.state now tuple.now
+            (user_number user) id lifetime wish result self.new.state }
+        ensures limits { self.new.limits ≡ self.old.limits }
+    {
+        self.slots.advance(now as u128);
+        if let Some(reply) = self.slots.again(tuple, user, id) {
+            return reply;
+        }
+        let is_within = self.has_quota(user);
+        let relayed = match wish {
+            Ok(relayed) => relayed,
+            Err(code) => return AllocateReply::Refused(unmet_code(is_within, code)),
+        };
+        if !is_within {
+            return AllocateReply::Refused(486);
+        }
+        let lifetime = allocated_for(lifetime, self.limits.greatest_lifetime);
+        let Some(relay) = self.slots.open(*tuple, user, id, relayed, lifetime) else {
+            return AllocateReply::Refused(508);
+        };
+        AllocateReply::Opened {
+            relay,
+            relayed,
+            lifetime,
+        }
     }
 
     /// Answers a request of a user that isn't Allocate, and does what it asks for (RFC 8656, sections
@@ -68,7 +186,7 @@ impl TurnTable {
         request: Request<'_>,
         policy: &A,
     ) -> Reply
-        ensures step { let setup = setup_of self.old.limits PERMISSIONS CHANNELS
+        ensures step { let setup = setup_of self.old.limits P C
             (A.allows_address policy.now) (A.allows_port policy.now) in
             step setup self.old.state now
             (asks tuple.now (user_number user) (asked request.entry))
@@ -87,7 +205,7 @@ impl TurnTable {
         policy: &A,
     ) -> Option<ToPeer>
         ensures { (address : Ip → Bool) (bytes : List ℕ)
-            → relays (setup_of self.now.limits PERMISSIONS CHANNELS address (A.allows_port policy.now))
+            → relays (setup_of self.now.limits P C address (A.allows_port policy.now))
             self.now.state self.now.state.clock (sends tuple.now peer bytes) ≡ sending result bytes }
     {
         self.slots
@@ -103,7 +221,7 @@ impl TurnTable {
         policy: &A,
     ) -> Option<ToPeer>
         ensures { (address : Ip → Bool) (bytes : List ℕ)
-            → relays (setup_of self.now.limits PERMISSIONS CHANNELS address (A.allows_port policy.now))
+            → relays (setup_of self.now.limits P C address (A.allows_port policy.now))
             self.now.state self.now.state.clock (sends_on tuple.now number bytes)
             ≡ sending result bytes }
     {
@@ -115,7 +233,7 @@ impl TurnTable {
     /// The client that a datagram of a peer goes to, now.
     fn relay_to_client(&self, relay: u64, peer: Endpoint) -> Option<ToClient>
         ensures { (address : Ip → Bool) (port : Endpoint → Bool) (bytes : List ℕ)
-            → relays (setup_of self.now.limits PERMISSIONS CHANNELS address port)
+            → relays (setup_of self.now.limits P C address port)
             self.now.state self.now.state.clock (arrives relay peer bytes)
             ≡ receiving result peer bytes }
     {
@@ -136,7 +254,7 @@ impl TurnTable {
         policy: &A,
     ) -> Option<ToPeer>
         ensures step { (address : Ip → Bool) (bytes : List ℕ)
-            → step (setup_of self.old.limits PERMISSIONS CHANNELS address (A.allows_port policy.now))
+            → step (setup_of self.old.limits P C address (A.allows_port policy.now))
             self.old.state now (sends tuple.now peer bytes)
             ≡ record { state = self.new.state; output = sending result bytes } }
         ensures limits { self.new.limits ≡ self.old.limits }
@@ -157,7 +275,7 @@ impl TurnTable {
         policy: &A,
     ) -> Option<ToPeer>
         ensures step { (address : Ip → Bool) (bytes : List ℕ)
-            → step (setup_of self.old.limits PERMISSIONS CHANNELS address (A.allows_port policy.now))
+            → step (setup_of self.old.limits P C address (A.allows_port policy.now))
             self.old.state now (sends_on tuple.now number bytes)
             ≡ record { state = self.new.state; output = sending result bytes } }
         ensures limits { self.new.limits ≡ self.old.limits }
@@ -171,14 +289,65 @@ impl TurnTable {
     ///
     /// `None` if it is dropped: the socket belongs to no live allocation, or there is no permission
     /// for the peer's IP address.
+    ///
+    /// ```
+    /// use turn_table::{AllocateReply, Endpoint, FiveTuple, Limits, TurnTable, UserId};
+    ///
+    /// let limits = Limits {
+    ///     allocations: 100,
+    ///     of_user: 10,
+    ///     greatest_lifetime: 3600,
+    ///     channel_permits: false,
+    ///     old_channels: false,
+    /// };
+    /// let mut table = TurnTable::<16, 16>::new(alloc, limits, [1, 2])?;
+    /// let tuple = FiveTuple::default();
+    /// let relayed = Endpoint::default();
+    /// let opened = table.allocate(0, &tuple, UserId([1; 32]), 7, None, Ok(relayed));
+    /// if let AllocateReply::Opened { relay, .. } = opened {
+    ///     assert_eq!(rt; table.on_peer_data(0, relay, Endpoint::default()), None);
+    /// }
+    /// ```
     pub fn on_peer_data(&mut self, now: u64, relay: u64, peer: Endpoint) -> Option<ToClient>
         ensures step { (address : Ip → Bool) (port : Endpoint → Bool) (bytes : List ℕ)
-            → step (setup_of self.old.limits PERMISSIONS CHANNELS address port)
+            → step (setup_of self.old.limits P C address port)
             self.old.state now (arrives relay peer bytes)
             ≡ record { state = self.new.state; output = receiving result peer bytes } }
         ensures limits { self.new.limits ≡ self.old.limits }
     {
         self.slots.advance(now as u128);
         self.relay_to_client(relay, peer)
+    }
+
+    /// Closes allocations that have ended, as many as `ended` has room for, and writes the numbers of
+    /// their sockets at its start. Returns how many: the caller closes these sockets.
+    ///
+    /// If it returns less than the length of `ended`, no allocation is left that has ended. An
+    /// allocation that has ended keeps its slot until a poll closes it.
+    ///
+    /// ```
+    /// use turn_table::{AllocateReply, Endpoint, FiveTuple, Limits, TurnTable, UserId};
+    ///
+    /// let limits = Limits {
+    ///     allocations: 100,
+    ///     of_user: 10,
+    ///     greatest_lifetime: 3600,
+    ///     channel_permits: false,
+    ///     old_channels: false,
+    /// };
+    /// let mut table = TurnTable::<16, 16>::new(alloc, limits, [1, 2])?;
+    /// let tuple = FiveTuple::default();
+    /// let relayed = Endpoint::default();
+    /// let opened = table.allocate(0, &tuple, UserId([1; 32]), 7, None, Ok(relayed));
+    /// assert!(rt; matches!(opened, AllocateReply::Opened { .. }));
+    /// let mut ended = [0; 8];
+    /// assert_eq!(rt; table.poll(599_999_999_999, &mut ended), 0);
+    /// assert_eq!(rt; table.poll(600_000_000_000, &mut ended), 1);
+    /// ```
+    pub fn poll(&mut self, now: u64, ended: &mut [u64]) -> usize
+        ensures step { Polls self.old.state now ended.old result ended.new self.new.state }
+        ensures limits { self.new.limits ≡ self.old.limits }
+    {
+        close_ended(&mut self.slots, now as u128, ended)
     }
 }
