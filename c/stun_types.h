@@ -1111,7 +1111,8 @@ typedef struct {
 
 /* Takes the bytes at the start of a piece that belong to the message that is coming; *taken is how
    many. If they complete it, it is at the start of the buffer until the next call. It is ChannelData
-   with its padding if its first byte is 0x40 or more.
+   with its padding if its first byte is 0x40 or more. With 0x50 or more stun_types_read_channel_data
+   refuses it: its channel and the length of its data have two bytes each, and its data follows.
    BAD_ARGUMENT: fewer than 20 bytes of buffer, what is pending isn't the beginning of a message, or
    no stream carries that.
    NOT_STUN, NOT_PADDED, TOO_LARGE (expected is the buffer's size): no message begins where one had
