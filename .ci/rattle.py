@@ -17,7 +17,8 @@ PUBLIC = {
     "stun_server": "a server that replies with the client's address",
     "ice_attrs": "the attributes of ICE, and what an agent computes",
     "turn_attrs": "the attributes of TURN, ChannelData, protocols by their first byte",
-    "turn_table": "which peers a TURN server relays to",
+    "turn_table": "what a TURN server keeps, and which peers it relays to",
+    "turn_server": "a TURN server, without sockets",
     "discovery_attrs": "the attributes of NAT discovery",
     "stun_plain_text": "a message as one line of printable ASCII",
 }
