@@ -33,9 +33,7 @@ use turn_table::{
 
 /// A datagram asks the table, or is data for a peer, only if it is so: as a request whose
 /// credentials are accepted, a Send indication or a ChannelData message. It is refused only as its
-/// credentials decide, or if it shows what isn't comprehended. A request whose credentials are
-/// accepted is of the user whom it names, under the key that the look-up has for that user, and what
-/// it shows is authentic under it.
+/// credentials decide, or if it shows what isn't comprehended.
 pub fn judgments_are_so()
     ensures each { (last_channel : ℕ) (site : Site) (d : List ℕ)
         → IsSo site d (judge last_channel site d) }
@@ -43,6 +41,12 @@ pub fn judgments_are_so()
         (user : ℕ) (request : Request)
         → event_of tuple relay (judge last_channel site d) ≡ Some (asks tuple user request)
         → Asks site d user request }
+    ensures empty { (last_channel : ℕ) (site : Site) → judge last_channel site [] ≡ dropped }
+{}
+
+/// A request whose credentials are accepted is of the user whom it names, under the key that the
+/// look-up has for that user, and what it shows is authentic under it.
+pub fn requests_are_authentic()
     ensures login { (site : Site) (d : List ℕ) (user : Who) (key : UserKey)
         (algorithm reply : IntegrityAlgorithm)
         → IsDecided site d (accept user key algorithm reply)
@@ -52,7 +56,6 @@ pub fn judgments_are_so()
         → IsBytes d → IsDecided site d (accept user key algorithm reply)
         → IsSomeAnd (counted site.policy key.made_for)
         (λ served. IsAuthenticThrough served (λ _. key.bytes) d algorithm) }
-    ensures empty { (last_channel : ℕ) (site : Site) → judge last_channel site [] ≡ dropped }
 {
     accepted_is_authentic();
 }

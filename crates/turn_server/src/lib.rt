@@ -36,7 +36,7 @@ pub use judged::Judged;
 pub use judging::judge;
 pub use laws::{
     clients_do_not_meet, datagrams_are_warranted, judgments_are_so, permitted_datagrams_pass,
-    strangers_change_nothing,
+    requests_are_authentic, strangers_change_nothing,
 };
 pub use peer_list::PEERS;
 pub use peers::Peers;
