@@ -1,5 +1,5 @@
 -- What a server keeps by the datagrams that came is what its table keeps by the events that they were.
-use Rattle.std.proofs.Common.{◌≡◌, ℕ, List, [], ◌∷◌, Option, Some, None, ◌⊎◌, inl, inr, refl, ap, sym, subst, ◌∙◌}
+use Rattle.std.proofs.Common.{◌≡◌, ℕ, List, [], ◌∷◌, Option, Some, None, inl, inr, refl, ap, ◌∙◌}
 use Rattle.std.specs.Option.{option_map_or}
 use Rattle.turn_table.specs.declared.endpoints.FiveTuple.{FiveTuple}
 use Rattle.turn_table.specs.Allocations.{Setup, State}
@@ -9,7 +9,7 @@ use Rattle.turn_table.specs.Steps.{step}
 use Rattle.turn_table.specs.Warrants.{Happened}
 use Rattle.turn_server.specs.Acting.{acted}
 use Rattle.turn_server.specs.Datagrams.{Arrival, of_client, of_peer, of_time, Moment, event_in, events_in, past, kept_after, kept, Came, IsRequest}
-use Rattle.turn_server.specs.Judging.{Site, Judged, dropped, binding, refused, unknown, sent, sent_on, asked, event_of, judge}
+use Rattle.turn_server.specs.Judging.{Judged, dropped, binding, refused, unknown, sent, sent_on, asked, event_of, judge}
 use Rattle.turn_server.proofs.JudgingLemmas.{judgment_is_so, asked_is_so}
 
 abbrev after : Setup → State → ℕ → Option Event → State

@@ -23,7 +23,6 @@ use Rattle.turn_server.specs.Indications.{sent_by}
 use Rattle.turn_server.specs.Judging.{Site, Judged, dropped, binding, refused, unknown, sent, sent_on, asked, event_of, SEND, channel_message, indicated, accepted_as, decided_as, requested, by_class, message, judge}
 use Rattle.turn_server.specs.Judgments.{IsOfClass, IsDecided, IsAsked, IsSo, Asks, credentials}
 use Rattle.turn_server.specs.Requests.{asks_table}
-use Rattle.turn_server.specs.Wanted.{Wanted, request_with}
 
 -- what holds of both branches holds of the choice
 either : (P : Judged → Type 0) (b : Bool) (x y : Judged) → (b ≡ true → P x) → (b ≡ false → P y) → P (if b then x else y)

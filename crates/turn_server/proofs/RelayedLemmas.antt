@@ -1,8 +1,7 @@
 -- What goes to a peer is warranted by what came before.
-use Rattle.std.proofs.Common.{◌≡◌, ℕ, true, List, Option, Some, None, ◌⊎◌, inl, inr, refl, ap, sym, subst, ◌∙◌}
+use Rattle.std.proofs.Common.{◌≡◌, ℕ, List, Option, Some, None, ◌⊎◌, inl, inr, ap, sym, subst, ◌∙◌}
 use Rattle.stun_grammar.specs.declared.integrity_algorithm.IntegrityAlgorithm.{IntegrityAlgorithm}
 use Rattle.stun_authentication.specs.Lookups.{UserKey}
-use Rattle.turn_attrs.specs.Channels.{channel_field}
 use Rattle.turn_table.specs.declared.endpoints.Endpoint.{Endpoint}
 use Rattle.turn_table.specs.declared.endpoints.FiveTuple.{FiveTuple}
 use Rattle.turn_table.specs.Allocations.{Allocation, Setup, State}
@@ -11,12 +10,10 @@ use Rattle.turn_table.specs.Runs.{Timed, Happening, run, happening, history}
 use Rattle.turn_table.specs.Steps.{at, step}
 use Rattle.turn_table.specs.Warrants.{IsWarranted, IsRight}
 use Rattle.turn_server.specs.Acting.{sends_to, data_act, answer_act, acted, acts}
-use Rattle.turn_server.specs.ChannelMessages.{data_in}
 use Rattle.turn_server.specs.Datagrams.{Moment, events_in, past, kept, clock_at, IsRelayed}
-use Rattle.turn_server.specs.Indications.{sent_by}
 use Rattle.turn_server.specs.Judging.{Site, Judged, dropped, binding, refused, unknown, sent, sent_on, asked, judge}
 use Rattle.turn_server.specs.Wanted.{request_with}
-use Rattle.turn_server.specs.Judgments.{IsSo, IsSend}
+use Rattle.turn_server.specs.Judgments.{IsSo}
 use Rattle.turn_server.proofs.DatagramsLemmas.{kept_is_run}
 use Rattle.turn_server.proofs.JudgingLemmas.{judgment_is_so}
 

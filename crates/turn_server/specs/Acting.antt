@@ -1,6 +1,6 @@
 -- What a server does for a client's datagram: what it keeps, and what it sends (RFC 8656, sections 5 to
 -- 12).
-use Rattle.std.specs.Prelude.{◌≡◌, ℕ, List, Option, None, Some, Ok}
+use Rattle.std.specs.Prelude.{ℕ, List, Option, None, Some, Ok}
 use Rattle.stun_grammar.specs.declared.integrity_algorithm.IntegrityAlgorithm.{IntegrityAlgorithm}
 use Rattle.stun_authentication.specs.declared.answer.Refusal.{Refusal}
 use Rattle.stun_authentication.specs.Lookups.{UserKey}

@@ -5,10 +5,10 @@ use Rattle.turn_table.specs.declared.endpoints.Endpoint.{Endpoint}
 use Rattle.turn_table.specs.declared.endpoints.FiveTuple.{FiveTuple}
 use Rattle.turn_table.specs.Allocations.{Setup, State}
 use Rattle.turn_table.specs.Events.{Request, Event, arrives, polls}
-use Rattle.turn_table.specs.Runs.{Timed, Happening, begun, run, history}
+use Rattle.turn_table.specs.Runs.{Timed, Happening, begun, history}
 use Rattle.turn_table.specs.Steps.{at, step}
 use Rattle.turn_table.specs.Warrants.{IsWarranted}
-use Rattle.turn_server.specs.Acting.{Act, drops, binds, refuses, refuses_types, responds, sends_to, acts}
+use Rattle.turn_server.specs.Acting.{acts}
 use Rattle.turn_server.specs.ChannelMessages.{data_in}
 use Rattle.turn_server.specs.Indications.{sent_by}
 use Rattle.turn_server.specs.Judging.{Site, event_of, judge}

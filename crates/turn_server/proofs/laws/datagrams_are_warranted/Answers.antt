@@ -1,4 +1,4 @@
-use Rattle.std.proofs.Common.{◌≡◌, ◌≤◌, sym, subst, length}
+use Rattle.std.proofs.Common.{◌≤◌, sym, subst, length}
 use Rattle.std.specs.List.{AllByRecursion}
 use Rattle.turn_table.specs.Allocations.{State}
 use Rattle.turn_table.specs.Warrants.{IsWithin}

@@ -1,5 +1,4 @@
 use Rattle.std.proofs.Common.{◌≡◌, sym, subst}
-use Rattle.std.specs.Prelude.{List, ℕ}
 use Rattle.turn_table.specs.Allocations.{State}
 use Rattle.turn_table.specs.Events.{sends, arrives, to_peer}
 use Rattle.turn_table.specs.Steps.{at, step}

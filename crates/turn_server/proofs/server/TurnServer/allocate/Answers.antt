@@ -1,4 +1,4 @@
-use Rattle.std.proofs.Common.{◌≡◌, ℕ, sym, subst}
+use Rattle.std.proofs.Common.{ℕ, subst}
 use Rattle.turn_table.specs.Allocates.{Allocates}
 use Rattle.turn_table.specs.Outputs.{setup_of}
 use Rattle.turn_table.specs.Tables.{Table}

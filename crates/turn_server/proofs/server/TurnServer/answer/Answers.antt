@@ -1,4 +1,4 @@
-use Rattle.std.proofs.Common.{◌≡◌, ℕ, ap, sym, subst}
+use Rattle.std.proofs.Common.{sym, subst}
 use Rattle.turn_table.specs.Outputs.{setup_of}
 use Rattle.turn_table.specs.Users.{user_number}
 use Rattle.turn_server.specs.declared.request.Request.{Request}
