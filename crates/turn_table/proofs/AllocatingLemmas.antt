@@ -1,18 +1,18 @@
 -- An Allocate request, by what the calls of the table return.
-use Rattle.std.proofs.Common.{◌≡◌, ℕ, zero, suc, ◌+◌, ◌<◌, ◌≤◌, Bool, true, false, not, ◌||◌, List, [], ◌∷◌, length, Option, None, Some, Result, Ok, Err, refl, sym, ap, subst, ◌∙◌, le-ltb, eqb-true, arith}
-use Rattle.std.specs.Prelude.{◌==◌, max, nat_lt}
+use Rattle.std.proofs.Common.{◌≡◌, ℕ, suc, ◌+◌, ◌<◌, ◌≤◌, Bool, true, false, not, ◌||◌, List, [], ◌∷◌, length, Option, None, Some, Result, Ok, Err, refl, sym, ap, subst, ◌∙◌, le-ltb, eqb-true, arith}
+use Rattle.std.specs.Prelude.{max, nat_lt}
 use Rattle.std.specs.List.{list_any}
 use Rattle.std.specs.Option.{option_map_or}
-use Rattle.std.proofs.lemmas.Bool.{cond-true, cond-false, lt-ltb, ltb-false, or_left}
+use Rattle.std.proofs.lemmas.Bool.{cond-true, cond-false, lt-ltb, or_left}
 use Rattle.turn_table.specs.Endpoints.{Endpoint, FiveTuple}
 use Rattle.turn_table.specs.Allocations.{seconds, Allocation, Setup, State, allocation_of}
-use Rattle.turn_table.specs.Events.{Offer, allocate, asks, answers, refused, allocated}
-use Rattle.turn_table.specs.Rows.{has_quota, unmet_code, uses_relay, room_fault, allocate_fault}
-use Rattle.turn_table.specs.Steps.{Step, allocated_for, at, refuses, allocates_first, allocates_new, allocates_again, serves, happens}
+use Rattle.turn_table.specs.Events.{Offer, allocate, answers, allocated}
+use Rattle.turn_table.specs.Rows.{has_quota, unmet_code, uses_relay, room_fault}
+use Rattle.turn_table.specs.Steps.{Step, allocated_for, at, refuses, allocates_first, allocates_new, allocates_again, serves}
 use Rattle.turn_table.specs.Slots.{Kept, fresh, Opens}
 use Rattle.turn_table.specs.Allocates.{offered, answer_to, IsFor, AnswersAgain, Allocates}
 use Rattle.turn_table.specs.declared.reply.AllocateReply.{AllocateReply}
-use Rattle.turn_table.specs.declared.reply.AllocateReply.TheVariants.{Opened, Again, Refused}
+use Rattle.turn_table.specs.declared.reply.AllocateReply.TheVariants.{Opened, Refused}
 use Rattle.turn_table.proofs.SlotsLemmas.{not_true}
 use Rattle.turn_table.proofs.FilteredLemmas.{neither}
 

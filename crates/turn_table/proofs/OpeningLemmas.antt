@@ -1,5 +1,5 @@
 -- A table with no allocation, and with one more.
-use Rattle.std.proofs.Common.{◌≡◌, ℕ, zero, suc, ◌+◌, ◌*◌, ◌%◌, ◌<◌, ◌≤◌, Bool, true, false, cond, List, [], ◌∷◌, ◌++◌, length, length-set, get_or, drop, Option, None, Some, Result, Ok, Err, refl, sym, ap, subst, ◌∙◌, find, eqb-true, arith, inl, inr}
+use Rattle.std.proofs.Common.{◌≡◌, ℕ, zero, suc, ◌+◌, ◌%◌, ◌<◌, ◌≤◌, Bool, true, false, cond, List, [], ◌∷◌, ◌++◌, length, length-set, get_or, drop, Option, None, Some, Result, Ok, Err, refl, sym, ap, subst, ◌∙◌, find, eqb-true, arith, inl, inr}
 use Rattle.std.specs.Prelude.{slice_set, ◌==◌}
 use Rattle.std.specs.List.{list_any}
 use Rattle.std.specs.Result.{OnOk, is_ok}
@@ -24,10 +24,6 @@ front_is (y ∷ ys) x some is = ap (λ (z : ℕ). z ∷ ys) (sym is)
 pub of_ok : {T E : Type 0} (r : Result T E) (P : Type 0) → is_ok r ≡ true → OnOk r P → P
 of_ok (Ok x) P so p = p
 of_ok (Err e) P so p = absurd cc
-
-pub when_ok : {X : Type 0} (b : Bool) (x y : X) (z : X) → b ≡ true → z ≡ cond b x y → z ≡ x
-when_ok true x y z so is = is
-when_ok false x y z so is = absurd cc
 
 -- ---- How many there are, and which sockets they have
 

@@ -1,18 +1,16 @@
 -- A poll goes once round the allocations: those that have ended are closed, and the others put last.
-use Rattle.std.proofs.Common.{◌≡◌, ℕ, zero, suc, ◌+◌, ◌<◌, ◌≤◌, Bool, true, false, not, ◌||◌, List, [], ◌∷◌, ◌++◌, filter, length, take, drop, cond, refl, sym, ap, subst, ◌∙◌, append_assoc, eqb-true, eq-eqb, arith}
+use Rattle.std.proofs.Common.{◌≡◌, ℕ, zero, suc, ◌<◌, ◌≤◌, Bool, true, false, not, ◌||◌, List, [], ◌∷◌, ◌++◌, filter, length, take, drop, cond, refl, sym, ap, subst, ◌∙◌, append_assoc, eqb-true, eq-eqb, arith}
 use Rattle.std.specs.Prelude.{◌==◌, ◌&&◌}
 use Rattle.std.specs.List.{list_any, list_all}
 use Rattle.std.proofs.lemmas.Bool.{cond_both, cond-true, cond-false, and_parts, and_from, or_parts, or_left, or_right}
-use Rattle.std.proofs.lemmas.List.{take_more_set, drop-set-lt}
 use Rattle.std.proofs.lemmas.List.Elements.{filter-append}
 use Rattle.std.proofs.lemmas.List.Folds.{list_any-append}
-use Rattle.turn_table.specs.Allocations.{Allocation, State, is_live}
+use Rattle.turn_table.specs.Allocations.{Allocation, is_live}
 use Rattle.turn_table.specs.Rows.{uses_relay}
 use Rattle.turn_table.specs.Steps.{Step, at, is_over}
 use Rattle.turn_table.specs.Slots.{Kept, kept_at}
 use Rattle.turn_table.specs.Events.{closes}
 use Rattle.turn_table.specs.Polls.{Polls}
-use Rattle.turn_table.proofs.SlotsLemmas.{not_true}
 use Rattle.turn_table.proofs.FilteredLemmas.{neither}
 
 -- ---- Lists

@@ -1,5 +1,5 @@
 -- A request that is served in its slot, as the whole table sees it.
-use Rattle.std.proofs.Common.{◌≡◌, ℕ, ◌+◌, ◌*◌, ◌%◌, ◌^◌, ◌<◌, ◌≤◌, arith, true, false, List, length, length-set, Option, None, Some, refl, sym, ap, subst, ◌∙◌, find, ltb-true, eqb-true}
+use Rattle.std.proofs.Common.{◌≡◌, ℕ, ◌+◌, ◌%◌, ◌^◌, ◌<◌, ◌≤◌, arith, true, false, List, length, length-set, Option, None, Some, refl, sym, ap, subst, ◌∙◌, find, ltb-true, eqb-true}
 use Rattle.std.specs.Prelude.{slice_set, max, min, ◌==◌, ◌&&◌, MatchOption}
 use Rattle.std.specs.Option.{option_map_or}
 use Rattle.std.proofs.lemmas.Option.{none-some}

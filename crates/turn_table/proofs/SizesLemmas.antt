@@ -1,5 +1,5 @@
 -- How many bytes a slot has.
-use Rattle.std.proofs.Common.{◌≡◌, ℕ, ◌+◌, ◌-◌, ◌*◌, ◌%◌, ◌<◌, ◌≤◌, arith}
+use Rattle.std.proofs.Common.{ℕ, ◌+◌, ◌*◌, ◌<◌, ◌≤◌, arith}
 use prog.Memory.{up}
 
 up_less : (k e : ℕ) → 0 < k → up k e < e + k

@@ -1,4 +1,4 @@
-use Rattle.std.proofs.Common.{◌≡◌, refl, arith}
+use Rattle.std.proofs.Common.{refl, arith}
 use Rattle.std.proofs.lemmas.Grind.{common_steps}
 use Rattle.turn_table.specs.Slots.{in_slot}
 use Rattle.turn_table.proofs.IndexLemmas.{finds_next, inside_next}

@@ -1,4 +1,4 @@
-use Rattle.std.proofs.Common.{sym, ◌∙◌, arith}
+use Rattle.std.proofs.Common.{arith}
 use Rattle.std.proofs.lemmas.Grind.{common_steps}
 use Rattle.turn_table.proofs.OpeningLemmas.{listed_long}
 use Rattle.turn_table.proofs.slots.Slots.len.Goals as goal

@@ -1,8 +1,8 @@
-use Rattle.std.proofs.Common.{◌≡◌, ℕ, ◌+◌, ◌<◌, ◌≤◌, List, ◌∷◌, length, length-set, drop, deque_capacity, None, Some, sym, ap, subst, refl, ◌∙◌, arith, inl}
-use Rattle.std.specs.Prelude.{slice_set, cond}
+use Rattle.std.proofs.Common.{◌≡◌, ℕ, List, ◌∷◌, length-set, drop, None, Some, sym, ap, subst, refl, ◌∙◌, arith, inl}
+use Rattle.std.specs.Prelude.{cond}
 use Rattle.std.proofs.lemmas.Grind.{common_steps}
-use Rattle.turn_table.specs.Allocations.{Allocation, State}
-use Rattle.turn_table.specs.Slots.{Kept, HasRoom, IsTable, listed, if_ended, in_slot, Turns}
+use Rattle.turn_table.specs.Allocations.{Allocation}
+use Rattle.turn_table.specs.Slots.{IsTable, listed, if_ended, in_slot}
 use Rattle.turn_table.proofs.OpeningLemmas.{front_is}
 use Rattle.turn_table.proofs.TurningLemmas.{table_turned, table_closed, listed_first, listed_last, others_listed, others_unused, not_ended, was_wanted, has_ended}
 use Rattle.turn_table.proofs.slots.Slots.turn.Goals as goal

@@ -1,12 +1,11 @@
-use Rattle.std.proofs.Common.{◌≡◌, ℕ, List, length, ◌≤◌, subst, sym, ap, ◌∙◌, arith}
+use Rattle.std.proofs.Common.{◌≡◌, ℕ, length, ◌≤◌, subst, sym, ap, ◌∙◌}
 use Rattle.turn_table.specs.Users.{user_number}
-use Rattle.turn_table.specs.Allocations.{Allocation, State}
 use Rattle.turn_table.specs.Steps.{at}
 use Rattle.turn_table.specs.Outputs.{setup_of}
 use Rattle.turn_table.specs.Slots.{Kept}
 use Rattle.turn_table.specs.Tables.{Table}
 use Rattle.turn_table.specs.Allocates.{Allocates}
-use Rattle.turn_table.specs.declared.reply.AllocateReply.TheVariants.{Opened, Again, Refused}
+use Rattle.turn_table.specs.declared.reply.AllocateReply.TheVariants.{Opened, Refused}
 use Rattle.turn_table.proofs.AllocatingLemmas.{again_is, unmet_is, over_quota_is, full_is, opened_is}
 use Rattle.turn_table.proofs.table.TurnTable.allocate.Goals as goal
 
