@@ -99,7 +99,13 @@ impl<const P: usize, const C: usize> TurnServer<P, C> {
     /// # Errors
     ///
     /// Only if an allocation failed. It takes all memory that the server ever needs.
+    ///
+    /// # Requires
+    ///
+    /// `P` and `C` are at most 65,535.
     pub fn new(alloc: Global, limits: Limits, seed: [u64; 2]) -> Result<Self, AllocError>
+        requires permissions { P ≤ 65_535 }
+        requires channels { C ≤ 65_535 }
         ensures { IfOk result (λ server. server ≡ record { limits = limits; state = begun }) }
     {
         Ok(TurnServer {

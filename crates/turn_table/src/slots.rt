@@ -27,9 +27,6 @@ use std::marker::Model;
 /// How many slots there may be: a socket's number has its slot in its low 32 bits.
 const PLACES: u64 = 4_294_967_296;
 
-/// The most permissions, and channels, that an allocation can have room for.
-const MOST: usize = 65_535;
-
 /// The allocations that are kept.
 #[derive(Drop)]
 pub(crate) struct Slots<const P: usize, const C: usize> {
@@ -129,15 +126,11 @@ impl<const P: usize, const C: usize> Slots<P, C> {
     }
 
     /// Slots with no allocation, with all the memory that they need.
-    ///
-    /// Fails if memory runs out, or `P` or `C` is above 65,535.
     pub(crate) fn new(alloc: Global, most: u32, seed: [u64; 2]) -> Result<Self, AllocError>
-        ensures begun { IfOk result (λ table. table ≡ record { most = most; state = begun }) }
-        ensures small { IfOk result (λ _. (P ≤ 65_535) × (C ≤ 65_535)) }
+        requires permissions { P ≤ 65_535 }
+        requires channels { C ≤ 65_535 }
+        ensures { IfOk result (λ table. table ≡ record { most = most; state = begun }) }
     {
-        if P > MOST || C > MOST {
-            return Err(AllocError);
-        }
         let (slots, free) = free_slots(alloc, most)?;
         let order = VecDeque::with_capacity(alloc, most as usize)?;
         let by_tuple = HashMap::with_capacity_and_hasher(

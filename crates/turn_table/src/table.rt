@@ -1,6 +1,6 @@
 //! The table of a TURN server.
 
-ghost use Rattle.std.specs.Prelude.{◌≡◌, ℕ, List, Bool, IfOk};
+ghost use Rattle.std.specs.Prelude.{◌≡◌, ◌≤◌, ℕ, List, Bool, IfOk};
 ghost use Rattle.turn_table.specs.Endpoints.{Ip, Endpoint};
 ghost use Rattle.turn_table.specs.Users.{user_number};
 ghost use Rattle.turn_table.specs.Events.{asks, sends, sends_on, arrives, answers};
@@ -71,9 +71,14 @@ impl<const P: usize, const C: usize> Model for TurnTable<P, C> {
 impl<const P: usize, const C: usize> TurnTable<P, C> {
     /// A table with no allocation. `seed` keys the hash of 5-tuples: take random numbers.
     ///
-    /// Fails if memory runs out, or `P` or `C` is above 65,535. It takes all memory that the table ever
-    /// needs.
+    /// Fails if memory runs out. It takes all memory that the table ever needs.
+    ///
+    /// # Requires
+    ///
+    /// `P` and `C` are at most 65,535.
     pub fn new(alloc: Global, limits: Limits, seed: [u64; 2]) -> Result<Self, AllocError>
+        requires permissions { P ≤ 65_535 }
+        requires channels { C ≤ 65_535 }
         ensures { IfOk result (λ table. table ≡ record { limits = limits; state = begun }) }
     {
         let slots = Slots::new(alloc, limits.allocations, seed)?;

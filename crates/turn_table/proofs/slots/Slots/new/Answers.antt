@@ -4,7 +4,7 @@ use Rattle.turn_table.proofs.SizesLemmas.{slot_fits}
 use Rattle.turn_table.proofs.slots.Slots.new.Goals as goal
 
 pub free_slots-requires : goal.free_slots-requires
-free_slots-requires g c = slot_fits g.row.P g.row.C (omega arith) (omega arith)
+free_slots-requires g c = slot_fits g.row.P g.row.C c.requires.permissions c.requires.channels
 
 pub invariant_of-result : goal.invariant_of-result
 invariant_of-result g c = record {
@@ -16,6 +16,6 @@ invariant_of-result g c = record {
       let free = c.in_ok-slots.ensures.room in
       let index = c.in_ok-by_tuple.ensures.spare in
       record { order = omega (arith, all, order); free = omega (arith, all, free); index = omega (arith, all, index) };
-  permissions = omega arith;
-  channels = omega arith;
+  permissions = c.requires.permissions;
+  channels = c.requires.channels;
 }
