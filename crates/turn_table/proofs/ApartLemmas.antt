@@ -3,12 +3,12 @@ use Rattle.std.proofs.Common.{◌≡◌, ℕ, ◌+◌, ◌-◌, ◌/◌, ◌≤�
 use Rattle.std.specs.List.{list_any}
 use Rattle.std.specs.Prelude.{◌==◌, ◌&&◌, nat_lt, max, count_by}
 use Rattle.std.specs.Option.{option_map_or, option_or}
-use Rattle.std.proofs.lemmas.Bool.{cond_both, cond-true, cond-false, and_parts, or_parts, not-false, lt-ltb, false≢true}
+use Rattle.std.proofs.lemmas.Bool.{cond_both, cond-true, cond-false, and_parts, or_parts, or_right, not-false, lt-ltb, false≢true}
 use Rattle.turn_table.specs.Endpoints.{Endpoint, FiveTuple, is_tuple}
 use Rattle.turn_table.specs.Allocations.{seconds, Channel, Allocation, Setup, State, is_live, is_of, is_at, allocation_of, is_permitted, channel_by_peer}
 use Rattle.turn_table.specs.Events.{Offer, Request, allocate, refresh, permit, bind, unfit, Event, asks, sends, sends_on, arrives, polls, Answer, allocated, refreshed, done, Output, answers, to_client, to_client_on, nothing}
 use Rattle.turn_table.specs.Relays.{sent, sent_on, received}
-use Rattle.turn_table.specs.Rows.{is_users, uses_relay, room_fault, allocate_fault, owner_fault, refresh_fault, permit_fault, bind_fault}
+use Rattle.turn_table.specs.Rows.{is_users, uses_relay, room_fault, has_quota, allocate_fault, unmet_code, owner_fault, refresh_fault, permit_fault, bind_fault}
 use Rattle.turn_table.specs.Steps.{Step, refreshed_for, at, opened, changed, lasting, lasting_for, lasting_state, permitting, binding, refuses, allocates_again, allocates_first, allocates_new, fulfils_for, serves, happens, is_over}
 use Rattle.turn_table.specs.Runs.{Timed, Happening, run, happening, history}
 use Rattle.turn_table.specs.Apart.{is_own, is_others, wish_of, own_event, alone, seen, Sight, sight, all_sights, sights}
@@ -43,16 +43,44 @@ room_alone tuple setup state offer none =
     (ap not (lt-ltb (length (filter (is_his tuple) state.allocations)) setup.most_allocations (omega (arith, less, fewer))))
     (any_filter (uses_relay offer.relay) (is_his tuple) state.allocations parts.1))
 
-fault_alone : (tuple : FiveTuple) (setup : Setup) (state : State) (now user : ℕ) (offer : Offer) → allocate_fault setup state now user offer ≡ None → allocate_fault setup (part tuple state) now user offer ≡ None
-fault_alone tuple setup state now user offer none =
-    cond_both (nat_lt (count_by (is_users now user) state.allocations) setup.most_of_user) (room_fault setup state offer) (Some 486) (λ (o : Option ℕ). o ≡ None → allocate_fault setup (part tuple state) now user offer ≡ None)
-    (λ within room.
+-- a user that is within its quota among all is so alone
+quota_alone : (tuple : FiveTuple) (setup : Setup) (state : State) (now user : ℕ) → has_quota setup state now user ≡ true → has_quota setup (part tuple state) now user ≡ true
+quota_alone tuple setup state now user within =
     let less = ltb-true (count_by (is_users now user) state.allocations) setup.most_of_user within in
     let fewer = count_filter (is_users now user) (is_his tuple) state.allocations in
-    cond-true (nat_lt (count_by (is_users now user) (filter (is_his tuple) state.allocations)) setup.most_of_user) (room_fault setup (part tuple state) offer) (Some 486)
-    (lt-ltb (count_by (is_users now user) (filter (is_his tuple) state.allocations)) setup.most_of_user (omega (arith, less, fewer)))
+    lt-ltb (count_by (is_users now user) (filter (is_his tuple) state.allocations)) setup.most_of_user (omega (arith, less, fewer))
+
+fault_alone : (tuple : FiveTuple) (setup : Setup) (state : State) (now user : ℕ) (offer : Offer) → allocate_fault setup state now user offer ≡ None → allocate_fault setup (part tuple state) now user offer ≡ None
+fault_alone tuple setup state now user offer none =
+    cond_both (has_quota setup state now user) (room_fault setup state offer) (Some 486) (λ (o : Option ℕ). o ≡ None → allocate_fault setup (part tuple state) now user offer ≡ None)
+    (λ within room.
+    cond-true (has_quota setup (part tuple state) now user) (room_fault setup (part tuple state) offer) (Some 486) (quota_alone tuple setup state now user within)
     ∙ room_alone tuple setup state offer room)
     (λ _ never. absurd cc) none
+
+-- a code that isn't changed
+unmet_kept : (within : Bool) (code : ℕ) → ((code == 508) ≡ true → within ≡ true) → unmet_code within code ≡ code
+unmet_kept within code kept =
+    cond_both ((code == 508) && not within) 486 code (λ (n : ℕ). n ≡ code)
+    (λ lacks.
+    let both = and_parts (code == 508) (not within) lacks in
+    absurd (false≢true (sym (ap not (kept both.0)) ∙ both.1)))
+    (λ _. refl)
+
+-- a code that was given for want of a socket was given within the quota
+lacking : (is_508 : Bool) (code : ℕ) → (code == 508) ≡ is_508 → (cond (is_508 && true) 486 code == 508) ≡ true → ⊥
+lacking true code is never = false≢true never
+lacking false code is never = false≢true (sym is ∙ never)
+
+met_quota : (within : Bool) (code : ℕ) → (unmet_code within code == 508) ≡ true → within ≡ true
+met_quota true code no_socket = refl
+met_quota false code no_socket = absurd (lacking (code == 508) code refl no_socket)
+
+-- a code that others have no part in is the same whatever the quota
+plain : (is_508 : Bool) (code : ℕ) (within other : Bool) → (code == 508) ≡ is_508 → is_others (cond (is_508 && not within) 486 code) ≡ false → cond (is_508 && not other) 486 code ≡ cond (is_508 && not within) 486 code
+plain false code within other is others_no = refl
+plain true code true other is others_no = absurd (false≢true (sym others_no ∙ or_right (code == 486) (code == 508) is))
+plain true code false other is others_no = absurd (false≢true (sym others_no))
 
 -- ---- His requests
 
@@ -74,23 +102,37 @@ fault_code setup state now user offer code =
     cond_both (nat_lt (count_by (is_users now user) state.allocations) setup.most_of_user) (room_fault setup state offer) (Some 486) (λ (o : Option ℕ). o ≡ Some code → is_others code ≡ true)
     (λ _ e. room_code setup state offer code e) (λ _ e. let same : 486 ≡ code = cc in subst (λ (c : ℕ). is_others c ≡ true) same refl)
 
+-- that there is no room is found within the quota
+fault_quota : (setup : Setup) (state : State) (now user : ℕ) (offer : Offer) (code : ℕ) → allocate_fault setup state now user offer ≡ Some code → (code == 508) ≡ true → has_quota setup state now user ≡ true
+fault_quota setup state now user offer code =
+    cond_both (has_quota setup state now user) (room_fault setup state offer) (Some 486) (λ (o : Option ℕ). o ≡ Some code → (code == 508) ≡ true → has_quota setup state now user ≡ true)
+    (λ within _ _. within)
+    (λ _ e no_room. let same : 486 ≡ code = cc in absurd (false≢true (subst (λ (c : ℕ). (c == 508) ≡ true) (sym same) no_room)))
+
 new_by : (setup : Setup) (now : ℕ) (tuple : FiveTuple) (user id : ℕ) (lifetime : Option ℕ) (offer : Offer) (state : State) (fault : Option ℕ) → (fault ≡ None → allocate_fault setup (part tuple state) now user offer ≡ None)
-    → ((code : ℕ) → fault ≡ Some code → is_others code ≡ true)
+    → ((code : ℕ) → fault ≡ Some code → is_others code ≡ true) → ((code : ℕ) → fault ≡ Some code → (code == 508) ≡ true → has_quota setup (part tuple state) now user ≡ true)
     → let s = option_map_or (λ code. refuses tuple code state) fault (allocates_first setup now tuple user id lifetime state offer) in
     allocates_new setup now tuple user id lifetime (wish_of s.output (Ok offer)) (part tuple state) ≡ part_step tuple s
-new_by setup now tuple user id lifetime offer state None alone_too others =
+new_by setup now tuple user id lifetime offer state None alone_too others within =
     ap (λ (f : Option ℕ). option_map_or (λ code. refuses tuple code (part tuple state)) f (allocates_first setup now tuple user id lifetime (part tuple state) offer)) (alone_too refl)
     ∙ first_alone setup now tuple user id lifetime state offer
-new_by setup now tuple user id lifetime offer state (Some code) alone_too others =
+new_by setup now tuple user id lifetime offer state (Some code) alone_too others within =
     ap (λ (w : Result Offer ℕ). allocates_new setup now tuple user id lifetime w (part tuple state)) (cond-true (is_others code) (Err code) (Ok offer) (others code refl))
+    ∙ ap (λ (c : ℕ). refuses tuple c (part tuple state)) (unmet_kept (has_quota setup (part tuple state) now user) code (within code refl))
 
 new_alone : (setup : Setup) (now : ℕ) (tuple : FiveTuple) (user id : ℕ) (lifetime : Option ℕ) (wish : Result Offer ℕ) (state : State)
     → let s = allocates_new setup now tuple user id lifetime wish state in
     allocates_new setup now tuple user id lifetime (wish_of s.output wish) (part tuple state) ≡ part_step tuple s
 new_alone setup now tuple user id lifetime (Err code) state =
-    cond_both (is_others code) (Err code) (Err code) (λ (w : Result Offer ℕ). allocates_new setup now tuple user id lifetime w (part tuple state) ≡ part_step tuple (refuses tuple code state)) (λ _. refl) (λ _. refl)
+    let within = has_quota setup state now user in
+    let met = has_quota setup (part tuple state) now user in
+    let given = unmet_code within code in
+    cond_both (is_others given) (Err given) (Err code) (λ (w : Result Offer ℕ). allocates_new setup now tuple user id lifetime w (part tuple state) ≡ part_step tuple (refuses tuple given state))
+    (λ _. ap (λ (c : ℕ). refuses tuple c (part tuple state)) (unmet_kept met given (λ no_socket. quota_alone tuple setup state now user (met_quota within code no_socket))))
+    (λ no. ap (λ (c : ℕ). refuses tuple c (part tuple state)) (plain (code == 508) code within met refl no))
 new_alone setup now tuple user id lifetime (Ok offer) state =
     new_by setup now tuple user id lifetime offer state (allocate_fault setup state now user offer) (fault_alone tuple setup state now user offer) (fault_code setup state now user offer)
+    (λ code e no_room. quota_alone tuple setup state now user (fault_quota setup state now user offer code e no_room))
 
 cond_part : (tuple : FiveTuple) (b : Bool) (one other : Step) → cond b (part_step tuple one) (part_step tuple other) ≡ part_step tuple (cond b one other)
 cond_part tuple true one other = refl

@@ -25,3 +25,8 @@ mod TablesLemmas
 mod ServedLemmas
 mod OpeningLemmas
 mod StepsLemmas
+mod IndexLemmas
+mod SizesLemmas
+mod TurningLemmas
+mod PollingLemmas
+mod AllocatingLemmas

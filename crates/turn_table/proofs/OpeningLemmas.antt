@@ -1,5 +1,5 @@
 -- A table with no allocation, and with one more.
-use Rattle.std.proofs.Common.{◌≡◌, ℕ, zero, suc, ◌+◌, ◌%◌, ◌<◌, ◌≤◌, Bool, true, false, cond, List, [], ◌∷◌, ◌++◌, length, length-set, get_or, drop, Option, None, Some, Result, Ok, Err, refl, sym, ap, subst, ◌∙◌, find, eqb-true, arith, inl, inr}
+use Rattle.std.proofs.Common.{◌≡◌, ℕ, zero, suc, ◌+◌, ◌*◌, ◌%◌, ◌<◌, ◌≤◌, Bool, true, false, cond, List, [], ◌∷◌, ◌++◌, length, length-set, get_or, drop, Option, None, Some, Result, Ok, Err, refl, sym, ap, subst, ◌∙◌, find, eqb-true, arith, inl, inr}
 use Rattle.std.specs.Prelude.{slice_set, ◌==◌}
 use Rattle.std.specs.List.{list_any}
 use Rattle.std.specs.Result.{OnOk, is_ok}
@@ -7,9 +7,9 @@ use Rattle.std.proofs.lemmas.Option.{none-some}
 use Rattle.std.proofs.lemmas.Bool.{cond_both, cond-true, cond-false, and_from, lt-ltb}
 use Rattle.std.proofs.lemmas.List.{get_or-set_same, get_or-set_other}
 use Rattle.turn_table.specs.Endpoints.{FiveTuple, is_tuple}
-use Rattle.turn_table.specs.Allocations.{Allocation, is_live, is_of}
+use Rattle.turn_table.specs.Allocations.{seconds, Allocation, is_live, is_of}
 use Rattle.turn_table.specs.Rows.{uses_relay}
-use Rattle.turn_table.specs.Slots.{in_slot, put_first, listed, Has, named, places, Finds, ArePlaced, AreCounted, IsTable, AreFree}
+use Rattle.turn_table.specs.Slots.{in_slot, put_first, listed, Has, named, places, Finds, ArePlaced, IsIndex, AreCounted, IsTable, AreFree}
 use Rattle.turn_table.proofs.AddressesLemmas.{tuple_is_itself}
 use Rattle.turn_table.proofs.FilteredLemmas.{neither}
 use Rattle.turn_table.proofs.SlotsLemmas.{not_true, some_is, named_at, only_one, find_unique}
@@ -35,7 +35,7 @@ first_long : (o : Option Allocation) (all : List Allocation) (a : Allocation) �
 first_long None all a is = absurd (none-some a is)
 first_long (Some b) all a is = refl
 
-listed_long : (slots : List (Option Allocation)) (order : List ℕ) → ((i : ℕ) → Has i order → (a : Allocation) × (in_slot slots i ≡ Some a)) → length (listed slots order) ≡ length order
+pub listed_long : (slots : List (Option Allocation)) (order : List ℕ) → ((i : ℕ) → Has i order → (a : Allocation) × (in_slot slots i ≡ Some a)) → length (listed slots order) ≡ length order
 listed_long slots [] used = refl
 listed_long slots (i ∷ order) used =
     let its = used i (inl refl) in
@@ -61,6 +61,28 @@ pub there_is_room : (slots : List (Option Allocation)) (order rest : List ℕ) (
 there_is_room slots order rest place counted =
     let long = listed_long slots order counted.used in
     let all : length order + length (place ∷ rest) ≡ length slots = counted.all in
+    omega (arith, long, all)
+
+pub none_left : (free : List ℕ) → (0 < length free → ⊥) → free ≡ []
+none_left [] none = refl
+none_left (i ∷ free) none = absurd (none (omega arith))
+
+-- the slots by another index
+pub table_indexed : (now most : ℕ) (slots : List (Option Allocation)) (order free : List ℕ) (entries other : List (FiveTuple × ℕ)) → IsTable now slots order free entries → IsIndex now slots other most → IsTable now slots order free other
+table_indexed now most slots order free entries other table index = record {
+  finds = index.finds;
+  placed = table.placed;
+  inside = index.inside;
+  counted = table.counted;
+  soon = table.soon;
+  few = table.few;
+  early = table.early;
+}
+
+pub there_is_none : (slots : List (Option Allocation)) (order : List ℕ) → AreCounted slots order [] → length slots ≤ length (listed slots order)
+there_is_none slots order counted =
+    let long = listed_long slots order counted.used in
+    let all : length order + 0 ≡ length slots = counted.all in
     omega (arith, long, all)
 
 -- ---- One more
@@ -94,8 +116,8 @@ counted_opened slots order rest place a counted =
     }
 
 pub table_opened : (now : ℕ) (slots : List (Option Allocation)) (order rest : List ℕ) (place : ℕ) (entries more : List (FiveTuple × ℕ)) → IsTable now slots order (place ∷ rest) entries → (a : Allocation) → a.relay % places ≡ place
-    → find (is_of now a.tuple) (listed slots order) ≡ None → ((q : FiveTuple) → named more q ≡ cond (is_tuple a.tuple q) (Some place) (named entries q)) → IsTable now (slice_set slots place (Some a)) (place ∷ order) rest more
-table_opened now slots order rest place entries more table a placed none says =
+    → a.until ≤ now + seconds 4_294_967_295 → find (is_of now a.tuple) (listed slots order) ≡ None → ((q : FiveTuple) → named more q ≡ cond (is_tuple a.tuple q) (Some place) (named entries q)) → IsTable now (slice_set slots place (Some a)) (place ∷ order) rest more
+table_opened now slots order rest place entries more table a placed soon none says =
     let free = table.counted.unused place (inl refl) in
     let long = length-set slots place (Some a) in
     record {
@@ -110,6 +132,7 @@ table_opened now slots order rest place entries more table a placed none says =
           (cond_both (is_tuple a.tuple t) (Some place) (named entries t) (λ (o : Option ℕ). o ≡ Some k → k < length slots)
           (λ _ e. subst (λ (m : ℕ). m < length slots) (some_is place k e) free.0) (λ _ e. table.inside t k e) (sym (says t) ∙ is));
       counted = counted_opened slots order rest place a table.counted;
+      soon = λ j b at. in_set slots place a free.0 j b at (λ (_ : ℕ) (c : Allocation). c.until ≤ now + seconds 4_294_967_295) soon (λ _ at_old. table.soon j b at_old);
       few = subst (λ (n : ℕ). n ≤ places) (sym long) table.few;
       early = table.early;
     }
@@ -153,6 +176,7 @@ table_free slots free most entries are none few = record {
     free_apart = are.apart;
     all = let long = are.long in let all = are.all in omega (arith, long, all);
   };
+  soon = λ i a at. absurd (none-some a (sym (are.none i) ∙ at));
   few = let all = are.all in omega (arith, all, few);
   early = omega arith;
 }

@@ -1,6 +1,6 @@
 -- A request that is served in its slot, as the whole table sees it.
-use Rattle.std.proofs.Common.{◌≡◌, ℕ, ◌+◌, ◌%◌, ◌<◌, ◌≤◌, true, false, List, length, length-set, Option, None, Some, refl, sym, ap, subst, ◌∙◌, find, ltb-true, eqb-true}
-use Rattle.std.specs.Prelude.{slice_set, ◌==◌, ◌&&◌, MatchOption}
+use Rattle.std.proofs.Common.{◌≡◌, ℕ, ◌+◌, ◌*◌, ◌%◌, ◌^◌, ◌<◌, ◌≤◌, arith, true, false, List, length, length-set, Option, None, Some, refl, sym, ap, subst, ◌∙◌, find, ltb-true, eqb-true}
+use Rattle.std.specs.Prelude.{slice_set, max, min, ◌==◌, ◌&&◌, MatchOption}
 use Rattle.std.specs.Option.{option_map_or}
 use Rattle.std.proofs.lemmas.Option.{none-some}
 use Rattle.std.proofs.lemmas.Bool.{cond_both, cond-true, cond-false, and_parts, and_from, eqb-false}
@@ -49,8 +49,8 @@ counted_changed slots order free counted i a b at =
     }
 
 pub table_changed : (now : ℕ) (slots : List (Option Allocation)) (order free : List ℕ) (entries : List (FiveTuple × ℕ)) → IsTable now slots order free entries → (i : ℕ) (a b : Allocation) → in_slot slots i ≡ Some a
-    → now < a.until → b.tuple ≡ a.tuple → b.relay ≡ a.relay → IsTable now (slice_set slots i (Some b)) order free entries
-table_changed now slots order free entries table i a b at live same_tuple same_relay =
+    → now < a.until → b.tuple ≡ a.tuple → b.relay ≡ a.relay → b.until ≤ now + seconds 4_294_967_295 → IsTable now (slice_set slots i (Some b)) order free entries
+table_changed now slots order free entries table i a b at live same_tuple same_relay soon =
     let lt = within slots i a at in
     let long = length-set slots i (Some b) in
     record {
@@ -60,6 +60,7 @@ table_changed now slots order free entries table i a b at live same_tuple same_r
       placed = λ j c at_j. in_set slots i b lt j c at_j (λ (k : ℕ) (x : Allocation). x.relay % places ≡ k) (ap (λ (n : ℕ). n % places) same_relay ∙ table.placed i a at) (λ _ at_old. table.placed j c at_old);
       inside = λ t k is. subst (λ (n : ℕ). k < n) (sym long) (table.inside t k is);
       counted = counted_changed slots order free table.counted i a b at;
+      soon = λ j c at_j. in_set slots i b lt j c at_j (λ (_ : ℕ) (x : Allocation). x.until ≤ now + seconds 4_294_967_295) soon (λ _ at_old. table.soon j c at_old);
       few = subst (λ (n : ℕ). n ≤ places) (sym long) table.few;
       early = table.early;
     }
@@ -85,6 +86,20 @@ keeps_relay setup now (refresh family lifetime) a = refl
 keeps_relay setup now (permit peers) a = refl
 keeps_relay setup now (bind number peer) a = refl
 keeps_relay setup now (unfit code) a = refl
+
+refreshed_few : (lifetime : Option ℕ) (greatest : ℕ) → greatest < 2 ^ 32 → refreshed_for lifetime greatest ≤ 4_294_967_295
+refreshed_few None greatest few = omega arith
+refreshed_few (Some wanted) greatest few =
+    cond_both (wanted == 0) 0 (max 600 (min wanted greatest)) (λ (n : ℕ). n ≤ 4_294_967_295) (λ _. omega arith) (λ _. omega (arith, few))
+
+-- a request leaves no end that is later than one that is opened now can have
+keeps_soon : (setup : Setup) (now : ℕ) (r : Request) (a : Allocation) → setup.greatest_lifetime < 2 ^ 32 → a.until ≤ now + seconds 4_294_967_295 → (changed_by setup now r a).until ≤ now + seconds 4_294_967_295
+keeps_soon setup now (allocate id lifetime wish) a few soon = soon
+keeps_soon setup now (refresh family lifetime) a few soon =
+    let granted = refreshed_few lifetime setup.greatest_lifetime few in omega (arith, granted)
+keeps_soon setup now (permit peers) a few soon = soon
+keeps_soon setup now (bind number peer) a few soon = soon
+keeps_soon setup now (unfit code) a few soon = soon
 
 -- the only slot of a live allocation of a client, and its user
 record IsOwn (now : ℕ) (tuple : FiveTuple) (user : ℕ) (slots : List (Option Allocation)) (order : List ℕ) (i : ℕ) (a : Allocation) : Type 0 where
@@ -144,23 +159,23 @@ served_by setup now tuple user r order slots i a own found answer new None fault
 table_same : (now : ℕ) (slots : List (Option Allocation)) (order free : List ℕ) (entries : List (FiveTuple × ℕ)) → IsTable now slots order free entries → (i : ℕ) (new : Option Allocation) → in_slot slots i ≡ new → IsTable now (slice_set slots i new) order free entries
 table_same now slots order free entries table i new at = subst (λ (l : List (Option Allocation)). IsTable now l order free entries) (sym (set_same slots i new at)) table
 
-table_kept : (setup : Setup) (now : ℕ) (slots : List (Option Allocation)) (order free : List ℕ) (entries : List (FiveTuple × ℕ)) → IsTable now slots order free entries → (r : Request) (i : ℕ) (a : Allocation) → in_slot slots i ≡ Some a → now < a.until
-    → (fault : Option ℕ) → IsTable now (slice_set slots i (Some (kept_by fault a (changed_by setup now r a)))) order free entries
-table_kept setup now slots order free entries table r i a at live (Some code) = table_changed now slots order free entries table i a a at live refl refl
-table_kept setup now slots order free entries table r i a at live None =
-    table_changed now slots order free entries table i a (changed_by setup now r a) at live (keeps_tuple setup now r a) (keeps_relay setup now r a)
+table_kept : (setup : Setup) (now : ℕ) (slots : List (Option Allocation)) (order free : List ℕ) (entries : List (FiveTuple × ℕ)) → IsTable now slots order free entries → setup.greatest_lifetime < 2 ^ 32
+    → (r : Request) (i : ℕ) (a : Allocation) → in_slot slots i ≡ Some a → now < a.until → (fault : Option ℕ) → IsTable now (slice_set slots i (Some (kept_by fault a (changed_by setup now r a)))) order free entries
+table_kept setup now slots order free entries table few r i a at live (Some code) = table_changed now slots order free entries table i a a at live refl refl (table.soon i a at)
+table_kept setup now slots order free entries table few r i a at live None =
+    table_changed now slots order free entries table i a (changed_by setup now r a) at live (keeps_tuple setup now r a) (keeps_relay setup now r a) (keeps_soon setup now r a few (table.soon i a at))
 
 -- what holds after a request that came to the slot which the index names
 pub served_at : (setup : Setup) (now : ℕ) (tuple : FiveTuple) (user : ℕ) (r : Request) (order free : List ℕ) (slots : List (Option Allocation)) (entries : List (FiveTuple × ℕ)) → IsTable now slots order free entries
-    → (i : ℕ) → named entries tuple ≡ Some i → (old : Option Allocation) → in_slot slots i ≡ old → (answer : Answer) (new : Option Allocation) → IsServed setup now tuple user r old answer new
+    → setup.greatest_lifetime < 2 ^ 32 → (i : ℕ) → named entries tuple ≡ Some i → (old : Option Allocation) → in_slot slots i ≡ old → (answer : Answer) (new : Option Allocation) → IsServed setup now tuple user r old answer new
     → Serves setup now tuple user r order slots answer (slice_set slots i new) × IsTable now (slice_set slots i new) order free entries
-served_at setup now tuple user r order free slots entries table i is None at answer new told =
+served_at setup now tuple user r order free slots entries table few i is None at answer new told =
     let none : find (is_of now tuple) (listed slots order) ≡ None = found_by_index now slots order free entries table.finds table.counted tuple (Some i) is ∙ ap (if_of now tuple) at in
     let same : slice_set slots i new ≡ slots = set_same slots i new (at ∙ sym told.1) in (
       subst (λ (l : List (Option Allocation)). Serves setup now tuple user r order slots answer l) (sym same) (not_served setup now tuple user r order slots answer none told.0),
       table_same now slots order free entries table i new (at ∙ sym told.1),
     )
-served_at setup now tuple user r order free slots entries table i is (Some a) at answer new served =
+served_at setup now tuple user r order free slots entries table few i is (Some a) at answer new served =
     let found : find (is_of now tuple) (listed slots order) ≡ if_of now tuple (Some a) = found_by_index now slots order free entries table.finds table.counted tuple (Some i) is ∙ ap (if_of now tuple) at in
     cond_both (is_of now tuple a) (Some a) None
     (λ (o : Option Allocation). find (is_of now tuple) (listed slots order) ≡ o
@@ -172,7 +187,7 @@ served_at setup now tuple user r order free slots entries table i is (Some a) at
     let live : now < a.until = ltb-true now a.until (and_parts (is_tuple tuple a.tuple) (is_live now a) yes).1 in (
       served_by setup now tuple user r order slots i a own f answer new (fault_of setup now user r a) refl told.0 told.1,
       subst (λ (o : Option Allocation). IsTable now (slice_set slots i o) order free entries) (sym told.1)
-          (table_kept setup now slots order free entries table r i a at live (fault_of setup now user r a)),
+          (table_kept setup now slots order free entries table few r i a at live (fault_of setup now user r a)),
     ))
     (λ no f told.
     let same : slice_set slots i new ≡ slots = set_same slots i new (at ∙ sym told.1) in (

@@ -10,6 +10,7 @@ table_later now later slots order free entries le early table = record {
   placed = table.placed;
   inside = table.inside;
   counted = table.counted;
+  soon = λ i a at. let end = table.soon i a at in omega (arith, le, end);
   few = table.few;
   early = early;
 }

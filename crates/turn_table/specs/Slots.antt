@@ -1,9 +1,9 @@
 -- The slots of a table, and what names them.
-use Rattle.std.specs.Prelude.{◌≡◌, ℕ, ◌+◌, ◌%◌, ◌^◌, ◌<◌, ◌≤◌, false, List, [], ◌∷◌, Option, None, Some, length, slice_index_or, if◌then◌else◌, ◌⊎◌, Bool}
+use Rattle.std.specs.Prelude.{◌≡◌, ℕ, ◌+◌, ◌*◌, ◌%◌, ◌++◌, ◌^◌, ◌<◌, ◌≤◌, true, false, List, [], ◌∷◌, Option, None, Some, length, slice_index_or, MatchOption, if◌then◌else◌, ◌⊎◌, Bool}
 use Rattle.std.specs.List.{list_any}
 use Rattle.std.specs.Map.{lookup}
 use Rattle.turn_table.specs.Endpoints.{Endpoint, FiveTuple, is_ip, is_tuple}
-use Rattle.turn_table.specs.Allocations.{Permission, Allocation, State, is_of, is_at}
+use Rattle.turn_table.specs.Allocations.{seconds, Permission, Allocation, State, is_live, is_of, is_at}
 use Rattle.turn_table.specs.Rows.{is_users, uses_relay}
 use Rattle.turn_table.specs.Steps.{at}
 
@@ -43,6 +43,15 @@ abbrev pub if_at : ℕ → ℕ → Option Allocation → Option Allocation
 if_at now relay None = None
 if_at now relay (Some a) = if is_at now relay a then Some a else None
 
+-- an allocation, if it is live, and the number of its socket, if it isn't
+abbrev pub if_live : ℕ → Option Allocation → Option Allocation
+if_live now None = None
+if_live now (Some a) = if is_live now a then Some a else None
+
+abbrev pub if_ended : ℕ → Option Allocation → Option ℕ
+if_ended now None = None
+if_ended now (Some a) = if is_live now a then None else Some a.relay
+
 -- whether an allocation is live and this user's
 abbrev pub users_at : ℕ → (user : ℕ) → Option Allocation → Bool
 users_at now user None = false
@@ -74,6 +83,23 @@ ArePlaced slots = (i : ℕ) (a : Allocation) → in_slot slots i ≡ Some a → 
 abbrev pub IsInside : List (Option Allocation) → List (FiveTuple × ℕ) → Type 0
 IsInside slots entries = (tuple : FiveTuple) (i : ℕ) → named entries tuple ≡ Some i → i < length slots
 
+-- an index names for a 5-tuple this slot, and for each other one what it named before
+abbrev pub Renames : FiveTuple → (place : ℕ) → (old new : List (FiveTuple × ℕ)) → Type 0
+Renames tuple place old new =
+    (q : FiveTuple) → named new q ≡ (if is_tuple tuple q then Some place else named old q)
+
+-- the index of a table, with room for twice as many names as there are slots
+pub record IsIndex (clock : ℕ) (slots : List (Option Allocation)) (entries : List (FiveTuple × ℕ))
+    (most : ℕ) : Type 0 where
+  pub finds : Finds clock slots entries
+  pub inside : IsInside slots entries
+  pub room : 2 * length slots ≤ most
+
+-- no allocation ends later than one that is opened now can
+abbrev pub AreSoon : ℕ → List (Option Allocation) → Type 0
+AreSoon clock slots =
+    (i : ℕ) (a : Allocation) → in_slot slots i ≡ Some a → a.until ≤ clock + seconds 4_294_967_295
+
 -- the slots in use are those in the order of opening, and the others are free
 pub record AreCounted (slots : List (Option Allocation)) (order free : List ℕ) : Type 0 where
   pub used : (i : ℕ) → Has i order → (a : Allocation) × (in_slot slots i ≡ Some a)
@@ -89,8 +115,15 @@ pub record IsTable (clock : ℕ) (slots : List (Option Allocation)) (order free 
   pub placed : ArePlaced slots
   pub inside : IsInside slots entries
   pub counted : AreCounted slots order free
+  pub soon : AreSoon clock slots
   pub few : length slots ≤ places
   pub early : clock < 2 ^ 100
+
+-- room for each slot in the order of opening and among the free ones, and for twice as many names
+pub record HasRoom (most in_order in_free in_index : ℕ) : Type 0 where
+  pub order : most ≤ in_order
+  pub free : most ≤ in_free
+  pub index : 2 * most ≤ in_index
 
 -- what is kept: how many allocations there may be, and the state
 pub record Kept : Type 0 where
@@ -112,6 +145,24 @@ fresh tuple user opened_by relay relayed until = record {
   permissions = [];
   channels = [];
 }
+
+-- as many allocations are kept as there may be
+abbrev pub IsFull : Kept → Type 0
+IsFull kept = kept.most ≤ length kept.state.allocations
+
+-- the first allocation has ended and is closed, or is put last
+pub record Turns (is_wanted : Bool) (old : Kept) (closed : Option ℕ) (new : Kept) : Type 0 where
+  pub first : Allocation
+  pub others : List Allocation
+  pub old_is : old.state.allocations ≡ first ∷ others
+  pub clock : new.state.clock ≡ old.state.clock
+  pub most : new.most ≡ old.most
+  pub unused : list_any (uses_relay first.relay) others ≡ false
+  pub turns : MatchOption closed
+      ((new.state.allocations ≡ others ++ first ∷ [])
+      × (is_wanted ≡ true → is_live old.state.clock first ≡ true))
+      (λ relay. (is_wanted ≡ true) × (relay ≡ first.relay) × (is_live old.state.clock first ≡ false)
+      × (new.state.allocations ≡ others))
 
 -- it is the first, there was room for it, and its socket was no other's
 pub record Opens (a : Allocation) (old new : Kept) : Type 0 where

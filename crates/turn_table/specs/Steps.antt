@@ -6,7 +6,7 @@ use Rattle.turn_table.specs.Endpoints.{Endpoint, FiveTuple}
 use Rattle.turn_table.specs.Allocations.{seconds, Allocation, Setup, State, is_live, is_of, allocation_of}
 use Rattle.turn_table.specs.Events.{Offer, Request, allocate, refresh, permit, bind, unfit, Event, asks, sends, sends_on, arrives, polls, Answer, allocated, refreshed, done, refused, Output, answers, closes}
 use Rattle.turn_table.specs.Relays.{relays}
-use Rattle.turn_table.specs.Rows.{allocate_fault, owner_fault, refresh_fault, with_permissions, with_channel, permit_fault, bind_fault}
+use Rattle.turn_table.specs.Rows.{has_quota, allocate_fault, unmet_code, owner_fault, refresh_fault, with_permissions, with_channel, permit_fault, bind_fault}
 
 pub record Step : Type 0 where
   pub state : State
@@ -99,7 +99,8 @@ allocates_first setup now tuple user id lifetime state offer = record {
 
 abbrev pub allocates_new : Setup → ℕ → FiveTuple → (user id : ℕ) → Option ℕ → Result Offer ℕ → State
     → Step
-allocates_new setup now tuple user id lifetime (Err code) state = refuses tuple code state
+allocates_new setup now tuple user id lifetime (Err code) state =
+    refuses tuple (unmet_code (has_quota setup state now user) code) state
 allocates_new setup now tuple user id lifetime (Ok offer) state =
     option_map_or (λ code. refuses tuple code state) (allocate_fault setup state now user offer)
     (allocates_first setup now tuple user id lifetime state offer)

@@ -1,13 +1,17 @@
 //! What a TURN server keeps of its clients, without sockets and without a clock (RFC 8656).
 #![tactic(auto)]
 
+mod allocating;
 mod binding;
 mod endpoints;
 mod hashing;
+mod index;
 mod laws;
 mod limits;
 pub mod peers;
 mod permitting;
+mod places;
+mod polling;
 mod reply;
 mod serving;
 mod slot;
@@ -22,6 +26,5 @@ pub use laws::{
 };
 pub use limits::{Limits, PeerPolicy};
 pub use reply::{AllocateReply, Reply, Request, ToClient, ToPeer};
-pub use slots::{CHANNELS, PERMISSIONS};
 pub use table::TurnTable;
 pub use user::UserId;

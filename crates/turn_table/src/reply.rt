@@ -29,13 +29,18 @@ pub enum Reply {
 /// The answer to an Allocate request.
 #[derive(Clone, Copy, Debug, PartialEq, Eq)]
 pub enum AllocateReply {
-    /// A success response, with this LIFETIME in seconds: the socket that was ready is the
-    /// allocation's now, by this number.
-    Opened(u64, u32),
-    /// A success response once more, with this relayed address and LIFETIME in seconds: the request
-    /// is the one that opened the allocation. The socket that was ready isn't used.
-    Again(Endpoint, u32),
-    /// An error response with this code.
+    /// A success response, with the relayed address and LIFETIME in seconds: the socket that was
+    /// ready is the allocation's now, by the number `relay`.
+    Opened {
+        relay: u64,
+        relayed: Endpoint,
+        lifetime: u32,
+    },
+    /// A success response once more, with the relayed address and the LIFETIME that is left, in
+    /// seconds: the request is the one that opened the allocation. The socket that was ready isn't
+    /// used.
+    Again { relayed: Endpoint, lifetime: u32 },
+    /// An error response with this code. The socket that was ready isn't used.
     Refused(u16),
 }
 

@@ -23,7 +23,7 @@ use crate::user::UserId;
 use arrayvec::ArrayVec;
 
 /// How many nanoseconds a second has.
-const SECOND: u128 = 1_000_000_000;
+pub(crate) const SECOND: u128 = 1_000_000_000;
 
 /// The lifetime that a Refresh request is granted, in seconds.
 fn refreshed_for(lifetime: Option<u32>, greatest: u32) -> u32

@@ -1,160 +1,53 @@
 //! The slots of a table, and an index of them by 5-tuples.
 
-ghost use Rattle.std.specs.Prelude.{◌≡◌, ℕ, ◌+◌, ◌*◌, ◌<◌, ◌≤◌, ◌^◌, List, [], ◌∷◌, Option, None, Some, length, filter, count_by, option_copied, IfOk, IfSome, MatchOption, Bool};
+ghost use Rattle.std.specs.Prelude.{◌≡◌, ◌+◌, ◌<◌, ◌≤◌, ◌^◌, Option, None, option_copied, count_by, length, IfOk, MatchOption};
 ghost use Rattle.turn_table.specs.Users.{user_number};
 ghost use Rattle.turn_table.specs.Rows.{is_users};
-ghost use Rattle.turn_table.specs.Allocations.{seconds, Allocation, State, is_live, allocation_of, allocation_at};
-ghost use Rattle.turn_table.specs.Slots.{in_slot, users_at, listed, if_of, if_at, kept_at, fresh, Opens, AreFree};
+ghost use Rattle.turn_table.specs.Allocations.{seconds, Allocation, allocation_of, allocation_at};
+ghost use Rattle.turn_table.specs.Slots.{fresh, kept_at, IsFull, Opens, Turns};
 ghost use Rattle.turn_table.specs.Runs.{begun};
 ghost use Rattle.turn_table.specs.Outputs.{setup_of, answer_of};
-ghost use Rattle.turn_table.specs.Requests.{asked, fulfilled, IsServed};
+ghost use Rattle.turn_table.specs.Requests.{asked, fulfilled};
+ghost use Rattle.turn_table.specs.Allocates.{AnswersAgain};
 ghost use Rattle.turn_table.specs.Events.{answers};
 
 use crate::endpoints::{Endpoint, FiveTuple};
 use crate::hashing::Seeded;
+use crate::index::{make_room, name};
 use crate::limits::{Limits, PeerPolicy};
-use crate::reply::{Reply, Request};
+use crate::places::{client_at, count_users, ended_at, free_slots, relay_at, serve_in};
+use crate::reply::{AllocateReply, Reply, Request};
+use crate::serving::SECOND;
 use crate::slot::Slot;
 use crate::user::UserId;
 use std::alloc::{AllocError, Global};
 use std::collections::{HashMap, VecDeque};
 use std::marker::Model;
 
-/// How many permissions an allocation may have.
-pub const PERMISSIONS: usize = 16;
-
-/// How many channels an allocation may have.
-pub const CHANNELS: usize = 16;
-
-/// An allocation of a table.
-type Held = Slot<PERMISSIONS, CHANNELS>;
-
 /// How many slots there may be: a socket's number has its slot in its low 32 bits.
 const PLACES: u64 = 4_294_967_296;
 
-/// Slots that are all free, and their places.
-fn free_slots(alloc: Global, most: u32) -> Result<(Vec<Option<Held>>, VecDeque<usize>), AllocError>
-    ensures { IfOk result (λ made. AreFree made.0.items made.1.items most) }
-{
-    let mut slots = Vec::with_capacity(alloc, most as usize)?;
-    let mut free = VecDeque::with_capacity(alloc, most as usize)?;
-    for place in 0..most {
-        slots.push(None)?;
-        free.push_front(place as usize)?;
-    }
-    Ok((slots, free))
-}
-
-/// What is in the slot at a place.
-fn slot_at<const P: usize, const C: usize>(
-    slots: &[Option<Slot<P, C>>],
-    place: usize,
-) -> Option<&Slot<P, C>>
-    ensures { option_copied result ≡ in_slot slots.now place }
-{
-    match slots.get(place) {
-        Some(Some(slot)) => Some(slot),
-        _ => None,
-    }
-}
-
-/// The allocation in the slot at a place, if it is live and of this client.
-fn client_at<'a, const P: usize, const C: usize>(
-    slots: &'a [Option<Slot<P, C>>],
-    place: usize,
-    now: u128,
-    tuple: &FiveTuple,
-) -> Option<&'a Slot<P, C>>
-    ensures { option_copied result ≡ if_of now tuple.now (in_slot slots.now place) }
-{
-    let slot = slot_at(slots, place)?;
-    if slot.is_of(now, tuple) {
-        Some(slot)
-    } else {
-        None
-    }
-}
-
-/// The allocation in the slot at a place, if it is live and has this socket.
-fn relay_at<const P: usize, const C: usize>(
-    slots: &[Option<Slot<P, C>>],
-    place: usize,
-    now: u128,
-    relay: u64,
-) -> Option<&Slot<P, C>>
-    ensures { option_copied result ≡ if_at now relay (in_slot slots.now place) }
-{
-    let slot = slot_at(slots, place)?;
-    if slot.is_at(now, relay) {
-        Some(slot)
-    } else {
-        None
-    }
-}
-
-/// Whether the allocation in the slot at a place is live and this user's.
-fn is_users_at(slots: &[Option<Held>], place: usize, now: u128, user: UserId) -> bool
-    ensures { result ≡ users_at now (user_number user) (in_slot slots.now place) }
-{
-    match slot_at(slots, place) {
-        Some(slot) => slot.is_users(now, user),
-        None => false,
-    }
-}
-
-/// How many of the slots at these places are live and this user's.
-fn count_users(slots: &[Option<Held>], order: &VecDeque<usize>, now: u128, user: UserId) -> usize
-    ensures { result ≡ length
-        (filter (λ i. users_at now (user_number user) (in_slot slots.now i)) order.now.items) }
-{
-    order
-        .iter()
-        .filter(|place| is_users_at(slots, **place, now, user))
-        .count()
-}
-
-/// A request that came to the slot at a place.
-fn serve_in<const P: usize, const C: usize, A: PeerPolicy>(
-    slot: &mut Option<Slot<P, C>>,
-    limits: &Limits,
-    now: u128,
-    tuple: &FiveTuple,
-    user: UserId,
-    request: Request<'_>,
-    policy: &A,
-) -> Reply
-    requires { now + seconds (2 ^ 32) < 2 ^ 128 }
-    ensures { let setup = setup_of limits.now P C (A.allows_address policy.now)
-        (A.allows_port policy.now) in
-        IsServed setup now tuple.now (user_number user) (asked request.entry) slot.old
-        (answer_of result) slot.new }
-{
-    match slot {
-        Some(slot) => {
-            if slot.is_of(now, tuple) {
-                slot.fulfil(limits, now, user, request, policy)
-            } else {
-                Reply::Refused(437)
-            }
-        }
-        None => Reply::Refused(437),
-    }
-}
+/// The most permissions, and channels, that an allocation can have room for.
+const MOST: usize = 65_535;
 
 /// The allocations that are kept.
 #[derive(Drop)]
-pub(crate) struct Slots {
+pub(crate) struct Slots<const P: usize, const C: usize> {
     clock: u128,
-    slots: Vec<Option<Slot<PERMISSIONS, CHANNELS>>>,
+    /// The high 32 bits of the next socket's number.
+    round: u32,
+    slots: Vec<Option<Slot<P, C>>>,
     /// The slots in use, the one that was opened last first.
     order: VecDeque<usize>,
     free: VecDeque<usize>,
     by_tuple: HashMap<FiveTuple, usize, Seeded>,
 }
 
-impl Model for Slots {
-    ghost use Rattle.std.specs.Prelude.{length};
-    ghost use Rattle.turn_table.specs.Slots.{Kept, listed, IsTable};
+impl<const P: usize, const C: usize> Model for Slots<P, C> {
+    ghost use Rattle.std.specs.Prelude.{◌+◌, ◌≤◌, length};
+    ghost use Rattle.std.specs.VecDeque.{deque_capacity};
+    ghost use Rattle.std.specs.HashMap.{hash_map_len, spare};
+    ghost use Rattle.turn_table.specs.Slots.{Kept, listed, IsTable, HasRoom};
 
     ghost Value = { Kept };
 
@@ -163,13 +56,18 @@ impl Model for Slots {
       state = record { clock = t.clock; allocations = listed t.slots.items t.order.items };
     } };
 
-    ghost invariant = { λ t.
-        IsTable t.clock t.slots.items t.order.items t.free.items t.by_tuple.entries };
+    ghost invariant = { λ t. record {
+      table : IsTable t.clock t.slots.items t.order.items t.free.items t.by_tuple.entries;
+      room : HasRoom (length t.slots.items) (deque_capacity t.order) (deque_capacity t.free)
+          (hash_map_len t.by_tuple + spare t.by_tuple);
+      permissions : P ≤ 65_535;
+      channels : C ≤ 65_535;
+    } };
 }
 
-impl Slots {
+impl<const P: usize, const C: usize> Slots<P, C> {
     /// The live allocation of a client.
-    pub(crate) fn of(&self, tuple: &FiveTuple) -> Option<&Slot<PERMISSIONS, CHANNELS>>
+    pub(crate) fn of(&self, tuple: &FiveTuple) -> Option<&Slot<P, C>>
         ensures { option_copied result ≡ allocation_of self.now.state.clock tuple.now self.now.state }
     {
         let place = *self.by_tuple.get(tuple)?;
@@ -177,7 +75,7 @@ impl Slots {
     }
 
     /// The live allocation that a socket belongs to.
-    pub(crate) fn at(&self, relay: u64) -> Option<&Slot<PERMISSIONS, CHANNELS>>
+    pub(crate) fn at(&self, relay: u64) -> Option<&Slot<P, C>>
         ensures { option_copied result ≡ allocation_at self.now.state.clock relay self.now.state }
     {
         relay_at(&self.slots, (relay % PLACES) as usize, self.clock, relay)
@@ -193,7 +91,8 @@ impl Slots {
 
     /// The moment of the latest call.
     pub(crate) fn clock(&self) -> u128
-        ensures { result ≡ self.now.state.clock }
+        ensures value { result ≡ self.now.state.clock }
+        ensures early { result < 2 ^ 100 }
     {
         self.clock
     }
@@ -207,7 +106,8 @@ impl Slots {
         request: Request<'_>,
         policy: &A,
     ) -> Reply
-        ensures { let setup = setup_of limits.now PERMISSIONS CHANNELS (A.allows_address policy.now)
+        requires { limits.now.greatest_lifetime < 2 ^ 32 }
+        ensures { let setup = setup_of limits.now P C (A.allows_address policy.now)
             (A.allows_port policy.now) in
             (fulfilled setup tuple.now (user_number user) (asked request.entry) self.old.state
             ≡ record { state = self.new.state; output = answers tuple.now (answer_of result) })
@@ -229,9 +129,15 @@ impl Slots {
     }
 
     /// Slots with no allocation, with all the memory that they need.
+    ///
+    /// Fails if memory runs out, or `P` or `C` is above 65,535.
     pub(crate) fn new(alloc: Global, most: u32, seed: [u64; 2]) -> Result<Self, AllocError>
-        ensures { IfOk result (λ table. table ≡ record { most = most; state = begun }) }
+        ensures begun { IfOk result (λ table. table ≡ record { most = most; state = begun }) }
+        ensures small { IfOk result (λ _. (P ≤ 65_535) × (C ≤ 65_535)) }
     {
+        if P > MOST || C > MOST {
+            return Err(AllocError);
+        }
         let (slots, free) = free_slots(alloc, most)?;
         let order = VecDeque::with_capacity(alloc, most as usize)?;
         let by_tuple = HashMap::with_capacity_and_hasher(
@@ -241,6 +147,7 @@ impl Slots {
         )?;
         Ok(Slots {
             clock: 0,
+            round: 0,
             slots,
             order,
             free,
@@ -248,33 +155,66 @@ impl Slots {
         })
     }
 
-    /// Opens an allocation of a client that has no live one, and returns its socket's number.
+    /// The answer to an Allocate request of a client that has a live allocation.
+    pub(crate) fn again(&self, tuple: &FiveTuple, user: UserId, id: u128) -> Option<AllocateReply>
+        ensures { let known = allocation_of self.now.state.clock tuple.now self.now.state in
+            MatchOption result (known ≡ None)
+            (λ reply. (a : Allocation) × (known ≡ Some a)
+            × AnswersAgain self.now.state.clock (user_number user) id a reply) }
+    {
+        let now = self.clock;
+        let slot = self.of(tuple)?;
+        Some(slot.again(now, user, id))
+    }
+
+    /// Opens an allocation of a client that has no live one, and returns its socket's number. `None`
+    /// if all slots are in use.
     pub(crate) fn open(
         &mut self,
         tuple: FiveTuple,
         user: UserId,
         opened_by: u128,
-        round: u32,
         relayed: Endpoint,
-        until: u128,
+        lifetime: u32,
     ) -> Option<u64>
         requires { allocation_of self.old.state.clock tuple self.old.state ≡ None }
-        ensures { MatchOption result (self.new ≡ self.old)
-            (λ relay. Opens (fresh tuple (user_number user) opened_by relay relayed until)
-            self.old self.new) }
+        ensures { MatchOption result (IsFull self.old × (self.new ≡ self.old))
+            (λ relay. Opens (fresh tuple (user_number user) opened_by relay relayed
+            (self.old.state.clock + seconds lifetime)) self.old self.new) }
     {
         let place = *self.free.front()?;
-        let relay = round as u64 * PLACES + place as u64;
-        if self.order.push_front(place).is_err() {
-            return None;
-        }
-        if self.by_tuple.insert(tuple, place).is_err() {
-            self.order.pop_front();
-            return None;
-        }
         self.free.pop_front();
+        let relay = self.round as u64 * PLACES + place as u64;
+        self.round = self.round.wrapping_add(1);
+        self.order.push_front_reserved(place);
+        make_room(&mut self.by_tuple, &self.slots, self.clock);
+        name(&mut self.by_tuple, tuple, place);
+        let until = self.clock + lifetime as u128 * SECOND;
         self.slots[place] = Some(Slot::new(tuple, user, opened_by, relay, relayed, until));
         Some(relay)
+    }
+
+    /// Closes the first allocation, if that is wanted and it has ended, and returns its socket's
+    /// number. If not, puts it last.
+    pub(crate) fn turn(&mut self, is_wanted: bool) -> Option<u64>
+        requires { 0 < length self.old.state.allocations }
+        ensures { Turns is_wanted self.old result self.new }
+    {
+        let place = self.order.pop_front()?;
+        let Some(relay) = ended_at(&self.slots, place, self.clock, is_wanted) else {
+            self.order.push_back_reserved(place);
+            return None;
+        };
+        self.slots[place] = None;
+        self.free.push_front_reserved(place);
+        Some(relay)
+    }
+
+    /// How many allocations are kept.
+    pub(crate) fn len(&self) -> usize
+        ensures { result ≡ length self.now.state.allocations }
+    {
+        self.order.len()
     }
 
     /// How many live allocations a user has.

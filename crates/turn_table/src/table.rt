@@ -9,45 +9,112 @@ ghost use Rattle.turn_table.specs.Steps.{step};
 ghost use Rattle.turn_table.specs.Runs.{begun};
 ghost use Rattle.turn_table.specs.Outputs.{setup_of, answer_of, sending, receiving};
 ghost use Rattle.turn_table.specs.Requests.{asked};
+ghost use Rattle.turn_table.specs.Rows.{has_quota};
+ghost use Rattle.turn_table.specs.Allocates.{Allocates};
+ghost use Rattle.turn_table.specs.Polls.{Polls};
 
+use crate::allocating::{allocated_for, unmet_code};
 use crate::endpoints::{Endpoint, FiveTuple};
 use crate::limits::{Limits, PeerPolicy};
-use crate::reply::{Reply, Request, ToClient, ToPeer};
-use crate::slots::{CHANNELS, PERMISSIONS, Slots};
+use crate::polling::close_ended;
+use crate::reply::{AllocateReply, Reply, Request, ToClient, ToPeer};
+use crate::slots::Slots;
 use crate::user::UserId;
 use std::alloc::{AllocError, Global};
 use std::marker::Model;
 
-/// The allocations that a TURN server has, with their permissions and channels (RFC 8656).
+/// The allocations that a TURN server has (RFC 8656), each with up to `P` permissions and `C` channels.
 ///
 /// Each call takes the caller's clock: nanoseconds since a beginning of its choice. A clock that
 /// steps back counts as stopped. No call but [`TurnTable::new`] allocates.
 #[derive(Drop)]
-pub struct TurnTable {
+pub struct TurnTable<const P: usize, const C: usize> {
     limits: Limits,
-    slots: Slots,
+    slots: Slots<P, C>,
 }
 
-impl Model for TurnTable {
-    ghost use Rattle.std.specs.Prelude.{◌≡◌};
+impl<const P: usize, const C: usize> Model for TurnTable<P, C> {
+    ghost use Rattle.std.specs.Prelude.{◌≡◌, ◌≤◌};
     ghost use Rattle.turn_table.specs.Tables.{Table};
 
     ghost Value = { Table };
 
     ghost view = { λ t. record { limits = t.limits; state = t.slots.state } };
 
-    ghost invariant = { λ t. t.slots.most ≡ t.limits.allocations };
+    ghost invariant = { λ t. record {
+      most : t.slots.most ≡ t.limits.allocations;
+      permissions : P ≤ 65_535;
+      channels : C ≤ 65_535;
+    } };
 }
 
-impl TurnTable {
+impl<const P: usize, const C: usize> TurnTable<P, C> {
     /// A table with no allocation. `seed` keys the hash of 5-tuples: take random numbers.
     ///
-    /// Fails if memory runs out. It takes all memory that the table ever needs.
+    /// Fails if memory runs out, or `P` or `C` is above 65,535. It takes all memory that the table ever
+    /// needs.
     pub fn new(alloc: Global, limits: Limits, seed: [u64; 2]) -> Result<Self, AllocError>
         ensures { IfOk result (λ table. table ≡ record { limits = limits; state = begun }) }
     {
         let slots = Slots::new(alloc, limits.allocations, seed)?;
         Ok(TurnTable { limits, slots })
+    }
+
+    /// Whether a user may have one more allocation.
+    fn has_quota(&self, user: UserId) -> bool
+        ensures { (permissions channels : ℕ) (address : Ip → Bool) (port : Endpoint → Bool)
+            → result ≡ has_quota (setup_of self.now.limits permissions channels address port)
+            self.now.state self.now.state.clock (user_number user) }
+    {
+        self.slots.count_of(user) < self.limits.of_user as usize
+    }
+
+    /// Answers an Allocate request of a user (RFC 8656, section 7.2).
+    ///
+    /// `id` is its transaction ID and `lifetime` its LIFETIME in seconds. `wish` is the address of the
+    /// socket that the caller has ready for it, or the code by which it gets none, such as 508 if
+    /// there is none of that kind. The socket's number, which the table chooses, has a slot of the
+    /// table in its low 32 bits and how many allocations were opened before in its high 32 bits.
+    ///
+    /// Refuses with 437 if the client has a live allocation, unless this is the request that opened
+    /// it. Refuses with 486 if the user has as many live allocations as one may have, and with 508 if
+    /// the table is full. The code of `wish` comes before both, except that 486 comes before its 508.
+    /// A request that is refused changes nothing.
+    pub fn allocate(
+        &mut self,
+        now: u64,
+        tuple: &FiveTuple,
+        user: UserId,
+        id: u128,
+        lifetime: Option<u32>,
+        wish: Result<Endpoint, u16>,
+    ) -> AllocateReply
+        ensures step { (address : Ip → Bool) (port : Endpoint → Bool)
+            → Allocates (setup_of self.old.limits P C address port) self.old.state now tuple.now
+            (user_number user) id lifetime wish result self.new.state }
+        ensures limits { self.new.limits ≡ self.old.limits }
+    {
+        self.slots.advance(now as u128);
+        if let Some(reply) = self.slots.again(tuple, user, id) {
+            return reply;
+        }
+        let is_within = self.has_quota(user);
+        let relayed = match wish {
+            Ok(relayed) => relayed,
+            Err(code) => return AllocateReply::Refused(unmet_code(is_within, code)),
+        };
+        if !is_within {
+            return AllocateReply::Refused(486);
+        }
+        let lifetime = allocated_for(lifetime, self.limits.greatest_lifetime);
+        let Some(relay) = self.slots.open(*tuple, user, id, relayed, lifetime) else {
+            return AllocateReply::Refused(508);
+        };
+        AllocateReply::Opened {
+            relay,
+            relayed,
+            lifetime,
+        }
     }
 
     /// Answers a request of a user that isn't Allocate, and does what it asks for (RFC 8656, sections
@@ -68,7 +135,7 @@ impl TurnTable {
         request: Request<'_>,
         policy: &A,
     ) -> Reply
-        ensures step { let setup = setup_of self.old.limits PERMISSIONS CHANNELS
+        ensures step { let setup = setup_of self.old.limits P C
             (A.allows_address policy.now) (A.allows_port policy.now) in
             step setup self.old.state now
             (asks tuple.now (user_number user) (asked request.entry))
@@ -87,7 +154,7 @@ impl TurnTable {
         policy: &A,
     ) -> Option<ToPeer>
         ensures { (address : Ip → Bool) (bytes : List ℕ)
-            → relays (setup_of self.now.limits PERMISSIONS CHANNELS address (A.allows_port policy.now))
+            → relays (setup_of self.now.limits P C address (A.allows_port policy.now))
             self.now.state self.now.state.clock (sends tuple.now peer bytes) ≡ sending result bytes }
     {
         self.slots
@@ -103,7 +170,7 @@ impl TurnTable {
         policy: &A,
     ) -> Option<ToPeer>
         ensures { (address : Ip → Bool) (bytes : List ℕ)
-            → relays (setup_of self.now.limits PERMISSIONS CHANNELS address (A.allows_port policy.now))
+            → relays (setup_of self.now.limits P C address (A.allows_port policy.now))
             self.now.state self.now.state.clock (sends_on tuple.now number bytes)
             ≡ sending result bytes }
     {
@@ -115,7 +182,7 @@ impl TurnTable {
     /// The client that a datagram of a peer goes to, now.
     fn relay_to_client(&self, relay: u64, peer: Endpoint) -> Option<ToClient>
         ensures { (address : Ip → Bool) (port : Endpoint → Bool) (bytes : List ℕ)
-            → relays (setup_of self.now.limits PERMISSIONS CHANNELS address port)
+            → relays (setup_of self.now.limits P C address port)
             self.now.state self.now.state.clock (arrives relay peer bytes)
             ≡ receiving result peer bytes }
     {
@@ -136,7 +203,7 @@ impl TurnTable {
         policy: &A,
     ) -> Option<ToPeer>
         ensures step { (address : Ip → Bool) (bytes : List ℕ)
-            → step (setup_of self.old.limits PERMISSIONS CHANNELS address (A.allows_port policy.now))
+            → step (setup_of self.old.limits P C address (A.allows_port policy.now))
             self.old.state now (sends tuple.now peer bytes)
             ≡ record { state = self.new.state; output = sending result bytes } }
         ensures limits { self.new.limits ≡ self.old.limits }
@@ -157,7 +224,7 @@ impl TurnTable {
         policy: &A,
     ) -> Option<ToPeer>
         ensures step { (address : Ip → Bool) (bytes : List ℕ)
-            → step (setup_of self.old.limits PERMISSIONS CHANNELS address (A.allows_port policy.now))
+            → step (setup_of self.old.limits P C address (A.allows_port policy.now))
             self.old.state now (sends_on tuple.now number bytes)
             ≡ record { state = self.new.state; output = sending result bytes } }
         ensures limits { self.new.limits ≡ self.old.limits }
@@ -173,12 +240,24 @@ impl TurnTable {
     /// for the peer's IP address.
     pub fn on_peer_data(&mut self, now: u64, relay: u64, peer: Endpoint) -> Option<ToClient>
         ensures step { (address : Ip → Bool) (port : Endpoint → Bool) (bytes : List ℕ)
-            → step (setup_of self.old.limits PERMISSIONS CHANNELS address port)
+            → step (setup_of self.old.limits P C address port)
             self.old.state now (arrives relay peer bytes)
             ≡ record { state = self.new.state; output = receiving result peer bytes } }
         ensures limits { self.new.limits ≡ self.old.limits }
     {
         self.slots.advance(now as u128);
         self.relay_to_client(relay, peer)
+    }
+
+    /// Closes allocations that have ended, as many as `ended` has room for, and writes the numbers of
+    /// their sockets at its start. Returns how many: the caller closes these sockets.
+    ///
+    /// If it returns less than the length of `ended`, no allocation is left that has ended. An
+    /// allocation that has ended keeps its slot until a poll closes it.
+    pub fn poll(&mut self, now: u64, ended: &mut [u64]) -> usize
+        ensures step { Polls self.old.state now ended.old result ended.new self.new.state }
+        ensures limits { self.new.limits ≡ self.old.limits }
+    {
+        close_ended(&mut self.slots, now as u128, ended)
     }
 }

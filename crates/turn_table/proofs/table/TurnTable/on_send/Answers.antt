@@ -10,5 +10,5 @@ use Rattle.turn_table.proofs.table.TurnTable.on_send.Goals as goal
 pub returns-clause-step : goal.returns-clause-step
 returns-clause-step g c address bytes =
     let port = g.A.PeerPolicy.allows_port c.args.policy.now in
-    relayed (setup_of c.args.self.now.limits 16 16 address port) (setup_of c.self.inside.limits 16 16 address port) (at c.args.now c.args.self.now.state) c.advance.new.self.state (sends c.args.tuple.now c.args.peer bytes) (sending c.relay_send.result bytes)
-    (ap (λ (t : Table). setup_of t.limits 16 16 address port) c.self.view_is) (ap (λ (k : Kept). k.state) c.advance.ensures ∙ ap (λ (t : Table). at c.args.now t.state) c.self.view_is) (c.relay_send.ensures address bytes)
+    relayed (setup_of c.args.self.now.limits g.row.P g.row.C address port) (setup_of c.self.inside.limits g.row.P g.row.C address port) (at c.args.now c.args.self.now.state) c.advance.new.self.state (sends c.args.tuple.now c.args.peer bytes) (sending c.relay_send.result bytes)
+    (ap (λ (t : Table). setup_of t.limits g.row.P g.row.C address port) c.self.view_is) (ap (λ (k : Kept). k.state) c.advance.ensures ∙ ap (λ (t : Table). at c.args.now t.state) c.self.view_is) (c.relay_send.ensures address bytes)
