@@ -1,6 +1,6 @@
 mod AcceptingLoginsLemmas
 mod AcceptingRowsLemmas
-mod AddedLemmas
+pub mod AddedLemmas
 mod Base64Lemmas
 mod CookiesLemmas
 mod CountedLemmas
@@ -10,5 +10,5 @@ mod FinishingLemmas
 mod NoncesLemmas
 mod ProvesLemmas
 mod SizesLemmas
-mod TakenLemmas
+pub mod TakenLemmas
 pub mod TypesLemmas

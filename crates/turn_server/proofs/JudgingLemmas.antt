@@ -21,8 +21,9 @@ use Rattle.turn_server.specs.ChannelMessages.{is_channel_byte, data_in}
 use Rattle.turn_server.specs.Comprehended.{is_comprehended}
 use Rattle.turn_server.specs.Indications.{sent_by}
 use Rattle.turn_server.specs.Judging.{Site, Judged, dropped, binding, refused, unknown, sent, sent_on, asked, event_of, SEND, channel_message, indicated, accepted_as, decided_as, requested, by_class, message, judge}
-use Rattle.turn_server.specs.Judgments.{IsOfClass, IsDecided, IsAsked, IsSo, credentials}
+use Rattle.turn_server.specs.Judgments.{IsOfClass, IsDecided, IsAsked, IsSo, Asks, credentials}
 use Rattle.turn_server.specs.Requests.{asks_table}
+use Rattle.turn_server.specs.Wanted.{Wanted, request_with}
 
 -- what holds of both branches holds of the choice
 either : (P : Judged → Type 0) (b : Bool) (x y : Judged) → (b ≡ true → P x) → (b ≡ false → P y) → P (if b then x else y)
@@ -54,7 +55,7 @@ accepted_is_so : (site : Site) (d : List ℕ) (user : Who) (key : UserKey) (algo
     → IsSo site d (accepted_as site (method_of (type_field d)) d user key reply_algorithm)
 accepted_is_so site d user key algorithm reply_algorithm decided =
     either (IsSo site d) (is_comprehended d) _ _
-    (λ is. record { who = user; algorithm = algorithm; accepted = decided; comprehended = is; user_is = refl; request_is = refl })
+    (λ is. record { who = user; algorithm = algorithm; accepted = decided; comprehended = is; user_is = refl; wanted_is = refl })
     (λ is. record { who = user; algorithm = algorithm; accepted = decided; not_comprehended = is })
 
 decision_is_so : (site : Site) (d : List ℕ) (decision : Decision) → IsDecided site d decision → IsSo site d (decided_as site (method_of (type_field d)) d decision)
@@ -86,27 +87,28 @@ message_is_so site d =
     either (IsSo site d) (is_some (parse_fault d)) dropped _ (λ _. tt)
     (λ none. class_is_so site d (class_of (type_field d)) (record { parses = no_fault (parse_fault d) none; class_is = refl }))
 
-pub judgment_is_so : (site : Site) (d : List ℕ) → IsSo site d (judge site d)
-judgment_is_so site [] = tt
-judgment_is_so site (first ∷ more) =
-    either (IsSo site (first ∷ more)) (is_channel_byte site.last_channel first) (channel_message (first ∷ more)) (message site (first ∷ more))
+pub judgment_is_so : (last_channel : ℕ) (site : Site) (d : List ℕ) → IsSo site d (judge last_channel site d)
+judgment_is_so last_channel site [] = tt
+judgment_is_so last_channel site (first ∷ more) =
+    either (IsSo site (first ∷ more)) (is_channel_byte last_channel first) (channel_message (first ∷ more)) (message site (first ∷ more))
     (λ _. channel_is_so site (first ∷ more)) (λ _. message_is_so site (first ∷ more))
 
-asked_is_so : (site : Site) (tuple : FiveTuple) (d : List ℕ) (user : ℕ) (request : TableRequest) (judged : Judged) → IsSo site d judged → event_of tuple judged ≡ Some (asks tuple user request)
-    → (key : UserKey) × (reply_algorithm : IntegrityAlgorithm) × IsAsked site d user request key reply_algorithm
-asked_is_so site tuple d user request dropped so e = absurd cc
-asked_is_so site tuple d user request binding so e = absurd cc
-asked_is_so site tuple d user request (refused refusal) so e = absurd cc
-asked_is_so site tuple d user request (unknown key reply_algorithm) so e = absurd cc
-asked_is_so site tuple d user request (sent peer bytes) so e = absurd cc
-asked_is_so site tuple d user request (sent_on channel bytes) so e = absurd cc
-asked_is_so site tuple d user request (asked by asking key reply_algorithm) so e =
-    let same_user : by ≡ user = cc in
-    let same_request : asking ≡ request = cc in
-    let of_user : IsAsked site d user asking key reply_algorithm = subst (λ (u : ℕ). IsAsked site d u asking key reply_algorithm) same_user so in
-    (key, reply_algorithm, subst (λ (r : TableRequest). IsAsked site d user r key reply_algorithm) same_request of_user)
-
 -- only what is accepted becomes a request to the table
-pub event_is_so : (site : Site) (tuple : FiveTuple) (d : List ℕ) (user : ℕ) (request : TableRequest) → event_of tuple (judge site d) ≡ Some (asks tuple user request)
-    → (key : UserKey) × (reply_algorithm : IntegrityAlgorithm) × IsAsked site d user request key reply_algorithm
-event_is_so site tuple d user request e = asked_is_so site tuple d user request (judge site d) (judgment_is_so site d) e
+pub asked_is_so : (site : Site) (other tuple : FiveTuple) (relay : ℕ) (d : List ℕ) (user : ℕ) (request : TableRequest) (judged : Judged) → IsSo site d judged → event_of other relay judged ≡ Some (asks tuple user request)
+    → Asks site d user request
+asked_is_so site other tuple relay d user request dropped so e = absurd cc
+asked_is_so site other tuple relay d user request binding so e = absurd cc
+asked_is_so site other tuple relay d user request (refused refusal) so e = absurd cc
+asked_is_so site other tuple relay d user request (unknown key reply_algorithm) so e = absurd cc
+asked_is_so site other tuple relay d user request (sent peer bytes) so e = absurd cc
+asked_is_so site other tuple relay d user request (sent_on channel bytes) so e = absurd cc
+asked_is_so site other tuple relay d user request (asked by wanted key reply_algorithm) so e =
+    let same_user : by ≡ user = cc in
+    record {
+      relay = relay;
+      wanted = wanted;
+      key = key;
+      reply_algorithm = reply_algorithm;
+      asked = subst (λ (u : ℕ). IsAsked site d u wanted key reply_algorithm) same_user so;
+      request_is = cc;
+    }

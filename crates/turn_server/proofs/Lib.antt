@@ -1,3 +1,9 @@
 mod PeersLemmas
 mod JudgingLemmas
 mod ReportingLemmas
+mod DatagramsLemmas
+mod RelayedLemmas
+mod StrangersLemmas
+mod ActingLemmas
+mod EndpointsLemmas
+mod AnswersLemmas

@@ -4,11 +4,13 @@ use Rattle.std.specs.Option.{option_map, option_map_or}
 use Rattle.stun_grammar.specs.Headers.{id_field}
 use Rattle.stun_authentication.specs.Identities.{shows}
 use Rattle.turn_attrs.specs.Turn.{LIFETIME, REQUESTED_ADDRESS_FAMILY, EVEN_PORT, REQUESTED_TRANSPORT, RESERVATION_TOKEN, ADDITIONAL_ADDRESS_FAMILY}
-use Rattle.turn_table.specs.Events.{Offer as TableOffer, Request, allocate}
-use Rattle.turn_server.specs.declared.sockets.Offer.{Offer}
+use Rattle.turn_table.specs.declared.endpoints.Ip.{Ip}
+use Rattle.turn_table.specs.declared.endpoints.Endpoint.{Endpoint}
+use Rattle.turn_table.specs.Tunnels.{is_tunnelled}
 use Rattle.turn_server.specs.declared.sockets.Ready.{Ready}
 use Rattle.turn_server.specs.declared.sockets.Sockets.{Sockets}
 use Rattle.turn_server.specs.declared.allocate.Options.{Options}
+use Rattle.turn_server.specs.Wanted.{Wanted, opening}
 use Rattle.turn_server.specs.Values.{malformed, number_in, byte_in}
 
 -- the protocol between the server and the peers
@@ -59,35 +61,38 @@ ready_of sockets family =
     if family == 1 then sockets.ipv4 else (if family == 2 then sockets.ipv6 else None)
 
 -- the one that is wished: a pair of ports is never ready, since this server reserves none
-abbrev pub chosen : (even : Option Bool) → Ready → Option Offer
+abbrev pub chosen : (even : Option Bool) → Ready → Option Endpoint
 chosen None ready = ready.any
 chosen (Some false) ready = ready.even
 chosen (Some true) ready = None
 
 -- without a wish it is IPv4. No token is valid, since this server reserves no ports. Of ADDITIONAL-ADDRESS-FAMILY
 -- it allocates the IPv4 address alone (the end of check 9)
-abbrev pub socket_for : Sockets → Options → Result Offer ℕ
+abbrev pub socket_for : Sockets → Options → Result Endpoint ℕ
 socket_for sockets options =
     if options.token then Err 508 else
-    option_map_or (λ ready. option_map_or (λ offer. Ok offer) (chosen options.even ready) (Err 508))
+    option_map_or (λ ready. option_map_or (λ address. Ok address) (chosen options.even ready) (Err 508))
     (ready_of sockets (unwrap_or options.family 1)) (Err 440)
 
 -- ---- The request
 
--- the socket that a request gets, or why it gets none, by the first row that applies
-abbrev pub wish_of : Sockets → List ℕ → Result Offer ℕ
+-- the address of the socket that a request gets, or why it gets none, by the first row that applies
+abbrev pub wish_of : Sockets → List ℕ → Result Endpoint ℕ
 wish_of sockets d =
     option_map_or (λ code. Err code)
     (transport_fault d)
     (if has_malformed d || conflict (options_of d) then Err 400
     else socket_for sockets (options_of d))
 
-abbrev pub offer_of : Offer → TableOffer
-offer_of offer = record { relay = offer.relay; address = offer.address }
+-- a client that comes by a tunnel is refused: what is relayed for it could go round for ever (section
+-- 21.4)
+abbrev pub wish_from : (client : Ip) → Sockets → List ℕ → Result Endpoint ℕ
+wish_from client sockets d = if is_tunnelled client then Err 403 else wish_of sockets d
 
-abbrev pub allocating : (id : ℕ) → (lifetime : Option ℕ) → Result Offer ℕ → Request
-allocating id lifetime (Ok offer) = allocate id lifetime (Ok (offer_of offer))
-allocating id lifetime (Err code) = allocate id None (Err code)
+abbrev pub allocating : (id : ℕ) → (lifetime : Option ℕ) → Result Endpoint ℕ → Wanted
+allocating id lifetime (Ok address) = opening id lifetime (Ok address)
+allocating id lifetime (Err code) = opening id None (Err code)
 
-abbrev pub allocate_of : Sockets → List ℕ → Request
-allocate_of sockets d = allocating (id_field d) (number_in LIFETIME d) (wish_of sockets d)
+abbrev pub allocate_of : (client : Ip) → Sockets → List ℕ → Wanted
+allocate_of client sockets d =
+    allocating (id_field d) (number_in LIFETIME d) (wish_from client sockets d)

@@ -1,5 +1,5 @@
 -- What a client's datagram is to a server (RFC 8656, sections 5 and 12; RFC 8489, sections 6.3 and 9.2.4).
-use Rattle.std.specs.Prelude.{ℕ, List, [], ◌∷◌, Option, None, Some, is_some, ◌==◌, if◌then◌else◌}
+use Rattle.std.specs.Prelude.{ℕ, Bool, true, false, List, [], ◌∷◌, Option, None, Some, is_some, ◌==◌, if◌then◌else◌}
 use Rattle.std.specs.Option.{option_map_or}
 use Rattle.stun_grammar.specs.declared.integrity_algorithm.IntegrityAlgorithm.{IntegrityAlgorithm}
 use Rattle.stun_grammar.specs.Headers.{type_field}
@@ -16,25 +16,26 @@ use Rattle.stun_authentication.specs.Identities.{Who}
 use Rattle.stun_authentication.specs.Lookups.{Known, UserKey}
 use Rattle.stun_authentication.specs.LongTerm.{long_term}
 use Rattle.turn_attrs.specs.Channels.{channel_field}
+use Rattle.turn_table.specs.declared.endpoints.Ip.{Ip}
 use Rattle.turn_table.specs.declared.endpoints.Endpoint.{Endpoint}
 use Rattle.turn_table.specs.declared.endpoints.FiveTuple.{FiveTuple}
-use Rattle.turn_table.specs.Events.{Request as TableRequest, Event, asks, sends, sends_on}
+use Rattle.turn_table.specs.Events.{Event, asks, sends, sends_on}
 use Rattle.turn_server.specs.declared.sockets.Sockets.{Sockets}
 use Rattle.turn_server.specs.ChannelMessages.{is_channel_byte, data_in}
 use Rattle.turn_server.specs.Comprehended.{is_comprehended}
 use Rattle.turn_server.specs.Indications.{sent_by}
 use Rattle.turn_server.specs.Requests.{asks_table, request_of}
+use Rattle.turn_server.specs.Wanted.{Wanted, request_with}
+use Rattle.turn_server.specs.Accounts.{account_of}
 
--- What a server is at a moment, for one client: the greatest channel number, 0x4FFF, or 0x7FFF for
--- clients of RFC 5766; how it authenticates; what number it has for a user; and the sockets that it
--- has ready
+-- What a server is at a moment, for one client: how it authenticates; the client's IP address; and the
+-- sockets that the server has ready
 pub record Site : Type 0 where
-  pub last_channel : ℕ
   pub policy : Policy
   pub realm : List ℕ
   pub nonces : List ℕ → Known
   pub keys : Who → List ℕ → PasswordAlgorithmValue → Option UserKey
-  pub account : Who → ℕ
+  pub client : Ip
   pub sockets : Sockets
 
 -- What comes of a datagram: nothing; a Binding request, which gets the reply of a server without
@@ -48,14 +49,21 @@ pub data Judged : Type 0 where
   unknown : UserKey → (reply_algorithm : IntegrityAlgorithm) → Judged
   sent : Endpoint → List ℕ → Judged
   sent_on : (channel : ℕ) → List ℕ → Judged
-  asked : (user : ℕ) → TableRequest → UserKey → (reply_algorithm : IntegrityAlgorithm) → Judged
+  asked : (user : ℕ) → Wanted → UserKey → (reply_algorithm : IntegrityAlgorithm) → Judged
 
--- the event of the table that it is, on a 5-tuple, if it is one
-abbrev pub event_of : FiveTuple → Judged → Option Event
-event_of tuple (sent peer bytes) = Some (sends tuple peer bytes)
-event_of tuple (sent_on channel bytes) = Some (sends_on tuple channel bytes)
-event_of tuple (asked user request key algorithm) = Some (asks tuple user request)
-event_of tuple _ = None
+-- the event of the table that it is, on a 5-tuple, if it is one. A socket gets this number if an
+-- allocation is opened
+abbrev pub event_of : FiveTuple → (relay : ℕ) → Judged → Option Event
+event_of tuple relay (sent peer bytes) = Some (sends tuple peer bytes)
+event_of tuple relay (sent_on channel bytes) = Some (sends_on tuple channel bytes)
+event_of tuple relay (asked user wanted key algorithm) =
+    Some (asks tuple user (request_with relay wanted))
+event_of tuple relay _ = None
+
+-- whether it asks the table
+abbrev pub is_asked : Judged → Bool
+is_asked (asked user wanted key algorithm) = true
+is_asked _ = false
 
 -- ---- ChannelData (section 12.6)
 
@@ -76,7 +84,8 @@ indicated method d =
 
 abbrev pub accepted_as : Site → (method : ℕ) → List ℕ → Who → UserKey → IntegrityAlgorithm → Judged
 accepted_as site method d user key algorithm =
-    if is_comprehended d then asked (site.account user) (request_of site.sockets method d) key algorithm
+    if is_comprehended d
+    then asked (account_of site.realm user) (request_of site.client site.sockets method d) key algorithm
     else unknown key algorithm
 
 abbrev pub decided_as : Site → (method : ℕ) → List ℕ → Decision → Judged
@@ -107,9 +116,10 @@ message site d =
     if is_some (parse_fault d) then dropped
     else by_class site (class_of (type_field d)) (method_of (type_field d)) d
 
--- by its first byte (section 12): a channel's, or that of a STUN message
-abbrev pub judge : Site → List ℕ → Judged
-judge site [] = dropped
-judge site (first ∷ more) =
-    if is_channel_byte site.last_channel first then channel_message (first ∷ more)
+-- by its first byte (section 12): a channel's, up to the greatest number of a channel, 0x4FFF, or 0x7FFF
+-- for clients of RFC 5766; or that of a STUN message
+abbrev pub judge : (last_channel : ℕ) → Site → List ℕ → Judged
+judge last_channel site [] = dropped
+judge last_channel site (first ∷ more) =
+    if is_channel_byte last_channel first then channel_message (first ∷ more)
     else message site (first ∷ more)

@@ -13,12 +13,14 @@ use Rattle.stun_authentication.specs.Lookups.{UserKey}
 use Rattle.stun_authentication.specs.LongTerm.{long_term}
 use Rattle.stun_server.specs.Reply.{binding_reply, reply}
 use Rattle.turn_attrs.specs.Channels.{channel_field}
-use Rattle.turn_table.specs.Events.{Request as TableRequest}
 use Rattle.turn_server.specs.ChannelMessages.{data_in}
 use Rattle.turn_server.specs.Comprehended.{is_comprehended}
 use Rattle.turn_server.specs.Indications.{sent_by}
 use Rattle.turn_server.specs.Judging.{Site, Judged, dropped, binding, refused, unknown, sent, sent_on, asked, SEND}
 use Rattle.turn_server.specs.Requests.{asks_table, request_of}
+use Rattle.turn_server.specs.Wanted.{Wanted, request_with}
+use Rattle.turn_table.specs.Events.{Request as TableRequest}
+use Rattle.turn_server.specs.Accounts.{account_of}
 
 -- d parses as a message of a class
 pub record IsOfClass (class : MessageClass) (d : List ℕ) : Type 0 where
@@ -37,14 +39,14 @@ pub record IsDecided (site : Site) (d : List ℕ) (decision : Decision) : Type 0
 
 -- d is a user's, authenticated by this key, and shows nothing that isn't comprehended; it asks for
 -- this
-pub record IsAsked (site : Site) (d : List ℕ) (user : ℕ) (request : TableRequest) (key : UserKey)
+pub record IsAsked (site : Site) (d : List ℕ) (user : ℕ) (wanted : Wanted) (key : UserKey)
     (reply_algorithm : IntegrityAlgorithm) : Type 0 where
   pub who : Who
   pub algorithm : IntegrityAlgorithm
   pub accepted : IsDecided site d (accept who key algorithm reply_algorithm)
   pub comprehended : is_comprehended d ≡ true
-  pub user_is : user ≡ site.account who
-  pub request_is : request ≡ request_of site.sockets (method_of (type_field d)) d
+  pub user_is : user ≡ account_of site.realm who
+  pub wanted_is : wanted ≡ request_of site.client site.sockets (method_of (type_field d)) d
 
 pub record IsUnknown (site : Site) (d : List ℕ) (key : UserKey) (reply_algorithm : IntegrityAlgorithm)
     : Type 0 where
@@ -66,4 +68,13 @@ IsSo site d (refused refusal) = IsDecided site d (refuse refusal)
 IsSo site d (unknown key reply_algorithm) = IsUnknown site d key reply_algorithm
 IsSo site d (sent peer bytes) = IsSend d × (sent_by d ≡ Some (peer, bytes))
 IsSo site d (sent_on channel bytes) = (channel ≡ channel_field d) × (data_in d ≡ Some bytes)
-IsSo site d (asked user request key reply_algorithm) = IsAsked site d user request key reply_algorithm
+IsSo site d (asked user wanted key reply_algorithm) = IsAsked site d user wanted key reply_algorithm
+
+-- it asks the table for this
+pub record Asks (site : Site) (d : List ℕ) (user : ℕ) (request : TableRequest) : Type 0 where
+  pub relay : ℕ
+  pub wanted : Wanted
+  pub key : UserKey
+  pub reply_algorithm : IntegrityAlgorithm
+  pub asked : IsAsked site d user wanted key reply_algorithm
+  pub request_is : request ≡ request_with relay wanted

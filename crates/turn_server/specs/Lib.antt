@@ -5,9 +5,17 @@ pub mod Comprehended
 pub mod Indications
 pub mod Peers
 pub mod PeersLeft
+pub mod Wanted
 pub mod Allocating
 pub mod Requests
+pub mod Accounts
 pub mod Judging
 pub mod Sites
 pub mod Reporting
+pub mod Endpoints
+pub mod Answers
+pub mod Unfinished
+pub mod Acting
+pub mod Actions
 pub mod Judgments
+pub mod Datagrams

@@ -1,18 +1,21 @@
 -- What a request of each method asks the table for (RFC 8656, sections 7.2, 8.2, 10.2 and 12.2). What its
 -- bytes alone refuse is unfit: the table looks first whose allocation it is.
-use Rattle.std.specs.Prelude.{ℕ, Bool, ◌||◌, List, take, Option, None, Some, length, option_and_then, ◌==◌, if◌then◌else◌}
+use Rattle.std.specs.Prelude.{ℕ, Bool, ◌||◌, List, take, Option, None, Some, length, option_and_then, nat_lt, ◌==◌, if◌then◌else◌}
 use Rattle.std.specs.Option.{option_map_or}
 use Rattle.stun_grammar.specs.Numbers.{number}
 use Rattle.stun_authentication.specs.Identities.{value_of}
 use Rattle.turn_attrs.specs.Turn.{CHANNEL_NUMBER, LIFETIME, REQUESTED_ADDRESS_FAMILY}
 use Rattle.turn_table.specs.Events.{Request as TableRequest, refresh, permit, bind, unfit}
+use Rattle.turn_table.specs.declared.endpoints.Ip.{Ip}
+use Rattle.turn_table.specs.declared.endpoints.Endpoint.{Endpoint}
 use Rattle.turn_server.specs.declared.sockets.Sockets.{Sockets}
 use Rattle.turn_server.specs.declared.request.Request.{Request}
 use Rattle.turn_server.specs.declared.request.Request.TheVariants.{Allocate, Refresh, Permit, Bind, Unfit}
 use Rattle.turn_server.specs.Addresses.{peer_of}
-use Rattle.turn_server.specs.Allocating.{allocating, allocate_of}
+use Rattle.turn_server.specs.Allocating.{allocate_of}
 use Rattle.turn_server.specs.Peers.{names_peers, peers_of}
 use Rattle.turn_server.specs.PeersLeft.{peers_left}
+use Rattle.turn_server.specs.Wanted.{Wanted, opening, other}
 use Rattle.turn_server.specs.Values.{malformed, number_in, byte_in}
 
 -- ---- The methods
@@ -36,8 +39,15 @@ refresh_of d =
     if malformed 4 REQUESTED_ADDRESS_FAMILY d || malformed 4 LIFETIME d then unfit 400
     else refresh (byte_in REQUESTED_ADDRESS_FAMILY d) (number_in LIFETIME d)
 
+-- one request permits at most 64 peers: more are more than this server has room for
+abbrev pub peers_max : ℕ
+peers_max = 64
+
+abbrev pub permitting : List Endpoint → TableRequest
+permitting peers = if nat_lt peers_max (length peers) then unfit 508 else permit peers
+
 abbrev pub permit_of : List ℕ → TableRequest
-permit_of d = if names_peers d then permit (peers_of d) else unfit 400
+permit_of d = if names_peers d then permitting (peers_of d) else unfit 400
 
 -- the number in a CHANNEL-NUMBER is the high half of four bytes (section 18.1); whether it may be a
 -- channel's the table decides
@@ -58,17 +68,17 @@ asks_table method =
     (method == ALLOCATE)
     || ((method == REFRESH) || ((method == CREATE_PERMISSION) || (method == CHANNEL_BIND)))
 
-abbrev pub request_of : Sockets → (method : ℕ) → List ℕ → TableRequest
-request_of sockets method d =
-    if method == ALLOCATE then allocate_of sockets d else (
-    if method == REFRESH then refresh_of d else (
-    if method == CREATE_PERMISSION then permit_of d else bind_of d))
+abbrev pub request_of : (client : Ip) → Sockets → (method : ℕ) → List ℕ → Wanted
+request_of client sockets method d =
+    if method == ALLOCATE then allocate_of client sockets d else (
+    if method == REFRESH then other (refresh_of d) else (
+    if method == CREATE_PERMISSION then other (permit_of d) else other (bind_of d)))
 
 -- ---- A request that was read
 
-abbrev pub table_request : Request → TableRequest
-table_request (Allocate id lifetime wish) = allocating id lifetime wish
-table_request (Refresh family lifetime) = refresh family lifetime
-table_request (Permit peers) = permit (peers_left peers)
-table_request (Bind channel peer) = bind channel peer
-table_request (Unfit code) = unfit code
+abbrev pub wanted_by : Request → Wanted
+wanted_by (Allocate id lifetime wish) = opening id lifetime wish
+wanted_by (Refresh family lifetime) = other (refresh family lifetime)
+wanted_by (Permit peers) = other (permitting (peers_left peers))
+wanted_by (Bind channel peer) = other (bind channel peer)
+wanted_by (Unfit code) = other (unfit code)

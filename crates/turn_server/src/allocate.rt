@@ -4,11 +4,11 @@
 ghost use Rattle.std.specs.Prelude.{◌≡◌, ◌||◌, true, false, None, Some, Ok, Err, MatchResult};
 ghost use Rattle.stun_types.specs.Message.{message_bytes};
 ghost use Rattle.turn_attrs.specs.Turn.{LIFETIME};
-ghost use Rattle.turn_server.specs.Allocating.{transport_fault, has_malformed, options_of, chosen, wish_of};
+ghost use Rattle.turn_server.specs.Allocating.{transport_fault, has_malformed, options_of, chosen, wish_from};
 ghost use Rattle.turn_server.specs.Values.{number_in};
 
 use crate::values::{byte_in, fixed_value, number_in};
-use crate::{Offer, Ready, Sockets};
+use crate::{Ready, Sockets};
 use stun_types::attribute::ErrorCode;
 use stun_types::message::Message;
 use turn_attrs::attribute_types::{
@@ -16,8 +16,9 @@ use turn_attrs::attribute_types::{
     RESERVATION_TOKEN,
 };
 use turn_attrs::error_codes::{
-    ADDRESS_FAMILY_NOT_SUPPORTED, INSUFFICIENT_CAPACITY, UNSUPPORTED_TRANSPORT_PROTOCOL,
+    ADDRESS_FAMILY_NOT_SUPPORTED, FORBIDDEN, INSUFFICIENT_CAPACITY, UNSUPPORTED_TRANSPORT_PROTOCOL,
 };
+use turn_table::{Endpoint, Ip, is_tunnelled};
 
 /// The number of UDP as a protocol.
 const UDP: u8 = 17;
@@ -74,8 +75,8 @@ fn read_options(request: &Message<'_>) -> Result<Options, u16>
     })
 }
 
-/// The socket of a family that is wished.
-fn chosen(even: Option<bool>, ready: Ready) -> Option<Offer>
+/// The address of the socket of a family that is wished.
+fn chosen(even: Option<bool>, ready: Ready) -> Option<Endpoint>
     ensures { result ≡ chosen even ready }
 {
     match even {
@@ -116,12 +117,12 @@ impl Options {
             || self.additional.unwrap_or(2) != 2
     }
 
-    /// The socket that a request with these wishes gets.
+    /// The address of the socket that a request with these wishes gets.
     ///
     /// # Errors
     ///
     /// 440 or 508.
-    fn socket(&self, sockets: &Sockets) -> Result<Offer, u16>
+    fn socket(&self, sockets: &Sockets) -> Result<Endpoint, u16>
         ensures { result ≡ socket_for sockets.now self.now }
     {
         if self.token {
@@ -131,31 +132,37 @@ impl Options {
             return Err(ADDRESS_FAMILY_NOT_SUPPORTED);
         };
         match chosen(self.even, ready) {
-            Some(offer) => Ok(offer),
+            Some(address) => Ok(address),
             None => Err(INSUFFICIENT_CAPACITY),
         }
     }
 }
 
-/// The lifetime that an Allocate request wishes, in seconds, and the socket that it gets.
+/// The lifetime that an Allocate request of a client wishes, in seconds, and the address of the socket
+/// that it gets.
 ///
 /// # Errors
 ///
-/// The code by which its bytes alone refuse it, or by which there is no socket for it.
+/// The code by which its client's address or its bytes refuse it, or by which there is no socket for
+/// it.
 pub(crate) fn read_wish(
     request: &Message<'_>,
+    client: Ip,
     sockets: &Sockets,
-) -> Result<(Option<u32>, Offer), u16>
+) -> Result<(Option<u32>, Endpoint), u16>
     ensures { let d = message_bytes request.now in
         MatchResult result
-        (λ wish. (wish.0 ≡ number_in LIFETIME d) × (wish_of sockets.now d ≡ Ok wish.1))
-        (λ code. wish_of sockets.now d ≡ Err code) }
+        (λ wish. (wish.0 ≡ number_in LIFETIME d) × (wish_from client sockets.now d ≡ Ok wish.1))
+        (λ code. wish_from client sockets.now d ≡ Err code) }
 {
+    if is_tunnelled(client) {
+        return Err(FORBIDDEN);
+    }
     check_transport(request)?;
     let options = read_options(request)?;
     if options.conflict() {
         return Err(ErrorCode::BAD_REQUEST);
     }
-    let offer = options.socket(sockets)?;
-    Ok((options.lifetime, offer))
+    let address = options.socket(sockets)?;
+    Ok((options.lifetime, address))
 }

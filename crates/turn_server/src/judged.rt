@@ -2,7 +2,7 @@
 
 use crate::Request;
 use stun_authentication::{Accepted, Refusal};
-use turn_table::Endpoint;
+use turn_table::{Endpoint, UserId};
 
 /// What comes of a client's datagram, whose data it borrows.
 #[derive(Debug, Drop)]
@@ -31,7 +31,7 @@ pub enum Judged<'d> {
     /// The request of a user, by its number: what it asks the table for. The answer is signed by the
     /// user's key.
     Asked {
-        user: u128,
+        user: UserId,
         request: Request<'d>,
         accepted: Accepted<'d>,
     },

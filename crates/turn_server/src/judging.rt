@@ -11,19 +11,22 @@ ghost use Rattle.stun_authentication.specs.Answers.{Decision, Tells as Decides};
 ghost use Rattle.stun_authentication.specs.Identities.{Who, who};
 ghost use Rattle.stun_authentication.specs.Lookups.{Known, UserKey};
 ghost use Rattle.stun_authentication.specs.LongTerm.{needs_key};
+ghost use Rattle.turn_server.specs.ChannelMessages.{last_channel};
 ghost use Rattle.turn_server.specs.Judging.{channel_message, indicated, accepted_as, decided_as, requested, message, judge};
 ghost use Rattle.turn_server.specs.Reporting.{Signs, Tells};
 ghost use Rattle.turn_server.specs.Sites.{site_of};
 
+use crate::accounts::user_of;
 use crate::channel_message::{is_channel_byte, read_channel_data};
 use crate::comprehended::is_comprehended;
 use crate::indication::read_send;
 use crate::request::{asks_table, read_request};
-use crate::{Accounts, Judged, Site};
+use crate::{Judged, Site};
 use std::alloc::{AllocError, Global};
 use stun_authentication::{Accepted, Authentication, LongTermKeys, Nonces, authenticate_long_term};
 use stun_types::message::{BINDING, Message, MessageClass};
 use turn_attrs::methods::SEND;
+use turn_table::Ip;
 
 /// What comes of a datagram that begins as a ChannelData message.
 fn judge_channel_message<'d>(datagram: &'d [u8]) -> Judged<'d>
@@ -50,46 +53,46 @@ fn judge_indication<'d>(message: &Message<'d>) -> Judged<'d>
 }
 
 /// What comes of a request that was accepted.
-fn judge_accepted<'d, A: Accounts>(
+fn judge_accepted<'d>(
     message: &Message<'d>,
+    client: Ip,
     site: &Site<'_>,
     accepted: Accepted<'d>,
-    accounts: &A,
 ) -> Judged<'d>
     ensures { (nonces : List ℕ → Known)
         (keys : Who → List ℕ → PasswordAlgorithmValue → Option UserKey)
         (user : Who) (key : UserKey) (algorithm : IntegrityAlgorithm)
         → who accepted.entry.user ≡ user → Signs key algorithm accepted.entry
         → let d = message_bytes message.now in
-        Tells (accepted_as (site_of site.now nonces keys (A.account_of accounts.now))
+        Tells (accepted_as (site_of client site.now nonces keys)
         (method_of (type_field d)) d user key algorithm) result }
 {
     if !is_comprehended(message) {
         return Judged::Unknown(accepted);
     }
     Judged::Asked {
-        user: accounts.account(accepted.user),
-        request: read_request(message, &site.sockets),
+        user: user_of(accepted.user, site.realm),
+        request: read_request(message, client, &site.sockets),
         accepted,
     }
 }
 
 /// What comes of a request, by what its authentication decided.
-fn judge_decided<'d, A: Accounts>(
+fn judge_decided<'d>(
     message: &Message<'d>,
+    client: Ip,
     site: &Site<'_>,
     authentication: Authentication<'d>,
-    accounts: &A,
 ) -> Judged<'d>
     ensures { (nonces : List ℕ → Known)
         (keys : Who → List ℕ → PasswordAlgorithmValue → Option UserKey)
         (decision : Decision) → Decides decision authentication.entry
         → let d = message_bytes message.now in
-        Tells (decided_as (site_of site.now nonces keys (A.account_of accounts.now))
+        Tells (decided_as (site_of client site.now nonces keys)
         (method_of (type_field d)) d decision) result }
 {
     match authentication {
-        Authentication::Accepted(accepted) => judge_accepted(message, site, accepted, accounts),
+        Authentication::Accepted(accepted) => judge_accepted(message, client, site, accepted),
         Authentication::Refused(refusal) => Judged::Refused(refusal),
         Authentication::Discarded | Authentication::NotARequest => Judged::Dropped,
     }
@@ -100,17 +103,17 @@ fn judge_decided<'d, A: Accounts>(
 /// # Errors
 ///
 /// Only if an allocation failed, while `keys` looked for the key.
-fn judge_request<'d, N: Nonces, K: LongTermKeys, A: Accounts>(
+fn judge_request<'d, N: Nonces, K: LongTermKeys>(
     alloc: Global,
     message: &Message<'d>,
+    client: Ip,
     site: &Site<'_>,
     nonces: &N,
     keys: &K,
-    accounts: &A,
 ) -> Result<Judged<'d>, AllocError>
     ensures judged { let d = message_bytes message.now in
         IfOk result (Tells (requested
-        (site_of site.now (N.state_of nonces.now) (K.key_of keys.now) (A.account_of accounts.now))
+        (site_of client site.now (N.state_of nonces.now) (K.key_of keys.now))
         (method_of (type_field d)) d)) }
     ensures memory { needs_key site.now.policy (N.state_of nonces.now) (message_bytes message.now)
         ≡ false → IsOk result }
@@ -129,7 +132,7 @@ fn judge_request<'d, N: Nonces, K: LongTermKeys, A: Accounts>(
         nonces,
         keys,
     )?;
-    Ok(judge_decided(message, site, authentication, accounts))
+    Ok(judge_decided(message, client, site, authentication))
 }
 
 /// What comes of a datagram that doesn't begin as a ChannelData message.
@@ -137,16 +140,16 @@ fn judge_request<'d, N: Nonces, K: LongTermKeys, A: Accounts>(
 /// # Errors
 ///
 /// Only if an allocation failed, while `keys` looked for the key.
-fn judge_message<'d, N: Nonces, K: LongTermKeys, A: Accounts>(
+fn judge_message<'d, N: Nonces, K: LongTermKeys>(
     alloc: Global,
     datagram: &'d [u8],
+    client: Ip,
     site: &Site<'_>,
     nonces: &N,
     keys: &K,
-    accounts: &A,
 ) -> Result<Judged<'d>, AllocError>
     ensures judged { IfOk result (Tells (message
-        (site_of site.now (N.state_of nonces.now) (K.key_of keys.now) (A.account_of accounts.now))
+        (site_of client site.now (N.state_of nonces.now) (K.key_of keys.now))
         datagram.now)) }
     ensures memory { needs_key site.now.policy (N.state_of nonces.now) datagram.now ≡ false
         → IsOk result }
@@ -155,13 +158,14 @@ fn judge_message<'d, N: Nonces, K: LongTermKeys, A: Accounts>(
         return Ok(Judged::Dropped);
     };
     match message.class() {
-        MessageClass::Request => judge_request(alloc, &message, site, nonces, keys, accounts),
+        MessageClass::Request => judge_request(alloc, &message, client, site, nonces, keys),
         MessageClass::Indication => Ok(judge_indication(&message)),
         MessageClass::Success | MessageClass::Error => Ok(Judged::Dropped),
     }
 }
 
-/// Returns what comes of a client's datagram. The first of these that applies:
+/// Returns what comes of a datagram of a client with the IP address `client`. The first of these that
+/// applies:
 ///
 /// - A first byte of 0x40 to 0x4F, or to 0x7F with `old_channels`, begins a ChannelData message. It
 ///   is [`Judged::SentOn`], or dropped if it is cut off or longer than its padding (RFC 8656,
@@ -183,6 +187,7 @@ fn judge_message<'d, N: Nonces, K: LongTermKeys, A: Accounts>(
 /// the code that refuses it: the table first looks whose allocation it is (RFC 8656, sections 5 and
 /// 7.2). An Allocate request has the first of these that applies:
 ///
+/// - 403 if the client's own address is of Teredo or 6to4 (RFC 8656, section 21.4);
 /// - 400 if REQUESTED-TRANSPORT is missing or malformed, and 442 if it isn't UDP;
 /// - 400 if LIFETIME, REQUESTED-ADDRESS-FAMILY, EVEN-PORT, RESERVATION-TOKEN or
 ///   ADDITIONAL-ADDRESS-FAMILY has another length than its type; if RESERVATION-TOKEN is beside one of
@@ -205,23 +210,11 @@ fn judge_message<'d, N: Nonces, K: LongTermKeys, A: Accounts>(
 /// # Examples
 ///
 /// ```
-/// use stun_authentication::{Identity, Logins, NonceMaker, Policy, Refusal, SecurityFeatures};
+/// use stun_authentication::{Logins, NonceMaker, Policy, Refusal, SecurityFeatures};
 /// use stun_types::message::IntegrityKey;
-/// use turn_server::{Accounts, Judged, Site, Sockets, judge};
-///
-/// // The server has one user.
-/// struct Sole;
-///
-/// impl Accounts for Sole {
-///     ghost account_of = { λ _ who. 1 };
-///
-///     fn account(&self, _user: Identity<'_>) -> u128 {
-///         1
-///     }
-/// }
+/// use turn_server::{Judged, Site, Sockets, endpoint_of, judge};
 ///
 /// let site = Site {
-///     old_channels: false,
 ///     policy: Policy::default(),
 ///     realm: "example.org",
 ///     sockets: Sockets { ipv4: None, ipv6: None },
@@ -230,24 +223,26 @@ fn judge_message<'d, N: Nonces, K: LongTermKeys, A: Accounts>(
 /// let maker = NonceMaker::new(secret, SecurityFeatures::default(), 600)?;
 /// let nonces = maker.nonces(1000, "192.0.2.1:32853".parse()?, &[]);
 /// let keys = Logins::new(&[]);
+/// let client = endpoint_of("192.0.2.1:32853".parse()?).ip;
 /// // Five bytes on a channel.
-/// let judged = judge(alloc, b"\x40\x01\x00\x05hello", &site, &nonces, &keys, &Sole)?;
+/// let judged = judge(alloc, client, b"\x40\x01\x00\x05hello", false, &site, &nonces, &keys)?;
 /// assert!(rt; matches!(judged, Judged::SentOn { channel: 0x4001, .. }));
 /// // An Allocate request that isn't signed.
 /// let request = b"\x00\x03\x00\x08\x21\x12\xA4\x42abcdefghijkl\x00\x19\x00\x04\x11\x00\x00\x00";
-/// let judged = judge(alloc, request, &site, &nonces, &keys, &Sole)?;
+/// let judged = judge(alloc, client, request, false, &site, &nonces, &keys)?;
 /// assert!(rt; matches!(judged, Judged::Refused(Refusal::Unauthenticated)));
 /// ```
-pub fn judge<'d, N: Nonces, K: LongTermKeys, A: Accounts>(
+pub fn judge<'d, N: Nonces, K: LongTermKeys>(
     alloc: Global,
+    client: Ip,
     datagram: &'d [u8],
+    old_channels: bool,
     site: &Site<'_>,
     nonces: &N,
     keys: &K,
-    accounts: &A,
 ) -> Result<Judged<'d>, AllocError>
-    ensures judged { IfOk result (Tells (judge
-        (site_of site.now (N.state_of nonces.now) (K.key_of keys.now) (A.account_of accounts.now))
+    ensures judged { IfOk result (Tells (judge (last_channel old_channels)
+        (site_of client site.now (N.state_of nonces.now) (K.key_of keys.now))
         datagram.now)) }
     ensures memory { needs_key site.now.policy (N.state_of nonces.now) datagram.now ≡ false
         → IsOk result }
@@ -255,8 +250,8 @@ pub fn judge<'d, N: Nonces, K: LongTermKeys, A: Accounts>(
     let Some(first) = datagram.first() else {
         return Ok(Judged::Dropped);
     };
-    if is_channel_byte(site.last_channel(), *first) {
+    if is_channel_byte(old_channels, *first) {
         return Ok(judge_channel_message(datagram));
     }
-    judge_message(alloc, datagram, site, nonces, keys, accounts)
+    judge_message(alloc, datagram, client, site, nonces, keys)
 }

@@ -6,29 +6,30 @@ ghost use Rattle.stun_base.specs.MessageTypes.{method_of};
 ghost use Rattle.stun_types.specs.Message.{message_bytes};
 ghost use Rattle.turn_table.specs.Events.{refresh, unfit};
 ghost use Rattle.turn_server.specs.Allocating.{allocate_of};
-ghost use Rattle.turn_server.specs.Requests.{refresh_of, permit_of, channel_of, bind_of, asks_table, request_of, table_request};
+ghost use Rattle.turn_server.specs.Wanted.{other};
+ghost use Rattle.turn_server.specs.Requests.{refresh_of, permit_of, channel_of, bind_of, asks_table, request_of, wanted_by};
 
 use crate::addresses::peer_of;
 use crate::allocate::read_wish;
 use crate::values::{byte_in, number_in, value_of};
-use crate::{Offer, Peers, Sockets};
+use crate::{Peers, Sockets};
 use byteorder::{BigEndian, ByteOrder};
 use stun_types::attribute::ErrorCode;
 use stun_types::message::{Message, Method, TransactionId};
 use turn_attrs::attribute_types::{CHANNEL_NUMBER, LIFETIME, REQUESTED_ADDRESS_FAMILY};
 use turn_attrs::methods::{ALLOCATE, CHANNEL_BIND, CREATE_PERMISSION, REFRESH};
-use turn_table::Endpoint;
+use turn_table::{Endpoint, Ip};
 
 /// What an authenticated request asks the table for. Lifetimes are in seconds, and `None` if the
 /// request has no LIFETIME.
 #[derive(Debug, Drop)]
 pub enum Request<'d> {
-    /// Allocate, by the transaction ID of the request: the socket that it gets, or the code by which
-    /// it is refused if it isn't a request that comes again (RFC 8656, section 7.2).
+    /// Allocate, by the transaction ID of the request: the address of the socket that it gets, or
+    /// the code by which it is refused if it isn't a request that comes again (RFC 8656, section 7.2).
     Allocate {
         id: TransactionId,
         lifetime: Option<u32>,
-        wish: Result<Offer, u16>,
+        wish: Result<Endpoint, u16>,
     },
     /// Refresh: the address family that it names, 1 for IPv4 and 2 for IPv6, as its byte (RFC 8656,
     /// section 8.2).
@@ -36,7 +37,8 @@ pub enum Request<'d> {
         family: Option<u8>,
         lifetime: Option<u32>,
     },
-    /// CreatePermission for these peers (RFC 8656, section 10.2).
+    /// CreatePermission for these peers (RFC 8656, section 10.2). If there are more than
+    /// [`PEERS`](crate::PEERS), the server refuses it with 508.
     Permit(Peers<'d>),
     /// ChannelBind: the channel, by any number of 16 bits, and the peer (RFC 8656, section 12.2).
     Bind {
@@ -49,15 +51,16 @@ pub enum Request<'d> {
 }
 
 /// What an Allocate request asks for.
-fn read_allocate<'d>(request: &Message<'d>, sockets: &Sockets) -> Request<'d>
-    ensures { table_request result ≡ allocate_of sockets.now (message_bytes request.now) }
+fn read_allocate<'d>(request: &Message<'d>, client: Ip, sockets: &Sockets) -> Request<'d>
+    ensures { wanted_by result
+        ≡ allocate_of client sockets.now (message_bytes request.now) }
 {
     let id = request.transaction_id();
-    match read_wish(request, sockets) {
-        Ok((lifetime, offer)) => Request::Allocate {
+    match read_wish(request, client, sockets) {
+        Ok((lifetime, address)) => Request::Allocate {
             id,
             lifetime,
-            wish: Ok(offer),
+            wish: Ok(address),
         },
         Err(code) => Request::Allocate {
             id,
@@ -85,7 +88,7 @@ fn refresh_fields(request: &Message<'_>) -> Result<(Option<u8>, Option<u32>), u1
 
 /// What a Refresh request asks for.
 fn read_refresh<'d>(request: &Message<'d>) -> Request<'d>
-    ensures { table_request result ≡ refresh_of (message_bytes request.now) }
+    ensures { wanted_by result ≡ other (refresh_of (message_bytes request.now)) }
 {
     match refresh_fields(request) {
         Ok((family, lifetime)) => Request::Refresh { family, lifetime },
@@ -95,7 +98,7 @@ fn read_refresh<'d>(request: &Message<'d>) -> Request<'d>
 
 /// What a CreatePermission request asks for.
 fn read_permit<'d>(request: &Message<'d>) -> Request<'d>
-    ensures { table_request result ≡ permit_of (message_bytes request.now) }
+    ensures { wanted_by result ≡ other (permit_of (message_bytes request.now)) }
 {
     match Peers::named_by(request) {
         Some(peers) => Request::Permit(peers),
@@ -116,7 +119,7 @@ fn channel_of(request: &Message<'_>) -> Option<u16>
 
 /// What a ChannelBind request asks for.
 fn read_bind<'d>(request: &Message<'d>) -> Request<'d>
-    ensures { table_request result ≡ bind_of (message_bytes request.now) }
+    ensures { wanted_by result ≡ other (bind_of (message_bytes request.now)) }
 {
     match (channel_of(request), peer_of(request)) {
         (Some(channel), Some(peer)) => Request::Bind { channel, peer },
@@ -135,12 +138,12 @@ pub(crate) fn asks_table(method: Method) -> bool
 }
 
 /// What a request of such a method asks the table for.
-pub(crate) fn read_request<'d>(request: &Message<'d>, sockets: &Sockets) -> Request<'d>
+pub(crate) fn read_request<'d>(request: &Message<'d>, client: Ip, sockets: &Sockets) -> Request<'d>
     ensures { let d = message_bytes request.now in
-        table_request result ≡ request_of sockets.now (method_of (type_field d)) d }
+        wanted_by result ≡ request_of client sockets.now (method_of (type_field d)) d }
 {
     match request.method() {
-        ALLOCATE => read_allocate(request, sockets),
+        ALLOCATE => read_allocate(request, client, sockets),
         REFRESH => read_refresh(request),
         CREATE_PERMISSION => read_permit(request),
         _ => read_bind(request),

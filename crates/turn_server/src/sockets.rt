@@ -2,20 +2,13 @@
 
 use turn_table::Endpoint;
 
-/// A socket that no allocation has: its number, which the caller never uses twice, and the address
-/// that it is bound to.
-#[derive(Clone, Copy, Debug, PartialEq, Eq)]
-pub struct Offer {
-    pub relay: u64,
-    pub address: Endpoint,
-}
-
-/// The sockets of an address family that are ready: one for a request that asks for no port, and
-/// one with an even port (RFC 8656, section 18.7). `None`: the request is refused with 508.
+/// The addresses of sockets of an address family that no allocation has: of one for a request that
+/// asks for no port, and of one with an even port (RFC 8656, section 18.7). `None`: the request is
+/// refused with 508.
 #[derive(Clone, Copy, Debug, PartialEq, Eq)]
 pub struct Ready {
-    pub any: Option<Offer>,
-    pub even: Option<Offer>,
+    pub any: Option<Endpoint>,
+    pub even: Option<Endpoint>,
 }
 
 /// The sockets that are ready. A family that is `None` isn't supported: a request for it is refused

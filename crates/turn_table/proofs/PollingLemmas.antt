@@ -123,9 +123,10 @@ other_kept now relay a isnt =
     cond_both (relay == a.relay) true false (λ _. not (is_over now (relay ∷ []) a) ≡ true)
     (λ so. let un : false ≡ true = sym isnt ∙ eq-eqb a.relay relay (sym (eqb-true relay a.relay so)) in cc)
     (λ other. ap (λ (b : Bool). not (not (is_live now a) && (b || false))) other ∙ by_ended (not (is_live now a)))
-  where by_ended : (ended : Bool) → not (ended && (false || false)) ≡ true
-        by_ended true = refl
-        by_ended false = refl
+  where
+    by_ended : (ended : Bool) → not (ended && (false || false)) ≡ true
+    by_ended true = refl
+    by_ended false = refl
 
 -- the allocations of other sockets stay
 others_kept : (now relay : ℕ) (all : List Allocation) → list_any (uses_relay relay) all ≡ false → filter (λ a. not (is_over now (relay ∷ []) a)) all ≡ all
@@ -168,9 +169,10 @@ none_over now [] = refl
 none_over now (a ∷ all) =
     cond-true (not (is_over now [] a)) (a ∷ filter (λ b. not (is_over now [] b)) all) (filter (λ b. not (is_over now [] b)) all) (by_ended (not (is_live now a)))
     ∙ ap (λ (l : List Allocation). a ∷ l) (none_over now all)
-  where by_ended : (ended : Bool) → not (ended && false) ≡ true
-        by_ended true = refl
-        by_ended false = refl
+  where
+    by_ended : (ended : Bool) → not (ended && false) ≡ true
+    by_ended true = refl
+    by_ended false = refl
 
 pub polling_begins : (old : Kept) (before : List ℕ) → IsPolling old before (length old.state.allocations) 0 before old
 polling_begins old before = record {
@@ -209,9 +211,10 @@ polling_keeps old before left count after cur new a others so_far is clock most 
           (subst (λ (l : List Allocation). list_all (is_live old.state.clock) (drop (suc left) l) ≡ true) is (so_far.live less))
           (subst (λ (c : ℕ). is_live c a ≡ true) so_far.clock (live less)));
     }
-  where long_last : (xs : List Allocation) (y : Allocation) → length (xs ++ y ∷ []) ≡ suc (length xs)
-        long_last [] y = refl
-        long_last (x ∷ xs) y = ap suc (long_last xs y)
+  where
+    long_last : (xs : List Allocation) (y : Allocation) → length (xs ++ y ∷ []) ≡ suc (length xs)
+    long_last [] y = refl
+    long_last (x ∷ xs) y = ap suc (long_last xs y)
 
 -- the first allocation is closed
 pub polling_closes : (old : Kept) (before : List ℕ) (left count : ℕ) (after more : List ℕ) (cur new : Kept) (a : Allocation) (others : List Allocation) → IsPolling old before (suc left) count after cur → cur.state.allocations ≡ a ∷ others

@@ -29,9 +29,10 @@ from_last : (order : List ℕ) (i j : ℕ) → Has j (order ++ i ∷ []) → Has
 from_last [] i j has = has
 from_last (k ∷ order) i j (inl e) = inr (inl e)
 from_last (k ∷ order) i j (inr has) = first_two order i j k (from_last order i j has)
-  where first_two : (order : List ℕ) (i j k : ℕ) → Has j (i ∷ order) → Has j (i ∷ k ∷ order)
-        first_two order i j k (inl e) = inl e
-        first_two order i j k (inr has) = inr (inr has)
+  where
+    first_two : (order : List ℕ) (i j k : ℕ) → Has j (i ∷ order) → Has j (i ∷ k ∷ order)
+    first_two order i j k (inl e) = inl e
+    first_two order i j k (inr has) = inr (inr has)
 
 to_last : (order : List ℕ) (i j : ℕ) → Has j (i ∷ order) → Has j (order ++ i ∷ [])
 to_last [] i j has = has
@@ -45,9 +46,10 @@ apart_last (k ∷ order) i apart = (
   λ (has : Has k (order ++ i ∷ [])). not_first order i k (λ (e : i ≡ k). apart.0 (inl (sym e))) apart.1.0 (from_last order i k has),
   apart_last order i (λ (has : Has i order). apart.0 (inr has), apart.1.1),
 )
-  where not_first : (order : List ℕ) (i k : ℕ) → (i ≡ k → ⊥) → (Has k order → ⊥) → Has k (i ∷ order) → ⊥
-        not_first order i k other out (inl e) = other e
-        not_first order i k other out (inr has) = out has
+  where
+    not_first : (order : List ℕ) (i k : ℕ) → (i ≡ k → ⊥) → (Has k order → ⊥) → Has k (i ∷ order) → ⊥
+    not_first order i k other out (inl e) = other e
+    not_first order i k other out (inr has) = out has
 
 pub table_turned : (now : ℕ) (slots : List (Option Allocation)) (place : ℕ) (rest free : List ℕ) (entries : List (FiveTuple × ℕ)) → IsTable now slots (place ∷ rest) free entries → IsTable now slots (rest ++ place ∷ []) free entries
 table_turned now slots place rest free entries table =

@@ -35,9 +35,9 @@ pub record AnswersAgain (now user id : ℕ) (a : Allocation) (reply : AllocateRe
 -- the step of the machine, if the socket that is ready gets a number that no other has
 pub record Allocates (setup : Setup) (old : State) (now : ℕ) (tuple : FiveTuple) (user id : ℕ)
     (lifetime : Option ℕ) (wish : Result Endpoint ℕ) (reply : AllocateReply) (new : State) : Type 0
-    where
-  pub relay : ℕ
-  pub unused : list_any (uses_relay relay) old.allocations ≡ false
-  pub kind : IsFor (allocation_of (at now old).clock tuple old) relay reply
-  pub step : step setup old now (asks tuple user (allocate id lifetime (offered relay wish)))
-      ≡ record { state = new; output = answers tuple (answer_to reply) }
+  where
+    pub relay : ℕ
+    pub unused : list_any (uses_relay relay) old.allocations ≡ false
+    pub kind : IsFor (allocation_of (at now old).clock tuple old) relay reply
+    pub step : step setup old now (asks tuple user (allocate id lifetime (offered relay wish)))
+        ≡ record { state = new; output = answers tuple (answer_to reply) }

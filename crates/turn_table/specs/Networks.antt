@@ -1,8 +1,9 @@
 -- IP addresses as numbers, and prefixes of them (RFC 4632, section 3.1; RFC 4291, section 2.3).
-use Rattle.std.specs.Prelude.{ℕ, ◌-◌, ◌/◌, ◌%◌, ◌^◌, Bool, true, false, ◌&&◌, ◌==◌, nat_lt, if◌then◌else◌, Result, Ok, Err}
+use Rattle.std.specs.Prelude.{ℕ, ◌-◌, ◌/◌, ◌%◌, ◌^◌, Bool, true, false, ◌&&◌, ◌==◌, nat_lt, if◌then◌else◌, Option, None, Some, Result, Ok, Err}
 use Rattle.std.specs.Net.Addr.{ipv4_bits, ipv6_bits}
 use Rattle.std.specs.declared.net.ip_addr.IpAddr.{IpAddr}
-use Rattle.std.specs.declared.net.ip_addr.IpAddr.TheVariants as Ip
+use Rattle.std.specs.declared.net.ip_addr.IpAddr.TheVariants as Std
+use Rattle.turn_table.specs.declared.endpoints.Ip.{Ip}
 use Rattle.turn_table.specs.declared.peers.networks.Version.{Version}
 use Rattle.turn_table.specs.declared.peers.networks.Version.TheVariants.{V4, V6}
 use Rattle.turn_table.specs.declared.peers.networks.PrefixError.{PrefixError}
@@ -22,8 +23,15 @@ is_version _ _ = false
 
 -- an address as a number, the first bit the most significant
 abbrev pub address_of : IpAddr → Address
-address_of (Ip.V4 ip) = record { version = V4; number = ipv4_bits ip }
-address_of (Ip.V6 ip) = record { version = V6; number = ipv6_bits ip }
+address_of (Std.V4 ip) = record { version = V4; number = ipv4_bits ip }
+address_of (Std.V6 ip) = record { version = V6; number = ipv6_bits ip }
+
+-- the same of an address in a table: None if it is none, of another family or of IPv4 with more bits
+abbrev pub address_in : Ip → Option Address
+address_in ip =
+    if (ip.family == 1) && nat_lt ip.number (2 ^ 32)
+    then Some (record { version = V4; number = ip.number }) else (
+    if ip.family == 2 then Some (record { version = V6; number = ip.number }) else None)
 
 abbrev pub is_same : Address → Address → Bool
 is_same a b = is_version a.version b.version && (a.number == b.number)

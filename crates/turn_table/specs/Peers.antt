@@ -1,14 +1,17 @@
 -- Which peers a TURN server relays to (RFC 8656, section 21).
-use Rattle.std.specs.Prelude.{ℕ, ◌+◌, Bool, ◌&&◌, ◌||◌, not, ◌==◌, nat_le, List}
+use Rattle.std.specs.Prelude.{ℕ, ◌+◌, Bool, false, ◌&&◌, ◌||◌, not, ◌==◌, nat_le, List}
 use Rattle.std.specs.List.{list_all, list_any}
+use Rattle.std.specs.Option.{option_map_or}
 use Rattle.std.specs.Net.Socket.{socket_ip, socket_port}
 use Rattle.std.specs.declared.net.ip_addr.IpAddr.{IpAddr}
 use Rattle.std.specs.declared.net.socket_addr.SocketAddr.{SocketAddr}
+use Rattle.turn_table.specs.declared.endpoints.Ip.{Ip}
+use Rattle.turn_table.specs.declared.endpoints.Endpoint.{Endpoint}
 use Rattle.turn_table.specs.declared.peers.defaults.TheConstants.{DENIED_BY_DEFAULT}
 use Rattle.turn_table.specs.declared.peers.networks.Address.{Address}
 use Rattle.turn_table.specs.declared.peers.networks.Prefix.{Prefix}
 use Rattle.turn_table.specs.declared.peers.Peers.{Peers}
-use Rattle.turn_table.specs.Networks.{is_same, address_of, contains}
+use Rattle.turn_table.specs.Networks.{is_same, address_of, address_in, contains}
 
 -- whether a prefix of at least this length allows an address
 abbrev pub is_allowed_by : List Prefix → ℕ → Address → Bool
@@ -39,3 +42,19 @@ is_same_peer peer own =
 abbrev pub allows : Peers → SocketAddr → Bool
 allows peers peer =
     allows_ip peers (socket_ip peer) && not (list_any (is_same_peer peer) peers.listening.now)
+
+-- ---- The same for a table
+
+-- whether it is an address, and the rules allow it
+abbrev pub is_peer_allowed : Peers → Ip → Bool
+is_peer_allowed peers ip =
+    option_map_or (allows_address peers.denied.now peers.allowed.now) (address_in ip) false
+
+abbrev pub is_own_endpoint : Endpoint → SocketAddr → Bool
+is_own_endpoint peer own =
+    (socket_port own == peer.port)
+    && option_map_or (is_same (address_of (socket_ip own))) (address_in peer.ip) false
+
+-- whether the server doesn't listen there
+abbrev pub is_port_open : Peers → Endpoint → Bool
+is_port_open peers peer = not (list_any (is_own_endpoint peer) peers.listening.now)

@@ -17,6 +17,7 @@ mod serving;
 mod slot;
 mod slots;
 mod table;
+mod tunnels;
 mod user;
 
 pub use endpoints::{Channel, Endpoint, FiveTuple, Ip, Permission};
@@ -27,4 +28,5 @@ pub use laws::{
 pub use limits::{Limits, PeerPolicy};
 pub use reply::{AllocateReply, Reply, Request, ToClient, ToPeer};
 pub use table::TurnTable;
+pub use tunnels::is_tunnelled;
 pub use user::UserId;

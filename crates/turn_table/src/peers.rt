@@ -10,11 +10,13 @@ mod laws;
 mod networks;
 mod parse;
 
+use crate::endpoints::{Endpoint, Ip};
+use crate::limits::PeerPolicy;
 pub use defaults::DENIED_BY_DEFAULT;
 pub use facts::{longer_prefixes_overrule, registry_is_held};
 pub use laws::longest_prefix_decides;
 pub use networks::{Prefix, PrefixError};
-use networks::{Address, address_of};
+use networks::{Address, address_in, address_of};
 use std::net::{IpAddr, SocketAddr};
 
 /// Which peers a server relays to: the caller's rules, and [`DENIED_BY_DEFAULT`] after them.
@@ -49,13 +51,14 @@ pub struct Peers<'a> {
     pub allowed: &'a [Prefix],
     /// The addresses and ports to which the server's clients send. Each is denied (RFC 8656, section
     /// 21.1.7); other ports of its IP address are not. A server that listens on `0.0.0.0` or `::`
-    /// lists each address of its host, an IPv4 address as such and not mapped to IPv6.
+    /// lists each address of its host, an IPv4 address as such and not mapped to IPv6. Add those of
+    /// the host's other services that peers shouldn't reach.
     pub listening: &'a [SocketAddr],
 }
 
 impl Peers<'_> {
     ghost use Rattle.std.specs.Prelude.{◌≡◌};
-    ghost use Rattle.turn_table.specs.Peers.{allows, allows_ip};
+    ghost use Rattle.turn_table.specs.Peers.{allows, allows_ip, allows_address};
 
     /// Whether the server relays to this peer: `allows_ip` of its IP address, and the server doesn't
     /// listen there. Flow information and scope ID don't count.
@@ -95,15 +98,57 @@ impl Peers<'_> {
     pub fn allows_ip(&self, ip: IpAddr) -> bool
         ensures { result ≡ allows_ip self.now ip }
     {
-        let address = address_of(ip);
+        self.allows_number(address_of(ip))
+    }
+
+    fn allows_number(&self, address: Address) -> bool
+        ensures { result ≡ allows_address self.now.denied.now self.now.allowed.now address }
+    {
         is_open(self.denied, self.allowed, 1, address)
             && is_open(&DENIED_BY_DEFAULT, self.allowed, 0, address)
     }
 }
 
+/// The rules for a [`TurnTable`](crate::TurnTable). [`Peers::allows`] is `allows_address` and
+/// `allows_port` of the same address: no port is denied but those in `listening`. An [`Ip`] that is no
+/// address is denied: one of a family other than 1 and 2, or of IPv4 with a number above 32 bits.
+///
+/// # Examples
+///
+/// ```
+/// use turn_table::peers::Peers;
+/// use turn_table::{Endpoint, Ip, PeerPolicy};
+///
+/// let own = Ip { family: 1, number: 0xC633_6407 };
+/// let peers = Peers { denied: &[], allowed: &[], listening: &["198.51.100.7:3478".parse()?] };
+/// assert!(rt; peers.allows_address(own));
+/// assert!(rt; peers.allows_port(Endpoint { ip: own, port: 50000 }));
+/// assert!(rt; !peers.allows_port(Endpoint { ip: own, port: 3478 }));
+/// // 169.254.169.254
+/// assert!(rt; !peers.allows_address(Ip { family: 1, number: 0xA9FE_A9FE }));
+/// ```
+impl PeerPolicy for Peers<'_> {
+    ghost use Rattle.turn_table.specs.Peers.{is_peer_allowed, is_port_open};
+
+    ghost allows_address = { is_peer_allowed };
+
+    ghost allows_port = { is_port_open };
+
+    fn allows_address(&self, ip: Ip) -> bool {
+        match address_in(ip) {
+            Some(address) => self.allows_number(address),
+            None => false,
+        }
+    }
+
+    fn allows_port(&self, peer: Endpoint) -> bool {
+        !is_own(self.listening, peer)
+    }
+}
+
 ghost use Rattle.std.specs.Prelude.{◌≡◌, ◌+◌, ◌≤◌};
 ghost use Rattle.std.specs.List.{list_any};
-ghost use Rattle.turn_table.specs.Peers.{is_same_peer, is_allowed_by, is_open};
+ghost use Rattle.turn_table.specs.Peers.{is_same_peer, is_own_endpoint, is_allowed_by, is_open};
 
 /// Whether one of these prefixes contains the address, and has at least this length.
 fn is_allowed_by(allowed: &[Prefix], least: u16, address: Address) -> bool
@@ -135,4 +180,19 @@ fn is_among(listening: &[SocketAddr], peer: SocketAddr) -> bool
     ensures { result ≡ list_any (is_same_peer peer) listening.now }
 {
     listening.iter().any(|own| is_same_peer(peer, *own))
+}
+
+/// Whether the server listens at `own` alone, and that is where a peer of a table is.
+fn is_own_endpoint(peer: Endpoint, own: SocketAddr) -> bool
+    ensures { result ≡ is_own_endpoint peer own }
+{
+    own.port() == peer.port
+        && address_in(peer.ip).is_some_and(|address| address_of(own.ip()).is_same(address))
+}
+
+/// Whether the server listens where a peer of a table is.
+fn is_own(listening: &[SocketAddr], peer: Endpoint) -> bool
+    ensures { result ≡ list_any (is_own_endpoint peer) listening.now }
+{
+    listening.iter().any(|own| is_own_endpoint(peer, *own))
 }

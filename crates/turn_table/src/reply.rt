@@ -39,7 +39,10 @@ pub enum AllocateReply {
     /// A success response once more, with the relayed address and the LIFETIME that is left, in
     /// seconds: the request is the one that opened the allocation. The socket that was ready isn't
     /// used.
-    Again { relayed: Endpoint, lifetime: u32 },
+    Again {
+        relayed: Endpoint,
+        lifetime: u32,
+    },
     /// An error response with this code. The socket that was ready isn't used.
     Refused(u16),
 }

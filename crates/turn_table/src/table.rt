@@ -27,6 +27,26 @@ use std::marker::Model;
 ///
 /// Each call takes the caller's clock: nanoseconds since a beginning of its choice. A clock that
 /// steps back counts as stopped. No call but [`TurnTable::new`] allocates.
+///
+/// ```
+/// use turn_table::{AllocateReply, Endpoint, FiveTuple, Limits, TurnTable, UserId};
+///
+/// let limits = Limits {
+///     allocations: 100,
+///     of_user: 10,
+///     greatest_lifetime: 3600,
+///     channel_permits: false,
+///     old_channels: false,
+/// };
+/// let mut table = TurnTable::<16, 16>::new(alloc, limits, [1, 2])?;
+/// let tuple = FiveTuple::default();
+/// let user = UserId([1; 32]);
+/// let relayed = Endpoint::default();
+/// let opened = table.allocate(0, &tuple, user, 7, None, Ok(relayed));
+/// assert!(rt; matches!(opened, AllocateReply::Opened { lifetime: 600, .. }));
+/// let mut ended = [0; 8];
+/// assert_eq!(rt; table.poll(600_000_000_000, &mut ended), 1);
+/// ```
 #[derive(Drop)]
 pub struct TurnTable<const P: usize, const C: usize> {
     limits: Limits,
@@ -60,6 +80,13 @@ impl<const P: usize, const C: usize> TurnTable<P, C> {
         Ok(TurnTable { limits, slots })
     }
 
+    /// Returns the bounds of the table.
+    pub fn limits(&self) -> Limits
+        ensures { result ≡ self.now.limits }
+    {
+        self.limits
+    }
+
     /// Whether a user may have one more allocation.
     fn has_quota(&self, user: UserId) -> bool
         ensures { (permissions channels : ℕ) (address : Ip → Bool) (port : Endpoint → Bool)
@@ -73,13 +100,37 @@ impl<const P: usize, const C: usize> TurnTable<P, C> {
     ///
     /// `id` is its transaction ID and `lifetime` its LIFETIME in seconds. `wish` is the address of the
     /// socket that the caller has ready for it, or the code by which it gets none, such as 508 if
-    /// there is none of that kind. The socket's number, which the table chooses, has a slot of the
-    /// table in its low 32 bits and how many allocations were opened before in its high 32 bits.
+    /// there is none of that kind. The table chooses the socket's number: a slot of the table in its
+    /// low 32 bits, and in its high 32 bits a counter of allocations, so that a number is used again
+    /// only after 2^32 of them.
     ///
     /// Refuses with 437 if the client has a live allocation, unless this is the request that opened
     /// it. Refuses with 486 if the user has as many live allocations as one may have, and with 508 if
     /// the table is full. The code of `wish` comes before both, except that 486 comes before its 508.
     /// A request that is refused changes nothing.
+    ///
+    /// ```
+    /// use turn_table::{AllocateReply, Endpoint, FiveTuple, Limits, TurnTable, UserId};
+    ///
+    /// let limits = Limits {
+    ///     allocations: 100,
+    ///     of_user: 10,
+    ///     greatest_lifetime: 3600,
+    ///     channel_permits: false,
+    ///     old_channels: false,
+    /// };
+    /// let mut table = TurnTable::<16, 16>::new(alloc, limits, [1, 2])?;
+    /// let tuple = FiveTuple::default();
+    /// let user = UserId([1; 32]);
+    /// let relayed = Endpoint::default();
+    /// let opened = table.allocate(0, &tuple, user, 7, None, Ok(relayed));
+    /// assert!(rt; matches!(opened, AllocateReply::Opened { lifetime: 600, .. }));
+    /// let again = AllocateReply::Again {
+    ///     relayed,
+    ///     lifetime: 590,
+    /// };
+    /// assert_eq!(rt; table.allocate(10_000_000_000, &tuple, user, 7, None, Err(508)), again);
+    /// ```
     pub fn allocate(
         &mut self,
         now: u64,
@@ -238,6 +289,25 @@ impl<const P: usize, const C: usize> TurnTable<P, C> {
     ///
     /// `None` if it is dropped: the socket belongs to no live allocation, or there is no permission
     /// for the peer's IP address.
+    ///
+    /// ```
+    /// use turn_table::{AllocateReply, Endpoint, FiveTuple, Limits, TurnTable, UserId};
+    ///
+    /// let limits = Limits {
+    ///     allocations: 100,
+    ///     of_user: 10,
+    ///     greatest_lifetime: 3600,
+    ///     channel_permits: false,
+    ///     old_channels: false,
+    /// };
+    /// let mut table = TurnTable::<16, 16>::new(alloc, limits, [1, 2])?;
+    /// let tuple = FiveTuple::default();
+    /// let relayed = Endpoint::default();
+    /// let opened = table.allocate(0, &tuple, UserId([1; 32]), 7, None, Ok(relayed));
+    /// if let AllocateReply::Opened { relay, .. } = opened {
+    ///     assert_eq!(rt; table.on_peer_data(0, relay, Endpoint::default()), None);
+    /// }
+    /// ```
     pub fn on_peer_data(&mut self, now: u64, relay: u64, peer: Endpoint) -> Option<ToClient>
         ensures step { (address : Ip → Bool) (port : Endpoint → Bool) (bytes : List ℕ)
             → step (setup_of self.old.limits P C address port)
@@ -254,6 +324,26 @@ impl<const P: usize, const C: usize> TurnTable<P, C> {
     ///
     /// If it returns less than the length of `ended`, no allocation is left that has ended. An
     /// allocation that has ended keeps its slot until a poll closes it.
+    ///
+    /// ```
+    /// use turn_table::{AllocateReply, Endpoint, FiveTuple, Limits, TurnTable, UserId};
+    ///
+    /// let limits = Limits {
+    ///     allocations: 100,
+    ///     of_user: 10,
+    ///     greatest_lifetime: 3600,
+    ///     channel_permits: false,
+    ///     old_channels: false,
+    /// };
+    /// let mut table = TurnTable::<16, 16>::new(alloc, limits, [1, 2])?;
+    /// let tuple = FiveTuple::default();
+    /// let relayed = Endpoint::default();
+    /// let opened = table.allocate(0, &tuple, UserId([1; 32]), 7, None, Ok(relayed));
+    /// assert!(rt; matches!(opened, AllocateReply::Opened { .. }));
+    /// let mut ended = [0; 8];
+    /// assert_eq!(rt; table.poll(599_999_999_999, &mut ended), 0);
+    /// assert_eq!(rt; table.poll(600_000_000_000, &mut ended), 1);
+    /// ```
     pub fn poll(&mut self, now: u64, ended: &mut [u64]) -> usize
         ensures step { Polls self.old.state now ended.old result ended.new self.new.state }
         ensures limits { self.new.limits ≡ self.old.limits }

@@ -1,8 +1,9 @@
 //! IP addresses as numbers, and prefixes of them (RFC 4632, section 3.1; RFC 4291, section 2.3).
 
 ghost use Rattle.std.specs.Prelude.{◌≡◌, ◌≤◌, ◌-◌, ◌/◌, ◌%◌, ◌^◌, ◌==◌, not};
-ghost use Rattle.turn_table.specs.Networks.{is_version, width, address_of};
+ghost use Rattle.turn_table.specs.Networks.{is_version, width, address_of, address_in};
 
+use crate::endpoints::Ip;
 use std::net::IpAddr;
 use thiserror::Error;
 
@@ -34,6 +35,22 @@ pub(crate) fn address_of(ip: IpAddr) -> Address
             number: ip.to_bits(),
         },
     }
+}
+
+/// The number of an address of a table. `None` if it is none: of another family, or of IPv4 with more
+/// than 32 bits.
+pub(crate) fn address_in(ip: Ip) -> Option<Address>
+    ensures { result ≡ address_in ip }
+{
+    let version = match ip.family {
+        1 if ip.number < 1 << 32 => Version::V4,
+        2 => Version::V6,
+        _ => return None,
+    };
+    Some(Address {
+        version,
+        number: ip.number,
+    })
 }
 
 /// How many bits an address of this version has.

@@ -8,6 +8,6 @@ use Rattle.turn_server.proofs.ReportingLemmas.{decision_reported}
 use Rattle.turn_server.proofs.judging.judge_decided.Goals as goal
 
 pub returns-in-Accepted : goal.returns-in-Accepted
-returns-in-Accepted g c nonces keys decision decides =
-    decision_reported (site_of c.args.site.now nonces keys (g.A.Accounts.account_of c.args.accounts.now)) (method_of (type_field (message_bytes c.args.message.now))) (message_bytes c.args.message.now) c.in-Accepted.accepted c.judge_accepted.result
+returns-in-Accepted c nonces keys decision decides =
+    decision_reported (site_of c.args.client c.args.site.now nonces keys) (method_of (type_field (message_bytes c.args.message.now))) (message_bytes c.args.message.now) c.in-Accepted.accepted c.judge_accepted.result
     (c.judge_accepted.ensures nonces keys) decision (subst (Decides decision) c.in-Accepted.is decides)

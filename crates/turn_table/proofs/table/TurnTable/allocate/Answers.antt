@@ -69,4 +69,3 @@ returns-clause-step g c address port =
     c.self.view_is
     (opened_is setup old c.args.now c.args.tuple.now (user_number c.args.user) c.args.id c.args.lifetime c.args.wish c.in-Ok.relayed c.advance.new.self c.open.new.self c.allocated_for-lifetime.result c.in-Some-open.relay e c.in_default.ensures c.in-Ok.is (sym (c.has_quota-is_within.ensures g.row.P g.row.C address port) ∙ c.if-not-is_within.false) most
     c.allocated_for-lifetime.ensures c.in-Some-open.ensures)
-

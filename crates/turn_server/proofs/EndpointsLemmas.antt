@@ -1,0 +1,62 @@
+-- Addresses of the table, as socket addresses and back.
+use Rattle.std.proofs.Common.{◌≡◌, ℕ, zero, suc, ◌+◌, ◌-◌, ◌*◌, ◌/◌, ◌%◌, ◌^◌, ◌<◌, List, [], ◌∷◌, length, inl, inr, refl, ap, ◌∙◌, ne_eqb, arith}
+use Rattle.std.specs.Int.{w128, byte_at, bytes_high_first, to_be_bytes}
+use Rattle.std.specs.Net.Addr.{segments_of, octets_of, ipv6_segments}
+use Rattle.std.specs.Net.Socket.{socket_ip, socket_port, socket_flowinfo, socket_scope_id}
+use Rattle.std.specs.declared.net.ip_addr.IpAddr.{IpAddr}
+use Rattle.std.specs.declared.net.ip_addr.IpAddr.TheVariants.{V6 as IpV6}
+use Rattle.std.specs.declared.net.ipv6_addr.Ipv6Addr.{Ipv6Addr}
+use Rattle.std.specs.declared.net.socket_addr.SocketAddr.{SocketAddr}
+use Rattle.std.specs.declared.net.socket_addr.SocketAddr.TheVariants.{V4, V6}
+use Rattle.stun_grammar.specs.Numbers.{number, be32, IsBytes}
+use Rattle.stun_values.specs.Addresses.{plain_socket}
+use Rattle.turn_table.specs.declared.endpoints.Endpoint.{Endpoint}
+use Rattle.turn_table.specs.declared.endpoints.Ip.{Ip}
+use Rattle.turn_server.specs.Addresses.{endpoint_of}
+use Rattle.turn_server.specs.Endpoints.{IsTransportAddress, ip_of, socket_of}
+
+-- an address with flow info and scope ID 0 is determined by its IP address and its port
+pub plain_is : (a : SocketAddr) (ip : IpAddr) (port : ℕ) → socket_ip a ≡ ip → socket_port a ≡ port → socket_flowinfo a ≡ 0 → socket_scope_id a ≡ 0 → a ≡ plain_socket ip port
+plain_is (V4 a) ip port of p flow scope = rw (← of) (λ i. V4 (record { ip = a.ip; port = p i }))
+plain_is (V6 a) ip port of p flow scope = rw (← of) (λ i. V6 (record { ip = a.ip; port = p i; flowinfo = flow i; scope_id = scope i }))
+
+-- an address of another family than 1
+pub is_ipv6 : (ip : Ip) (a : Ipv6Addr) → (ip.family ≡ 1 → ⊥) → ipv6_segments a ≡ segments_of (to_be_bytes w128 ip.number) → IpV6 a ≡ ip_of ip
+is_ipv6 ip a other is = rw (ne_eqb ip.family 1 other) (λ i. IpV6 (record { segments = is i }))
+
+number-be32 : (n : ℕ) → n < 2 ^ 32 → number (be32 n) ≡ n
+number-be32 n h = omega arith
+
+number-be128 : (n : ℕ) → n < 2 ^ 128 → number (to_be_bytes w128 n) ≡ n
+number-be128 n h = omega arith
+
+byte_is : (i n : ℕ) → byte_at i n < 256
+byte_is zero n = omega arith
+byte_is (suc i) n = omega arith
+
+bytes_are : (k n : ℕ) → IsBytes (bytes_high_first k n)
+bytes_are zero n = tt
+bytes_are (suc k) n = (byte_is k n, bytes_are k n)
+
+-- bytes in pairs are those of their segments
+in_pairs : (k : ℕ) (xs : List ℕ) → length xs ≡ 2 * k → IsBytes xs → octets_of (segments_of xs) ≡ xs
+in_pairs k [] even small = refl
+in_pairs k (a ∷ []) even small = absurd (omega (arith, even))
+in_pairs k (a ∷ b ∷ xs) even small =
+    let low : b < 256 = small.1.0 in
+    let high : (a * 256 + b) / 256 ≡ a = omega (arith, low) in
+    let rest : (a * 256 + b) % 256 ≡ b = omega (arith, low) in
+    λ i. high i ∷ rest i ∷ in_pairs (k - 1) xs (omega (arith, even)) small.1.1 i
+
+of_ipv4 : (kind n port : ℕ) → kind ≡ 1 → n < 2 ^ 32 → endpoint_of (socket_of (record { ip = record { family = kind; number = n }; port = port })) ≡ record { ip = record { family = kind; number = n }; port = port }
+of_ipv4 kind n port is small = rw (is, number-be32 n small) refl
+
+of_ipv6 : (kind n port : ℕ) → kind ≡ 2 → n < 2 ^ 128 → endpoint_of (socket_of (record { ip = record { family = kind; number = n }; port = port })) ≡ record { ip = record { family = kind; number = n }; port = port }
+of_ipv6 kind n port is small =
+    let back : number (octets_of (segments_of (to_be_bytes w128 n))) ≡ n = ap number (in_pairs 8 (to_be_bytes w128 n) refl (bytes_are 16 n)) ∙ number-be128 n small in
+    rw is (λ i. record { ip = record { family = 2; number = back i }; port = port })
+
+-- the address of the table that has the socket address of one is that one
+pub there_and_back : (e : Endpoint) → IsTransportAddress e → endpoint_of (socket_of e) ≡ e
+there_and_back e (inl four) = of_ipv4 e.ip.family e.ip.number e.port four.0 four.1
+there_and_back e (inr six) = of_ipv6 e.ip.family e.ip.number e.port six.0 six.1

@@ -1,0 +1,129 @@
+-- The responses to the requests of users that the table answers (RFC 8656, sections 7.2, 8.2, 10.2 and
+-- 12.2), and the one to a request that isn't comprehended. They are signed by the user's key (RFC
+-- 8489, section 9.2.4).
+use Rattle.std.specs.Prelude.{ℕ, List, [], ◌∷◌, ◌++◌, length, Option, None, Some}
+use Rattle.std.specs.Option.{option_or}
+use Rattle.stun_grammar.specs.declared.error.StunWriteError.{StunWriteError}
+use Rattle.stun_grammar.specs.declared.integrity_algorithm.IntegrityAlgorithm.{IntegrityAlgorithm}
+use Rattle.stun_grammar.specs.Attributes.{Attribute, canonical}
+use Rattle.stun_grammar.specs.AttributeTypes.{SOFTWARE, XOR_MAPPED_ADDRESS}
+use Rattle.stun_grammar.specs.Headers.{id_field}
+use Rattle.stun_grammar.specs.Numbers.{be32}
+use Rattle.stun_grammar.specs.Steps.{sign}
+use Rattle.stun_grammar.specs.Writing.{message_encoding}
+use Rattle.stun_base.specs.declared.message_class.MessageClass.{MessageClass}
+use Rattle.stun_base.specs.declared.message_class.MessageClass.TheVariants.{Success, Error as ErrorClass}
+use Rattle.stun_values.specs.Addresses.{xored_value}
+use Rattle.stun_values.specs.ErrorValues.{making_fault}
+use Rattle.stun_attributes.specs.DefaultReasons.{default_reason}
+use Rattle.stun_types.specs.Replies.{error_attribute, response_type, first_refusal, unknown_reply, unknown_types}
+use Rattle.stun_authentication.specs.Policies.{is_fingerprinted}
+use Rattle.stun_authentication.specs.Writing.{no_room, sizes, print_steps, signed_reply, signing_refusal, step_sizes}
+use Rattle.turn_attrs.specs.Turn.{LIFETIME, XOR_RELAYED_ADDRESS}
+use Rattle.turn_table.specs.declared.endpoints.Endpoint.{Endpoint}
+use Rattle.turn_table.specs.Events.{Answer as TableAnswer, allocated, refreshed, done, refused}
+use Rattle.turn_server.specs.declared.answer.Answer.{Answer}
+use Rattle.turn_server.specs.declared.answer.Answer.TheVariants.{Allocated, Refreshed, Done, Refused}
+use Rattle.turn_server.specs.Comprehended.{comprehended}
+use Rattle.turn_server.specs.Endpoints.{socket_of}
+
+-- ---- What the table answers
+
+abbrev pub table_answer : Answer → TableAnswer
+table_answer (Allocated relayed lifetime) = allocated relayed lifetime
+table_answer (Refreshed lifetime) = refreshed lifetime
+table_answer Done = done
+table_answer (Refused code) = refused code
+
+abbrev pub answer_class : TableAnswer → MessageClass
+answer_class (refused code) = ErrorClass
+answer_class _ = Success
+
+-- an attribute with an address, which is XORed
+abbrev pub address_attribute : (type id : ℕ) → Endpoint → Attribute
+address_attribute type id e = canonical type (xored_value id (socket_of e))
+
+abbrev pub lifetime_attribute : (lifetime : ℕ) → Attribute
+lifetime_attribute lifetime = canonical LIFETIME (be32 lifetime)
+
+-- what the response says: to Allocate the relayed address, the lifetime, and the address of the client
+-- (section 7.2); to Refresh the lifetime (section 8.2); to another request nothing; or the error, with
+-- the reason phrase of its code
+abbrev pub answer_content : (id : ℕ) → (client : Endpoint) → TableAnswer → List Attribute
+answer_content id client (allocated relayed lifetime) =
+    address_attribute XOR_RELAYED_ADDRESS id relayed ∷ lifetime_attribute lifetime
+    ∷ address_attribute XOR_MAPPED_ADDRESS id client ∷ []
+answer_content id client (refreshed lifetime) = lifetime_attribute lifetime ∷ []
+answer_content id client done = []
+answer_content id client (refused code) = error_attribute code (default_reason code) ∷ []
+
+-- the name of the server's software, if it has one (RFC 8489, section 14.14)
+abbrev pub software_attributes : (software : Option (List ℕ)) → List Attribute
+software_attributes None = []
+software_attributes (Some name) = canonical SOFTWARE name ∷ []
+
+-- the attributes of the response to r, before it is signed
+abbrev pub answer_attributes : (software : Option (List ℕ)) → (client : Endpoint) → (r : List ℕ)
+    → TableAnswer → List Attribute
+answer_attributes software client r answer =
+    answer_content (id_field r) client answer ++ software_attributes software
+
+-- ---- The responses
+
+-- a response to r, signed, and with a FINGERPRINT if r has one
+abbrev pub signed_response : MessageClass → (r : List ℕ) → List Attribute → IntegrityAlgorithm
+    → (key : List ℕ) → List ℕ
+signed_response class r attributes algorithm key =
+    signed_reply (is_fingerprinted r) (response_type class r) (id_field r) attributes algorithm key
+
+abbrev pub answer_text : (software : Option (List ℕ)) → (client : Endpoint) → (r : List ℕ)
+    → TableAnswer → (key : List ℕ) → IntegrityAlgorithm → List ℕ
+answer_text software client r answer key algorithm =
+    signed_response (answer_class answer) r (answer_attributes software client r answer) algorithm key
+
+-- the attributes of the 420 that lists the types that r shows and that aren't comprehended
+abbrev pub unknown_attributes : (r : List ℕ) → List Attribute
+unknown_attributes r = unknown_reply (unknown_types comprehended r)
+
+abbrev pub unknown_text : (r : List ℕ) → (key : List ℕ) → IntegrityAlgorithm → List ℕ
+unknown_text r key algorithm = signed_response ErrorClass r (unknown_attributes r) algorithm key
+
+-- ---- Why they aren't written
+
+-- a response to r with these attributes isn't finished: the key was made for the other algorithm, or
+-- the integrity attribute or the FINGERPRINT doesn't fit
+abbrev pub finish_refusal : (greatest : Option ℕ) → MessageClass → (r : List ℕ) → List Attribute
+    → (made_for : Option IntegrityAlgorithm) → IntegrityAlgorithm → Option StunWriteError
+finish_refusal greatest class r attributes made_for algorithm =
+    option_or (signing_refusal made_for algorithm)
+    (no_room greatest (length (message_encoding (response_type class r) (id_field r) attributes))
+    (step_sizes (sign algorithm [] ∷ print_steps (is_fingerprinted r))))
+
+-- the code of an error is none of an ERROR-CODE
+abbrev pub code_fault : TableAnswer → Option StunWriteError
+code_fault (refused code) = making_fault code (default_reason code)
+code_fault _ = None
+
+-- the code, or the first attribute that doesn't fit
+abbrev pub unfinished_refusal : (greatest : Option ℕ) → TableAnswer → List Attribute
+    → Option StunWriteError
+unfinished_refusal greatest answer attributes =
+    option_or (code_fault answer) (no_room greatest 20 (sizes attributes))
+
+abbrev pub answer_refusal : (greatest : Option ℕ) → (software : Option (List ℕ)) → (client : Endpoint)
+    → (r : List ℕ) → TableAnswer → (made_for : Option IntegrityAlgorithm) → IntegrityAlgorithm
+    → Option StunWriteError
+answer_refusal greatest software client r answer made_for algorithm =
+    let attributes = answer_attributes software client r answer in
+    option_or (unfinished_refusal greatest answer attributes)
+    (finish_refusal greatest (answer_class answer) r attributes made_for algorithm)
+
+abbrev pub unknown_refusal : (greatest : Option ℕ) → (r : List ℕ)
+    → (made_for : Option IntegrityAlgorithm) → IntegrityAlgorithm → Option StunWriteError
+unknown_refusal greatest r made_for algorithm =
+    option_or (first_refusal greatest [] (unknown_attributes r))
+    (finish_refusal greatest ErrorClass r (unknown_attributes r) made_for algorithm)
+
+-- the codes of the table's answers, and those that refuse a request by its bytes
+abbrev pub TABLE_CODES : List ℕ
+TABLE_CODES = 400 ∷ 403 ∷ 437 ∷ 440 ∷ 441 ∷ 442 ∷ 443 ∷ 486 ∷ 508 ∷ []

@@ -1,0 +1,212 @@
+//! Adding the attributes of a response, before it is signed.
+
+ghost use Rattle.std.specs.Prelude.{◌≡◌, ◌≤◌, ◌<◌, ◌^◌, ◌∷◌, ◌++◌, [], length};
+ghost use Rattle.std.specs.Option.{option_map};
+ghost use Rattle.stun_base.specs.declared.message_class.MessageClass.TheVariants.{Success};
+ghost use Rattle.stun_attributes.specs.ErrorCodes.{error_code, error_reason};
+ghost use Rattle.stun_attributes.specs.Kinds.{xored_of};
+ghost use Rattle.stun_attributes.specs.Texts.{text_bytes};
+ghost use Rattle.stun_grammar.specs.Attributes.{canonical};
+ghost use Rattle.stun_grammar.specs.AttributeTypes.{IsOrdinary, SOFTWARE, XOR_MAPPED_ADDRESS};
+ghost use Rattle.stun_values.specs.Addresses.{address_value};
+ghost use Rattle.stun_types.specs.Replies.{error_attribute};
+ghost use Rattle.stun_authentication.specs.Writing.{Lengthens};
+ghost use Rattle.turn_attrs.specs.Turn.{XOR_RELAYED_ADDRESS, seconds_of};
+ghost use Rattle.turn_table.specs.Events.{allocated};
+ghost use Rattle.turn_server.specs.Answers.{table_answer, answer_class, address_attribute, lifetime_attribute, answer_content, software_attributes};
+
+use crate::{Answer, socket_of};
+use stun_types::attribute::{
+    AttributeStaticType, AttributeType, ErrorCode, Software, XorMappedAddress,
+};
+use stun_types::message::{StunWriteError, TransactionId};
+use stun_types::prelude::*;
+use turn_attrs::{Lifetime, XorRelayedAddress};
+use turn_table::Endpoint;
+
+/// Adds an attribute.
+fn add_one<B: MessageWrite>(
+    attribute: &dyn AttributeWrite,
+    write: &mut B,
+) -> Result<(), StunWriteError>
+    requires { IsOrdinary (atype attribute.now) }
+    ensures { Lengthens result (B.state write.old) (B.state write.new)
+        (canonical (atype attribute.now) (value attribute.now) ∷ []) }
+{
+    write.add_attribute(attribute)
+}
+
+/// Adds an XOR-RELAYED-ADDRESS.
+fn push_relayed<B: MessageWrite>(
+    attribute: &XorRelayedAddress,
+    write: &mut B,
+) -> Result<(), StunWriteError>
+    ensures { Lengthens result (B.state write.old) (B.state write.new)
+        (canonical XOR_RELAYED_ADDRESS (address_value (xored_of attribute.now)) ∷ []) }
+{
+    add_one(attribute, write)
+}
+
+/// Adds an XOR-MAPPED-ADDRESS.
+fn push_mapped<B: MessageWrite>(
+    attribute: &XorMappedAddress,
+    write: &mut B,
+) -> Result<(), StunWriteError>
+    ensures { Lengthens result (B.state write.old) (B.state write.new)
+        (canonical XOR_MAPPED_ADDRESS (address_value (xored_of attribute.now)) ∷ []) }
+{
+    add_one(attribute, write)
+}
+
+/// Adds a LIFETIME.
+fn push_lifetime<B: MessageWrite>(attribute: &Lifetime, write: &mut B) -> Result<(), StunWriteError>
+    ensures { Lengthens result (B.state write.old) (B.state write.new)
+        (lifetime_attribute (seconds_of attribute.now) ∷ []) }
+{
+    add_one(attribute, write)
+}
+
+/// Adds an attribute of an ordinary type, by its type and its value.
+fn add_bytes<B: MessageWrite>(
+    atype: AttributeType,
+    value: &[u8],
+    write: &mut B,
+) -> Result<(), StunWriteError>
+    requires ordinary { IsOrdinary atype.0 }
+    requires number { atype.0 < 2 ^ 16 }
+    requires short { length value.now ≤ 65535 }
+    ensures { Lengthens result (B.state write.old) (B.state write.new)
+        (canonical atype.0 value.now ∷ []) }
+{
+    write.add_ordinary_value(atype, value)
+}
+
+/// Adds a SOFTWARE.
+fn push_software<B: MessageWrite>(attribute: &Software, write: &mut B) -> Result<(), StunWriteError>
+    ensures { Lengthens result (B.state write.old) (B.state write.new)
+        (canonical SOFTWARE (text_bytes attribute.now) ∷ []) }
+{
+    add_bytes(Software::TYPE, attribute.text().as_bytes(), write)
+}
+
+/// Adds an ERROR-CODE.
+fn push_error<B: MessageWrite>(attribute: &ErrorCode, write: &mut B) -> Result<(), StunWriteError>
+    ensures { Lengthens result (B.state write.old) (B.state write.new)
+        (error_attribute (error_code attribute.now) (error_reason attribute.now) ∷ []) }
+{
+    add_one(attribute, write)
+}
+
+/// Adds an XOR-RELAYED-ADDRESS with an address of the table.
+fn add_relayed<B: MessageWrite>(
+    relayed: Endpoint,
+    id: TransactionId,
+    write: &mut B,
+) -> Result<(), StunWriteError>
+    ensures { Lengthens result (B.state write.old) (B.state write.new)
+        (address_attribute XOR_RELAYED_ADDRESS id relayed ∷ []) }
+{
+    push_relayed(&XorRelayedAddress::new(socket_of(relayed), id), write)
+}
+
+/// Adds an XOR-MAPPED-ADDRESS with an address of the table.
+fn add_mapped<B: MessageWrite>(
+    client: Endpoint,
+    id: TransactionId,
+    write: &mut B,
+) -> Result<(), StunWriteError>
+    ensures { Lengthens result (B.state write.old) (B.state write.new)
+        (address_attribute XOR_MAPPED_ADDRESS id client ∷ []) }
+{
+    push_mapped(&XorMappedAddress::new(socket_of(client), id), write)
+}
+
+/// Adds a LIFETIME with these seconds.
+fn add_lifetime<B: MessageWrite>(lifetime: u32, write: &mut B) -> Result<(), StunWriteError>
+    ensures { Lengthens result (B.state write.old) (B.state write.new)
+        (lifetime_attribute lifetime ∷ []) }
+{
+    push_lifetime(&Lifetime::new(lifetime), write)
+}
+
+/// Adds a SOFTWARE, if there is one.
+fn add_software<B: MessageWrite>(
+    software: Option<&Software>,
+    write: &mut B,
+) -> Result<(), StunWriteError>
+    ensures { Lengthens result (B.state write.old) (B.state write.new)
+        (software_attributes (option_map (λ it. text_bytes it.now) software.entry)) }
+{
+    match software {
+        Some(software) => push_software(software, write),
+        None => Ok(()),
+    }
+}
+
+/// Adds what the success response to an Allocate request says.
+fn add_allocation<B: MessageWrite>(
+    relayed: Endpoint,
+    lifetime: u32,
+    client: Endpoint,
+    id: TransactionId,
+    write: &mut B,
+) -> Result<(), StunWriteError>
+    ensures { Lengthens result (B.state write.old) (B.state write.new)
+        (answer_content id client (allocated relayed lifetime)) }
+{
+    add_relayed(relayed, id, write)?;
+    add_lifetime(lifetime, write)?;
+    add_mapped(client, id, write)
+}
+
+/// Adds what a success response says.
+fn add_content<B: MessageWrite>(
+    answer: Answer,
+    client: Endpoint,
+    id: TransactionId,
+    write: &mut B,
+) -> Result<(), StunWriteError>
+    requires { answer_class (table_answer answer) ≡ Success }
+    ensures { Lengthens result (B.state write.old) (B.state write.new)
+        (answer_content id client (table_answer answer)) }
+{
+    match answer {
+        Answer::Allocated { relayed, lifetime } => {
+            add_allocation(relayed, lifetime, client, id, write)
+        }
+        Answer::Refreshed(lifetime) => add_lifetime(lifetime, write),
+        Answer::Done => Ok(()),
+        Answer::Refused(_) => unreachable!(),
+    }
+}
+
+/// Adds the attributes of a success response.
+pub(crate) fn add_success<B: MessageWrite>(
+    answer: Answer,
+    client: Endpoint,
+    software: Option<&Software>,
+    id: TransactionId,
+    write: &mut B,
+) -> Result<(), StunWriteError>
+    requires { answer_class (table_answer answer) ≡ Success }
+    ensures { Lengthens result (B.state write.old) (B.state write.new)
+        (answer_content id client (table_answer answer)
+        ++ software_attributes (option_map (λ it. text_bytes it.now) software.entry)) }
+{
+    add_content(answer, client, id, write)?;
+    add_software(software, write)
+}
+
+/// Adds the attributes of an error response.
+pub(crate) fn add_refusal<B: MessageWrite>(
+    error: &ErrorCode,
+    software: Option<&Software>,
+    write: &mut B,
+) -> Result<(), StunWriteError>
+    ensures { Lengthens result (B.state write.old) (B.state write.new)
+        (error_attribute (error_code error.now) (error_reason error.now)
+        ∷ software_attributes (option_map (λ it. text_bytes it.now) software.entry)) }
+{
+    push_error(error, write)?;
+    add_software(software, write)
+}

@@ -1,0 +1,193 @@
+//! The signed responses to requests that the table answers.
+
+ghost use Rattle.std.specs.Prelude.{◌≡◌, ◌∷◌, ℕ, [], None, Contains, IfOk};
+ghost use Rattle.std.specs.Option.{option_map};
+ghost use Rattle.stun_base.specs.MessageTypes.{class_of};
+ghost use Rattle.stun_base.specs.declared.message_class.MessageClass.TheVariants.{Request, Success, Error as ErrorClass};
+ghost use Rattle.stun_attributes.specs.DefaultReasons.{default_reason};
+ghost use Rattle.stun_attributes.specs.ErrorCodes.{IsError};
+ghost use Rattle.stun_attributes.specs.Texts.{text_bytes};
+ghost use Rattle.stun_grammar.specs.Adding.{Fits};
+ghost use Rattle.stun_grammar.specs.Headers.{type_field};
+ghost use Rattle.stun_keys.specs.Keys.{key_algorithm, key_bytes};
+ghost use Rattle.stun_types.specs.Message.{message_bytes};
+ghost use Rattle.stun_types.specs.Replies.{error_attribute};
+ghost use Rattle.stun_authentication.specs.Writing.{FailsFor, no_room, sizes};
+ghost use Rattle.turn_table.specs.Events.{refused};
+ghost use Rattle.turn_server.specs.Answers.{table_answer, answer_class, software_attributes, answer_attributes, answer_text, code_fault, unfinished_refusal, answer_refusal, TABLE_CODES};
+ghost use Rattle.turn_server.specs.Unfinished.{WritesUnfinished};
+
+use crate::Answer;
+use crate::adding::{add_refusal, add_success};
+use std::alloc::Global;
+use stun_authentication::Accepted;
+use stun_types::attribute::{AttributeStaticType, ErrorCode, Fingerprint, Software};
+use stun_types::message::{Message, StunWriteError};
+use stun_types::prelude::*;
+use turn_table::Endpoint;
+
+/// The ERROR-CODE of a code, with its reason phrase.
+fn error_of(alloc: Global, code: u16) -> Result<ErrorCode, StunWriteError>
+    ensures error { IfOk result (IsError code (default_reason code)) }
+    ensures fault { FailsFor (code_fault (refused code)) result }
+{
+    ErrorCode::builder(code).build(alloc)
+}
+
+/// Writes a success response, but for its end.
+fn write_success<B: MessageWrite + Drop>(
+    request: &Message<'_>,
+    client: Endpoint,
+    software: Option<&Software>,
+    answer: Answer,
+    write: B,
+) -> Result<B, StunWriteError>
+    requires request { class_of (type_field (message_bytes request.now)) ≡ Request }
+    requires success { answer_class (table_answer answer) ≡ Success }
+    requires empty { (B.state write).bytes ≡ [] }
+    requires room { Fits (B.state write).greatest 20 }
+    ensures { let r = message_bytes request.now in
+        let attributes = answer_attributes (option_map (λ it. text_bytes it.now) software.entry)
+        client r (table_answer answer) in
+        WritesUnfinished (λ w. B.state w) result (B.state write).greatest Success r attributes
+        (no_room (B.state write).greatest 20 (sizes attributes)) }
+{
+    let mut write = Message::builder_success(request, write)?;
+    add_success(
+        answer,
+        client,
+        software,
+        request.transaction_id(),
+        &mut write,
+    )?;
+    Ok(write)
+}
+
+/// Writes an error response, but for its end.
+fn write_error<B: MessageWrite + Drop>(
+    alloc: Global,
+    request: &Message<'_>,
+    software: Option<&Software>,
+    code: u16,
+    write: B,
+) -> Result<B, StunWriteError>
+    requires request { class_of (type_field (message_bytes request.now)) ≡ Request }
+    requires empty { (B.state write).bytes ≡ [] }
+    requires room { Fits (B.state write).greatest 20 }
+    ensures { let r = message_bytes request.now in
+        let attributes = error_attribute code (default_reason code)
+        ∷ software_attributes (option_map (λ it. text_bytes it.now) software.entry) in
+        WritesUnfinished (λ w. B.state w) result (B.state write).greatest ErrorClass r attributes
+        (unfinished_refusal (B.state write).greatest (refused code) attributes) }
+{
+    let error = error_of(alloc, code)?;
+    let mut write = Message::builder_error(request, write)?;
+    add_refusal(&error, software, &mut write)?;
+    Ok(write)
+}
+
+/// Writes a response, but for its end.
+fn write_unfinished<B: MessageWrite + Drop>(
+    alloc: Global,
+    request: &Message<'_>,
+    client: Endpoint,
+    software: Option<&Software>,
+    answer: Answer,
+    write: B,
+) -> Result<B, StunWriteError>
+    requires request { class_of (type_field (message_bytes request.now)) ≡ Request }
+    requires empty { (B.state write).bytes ≡ [] }
+    requires room { Fits (B.state write).greatest 20 }
+    ensures { let r = message_bytes request.now in let answer = table_answer answer in
+        let attributes = answer_attributes (option_map (λ it. text_bytes it.now) software.entry)
+        client r answer in
+        WritesUnfinished (λ w. B.state w) result (B.state write).greatest (answer_class answer) r
+        attributes (unfinished_refusal (B.state write).greatest answer attributes) }
+{
+    match answer {
+        Answer::Refused(code) => write_error(alloc, request, software, code, write),
+        _ => write_success(request, client, software, answer, write),
+    }
+}
+
+/// Writes the response to a request that the table answers (RFC 8656, sections 7.2, 8.2, 10.2 and
+/// 12.2): the success response to Allocate with XOR-RELAYED-ADDRESS, LIFETIME and
+/// XOR-MAPPED-ADDRESS, which is the address of the `client`; to Refresh with LIFETIME; to another
+/// request with none of these; or the error response with an ERROR-CODE and the reason phrase of
+/// [`ErrorCode::default_reason_for_code`]. A SOFTWARE follows, if there is one, then the integrity
+/// attribute by the user's key and [`Accepted::reply_algorithm`] (RFC 8489, section 9.2.4), and a
+/// FINGERPRINT if the request has one.
+///
+/// # Requires
+///
+/// `request` is a request, and the writer is as for `Message::builder`.
+///
+/// # Errors
+///
+/// `OutOfMemory` if an allocation failed: only an ERROR-CODE takes memory, and the writer. Else the
+/// first of these that applies:
+///
+/// - `OutOfRange { value, min: 300, max: 699 }` if the code of an error is below 300 or above 699;
+/// - `TooSmall { expected, actual }` if the message would be longer with an attribute than the
+///   writer takes: that length, and [`MessageWrite::max_size`]; and
+///   `TooLarge { expected: 65555, actual }` if it would be longer than a message may be. The first
+///   attribute that doesn't fit decides;
+/// - `IntegrityFailed`, before the integrity attribute, if the key was made for the other algorithm.
+///
+/// # Examples
+///
+/// ```
+/// use stun_authentication::{Accepted, Identity};
+/// use stun_types::message::{IntegrityAlgorithm, IntegrityKey, Message, MessageWriteVec};
+/// use stun_types::prelude::*;
+/// use turn_attrs::{Lifetime, XorRelayedAddress};
+/// use turn_server::{Answer, endpoint_of, write_answer};
+///
+/// // An Allocate request for UDP, and its user as `judge` returns it.
+/// let request = Message::from_bytes(
+///     b"\x00\x03\x00\x08\x21\x12\xA4\x42abcdefghijkl\x00\x19\x00\x04\x11\x00\x00\x00",
+/// )?;
+/// let (algorithm, reply_algorithm) = (IntegrityAlgorithm::Sha1, IntegrityAlgorithm::Sha1);
+/// let (user, key) = (Identity::Name(b"user"), IntegrityKey::new(alloc, &[7; 16], None)?);
+/// let accepted = Accepted { user, key, algorithm, reply_algorithm };
+/// let client = endpoint_of("192.0.2.1:32853".parse()?);
+/// let relayed = endpoint_of("192.0.2.15:50000".parse()?);
+/// let (answer, vector) = (Answer::Allocated { relayed, lifetime: 600 }, MessageWriteVec::new(alloc));
+/// let reply = write_answer(alloc, &request, client, None, answer, &accepted, vector)?.finish();
+/// let reply = Message::from_bytes(&reply)?;
+/// let address = reply.attribute::<XorRelayedAddress>(alloc)?;
+/// assert_eq!(rt; address.addr(reply.transaction_id()), "192.0.2.15:50000".parse()?);
+/// assert_eq!(rt; reply.attribute::<Lifetime>(alloc)?.seconds(), 600);
+/// assert_eq!(rt; reply.validate_integrity_with_key(&accepted.key), Ok(algorithm));
+/// ```
+pub fn write_answer<B: MessageWrite + Drop>(
+    alloc: Global,
+    request: &Message<'_>,
+    client: Endpoint,
+    software: Option<&Software>,
+    answer: Answer,
+    accepted: &Accepted<'_>,
+    write: B,
+) -> Result<B, StunWriteError>
+    requires request { class_of (type_field (message_bytes request.now)) ≡ Request }
+    requires empty { (B.state write).bytes ≡ [] }
+    requires room { Fits (B.state write).greatest 20 }
+    ensures text { let r = message_bytes request.now in
+        IfOk result (λ w. (B.state w).bytes
+        ≡ answer_text (option_map (λ it. text_bytes it.now) software.entry) client r
+        (table_answer answer) (key_bytes accepted.now.key) accepted.now.reply_algorithm) }
+    ensures answer { let r = message_bytes request.now in
+        FailsFor (answer_refusal (B.state write).greatest
+        (option_map (λ it. text_bytes it.now) software.entry) client r (table_answer answer)
+        (key_algorithm accepted.now.key) accepted.now.reply_algorithm) result }
+{
+    let mut write = write_unfinished(alloc, request, client, software, answer, write)?;
+    accepted.finish_reply(request.has_attribute(Fingerprint::TYPE), &mut write)?;
+    Ok(write)
+}
+
+/// The law of the codes that the table answers with, and that refuse a request by its bytes: an
+/// ERROR-CODE has each. The function does nothing: its contract is the law.
+pub fn codes_are_written()
+    ensures { (code : ℕ) → Contains TABLE_CODES code → code_fault (refused code) ≡ None }
+{}

@@ -1,0 +1,325 @@
+//! A TURN server.
+
+ghost use Rattle.std.specs.Prelude.{◌≡◌, ◌≤◌, ◌<◌, ℕ, List, Bool, IfOk, IsOk, OnErr, MatchOption, length, false};
+ghost use Rattle.stun_authentication.specs.LongTerm.{needs_key};
+ghost use Rattle.turn_table.specs.declared.endpoints.Ip.{Ip};
+ghost use Rattle.turn_table.specs.declared.endpoints.Endpoint.{Endpoint};
+ghost use Rattle.turn_table.specs.Outputs.{setup_of, answer_of, sending, receiving};
+ghost use Rattle.turn_table.specs.Allocates.{offered, answer_to};
+ghost use Rattle.turn_table.specs.Events.{allocate, arrives};
+ghost use Rattle.turn_table.specs.Requests.{asked};
+ghost use Rattle.turn_table.specs.Polls.{Polls};
+ghost use Rattle.turn_table.specs.Runs.{begun};
+ghost use Rattle.turn_table.specs.Steps.{step};
+ghost use Rattle.turn_table.specs.Users.{user_number};
+ghost use Rattle.turn_server.specs.Acting.{data_act, acted};
+ghost use Rattle.turn_server.specs.Actions.{Acts, Does, IsDone, IsAnswered, opened_in};
+ghost use Rattle.turn_server.specs.Answers.{table_answer};
+ghost use Rattle.turn_server.specs.Judging.{Judged as TakenFor};
+ghost use Rattle.turn_server.specs.PeersLeft.{peers_left};
+ghost use Rattle.turn_server.specs.Reporting.{Tells};
+ghost use Rattle.turn_server.specs.Requests.{permitting, wanted_by};
+ghost use Rattle.turn_server.specs.Sites.{site_of};
+ghost use Rattle.turn_server.specs.Wanted.{request_with};
+
+use crate::peer_list::collected;
+use crate::{Action, Answer, Judged, Peers, Request, Site, judge};
+use std::alloc::{AllocError, Global};
+use std::marker::Model;
+use stun_authentication::{LongTermKeys, Nonces};
+use stun_types::message::TransactionId;
+use turn_attrs::error_codes::INSUFFICIENT_CAPACITY;
+use turn_table::{
+    AllocateReply, Endpoint, FiveTuple, Limits, PeerPolicy, Reply, Request as TableRequest,
+    ToClient, ToPeer, TurnTable, UserId,
+};
+
+/// Data that goes to a peer, or is dropped.
+fn relayed<'d>(to: Option<ToPeer>, data: &'d [u8]) -> Action<'d>
+    ensures { Does (data_act (sending to «data».now)) result }
+{
+    match to {
+        Some(ToPeer { relay, peer }) => Action::ToPeer { relay, peer, data },
+        None => Action::Dropped,
+    }
+}
+
+/// The answer to an Allocate request, and the number of the socket that was ready, if it is an
+/// allocation's now.
+fn answer_to_allocate(reply: AllocateReply) -> (Answer, Option<u64>)
+    ensures answer { table_answer result.0 ≡ answer_to reply }
+    ensures taken { result.1 ≡ opened_in reply }
+{
+    match reply {
+        AllocateReply::Opened {
+            relay,
+            relayed,
+            lifetime,
+        } => (Answer::Allocated { relayed, lifetime }, Some(relay)),
+        AllocateReply::Again { relayed, lifetime } => {
+            (Answer::Allocated { relayed, lifetime }, None)
+        }
+        AllocateReply::Refused(code) => (Answer::Refused(code), None),
+    }
+}
+
+/// The answer to any other request.
+fn answer_by(reply: Reply) -> Answer
+    ensures { table_answer result ≡ answer_of reply }
+{
+    match reply {
+        Reply::Refreshed(lifetime) => Answer::Refreshed(lifetime),
+        Reply::Done => Answer::Done,
+        Reply::Refused(code) => Answer::Refused(code),
+    }
+}
+
+/// A TURN server without sockets and without a clock (RFC 8656): its allocations, of at most `P`
+/// permissions and `C` channels each.
+///
+/// Each call takes the caller's clock: nanoseconds since a beginning of its choice. A clock that
+/// steps back counts as stopped. All memory is taken by [`TurnServer::new`], but for the look-up of a
+/// user's key.
+#[derive(Drop)]
+pub struct TurnServer<const P: usize, const C: usize> {
+    table: TurnTable<P, C>,
+}
+
+impl<const P: usize, const C: usize> Model for TurnServer<P, C> {
+    ghost use Rattle.turn_table.specs.Tables.{Table};
+
+    ghost Value = { Table };
+
+    ghost view = { λ server. server.table };
+}
+
+impl<const P: usize, const C: usize> TurnServer<P, C> {
+    /// A server with no allocation. `seed` keys the hash of 5-tuples: take random numbers.
+    ///
+    /// # Errors
+    ///
+    /// Only if an allocation failed. It takes all memory that the server ever needs.
+    pub fn new(alloc: Global, limits: Limits, seed: [u64; 2]) -> Result<Self, AllocError>
+        ensures { IfOk result (λ server. server ≡ record { limits = limits; state = begun }) }
+    {
+        Ok(TurnServer {
+            table: TurnTable::new(alloc, limits, seed)?,
+        })
+    }
+
+    /// Answers a request that isn't Allocate.
+    fn fulfil<A: PeerPolicy>(
+        &mut self,
+        now: u64,
+        from: &FiveTuple,
+        user: UserId,
+        request: TableRequest<'_>,
+        policy: &A,
+    ) -> (Answer, Option<u64>)
+        ensures answer { let setup = setup_of self.old.limits P C (A.allows_address policy.now)
+            (A.allows_port policy.now) in
+            IsAnswered setup from.now (user_number user) (asked request.entry) now self.old.state
+            self.new.state result.0 result.1 }
+        ensures limits { self.new.limits ≡ self.old.limits }
+    {
+        let reply = self.table.request(now, from, user, request, policy);
+        (answer_by(reply), None)
+    }
+
+    /// Answers an Allocate request.
+    fn allocate(
+        &mut self,
+        now: u64,
+        from: &FiveTuple,
+        user: UserId,
+        id: TransactionId,
+        lifetime: Option<u32>,
+        wish: Result<Endpoint, u16>,
+    ) -> (Answer, Option<u64>)
+        ensures answer { (address : Ip → Bool) (port : Endpoint → Bool)
+            → let setup = setup_of self.old.limits P C address port in
+            (relay : ℕ) × IsAnswered setup from.now (user_number user)
+            (allocate id lifetime (offered relay wish)) now self.old.state self.new.state result.0 result.1 }
+        ensures limits { self.new.limits ≡ self.old.limits }
+    {
+        let reply = self
+            .table
+            .allocate(now, from, user, u128::from(id), lifetime, wish);
+        answer_to_allocate(reply)
+    }
+
+    /// Answers a CreatePermission request.
+    #[tactic(auto, using(crate::proofs::ActingLemmas::few_permitted, crate::proofs::ActingLemmas::many_refused))]
+    fn permit<A: PeerPolicy>(
+        &mut self,
+        now: u64,
+        from: &FiveTuple,
+        user: UserId,
+        peers: &mut Peers<'_>,
+        policy: &A,
+    ) -> (Answer, Option<u64>)
+        ensures answer { let setup = setup_of self.old.limits P C (A.allows_address policy.now)
+            (A.allows_port policy.now) in
+            IsAnswered setup from.now (user_number user) (permitting (peers_left peers.old)) now
+            self.old.state self.new.state result.0 result.1 }
+        ensures limits { self.new.limits ≡ self.old.limits }
+    {
+        match collected(peers) {
+            Some(all) => {
+                let request = TableRequest::CreatePermission(&all);
+                self.fulfil(now, from, user, request, policy)
+            }
+            None => {
+                let request = TableRequest::Unfit(INSUFFICIENT_CAPACITY);
+                self.fulfil(now, from, user, request, policy)
+            }
+        }
+    }
+
+    /// Answers a user's request.
+    fn answer<A: PeerPolicy>(
+        &mut self,
+        now: u64,
+        from: &FiveTuple,
+        user: UserId,
+        request: &mut Request<'_>,
+        policy: &A,
+    ) -> (Answer, Option<u64>)
+        ensures answer { let setup = setup_of self.old.limits P C (A.allows_address policy.now)
+            (A.allows_port policy.now) in
+            (relay : ℕ) × IsAnswered setup from.now (user_number user)
+            (request_with relay (wanted_by request.old)) now self.old.state self.new.state
+            result.0 result.1 }
+        ensures limits { self.new.limits ≡ self.old.limits }
+    {
+        match request {
+            Request::Allocate { id, lifetime, wish } => {
+                self.allocate(now, from, user, *id, *lifetime, *wish)
+            }
+            Request::Refresh { family, lifetime } => {
+                let request = TableRequest::Refresh(*family, *lifetime);
+                self.fulfil(now, from, user, request, policy)
+            }
+            Request::Permit(peers) => self.permit(now, from, user, peers, policy),
+            Request::Bind { channel, peer } => {
+                let request = TableRequest::ChannelBind(*channel, *peer);
+                self.fulfil(now, from, user, request, policy)
+            }
+            Request::Unfit(code) => {
+                self.fulfil(now, from, user, TableRequest::Unfit(*code), policy)
+            }
+        }
+    }
+
+    /// Takes a client's datagram: keeps what it changes, and returns what is done for it. [`judge`]
+    /// says what it is taken for; the caller writes the response, if one is due, by what
+    /// [`Action`] says, and sends it to where the datagram came from.
+    ///
+    /// `from` is the client, the address that its datagram came to, and the protocol: what a stream is
+    /// cut into counts as datagrams (`stun_framing::MessageStream`). `site` says which sockets are
+    /// ready: of one whose number an [`Action::Answered`] has as `took`, the caller keeps that number, by
+    /// which [`TurnServer::on_peer_datagram`] knows it, until [`TurnServer::poll`] reports it.
+    ///
+    /// # Errors
+    ///
+    /// Only if an allocation failed, while `keys` looked for the key. Nothing has changed then.
+    pub fn on_client_datagram<'d, N: Nonces, K: LongTermKeys, A: PeerPolicy>(
+        &mut self,
+        alloc: Global,
+        now: u64,
+        from: &FiveTuple,
+        datagram: &'d [u8],
+        site: &Site<'_>,
+        nonces: &N,
+        keys: &K,
+        policy: &A,
+    ) -> Result<Action<'d>, AllocError>
+        ensures acts { let setup = setup_of self.old.limits P C (A.allows_address policy.now)
+            (A.allows_port policy.now) in
+            IfOk result (Acts (site_of from.now.client.ip site.now (N.state_of nonces.now)
+            (K.key_of keys.now)) setup from.now now datagram.now self.old.state self.new.state) }
+        ensures limits { self.new.limits ≡ self.old.limits }
+        ensures memory { needs_key site.now.policy (N.state_of nonces.now) datagram.now ≡ false
+            → IsOk result }
+        ensures err { OnErr result (self.new ≡ self.old) }
+    {
+        let old_channels = self.table.limits().old_channels;
+        let judged = judge(
+            alloc,
+            from.client.ip,
+            datagram,
+            old_channels,
+            site,
+            nonces,
+            keys,
+        )?;
+        Ok(self.act(now, from, judged, policy))
+    }
+
+    /// Takes a peer's datagram, which came to the socket of this number: returns the client that its
+    /// data goes to, on a channel or in a Data indication (RFC 8656, sections 11.3 and 12.7).
+    /// `turn_attrs::write_channel_head` and `write_data_head` write what comes before the data.
+    ///
+    /// `None` if it is dropped: the socket belongs to no live allocation, or there is no permission
+    /// for the peer's IP address.
+    pub fn on_peer_datagram(&mut self, now: u64, relay: u64, peer: Endpoint) -> Option<ToClient>
+        ensures step { (address : Ip → Bool) (port : Endpoint → Bool) (bytes : List ℕ)
+            → step (setup_of self.old.limits P C address port) self.old.state now
+            (arrives relay peer bytes)
+            ≡ record { state = self.new.state; output = receiving result peer bytes } }
+        ensures limits { self.new.limits ≡ self.old.limits }
+    {
+        self.table.on_peer_data(now, relay, peer)
+    }
+
+    /// Closes allocations that have ended, as many as `ended` has room for, and writes the numbers of
+    /// their sockets at its start, for the caller to close them. Returns how many. If that is less
+    /// than the length of `ended`, no allocation is left that has ended.
+    pub fn poll(&mut self, now: u64, ended: &mut [u64]) -> usize
+        ensures polls { Polls self.old.state now ended.old result ended.new self.new.state }
+        ensures limits { self.new.limits ≡ self.old.limits }
+    {
+        self.table.poll(now, ended)
+    }
+
+    /// Does what a datagram that was judged asks for.
+    fn act<'d, A: PeerPolicy>(
+        &mut self,
+        now: u64,
+        from: &FiveTuple,
+        judged: Judged<'d>,
+        policy: &A,
+    ) -> Action<'d>
+        ensures acts { let setup = setup_of self.old.limits P C (A.allows_address policy.now)
+            (A.allows_port policy.now) in
+            (taken_for : TakenFor) → Tells taken_for judged.entry
+            → (relay : ℕ) × IsDone (acted setup from.now relay self.old.state now taken_for)
+            self.new.state result }
+        ensures limits { self.new.limits ≡ self.old.limits }
+    {
+        match judged {
+            Judged::Dropped => Action::Dropped,
+            Judged::Binding => Action::Binding,
+            Judged::Refused(refusal) => Action::Refused(refusal),
+            Judged::Unknown(accepted) => Action::Unknown(accepted),
+            Judged::Sent { peer, data } => {
+                relayed(self.table.on_send(now, from, peer, policy), data)
+            }
+            Judged::SentOn { channel, data } => {
+                relayed(self.table.on_channel_data(now, from, channel, policy), data)
+            }
+            Judged::Asked {
+                user,
+                mut request,
+                accepted,
+            } => {
+                let (answer, took) = self.answer(now, from, user, &mut request, policy);
+                Action::Answered {
+                    answer,
+                    took,
+                    accepted,
+                }
+            }
+        }
+    }
+}

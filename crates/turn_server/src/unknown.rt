@@ -1,0 +1,105 @@
+//! The signed response to a request that shows types that aren't comprehended.
+
+ghost use Rattle.std.specs.Prelude.{◌≡◌, [], false, IfOk};
+ghost use Rattle.stun_base.specs.MessageTypes.{class_of};
+ghost use Rattle.stun_base.specs.declared.message_class.MessageClass.TheVariants.{Request, Error as ErrorClass};
+ghost use Rattle.stun_grammar.specs.Adding.{Fits};
+ghost use Rattle.stun_grammar.specs.Headers.{type_field};
+ghost use Rattle.stun_keys.specs.Keys.{key_algorithm, key_bytes};
+ghost use Rattle.stun_types.specs.Message.{message_bytes};
+ghost use Rattle.stun_types.specs.Replies.{first_refusal};
+ghost use Rattle.stun_authentication.specs.Writing.{FailsFor};
+ghost use Rattle.turn_server.specs.Answers.{unknown_attributes, unknown_text, unknown_refusal};
+ghost use Rattle.turn_server.specs.Comprehended.{is_comprehended};
+ghost use Rattle.turn_server.specs.Unfinished.{WritesUnfinished};
+
+use crate::COMPREHENDED;
+use std::alloc::Global;
+use stun_authentication::Accepted;
+use stun_types::attribute::{AttributeStaticType, Fingerprint};
+use stun_types::message::{Message, StunWriteError};
+use stun_types::prelude::*;
+
+/// Writes the 420, but for its end.
+fn write_listed<B: MessageWrite + Drop>(
+    alloc: Global,
+    request: &Message<'_>,
+    write: B,
+) -> Result<B, StunWriteError>
+    requires request { class_of (type_field (message_bytes request.now)) ≡ Request }
+    requires unknown { is_comprehended (message_bytes request.now) ≡ false }
+    requires empty { (B.state write).bytes ≡ [] }
+    requires room { Fits (B.state write).greatest 20 }
+    ensures { let r = message_bytes request.now in let attributes = unknown_attributes r in
+        WritesUnfinished (λ w. B.state w) result (B.state write).greatest ErrorClass r attributes
+        (first_refusal (B.state write).greatest [] attributes) }
+{
+    match Message::check_attribute_lists(alloc, request, &[&COMPREHENDED], &[], write)? {
+        Some(write) => Ok(write),
+        None => unreachable!(),
+    }
+}
+
+/// Writes the response to a request that shows types below 0x8000 that aren't comprehended, as
+/// [`Judged::Unknown`](crate::Judged::Unknown) reports it: a 420 with an UNKNOWN-ATTRIBUTES that lists
+/// them, in order and as often as shown (RFC 8489, section 6.3.1), as
+/// [`Message::check_attribute_lists`] writes it, with the integrity attribute by the user's key and
+/// [`Accepted::reply_algorithm`] (section 9.2.4), and with a FINGERPRINT if the request has one.
+///
+/// # Requires
+///
+/// `request` is a request and shows such a type, as `UnknownTypes::new` with
+/// [`COMPREHENDED`](crate::COMPREHENDED) tests, and the writer is as for `Message::builder`.
+///
+/// # Errors
+///
+/// `OutOfMemory` if an allocation failed. Else the first of these that applies:
+///
+/// - `TooSmall { expected, actual }` if the message would be longer with an attribute than the
+///   writer takes: that length, and [`MessageWrite::max_size`]; and
+///   `TooLarge { expected: 65555, actual }` if it would be longer than a message may be. The first
+///   attribute that doesn't fit decides;
+/// - `IntegrityFailed`, before the integrity attribute, if the key was made for the other algorithm.
+///
+/// # Examples
+///
+/// ```
+/// use stun_authentication::{Accepted, Identity};
+/// use stun_types::attribute::ErrorCode;
+/// use stun_types::message::{IntegrityAlgorithm, IntegrityKey, Message, MessageWriteVec};
+/// use stun_types::prelude::*;
+/// use turn_server::write_unknown;
+///
+/// // An Allocate request with DONT-FRAGMENT, and its user as `judge` returns it.
+/// let request = Message::from_bytes(
+///     b"\x00\x03\x00\x0C\x21\x12\xA4\x42abcdefghijkl\x00\x19\x00\x04\x11\x00\x00\x00\x00\x1A\x00\x00",
+/// )?;
+/// let (algorithm, reply_algorithm) = (IntegrityAlgorithm::Sha1, IntegrityAlgorithm::Sha1);
+/// let (user, key) = (Identity::Name(b"user"), IntegrityKey::new(alloc, &[7; 16], None)?);
+/// let accepted = Accepted { user, key, algorithm, reply_algorithm };
+/// let reply = write_unknown(alloc, &request, &accepted, MessageWriteVec::new(alloc))?.finish();
+/// let reply = Message::from_bytes(&reply)?;
+/// assert_eq!(rt; reply.attribute::<ErrorCode>(alloc)?.code(), 420);
+/// assert_eq!(rt; reply.validate_integrity_with_key(&accepted.key), Ok(algorithm));
+/// ```
+pub fn write_unknown<B: MessageWrite + Drop>(
+    alloc: Global,
+    request: &Message<'_>,
+    accepted: &Accepted<'_>,
+    write: B,
+) -> Result<B, StunWriteError>
+    requires request { class_of (type_field (message_bytes request.now)) ≡ Request }
+    requires unknown { is_comprehended (message_bytes request.now) ≡ false }
+    requires empty { (B.state write).bytes ≡ [] }
+    requires room { Fits (B.state write).greatest 20 }
+    ensures text { let r = message_bytes request.now in
+        IfOk result (λ w. (B.state w).bytes
+        ≡ unknown_text r (key_bytes accepted.now.key) accepted.now.reply_algorithm) }
+    ensures answer { let r = message_bytes request.now in
+        FailsFor (unknown_refusal (B.state write).greatest r (key_algorithm accepted.now.key)
+        accepted.now.reply_algorithm) result }
+{
+    let mut write = write_listed(alloc, request, write)?;
+    accepted.finish_reply(request.has_attribute(Fingerprint::TYPE), &mut write)?;
+    Ok(write)
+}

@@ -1,0 +1,27 @@
+//! Clients that come by a tunnel to IPv6 (RFC 8656, section 21.4).
+
+ghost use Rattle.std.specs.Prelude.{◌≡◌};
+ghost use Rattle.turn_table.specs.Tunnels.{is_tunnelled};
+
+use crate::endpoints::Ip;
+
+/// Whether an address is one of Teredo, 2001::/32, or of 6to4, 2002::/16.
+///
+/// A server refuses an Allocate request from a client with such an address with 403: what it relays
+/// could go back and forth between the server and the end of the tunnel (RFC 8656, section 21.4). As
+/// peers these addresses are denied by [`Peers`](crate::peers::Peers).
+///
+/// # Examples
+///
+/// ```
+/// use turn_table::{Ip, is_tunnelled};
+///
+/// assert!(rt; is_tunnelled(Ip { family: 2, number: 0x2002_C000_0201 << 80 }));
+/// assert!(rt; !is_tunnelled(Ip { family: 2, number: 0x2001_0DB8 << 96 }));
+/// assert!(rt; !is_tunnelled(Ip { family: 1, number: 0xC000_0201 }));
+/// ```
+pub fn is_tunnelled(ip: Ip) -> bool
+    ensures { result ≡ is_tunnelled ip }
+{
+    ip.family == 2 && (ip.number >> 96 == 0x2001_0000 || ip.number >> 112 == 0x2002)
+}
