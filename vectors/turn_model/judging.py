@@ -14,8 +14,8 @@ KNOWN = {
     wire.PEER, wire.DATA, wire.REALM, wire.NONCE, wire.RELAYED, wire.FAMILY, wire.EVEN_PORT, wire.TRANSPORT,
     wire.INTEGRITY_256, wire.ALGORITHM, wire.USERHASH, wire.MAPPED, wire.TOKEN,
 }
-# How many types a 420 lists.
-LISTED = 200
+# How many peers a CreatePermission request may name.
+NAMED = 64
 # 4 and 6 are how the families are called here, 1 and 2 how they are in a message.
 FAMILIES = {1: 4, 2: 6}
 
@@ -110,7 +110,7 @@ class Site(Server):
         if answer:
             return answer
         if unknown := message.unknown(KNOWN):
-            return self.note("unknown-types", f"420:{types(unknown[:LISTED])}:{sign}")
+            return self.note("unknown-types", f"420:{types(unknown)}:{sign}")
         return self.described(client, message, getattr(self, f"on_{method}")(client, user, message), sign)
 
     def described(self, client, message, output, sign):
@@ -164,6 +164,8 @@ class Site(Server):
         peers = [wire.read_xor_address(message.identity, it) for it in message.all(wire.PEER)]
         if not peers or None in peers:
             return self.unfit(client, user, Refusal(400, "unfit-permission"))
+        if len(peers) > NAMED:
+            return self.unfit(client, user, Refusal(508, "too-many-peers"))
         return self.permit(client, user, peers)
 
     def on_bind(self, client, user, message):

@@ -19,7 +19,8 @@ RULES = {
     "unknown-types": ":6.3.1", "no-allocation": "5", "other-user": "5", "allocate-again": "7.2",
     "allocate-in-use": "7.2", "tunnel": "21.4", "transport": "7.2", "conflict": "7.2",
     "family": "7.2", "quota": "7.2", "no-capacity": "7.2", "allocated": "7.2", "unfit-refresh": "8.2",
-    "refreshed": "8.2", "unfit-permission": "10.2", "permission-refused": "10.2", "permitted": "10.2",
+    "refreshed": "8.2", "unfit-permission": "10.2", "too-many-peers": "10.2",
+    "permission-refused": "10.2", "permitted": "10.2",
     "unfit-channel": "12.2", "channel-taken": "12.2", "channel-refused": "12.2", "bound": "12.2",
     # a datagram of a peer, and time
     "no-socket": "11.3", "peer-without-permission": "9", "peer-on-channel": "12.7",
@@ -32,7 +33,7 @@ SERVER = (bytes([203, 0, 113, 1]), 3478)
 FORBIDDEN = [*map(ipaddress.ip_network, """
     0.0.0.0/8 10.0.0.0/8 100.64.0.0/10 127.0.0.0/8 169.254.0.0/16 172.16.0.0/12 192.0.0.0/24
     192.168.0.0/16 198.18.0.0/15 224.0.0.0/4 240.0.0.0/4
-    ::/96 ::ffff:0:0/96 64:ff9b::/96 64:ff9b:1::/48 2001::/32 2002::/16 fc00::/7 fe80::/10 ff00::/8
+    ::/96 ::ffff:0:0/96 64:ff9b::/96 64:ff9b:1::/48 2001::/23 2002::/16 fc00::/7 fe80::/10 ff00::/8
 """.split())]
 # Teredo and 6to4 (21.4).
 TUNNELS = [ipaddress.ip_network("2001::/32"), ipaddress.ip_network("2002::/16")]

@@ -35,8 +35,8 @@ class Message:
         return [value for _, its, value in self.shown if its == type_]
 
     def unknown(self, known):
-        """The types below 0x8000 that aren't known, each once."""
-        return list(dict.fromkeys(it for _, it, _ in self.shown if it < 0x8000 and it not in known))
+        """The types below 0x8000 that aren't known, as often as they are shown."""
+        return [it for _, it, _ in self.shown if it < 0x8000 and it not in known]
 
 
 def type_number(kind, method):
