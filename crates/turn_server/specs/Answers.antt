@@ -1,7 +1,7 @@
 -- The responses to the requests of users that the table answers (RFC 8656, sections 7.2, 8.2, 10.2 and
 -- 12.2), and the one to a request that isn't comprehended. They are signed by the user's key (RFC
 -- 8489, section 9.2.4).
-use Rattle.std.specs.Prelude.{ℕ, List, [], ◌∷◌, ◌++◌, length, Option, None, Some}
+use Rattle.std.specs.Prelude.{ℕ, List, [], ◌∷◌, ◌++◌, length, drop, Option, None, Some, is_some, if◌then◌else◌}
 use Rattle.std.specs.Option.{option_or}
 use Rattle.stun_grammar.specs.declared.error.StunWriteError.{StunWriteError}
 use Rattle.stun_grammar.specs.declared.integrity_algorithm.IntegrityAlgorithm.{IntegrityAlgorithm}
@@ -14,12 +14,13 @@ use Rattle.stun_grammar.specs.Writing.{message_encoding}
 use Rattle.stun_base.specs.declared.message_class.MessageClass.{MessageClass}
 use Rattle.stun_base.specs.declared.message_class.MessageClass.TheVariants.{Success, Error as ErrorClass}
 use Rattle.stun_values.specs.Addresses.{xored_value}
-use Rattle.stun_values.specs.ErrorValues.{making_fault}
+use Rattle.stun_values.specs.ErrorValues.{error_value, making_fault}
 use Rattle.stun_attributes.specs.DefaultReasons.{default_reason}
+use Rattle.stun_types.specs.LookingUp.{nth}
 use Rattle.stun_types.specs.Replies.{error_attribute, response_type, first_refusal, unknown_reply, unknown_types}
 use Rattle.stun_authentication.specs.Policies.{is_fingerprinted}
 use Rattle.stun_authentication.specs.Writing.{no_room, sizes, print_steps, signed_reply, signing_refusal, step_sizes}
-use Rattle.turn_attrs.specs.Turn.{LIFETIME, XOR_RELAYED_ADDRESS}
+use Rattle.turn_attrs.specs.Turn.{ADDITIONAL_ADDRESS_FAMILY, ADDRESS_ERROR_CODE, LIFETIME, XOR_RELAYED_ADDRESS}
 use Rattle.turn_table.specs.declared.endpoints.Endpoint.{Endpoint}
 use Rattle.turn_table.specs.Events.{Answer as TableAnswer, allocated, refreshed, done, refused}
 use Rattle.turn_server.specs.declared.answer.Answer.{Answer}
@@ -46,16 +47,30 @@ address_attribute type id e = canonical type (xored_value id (socket_of e))
 abbrev pub lifetime_attribute : (lifetime : ℕ) → Attribute
 lifetime_attribute lifetime = canonical LIFETIME (be32 lifetime)
 
--- what the response says: to Allocate the relayed address, the lifetime, and the address of the client
--- (section 7.2); to Refresh the lifetime (section 8.2); to another request nothing; or the error, with
--- the reason phrase of its code
-abbrev pub answer_content : (id : ℕ) → (client : Endpoint) → TableAnswer → List Attribute
-answer_content id client (allocated relayed lifetime) =
+-- an allocation: the relayed address, the lifetime, and the address of the client (section 7.2)
+abbrev pub allocation_attributes : (id : ℕ) → (client relayed : Endpoint) → (lifetime : ℕ)
+    → List Attribute
+allocation_attributes id client relayed lifetime =
     address_attribute XOR_RELAYED_ADDRESS id relayed ∷ lifetime_attribute lifetime
     ∷ address_attribute XOR_MAPPED_ADDRESS id client ∷ []
-answer_content id client (refreshed lifetime) = lifetime_attribute lifetime ∷ []
-answer_content id client done = []
-answer_content id client (refused code) = error_attribute code (default_reason code) ∷ []
+
+-- an ADDRESS-ERROR-CODE of 440 for IPv6 (section 18.12)
+abbrev pub no_ipv6 : Attribute
+no_ipv6 = canonical ADDRESS_ERROR_CODE (2 ∷ drop 1 (error_value 440 (default_reason 440)))
+
+-- a request for an address of each family is met in part: it gets none of IPv6 (section 7.2, the end
+-- of check 9)
+abbrev pub family_left : (r : List ℕ) → List Attribute
+family_left r = if is_some (nth r ADDITIONAL_ADDRESS_FAMILY 0) then no_ipv6 ∷ [] else []
+
+-- what the response to r says: to Allocate the allocation, and the family that is left; to Refresh the
+-- lifetime (section 8.2); to another request nothing; or the error, with the reason phrase of its code
+abbrev pub answer_content : (r : List ℕ) → (client : Endpoint) → TableAnswer → List Attribute
+answer_content r client (allocated relayed lifetime) =
+    allocation_attributes (id_field r) client relayed lifetime ++ family_left r
+answer_content r client (refreshed lifetime) = lifetime_attribute lifetime ∷ []
+answer_content r client done = []
+answer_content r client (refused code) = error_attribute code (default_reason code) ∷ []
 
 -- the name of the server's software, if it has one (RFC 8489, section 14.14)
 abbrev pub software_attributes : (software : Option (List ℕ)) → List Attribute
@@ -66,7 +81,7 @@ software_attributes (Some name) = canonical SOFTWARE name ∷ []
 abbrev pub answer_attributes : (software : Option (List ℕ)) → (client : Endpoint) → (r : List ℕ)
     → TableAnswer → List Attribute
 answer_attributes software client r answer =
-    answer_content (id_field r) client answer ++ software_attributes software
+    answer_content r client answer ++ software_attributes software
 
 -- ---- The responses
 

@@ -9,20 +9,25 @@ ghost use Rattle.stun_attributes.specs.Texts.{text_bytes};
 ghost use Rattle.stun_grammar.specs.Attributes.{canonical};
 ghost use Rattle.stun_grammar.specs.AttributeTypes.{IsOrdinary, SOFTWARE, XOR_MAPPED_ADDRESS};
 ghost use Rattle.stun_values.specs.Addresses.{address_value};
+ghost use Rattle.stun_types.specs.Message.{message_bytes};
 ghost use Rattle.stun_types.specs.Replies.{error_attribute};
 ghost use Rattle.stun_authentication.specs.Writing.{Lengthens};
 ghost use Rattle.turn_attrs.specs.Turn.{XOR_RELAYED_ADDRESS, seconds_of};
 ghost use Rattle.turn_table.specs.Events.{allocated};
-ghost use Rattle.turn_server.specs.Answers.{table_answer, answer_class, address_attribute, lifetime_attribute, answer_content, software_attributes};
+ghost use Rattle.turn_server.specs.Answers.{table_answer, answer_class, address_attribute, lifetime_attribute, allocation_attributes, no_ipv6, family_left, answer_content, software_attributes, answer_attributes};
 
 use crate::{Answer, socket_of};
 use stun_types::attribute::{
     AttributeStaticType, AttributeType, ErrorCode, Software, XorMappedAddress,
 };
-use stun_types::message::{StunWriteError, TransactionId};
+use stun_types::message::{Message, StunWriteError, TransactionId};
 use stun_types::prelude::*;
+use turn_attrs::attribute_types::{ADDITIONAL_ADDRESS_FAMILY, ADDRESS_ERROR_CODE};
 use turn_attrs::{Lifetime, XorRelayedAddress};
 use turn_table::Endpoint;
+
+/// The value of an ADDRESS-ERROR-CODE for IPv6: the family, a zero, 440 and its reason phrase.
+const NO_IPV6: &[u8] = b"\x02\x00\x04\x28Address Family Not Supported";
 
 /// Adds an attribute.
 fn add_one<B: MessageWrite>(
@@ -129,6 +134,28 @@ fn add_lifetime<B: MessageWrite>(lifetime: u32, write: &mut B) -> Result<(), Stu
     push_lifetime(&Lifetime::new(lifetime), write)
 }
 
+/// Adds an ADDRESS-ERROR-CODE for IPv6.
+fn add_no_ipv6<B: MessageWrite>(write: &mut B) -> Result<(), StunWriteError>
+    ensures { Lengthens result (B.state write.old) (B.state write.new) (no_ipv6 ∷ []) }
+{
+    add_bytes(AttributeType(ADDRESS_ERROR_CODE), NO_IPV6, write)
+}
+
+/// Adds the family of which an Allocate request gets no address, if it asks for both.
+fn add_family_left<B: MessageWrite>(
+    request: &Message<'_>,
+    write: &mut B,
+) -> Result<(), StunWriteError>
+    ensures { Lengthens result (B.state write.old) (B.state write.new)
+        (family_left (message_bytes request.now)) }
+{
+    if request.has_attribute(AttributeType(ADDITIONAL_ADDRESS_FAMILY)) {
+        add_no_ipv6(write)
+    } else {
+        Ok(())
+    }
+}
+
 /// Adds a SOFTWARE, if there is one.
 fn add_software<B: MessageWrite>(
     software: Option<&Software>,
@@ -143,8 +170,8 @@ fn add_software<B: MessageWrite>(
     }
 }
 
-/// Adds what the success response to an Allocate request says.
-fn add_allocation<B: MessageWrite>(
+/// Adds what a response says of an allocation.
+fn add_addresses<B: MessageWrite>(
     relayed: Endpoint,
     lifetime: u32,
     client: Endpoint,
@@ -152,27 +179,42 @@ fn add_allocation<B: MessageWrite>(
     write: &mut B,
 ) -> Result<(), StunWriteError>
     ensures { Lengthens result (B.state write.old) (B.state write.new)
-        (answer_content id client (allocated relayed lifetime)) }
+        (allocation_attributes id client relayed lifetime) }
 {
     add_relayed(relayed, id, write)?;
     add_lifetime(lifetime, write)?;
     add_mapped(client, id, write)
 }
 
+/// Adds what the success response to an Allocate request says.
+fn add_allocation<B: MessageWrite>(
+    request: &Message<'_>,
+    relayed: Endpoint,
+    lifetime: u32,
+    client: Endpoint,
+    write: &mut B,
+) -> Result<(), StunWriteError>
+    ensures { Lengthens result (B.state write.old) (B.state write.new)
+        (answer_content (message_bytes request.now) client (allocated relayed lifetime)) }
+{
+    add_addresses(relayed, lifetime, client, request.transaction_id(), write)?;
+    add_family_left(request, write)
+}
+
 /// Adds what a success response says.
 fn add_content<B: MessageWrite>(
+    request: &Message<'_>,
     answer: Answer,
     client: Endpoint,
-    id: TransactionId,
     write: &mut B,
 ) -> Result<(), StunWriteError>
     requires { answer_class (table_answer answer) ≡ Success }
     ensures { Lengthens result (B.state write.old) (B.state write.new)
-        (answer_content id client (table_answer answer)) }
+        (answer_content (message_bytes request.now) client (table_answer answer)) }
 {
     match answer {
         Answer::Allocated { relayed, lifetime } => {
-            add_allocation(relayed, lifetime, client, id, write)
+            add_allocation(request, relayed, lifetime, client, write)
         }
         Answer::Refreshed(lifetime) => add_lifetime(lifetime, write),
         Answer::Done => Ok(()),
@@ -182,18 +224,18 @@ fn add_content<B: MessageWrite>(
 
 /// Adds the attributes of a success response.
 pub(crate) fn add_success<B: MessageWrite>(
+    request: &Message<'_>,
     answer: Answer,
     client: Endpoint,
     software: Option<&Software>,
-    id: TransactionId,
     write: &mut B,
 ) -> Result<(), StunWriteError>
     requires { answer_class (table_answer answer) ≡ Success }
     ensures { Lengthens result (B.state write.old) (B.state write.new)
-        (answer_content id client (table_answer answer)
-        ++ software_attributes (option_map (λ it. text_bytes it.now) software.entry)) }
+        (answer_attributes (option_map (λ it. text_bytes it.now) software.entry) client
+        (message_bytes request.now) (table_answer answer)) }
 {
-    add_content(answer, client, id, write)?;
+    add_content(request, answer, client, write)?;
     add_software(software, write)
 }
 

@@ -53,13 +53,7 @@ fn write_success<B: MessageWrite + Drop>(
         (no_room (B.state write).greatest 20 (sizes attributes)) }
 {
     let mut write = Message::builder_success(request, write)?;
-    add_success(
-        answer,
-        client,
-        software,
-        request.transaction_id(),
-        &mut write,
-    )?;
+    add_success(request, answer, client, software, &mut write)?;
     Ok(write)
 }
 
@@ -112,9 +106,10 @@ fn write_unfinished<B: MessageWrite + Drop>(
 
 /// Writes the response to a request that the table answers (RFC 8656, sections 7.2, 8.2, 10.2 and
 /// 12.2): the success response to Allocate with XOR-RELAYED-ADDRESS, LIFETIME and
-/// XOR-MAPPED-ADDRESS, which is the address of the `client`; to Refresh with LIFETIME; to another
-/// request with none of these; or the error response with an ERROR-CODE and the reason phrase of
-/// [`ErrorCode::default_reason_for_code`]. A SOFTWARE follows, if there is one, then the integrity
+/// XOR-MAPPED-ADDRESS, which is the address of the `client`, and with an ADDRESS-ERROR-CODE of 440 for
+/// IPv6 if the request has an ADDITIONAL-ADDRESS-FAMILY, since it gets one address alone; to Refresh
+/// with LIFETIME; to another request with none of these; or the error response with an ERROR-CODE and
+/// the reason phrase of [`ErrorCode::default_reason_for_code`]. A SOFTWARE follows, if there is one, then the integrity
 /// attribute by the user's key and [`Accepted::reply_algorithm`] (RFC 8489, section 9.2.4), and a
 /// FINGERPRINT if the request has one.
 ///
