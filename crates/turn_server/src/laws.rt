@@ -91,7 +91,9 @@ pub fn datagrams_are_warranted()
 }
 
 /// A datagram that isn't a user's accepted request changes no allocation, permission or channel; and
-/// nothing of it goes to a peer if its client has no live allocation.
+/// nothing of it goes to a peer if its client has no live allocation. How long the response is that it
+/// may get, `stun_server::replies_are_small` says of one to a Binding request, and
+/// `stun_authentication::refusals_are_short` of a 401.
 pub fn strangers_change_nothing()
     ensures unchanged { (site : Site) (setup : Setup) (tuple : FiveTuple) (state : State)
         (new now : ℕ) (d : List ℕ) → is_asked (judge setup.last_channel site d) ≡ false

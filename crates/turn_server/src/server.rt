@@ -77,9 +77,55 @@ fn answer_by(reply: Reply) -> Answer
 /// A TURN server without sockets and without a clock (RFC 8656): its allocations, of at most `P`
 /// permissions and `C` channels each.
 ///
-/// Each call takes the caller's clock: nanoseconds since a beginning of its choice. A clock that
-/// steps back counts as stopped. All memory is taken by [`TurnServer::new`], but for the look-up of a
+/// Each call takes the caller's clock, a monotonic one: nanoseconds since a beginning of its choice. A
+/// clock that steps back counts as stopped. All memory is taken by [`TurnServer::new`], but for the look-up of a
 /// user's key.
+///
+/// # Examples
+///
+/// ```
+/// use std::net::SocketAddr;
+/// use stun_authentication::{Logins, NonceMaker, Policy, Refusal, SecurityFeatures};
+/// use stun_types::message::IntegrityKey;
+/// use turn_server::{Action, Site, Sockets, TurnServer, endpoint_of};
+/// use turn_table::peers::Peers;
+/// use turn_table::{FiveTuple, Limits};
+///
+/// let limits = Limits {
+///     allocations: 100,
+///     of_user: 10,
+///     greatest_lifetime: 3600,
+///     channel_permits: false,
+///     old_channels: false,
+/// };
+/// // (a program draws the two numbers)
+/// let mut server: TurnServer<16, 16> = TurnServer::new(alloc, limits, [1, 2])?;
+/// let client: SocketAddr = "192.0.2.1:32853".parse()?;
+/// let own: SocketAddr = "203.0.113.1:3478".parse()?;
+/// let from = FiveTuple {
+///     client: endpoint_of(client),
+///     server: endpoint_of(own),
+///     transport: 17,
+/// };
+/// let site = Site {
+///     policy: Policy::default(),
+///     realm: "example.org",
+///     sockets: Sockets { ipv4: None, ipv6: None },
+/// };
+/// let secret = IntegrityKey::new(alloc, &[7; 32], None)?;
+/// let maker = NonceMaker::new(secret, SecurityFeatures::default(), 600)?;
+/// let (nonces, keys) = (maker.nonces(1, client, &[]), Logins::new(&[]));
+/// let peers = Peers { denied: &[], allowed: &[], listening: &[own] };
+/// // An Allocate request that isn't signed, after a second: `refuse_long_term` writes the 401.
+/// let request = b"\x00\x03\x00\x08\x21\x12\xA4\x42abcdefghijkl\x00\x19\x00\x04\x11\x00\x00\x00";
+/// let now = 1_000_000_000;
+/// let action =
+///     server.on_client_datagram(alloc, now, &from, request, &site, &nonces, &keys, &peers)?;
+/// assert!(rt; matches!(action, Action::Refused(Refusal::Unauthenticated)));
+/// // So no socket has an allocation, and what a peer sends goes nowhere.
+/// let peer = endpoint_of("198.51.100.1:9".parse()?);
+/// assert!(rt; server.on_peer_datagram(now, 0, peer).is_none());
+/// ```
 #[derive(Drop)]
 pub struct TurnServer<const P: usize, const C: usize> {
     table: TurnTable<P, C>,
@@ -221,10 +267,11 @@ impl<const P: usize, const C: usize> TurnServer<P, C> {
     /// says what it is taken for; the caller writes the response, if one is due, by what
     /// [`Action`] says, and sends it to where the datagram came from.
     ///
-    /// `from` is the client, the address that its datagram came to, and the protocol: what a stream is
-    /// cut into counts as datagrams (`stun_framing::MessageStream`). `site` says which sockets are
-    /// ready: of one whose number an [`Action::Answered`] has as `took`, the caller keeps that number, by
-    /// which [`TurnServer::on_peer_datagram`] knows it, until [`TurnServer::poll`] reports it.
+    /// `from` is the client, the address that its datagram came to, and the protocol between them, by
+    /// numbers of the caller's choice: 17 for UDP and 6 for TCP, say. What a stream is cut into counts as
+    /// datagrams (`stun_framing::MessageStream::carrying`). `site` says which sockets are ready. If
+    /// `took` of an [`Action::Answered`] is `Some(relay)`, the socket has this number from then on: the
+    /// caller passes it to [`TurnServer::on_peer_datagram`], until [`TurnServer::poll`] returns it.
     ///
     /// # Errors
     ///
@@ -266,6 +313,8 @@ impl<const P: usize, const C: usize> TurnServer<P, C> {
     /// data goes to, on a channel or in a Data indication (RFC 8656, sections 11.3 and 12.7).
     /// `turn_attrs::write_channel_head` and `write_data_head` write what comes before the data.
     ///
+    /// A Data indication has a transaction ID that the caller draws.
+    ///
     /// `None` if it is dropped: the socket belongs to no live allocation, or there is no permission
     /// for the peer's IP address.
     pub fn on_peer_datagram(&mut self, now: u64, relay: u64, peer: Endpoint) -> Option<ToClient>
@@ -281,6 +330,9 @@ impl<const P: usize, const C: usize> TurnServer<P, C> {
     /// Closes allocations that have ended, as many as `ended` has room for, and writes the numbers of
     /// their sockets at its start, for the caller to close them. Returns how many. If that is less
     /// than the length of `ended`, no allocation is left that has ended.
+    ///
+    /// Each call visits every allocation. One that has ended takes a place of the table until then, so
+    /// call this once a second, say.
     pub fn poll(&mut self, now: u64, ended: &mut [u64]) -> usize
         ensures polls { Polls self.old.state now ended.old result ended.new self.new.state }
         ensures limits { self.new.limits ≡ self.old.limits }

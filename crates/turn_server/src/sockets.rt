@@ -3,8 +3,11 @@
 use turn_table::Endpoint;
 
 /// The addresses of sockets of an address family that no allocation has: of one for a request that
-/// asks for no port, and of one with an even port (RFC 8656, section 18.7). `None`: the request is
-/// refused with 508.
+/// asks for no port, and of one with an even port (RFC 8656, section 18.7). One socket with an even
+/// port may be both. `None`: the request is refused with 508.
+///
+/// An address is what clients get as XOR-RELAYED-ADDRESS, the one that peers send to: not `0.0.0.0` or
+/// `::`, and with a NAT the public one. That no other allocation has it, the server doesn't check.
 #[derive(Clone, Copy, Debug, PartialEq, Eq)]
 pub struct Ready {
     pub any: Option<Endpoint>,

@@ -44,7 +44,7 @@ fn write_listed<B: MessageWrite + Drop>(
 /// [`Judged::Unknown`](crate::Judged::Unknown) reports it: a 420 with an UNKNOWN-ATTRIBUTES that lists
 /// them, in order and as often as shown (RFC 8489, section 6.3.1), as
 /// [`Message::check_attribute_lists`] writes it, with the integrity attribute by the user's key and
-/// [`Accepted::reply_algorithm`] (section 9.2.4), and with a FINGERPRINT if the request has one.
+/// [`Accepted::reply_algorithm`] (RFC 8489, section 9.2.4), and with a FINGERPRINT if the request has one.
 ///
 /// # Requires
 ///

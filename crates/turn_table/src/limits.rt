@@ -9,11 +9,12 @@ use crate::endpoints::{Endpoint, Ip};
 /// The bounds of a table, and two departures from RFC 8656 for clients that need them.
 #[derive(Clone, Copy, Debug, PartialEq, Eq)]
 pub struct Limits {
-    /// The most allocations, also those that have ended and that no poll has reported.
+    /// The maximum number of allocations. One that has ended counts until a poll reports it.
     pub allocations: u32,
     /// The most live allocations of one user.
     pub of_user: u32,
-    /// The longest lifetime that a client can ask for, in seconds. Each can have 600.
+    /// The maximum lifetime in seconds: RFC 8656, section 7.2, recommends at most 3600. A value
+    /// below 600 counts as 600.
     pub greatest_lifetime: u32,
     /// Whether a channel counts as a permission of its exact peer for as long as it lasts. By RFC
     /// 8656 it doesn't (section 9), but some clients refresh only their channels.
@@ -29,12 +30,15 @@ pub trait PeerPolicy {
     ghost allows_port: { Self → Endpoint → Bool };
 
     /// Whether clients may exchange data with this IP address. If not, a request that names it is
-    /// refused with 403.
+    /// refused with 403. An address of Teredo or 6to4 is refused whatever this returns (RFC 8656,
+    /// section 21.4).
     fn allows_address(&self, ip: Ip) -> bool
         ensures { result ≡ allows_address self.now ip };
 
     /// Whether clients may send to this port of an allowed address. The server's own port, for one,
-    /// would be a loop. If not, a ChannelBind request is refused with 403, and other data is dropped.
+    /// would be a loop. If not, a ChannelBind request is refused with 403, and data to the port is
+    /// dropped. A CreatePermission request, which names no port, and data from the port aren't
+    /// affected.
     fn allows_port(&self, peer: Endpoint) -> bool
         ensures { result ≡ allows_port self.now peer };
 }

@@ -9,7 +9,7 @@ ghost use Rattle.turn_table.specs.Allocations.{seconds, channel_by_number, chann
 ghost use Rattle.turn_table.specs.declared.limits.Limits.{Limits};
 ghost use Rattle.turn_table.specs.Rows.{owner_fault, refresh_fault, family_fault, policy_fault, port_fault, number_fault, binding_fault, permit_fault, bind_fault, with_permissions};
 ghost use Rattle.turn_table.specs.Steps.{refreshed_for, lasting, permitting, binding};
-ghost use Rattle.turn_table.specs.Outputs.{setup_of, answer_of};
+ghost use Rattle.turn_table.specs.Outputs.{setup_of, answer_of, is_peer};
 ghost use Rattle.turn_table.specs.Requests.{asked, fault_of, fault_for, changed_by, success_of, answer_by, kept_by};
 ghost use Rattle.turn_table.specs.Events.{done, refreshed};
 
@@ -19,6 +19,7 @@ use crate::limits::{Limits, PeerPolicy};
 use crate::permitting::{copy_of, put_all};
 use crate::reply::{Reply, Request};
 use crate::slot::Slot;
+use crate::tunnels::is_tunnelled;
 use crate::user::UserId;
 use arrayvec::ArrayVec;
 
@@ -38,9 +39,10 @@ fn refreshed_for(lifetime: Option<u32>, greatest: u32) -> u32
 
 /// Whether the server allows all of the IP addresses.
 fn are_allowed<A: PeerPolicy>(policy: &A, peers: &[Endpoint]) -> bool
-    ensures { result ≡ list_all (λ peer. A.allows_address policy.now peer.ip) peers.now }
+    ensures { result
+        ≡ list_all (λ peer. is_peer (A.allows_address policy.now) peer.ip) peers.now }
 {
-    peers.iter().all(|peer| policy.allows_address(peer.ip))
+    peers.iter().all(|peer| !is_tunnelled(peer.ip) && policy.allows_address(peer.ip))
 }
 
 /// Whether all addresses are of this family.

@@ -111,7 +111,7 @@ impl<const P: usize, const C: usize> TurnTable<P, C> {
     ///
     /// Refuses with 437 if the client has a live allocation, unless this is the request that opened
     /// it. Refuses with 486 if the user has as many live allocations as one may have, and with 508 if
-    /// the table is full. The code of `wish` comes before both, except that 486 comes before its 508.
+    /// the table is full. The code of `wish` comes before both, unless it is 508, which comes after 486.
     /// A request that is refused changes nothing.
     ///
     /// ```
@@ -180,9 +180,9 @@ impl<const P: usize, const C: usize> TurnTable<P, C> {
     /// Refuses a Refresh request with 443 if it names another address family than the
     /// allocation's. Refuses a CreatePermission request with 443 if a peer is of another family, 403
     /// if one is forbidden, and 508 if there is no room for all of them. Refuses a ChannelBind request
-    /// with 400 if the number is none of a channel, or the number or the peer is bound otherwise, then
-    /// as CreatePermission, and with 508 if there is no room for the channel. A request that is
-    /// refused changes nothing.
+    /// with the first that applies: 400 if the number is none of a channel, or the number or the peer
+    /// is bound otherwise; 443 for another family; 403 for a forbidden port or address; and 508 if
+    /// there is no room for the permission or the channel. A request that is refused changes nothing.
     pub fn request<A: PeerPolicy>(
         &mut self,
         now: u64,

@@ -7,9 +7,10 @@ use crate::endpoints::Ip;
 
 /// Whether an address is one of Teredo, 2001::/32, or of 6to4, 2002::/16.
 ///
-/// A server refuses an Allocate request from a client with such an address with 403: what it relays
-/// could go back and forth between the server and the end of the tunnel (RFC 8656, section 21.4). As
-/// peers these addresses are denied by [`Peers`](crate::peers::Peers).
+/// A server refuses an Allocate request from a client with such an address with 403, and so does a
+/// table a CreatePermission or a ChannelBind request for such a peer, whatever its policy allows: what
+/// is relayed could go back and forth between the server and the end of the tunnel (RFC 8656, section
+/// 21.4).
 ///
 /// # Examples
 ///
