@@ -1,5 +1,5 @@
 -- What is before and after data that a server passes on in a ChannelData message or in a Data
--- indication (RFC 8656, sections 11.5, 12.4 and 12.5), as it is written in place.
+-- indication (RFC 8656, sections 11.3, 12.4 and 12.5), as it is written in place.
 use Rattle.std.specs.Prelude.{◌≡◌, ℕ, ◌+◌, ◌-◌, ◌≤◌, min, nat_lt, if◌then◌else◌, List, [], ◌∷◌, ◌++◌, length, take, drop, replicate, Option, Some, None}
 use Rattle.std.specs.declared.net.socket_addr.SocketAddr.{SocketAddr}
 use Rattle.std.specs.Net.Socket.{socket_ip}

@@ -196,7 +196,7 @@ fn write_data_start(id: TransactionId, peer: SocketAddr, data_length: u16, head:
 
 /// Writes the head of a Data indication at the end of `before`, for `data_length` bytes of data that
 /// follow it in place: 36 bytes for a peer with an IPv4 address, and 48 with IPv6. It has the header
-/// of the message, XOR-PEER-ADDRESS, and the type and the length of DATA (RFC 8656, section 11.5).
+/// of the message, XOR-PEER-ADDRESS, and the type and the length of DATA (RFC 8656, section 11.3).
 /// What is before the head stays.
 ///
 /// The `padding` of the result follows the data, as zeros, on every transport.
