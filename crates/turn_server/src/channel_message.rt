@@ -5,21 +5,19 @@ ghost use Rattle.turn_attrs.specs.Channels.{channel_field};
 ghost use Rattle.turn_server.specs.ChannelMessages.{is_channel_byte, data_in, last_channel};
 
 use byteorder::{BigEndian, ByteOrder};
+use stun_framing::ChannelRange;
 use stun_types::attribute::pad_attribute_len;
-
-/// The greatest number of a channel.
-fn last_channel(old_channels: bool) -> u16
-    ensures { result ≡ last_channel old_channels }
-{
-    if old_channels { 0x7FFF } else { 0x4FFF }
-}
 
 /// Whether the number of a channel begins with this byte.
 pub(crate) fn is_channel_byte(old_channels: bool, first: u8) -> bool
     ensures { result ≡ is_channel_byte (last_channel old_channels) first }
 {
-    let last_channel = last_channel(old_channels);
-    0x40 <= first && first as u16 <= last_channel / 256
+    let range = if old_channels {
+        ChannelRange::Rfc5766
+    } else {
+        ChannelRange::Rfc8656
+    };
+    range.begins_with(first)
 }
 
 /// The number of a channel and the data on it, which the datagram may pad to a multiple of 4. `None`
