@@ -10,9 +10,9 @@ ghost use Rattle.stun_types.specs.Message.{message_bytes};
 ghost use Rattle.stun_authentication.specs.Answers.{Decision, Tells as Decides};
 ghost use Rattle.stun_authentication.specs.Identities.{Who, who};
 ghost use Rattle.stun_authentication.specs.Lookups.{Known, UserKey};
-ghost use Rattle.stun_authentication.specs.LongTerm.{needs_key};
+ghost use Rattle.stun_authentication.specs.LongTerm.{needs_key as needs_key_by};
 ghost use Rattle.turn_server.specs.ChannelMessages.{last_channel};
-ghost use Rattle.turn_server.specs.Judging.{channel_message, indicated, accepted_as, decided_as, requested, message, judge};
+ghost use Rattle.turn_server.specs.Judging.{channel_message, indicated, accepted_as, decided_as, requested, message, message_needs_key, needs_key, judge};
 ghost use Rattle.turn_server.specs.Reporting.{Signs, Tells};
 ghost use Rattle.turn_server.specs.Sites.{site_of};
 
@@ -23,8 +23,11 @@ use crate::indication::read_send;
 use crate::request::{asks_table, read_request};
 use crate::{Judged, Site};
 use std::alloc::{AllocError, Global};
-use stun_authentication::{Accepted, Authentication, LongTermKeys, Nonces, authenticate_long_term};
-use stun_types::message::{BINDING, Message, MessageClass};
+use stun_authentication::{
+    Accepted, Authentication, LongTermKeys, Nonces, Policy, authenticate_long_term,
+    needs_key as needs_key_by,
+};
+use stun_types::message::{BINDING, Message, MessageClass, MessageHeader};
 use turn_attrs::methods::SEND;
 use turn_table::Ip;
 
@@ -115,7 +118,7 @@ fn judge_request<'d, N: Nonces, K: LongTermKeys>(
         IfOk result (Tells (requested
         (site_of client site.now (N.state_of nonces.now) (K.key_of keys.now))
         (method_of (type_field d)) d)) }
-    ensures memory { needs_key site.now.policy (N.state_of nonces.now) (message_bytes message.now)
+    ensures memory { needs_key_by site.now.policy (N.state_of nonces.now) (message_bytes message.now)
         ≡ false → IsOk result }
 {
     if message.has_method(BINDING) {
@@ -151,7 +154,7 @@ fn judge_message<'d, N: Nonces, K: LongTermKeys>(
     ensures judged { IfOk result (Tells (message
         (site_of client site.now (N.state_of nonces.now) (K.key_of keys.now))
         datagram.now)) }
-    ensures memory { needs_key site.now.policy (N.state_of nonces.now) datagram.now ≡ false
+    ensures memory { needs_key_by site.now.policy (N.state_of nonces.now) datagram.now ≡ false
         → IsOk result }
 {
     let Ok(message) = Message::from_bytes(datagram) else {
@@ -162,6 +165,41 @@ fn judge_message<'d, N: Nonces, K: LongTermKeys>(
         MessageClass::Indication => Ok(judge_indication(&message)),
         MessageClass::Success | MessageClass::Error => Ok(Judged::Dropped),
     }
+}
+
+/// Whether it depends on the key of its user what comes of a message.
+fn message_needs_key<N: Nonces>(datagram: &[u8], policy: Policy, nonces: &N) -> bool
+    ensures { result ≡ message_needs_key policy (N.state_of nonces.now) datagram.now }
+{
+    let Ok(header) = MessageHeader::from_bytes(datagram) else {
+        return false;
+    };
+    let mtype = header.get_type();
+    if !mtype.has_class(MessageClass::Request) || !asks_table(mtype.method()) {
+        return false;
+    }
+    match Message::from_bytes(datagram) {
+        Ok(message) => needs_key_by(&message, policy, nonces),
+        Err(_) => false,
+    }
+}
+
+/// Returns whether it depends on the key of its user what comes of a datagram, as [`judge`] says: it is
+/// a request to the table, and its long-term credentials are looked at
+/// (`stun_authentication::needs_key`). It reads no more than the header of anything else.
+pub(crate) fn needs_key<N: Nonces>(
+    datagram: &[u8],
+    old_channels: bool,
+    policy: Policy,
+    nonces: &N,
+) -> bool
+    ensures { result
+        ≡ needs_key (last_channel old_channels) policy (N.state_of nonces.now) datagram.now }
+{
+    let Some(first) = datagram.first() else {
+        return false;
+    };
+    !is_channel_byte(old_channels, *first) && message_needs_key(datagram, policy, nonces)
 }
 
 /// Returns what comes of a datagram of a client with the IP address `client`. The first of these that
@@ -244,7 +282,7 @@ pub fn judge<'d, N: Nonces, K: LongTermKeys>(
     ensures judged { IfOk result (Tells (judge (last_channel old_channels)
         (site_of client site.now (N.state_of nonces.now) (K.key_of keys.now))
         datagram.now)) }
-    ensures memory { needs_key site.now.policy (N.state_of nonces.now) datagram.now ≡ false
+    ensures memory { needs_key_by site.now.policy (N.state_of nonces.now) datagram.now ≡ false
         → IsOk result }
 {
     let Some(first) = datagram.first() else {

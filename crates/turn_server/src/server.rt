@@ -15,7 +15,8 @@ ghost use Rattle.turn_table.specs.Users.{user_number};
 ghost use Rattle.turn_server.specs.Acting.{data_act, acted};
 ghost use Rattle.turn_server.specs.Actions.{Acts, Does, IsDone, IsAnswered, opened_in};
 ghost use Rattle.turn_server.specs.Answers.{table_answer};
-ghost use Rattle.turn_server.specs.Judging.{Judged as TakenFor};
+ghost use Rattle.turn_server.specs.ChannelMessages.{last_channel};
+ghost use Rattle.turn_server.specs.Judging.{Judged as TakenFor, needs_key as asks_for_key};
 ghost use Rattle.turn_server.specs.PeersLeft.{peers_left};
 ghost use Rattle.turn_server.specs.Reporting.{Tells};
 ghost use Rattle.turn_server.specs.Requests.{permitting, wanted_by};
@@ -23,10 +24,11 @@ ghost use Rattle.turn_server.specs.Sites.{site_of};
 ghost use Rattle.turn_server.specs.Wanted.{request_with};
 
 use crate::peer_list::collected;
+use crate::judging::needs_key;
 use crate::{Action, Answer, Judged, Peers, Request, Site, judge};
 use std::alloc::{AllocError, Global};
 use std::marker::Model;
-use stun_authentication::{LongTermKeys, Nonces};
+use stun_authentication::{LongTermKeys, Nonces, Policy};
 use stun_types::message::TransactionId;
 use turn_attrs::error_codes::INSUFFICIENT_CAPACITY;
 use turn_table::{
@@ -261,6 +263,17 @@ impl<const P: usize, const C: usize> TurnServer<P, C> {
                 self.fulfil(now, from, user, TableRequest::Unfit(*code), policy)
             }
         }
+    }
+
+    /// Returns whether it depends on the key of its user what [`TurnServer::on_client_datagram`] does for
+    /// a datagram: it is a request to the table, and none of the checks decides that come before the key
+    /// is looked up (`stun_authentication::needs_key`). It takes no memory. Of anything but such a
+    /// request it reads no more than the header.
+    pub fn needs_key<N: Nonces>(&self, datagram: &[u8], policy: Policy, nonces: &N) -> bool
+        ensures { result ≡ asks_for_key (last_channel self.now.limits.old_channels) policy
+            (N.state_of nonces.now) datagram.now }
+    {
+        needs_key(datagram, self.table.limits().old_channels, policy, nonces)
     }
 
     /// Takes a client's datagram: keeps what it changes, and returns what is done for it. [`judge`]
