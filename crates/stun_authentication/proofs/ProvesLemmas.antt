@@ -143,7 +143,7 @@ long_user policy realm nonces keys d user state chosen algorithm found answer ne
 
 no_key : (o : Option UserKey) → IsKeyOf o None → o ≡ None
 no_key None is = refl
-no_key (Some key) is = absurd cc
+no_key (Some key) is = absurd is
 
 -- or none
 pub long_stranger : (policy : Policy) (realm : List ℕ) (nonces : List ℕ → Known) (keys : Who → List ℕ → PasswordAlgorithmValue → Option UserKey) (d : List ℕ)

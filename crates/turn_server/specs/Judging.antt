@@ -127,11 +127,14 @@ judge last_channel site (first ∷ more) =
 -- ---- Whether it depends on the key of its user what comes of a datagram: it is a request to the table, and
 -- none of the checks of its credentials decides that come before the key is looked up
 
+abbrev pub request_needs_key : Policy → (nonces : List ℕ → Known) → (method : ℕ) → List ℕ → Bool
+request_needs_key policy nonces method d = asks_table method && needs_key_by policy nonces d
+
 abbrev pub message_needs_key : Policy → (nonces : List ℕ → Known) → List ℕ → Bool
 message_needs_key policy nonces d =
     not (is_some (parse_fault d))
     && (is_request (class_of (type_field d))
-    && (asks_table (method_of (type_field d)) && needs_key_by policy nonces d))
+    && request_needs_key policy nonces (method_of (type_field d)) d)
 
 abbrev pub needs_key : (last_channel : ℕ) → Policy → (nonces : List ℕ → Known) → List ℕ → Bool
 needs_key last_channel policy nonces [] = false

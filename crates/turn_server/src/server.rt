@@ -1,7 +1,6 @@
 //! A TURN server.
 
 ghost use Rattle.std.specs.Prelude.{◌≡◌, ◌≤◌, ◌<◌, ℕ, List, Bool, IfOk, IsOk, OnErr, MatchOption, length, false};
-ghost use Rattle.stun_authentication.specs.LongTerm.{needs_key};
 ghost use Rattle.turn_table.specs.declared.endpoints.Ip.{Ip};
 ghost use Rattle.turn_table.specs.declared.endpoints.Endpoint.{Endpoint};
 ghost use Rattle.turn_table.specs.Outputs.{setup_of, answer_of, sending, receiving};
@@ -288,7 +287,8 @@ impl<const P: usize, const C: usize> TurnServer<P, C> {
     ///
     /// # Errors
     ///
-    /// Only if an allocation failed, while `keys` looked for the key. Nothing has changed then.
+    /// Only if an allocation failed, while `keys` looked for the key ([`TurnServer::needs_key`]). Nothing
+    /// has changed then.
     pub fn on_client_datagram<'d, N: Nonces, K: LongTermKeys, A: PeerPolicy>(
         &mut self,
         alloc: Global,
@@ -305,8 +305,8 @@ impl<const P: usize, const C: usize> TurnServer<P, C> {
             IfOk result (Acts (site_of from.now.client.ip site.now (N.state_of nonces.now)
             (K.key_of keys.now)) setup from.now now datagram.now self.old.state self.new.state) }
         ensures limits { self.new.limits ≡ self.old.limits }
-        ensures memory { needs_key site.now.policy (N.state_of nonces.now) datagram.now ≡ false
-            → IsOk result }
+        ensures memory { asks_for_key (last_channel self.old.limits.old_channels) site.now.policy
+            (N.state_of nonces.now) datagram.now ≡ false → IsOk result }
         ensures err { OnErr result (self.new ≡ self.old) }
     {
         let old_channels = self.table.limits().old_channels;
