@@ -4,9 +4,9 @@ use Rattle.std.proofs.lemmas.Bool.{eqb-true}
 use Rattle.std.specs.Prelude.{is_some, ◌==◌}
 use Rattle.std.specs.Option.{option_map_or, option_or}
 use Rattle.stun_grammar.specs.declared.integrity_algorithm.IntegrityAlgorithm.{IntegrityAlgorithm}
-use Rattle.stun_grammar.specs.Headers.{type_field, header_fault, length_fault}
+use Rattle.stun_grammar.specs.Headers.{type_field, header_fault}
 use Rattle.stun_grammar.specs.Names.{BINDING}
-use Rattle.stun_grammar.specs.Showing.{frame_fault}
+use Rattle.stun_grammar.specs.Showing.{frame_fault, length_fault}
 use Rattle.stun_grammar.specs.declared.error.StunParseError.{StunParseError}
 use Rattle.stun_grammar.specs.Parsing.{parse_fault, body_fault}
 use Rattle.stun_base.specs.declared.message_class.MessageClass.{MessageClass}
