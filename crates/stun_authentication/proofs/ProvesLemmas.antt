@@ -20,13 +20,13 @@ use Rattle.stun_authentication.specs.declared.answer.Refusal.TheVariants.{BadReq
 use Rattle.stun_authentication.specs.declared.identity.Identity.{Identity}
 use Rattle.stun_authentication.specs.declared.identity.Identity.TheVariants.{Name}
 use Rattle.stun_authentication.specs.declared.policy.Policy.{Policy}
-use Rattle.stun_authentication.specs.Answers.{Decision, refuse, Tells, decided, accepted}
+use Rattle.stun_authentication.specs.Answers.{Decision, refuse, discard, Tells, decided, accepted}
 use Rattle.stun_authentication.specs.Identities.{Who, named, who, value_of, named_in, identity_of}
 use Rattle.stun_authentication.specs.Lookups.{UserKey, key_made, key_held, IsKeyOf, Known, valid, unknown}
 use Rattle.stun_authentication.specs.Policies.{is_taken, is_signed, is_signed_for, counted, proved_at, validated, proof_of, Proves}
 use Rattle.stun_authentication.specs.ShortTerm as short
 use Rattle.stun_authentication.specs.LongTerm as long
-use Rattle.stun_authentication.proofs.DecidedLemmas.{neither, none_holds}
+use Rattle.stun_authentication.proofs.DecidedLemmas.{none_holds, passed, settled}
 
 -- ---- The proof of a message under a key
 
@@ -107,27 +107,56 @@ pub short_user : (policy : Policy) (keys : List ℕ → Option UserKey) (user d 
 short_user policy keys user d found answer taken class signed shown is reported =
     subst (λ (x : Decision). Tells x answer) (sym (short_passed policy keys user d (Some (key_held found)) taken class signed shown (found_key (keys user) found is))) reported
 
--- no row decides before the key is looked up, and there is one
+not_true : (b : Bool) → not b ≡ true → b ≡ false
+not_true true e = absurd cc
+not_true false e = refl
+
+not_false : (b : Bool) → not b ≡ false → b ≡ true
+not_false true e = refl
+not_false false e = absurd cc
+
+-- no row decides before the key is looked up
+pub long_passed : (policy : Policy) (realm : List ℕ) (nonces : List ℕ → Known) (keys : Who → List ℕ → PasswordAlgorithmValue → Option UserKey) (d : List ℕ)
+    (user : Who) (state : Known) (chosen : Option PasswordAlgorithmValue) (algorithm : PasswordAlgorithmValue) (key : Option UserKey)
+    → long.needs_key policy nonces d ≡ true → long.IsAskedFor nonces d user state chosen → algorithm ≡ unwrap_or chosen MD5 → keys user realm algorithm ≡ key
+    → long.long_term policy realm nonces keys d ≡ long.by_key policy state chosen key d
+long_passed policy realm nonces keys d user state chosen algorithm key needs asked by is =
+    let rows = long.rows_of_message policy (long.nonce_of nonces d) d in
+    let key_is : long.key_of_user realm keys d ≡ key =
+    ap (λ (o : Option Who). option_and_then (λ (u : Who). keys u realm (unwrap_or (long.chosen d) MD5)) o) asked.user_is
+    ∙ ap (λ (o : Option PasswordAlgorithmValue). keys user realm (unwrap_or o MD5)) (sym asked.algorithm_is)
+    ∙ ap (λ (a : PasswordAlgorithmValue). keys user realm a) (sym by) ∙ is in
+    passed rows (long.by_key policy (long.nonce_of nonces d) (long.chosen d) (long.key_of_user realm keys d) d) (not_true _ needs)
+    ∙ ap (λ (s : Known). long.by_key policy s (long.chosen d) (long.key_of_user realm keys d) d) (sym asked.state_is)
+    ∙ ap (λ (o : Option PasswordAlgorithmValue). long.by_key policy state o (long.key_of_user realm keys d) d) (sym asked.algorithm_is)
+    ∙ ap (λ (o : Option UserKey). long.by_key policy state chosen o d) key_is
+
+-- and there is one
 pub long_user : (policy : Policy) (realm : List ℕ) (nonces : List ℕ → Known) (keys : Who → List ℕ → PasswordAlgorithmValue → Option UserKey) (d : List ℕ)
-    (user : Who) (nonce : List ℕ) (state : Known) (chosen : Option PasswordAlgorithmValue) (algorithm : PasswordAlgorithmValue) (found : IntegrityKey) (answer : Authentication)
-    → is_taken policy d ≡ true → class_of (type_field d) ≡ Request → is_signed policy d ≡ true
-    → (long.lacks_credentials d || long.has_two_names d) ≡ false → identity_of d ≡ Some user → value_of d NONCE ≡ Some nonce → state ≡ nonces nonce
-    → (long.shows_one_alone d || (long.shows_other_list state d || long.chooses_none_listed d)) ≡ false → chosen ≡ long.chosen d → algorithm ≡ unwrap_or chosen MD5
+    (user : Who) (state : Known) (chosen : Option PasswordAlgorithmValue) (algorithm : PasswordAlgorithmValue) (found : IntegrityKey) (answer : Authentication)
+    → long.needs_key policy nonces d ≡ true → long.IsAskedFor nonces d user state chosen → algorithm ≡ unwrap_or chosen MD5
     → IsKeyOf (keys user realm algorithm) (Some found) → Tells (long.by_key policy state chosen (Some (key_held found)) d) answer
     → Tells (long.long_term policy realm nonces keys d) answer
-long_user policy realm nonces keys d user nonce state chosen algorithm found answer taken class signed names user-is nonce-is state-is algorithms chosen-is by is reported =
-    let known : long.nonce_of nonces d ≡ state = ap (λ (o : Option (List ℕ)). option_map_or nonces o unknown) nonce-is ∙ sym state-is in
-    let key : long.key_of_user realm keys d ≡ Some (key_held found) =
-    ap (λ (o : Option Who). option_and_then (λ (u : Who). keys u realm (unwrap_or (long.chosen d) MD5)) o) user-is
-    ∙ ap (λ (o : Option PasswordAlgorithmValue). keys user realm (unwrap_or o MD5)) (sym chosen-is)
-    ∙ ap (λ (a : PasswordAlgorithmValue). keys user realm a) (sym by) ∙ found_key (keys user realm algorithm) found is in
-    let second = neither (long.lacks_credentials d) (long.has_two_names d) names in
-    let third = neither (long.shows_one_alone d) (long.shows_other_list state d || long.chooses_none_listed d) algorithms in
-    let lists = neither (long.shows_other_list state d) (long.chooses_none_listed d) third.1 in
-    let same : long.long_term policy realm nonces keys d ≡ long.by_key policy state chosen (Some (key_held found)) d =
-    ap (λ (s : Known). decided (long.rows_of_message policy s d) (long.by_key policy s (long.chosen d) (long.key_of_user realm keys d) d)) known
-    ∙ none_holds (long.rows_of_message policy state d) (long.by_key policy state (long.chosen d) (long.key_of_user realm keys d) d)
-    (ap not taken, (ap (λ (c : MessageClass). not (long.is_request c)) class, (ap not signed, (second.0, (second.1, (third.0, (lists.0, (lists.1, tt))))))))
-    ∙ ap (λ (o : Option PasswordAlgorithmValue). long.by_key policy state o (long.key_of_user realm keys d) d) (sym chosen-is)
-    ∙ ap (λ (o : Option UserKey). long.by_key policy state chosen o d) key in
-    subst (λ (x : Decision). Tells x answer) (sym same) reported
+long_user policy realm nonces keys d user state chosen algorithm found answer needs asked by is reported =
+    subst (λ (x : Decision). Tells x answer)
+    (sym (long_passed policy realm nonces keys d user state chosen algorithm (Some (key_held found)) needs asked by (found_key (keys user realm algorithm) found is))) reported
+
+no_key : (o : Option UserKey) → IsKeyOf o None → o ≡ None
+no_key None is = refl
+no_key (Some key) is = absurd is
+
+-- or none
+pub long_stranger : (policy : Policy) (realm : List ℕ) (nonces : List ℕ → Known) (keys : Who → List ℕ → PasswordAlgorithmValue → Option UserKey) (d : List ℕ)
+    (user : Who) (state : Known) (chosen : Option PasswordAlgorithmValue) (algorithm : PasswordAlgorithmValue)
+    → long.needs_key policy nonces d ≡ true → long.IsAskedFor nonces d user state chosen → algorithm ≡ unwrap_or chosen MD5
+    → IsKeyOf (keys user realm algorithm) None → long.long_term policy realm nonces keys d ≡ refuse Unauthenticated
+long_stranger policy realm nonces keys d user state chosen algorithm needs asked by is =
+    long_passed policy realm nonces keys d user state chosen algorithm None needs asked by (no_key (keys user realm algorithm) is)
+
+-- a row decides before
+pub long_settled : (policy : Policy) (realm : List ℕ) (nonces : List ℕ → Known) (keys : Who → List ℕ → PasswordAlgorithmValue → Option UserKey) (d : List ℕ) (answer : Authentication)
+    → long.needs_key policy nonces d ≡ false → Tells (decided (long.rows_of_message policy (long.nonce_of nonces d) d) discard) answer
+    → Tells (long.long_term policy realm nonces keys d) answer
+long_settled policy realm nonces keys d answer needs reported =
+    subst (λ (x : Decision). Tells x answer)
+    (settled (long.rows_of_message policy (long.nonce_of nonces d) d) discard (long.by_key policy (long.nonce_of nonces d) (long.chosen d) (long.key_of_user realm keys d) d) (not_false _ needs)) reported

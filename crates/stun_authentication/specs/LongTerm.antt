@@ -1,7 +1,7 @@
 -- A server's checks by the long-term credential mechanism (RFC 8489, section 9.2.4), row by row as
 -- docs/PROTOCOL.md has them. Each condition reads the message, what is known of its nonce, and the
 -- key that its user has; the first that holds decides.
-use Rattle.std.specs.Prelude.{ℕ, Bool, true, false, ◌&&◌, ◌||◌, not, is_some, unwrap_or, List, ◌∷◌, [], Option, None, Some, nat_eq, if◌then◌else◌, option_and_then}
+use Rattle.std.specs.Prelude.{◌≡◌, ℕ, Bool, true, false, ◌&&◌, ◌||◌, not, is_some, unwrap_or, List, ◌∷◌, [], Option, None, Some, nat_eq, if◌then◌else◌, option_and_then}
 use Rattle.std.specs.Cmp.Lexicographic.{pointwise}
 use Rattle.std.specs.Option.{option_map_or}
 use Rattle.stun_grammar.specs.declared.integrity_algorithm.IntegrityAlgorithm.{IntegrityAlgorithm}
@@ -149,3 +149,10 @@ long_term policy realm nonces keys d =
 -- whether no row decides before a key is looked up
 abbrev pub needs_key : Policy → (nonces : List ℕ → Known) → List ℕ → Bool
 needs_key policy nonces d = not (decides (rows_of_message policy (nonce_of nonces d) d))
+
+-- d asks for the key of this user, and this is known of its nonce; it chooses this algorithm
+pub record IsAskedFor (nonces : List ℕ → Known) (d : List ℕ) (user : Who) (state : Known)
+    (algorithm : Option PasswordAlgorithmValue) : Type 0 where
+  pub user_is : identity_of d ≡ Some user
+  pub state_is : state ≡ nonce_of nonces d
+  pub algorithm_is : algorithm ≡ chosen d

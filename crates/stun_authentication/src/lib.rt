@@ -99,7 +99,7 @@ pub use laws::{
 };
 pub use login::{answer_challenge, answer_challenge_with_key, key_for};
 pub use logins::Logins;
-pub use long_term::authenticate_long_term;
+pub use long_term::{authenticate_long_term, needs_key};
 pub use lookups::{LongTermKeys, NonceState, Nonces, ShortTermKeys};
 pub use nonces::{Freshness, NonceMaker, NoncesOf, SECRET_MIN, SecretError};
 pub use policy::{Policy, has_least_length};

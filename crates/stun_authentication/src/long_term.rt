@@ -3,10 +3,10 @@
 ghost use Rattle.std.specs.Prelude.{◌≡◌, ◌||◌, true, false, Some, IfOk, IsOk, MatchOption, MatchResult};
 ghost use Rattle.stun_grammar.specs.AttributeTypes.{NONCE};
 ghost use Rattle.stun_types.specs.Message.{message_bytes};
-ghost use Rattle.stun_authentication.specs.Answers.{Tells};
+ghost use Rattle.stun_authentication.specs.Answers.{discard, decided, Tells};
 ghost use Rattle.stun_authentication.specs.Identities.{who, value_of, identity_of};
 ghost use Rattle.stun_authentication.specs.Lookups.{key_held, known};
-ghost use Rattle.stun_authentication.specs.LongTerm.{is_sent, chosen, reply_algorithm, lacks_credentials, has_two_names, shows_one_alone, shows_other_list, chooses_none_listed, by_key, needs_key, long_term};
+ghost use Rattle.stun_authentication.specs.LongTerm.{is_sent, chosen, reply_algorithm, lacks_credentials, has_two_names, shows_one_alone, shows_other_list, chooses_none_listed, by_key, needs_key, nonce_of, rows_of_message, IsAskedFor, long_term};
 
 use crate::algorithms::{BOTH, first_listed, is_encoding_of, sole_named};
 use crate::cookie::security_features;
@@ -115,6 +115,59 @@ fn reply_algorithm(chosen: Option<PasswordAlgorithmValue>) -> IntegrityAlgorithm
     }
 }
 
+/// What a request asks the server's users for, if no check before that decides.
+#[derive(Drop)]
+struct Asked<'a, 'n> {
+    user: Identity<'a>,
+    state: NonceState<'n>,
+    chosen: Option<PasswordAlgorithmValue>,
+}
+
+/// The checks before a key is looked up: for whose key the request asks, or what becomes of it without
+/// one.
+fn before_key<'a, 'n, N: Nonces>(
+    request: &Message<'a>,
+    policy: Policy,
+    nonces: &'n N,
+) -> Result<Asked<'a, 'n>, Authentication<'a>>
+    ensures { let d = message_bytes request.now in let nonces = N.state_of nonces.now in
+        MatchResult result (λ asked. (needs_key policy nonces d ≡ true)
+        × IsAskedFor nonces d (who asked.user) (known asked.state) asked.chosen)
+        (λ answer. (needs_key policy nonces d ≡ false)
+        × Tells (decided (rows_of_message policy (nonce_of nonces d) d) discard) answer) }
+{
+    if !policy.is_taken(request) {
+        return Err(Authentication::Discarded);
+    }
+    if !request.has_class(MessageClass::Request) {
+        return Err(Authentication::NotARequest);
+    }
+    if !policy.is_signed(request) {
+        return Err(Authentication::Refused(Refusal::Unauthenticated));
+    }
+    let Some((user, nonce)) = names_of(request) else {
+        return Err(Authentication::Refused(Refusal::BadRequest));
+    };
+    let state = nonces.nonce(nonce);
+    let Ok(chosen) = chosen(state, nonce, request) else {
+        return Err(Authentication::Refused(Refusal::BadRequest));
+    };
+    Ok(Asked {
+        user,
+        state,
+        chosen,
+    })
+}
+
+/// Returns whether it depends on the key of its user what becomes of a request: whether none of the
+/// checks of [`authenticate_long_term`] decides that come before the key is looked up. It takes no
+/// memory.
+pub fn needs_key<N: Nonces>(request: &Message<'_>, policy: Policy, nonces: &N) -> bool
+    ensures { result ≡ needs_key policy (N.state_of nonces.now) (message_bytes request.now) }
+{
+    before_key(request, policy, nonces).is_ok()
+}
+
 /// Authenticates a request by long-term credentials, in the order of RFC 8489, section 9.2.4. The
 /// first of these that applies:
 ///
@@ -199,21 +252,13 @@ pub fn authenticate_long_term<'a, N: Nonces, K: LongTermKeys>(
     ensures memory { needs_key policy (N.state_of nonces.now) (message_bytes request.now) ≡ false
         → IsOk result }
 {
-    if !policy.is_taken(request) {
-        return Ok(Authentication::Discarded);
-    }
-    if !request.has_class(MessageClass::Request) {
-        return Ok(Authentication::NotARequest);
-    }
-    if !policy.is_signed(request) {
-        return Ok(Authentication::Refused(Refusal::Unauthenticated));
-    }
-    let Some((user, nonce)) = names_of(request) else {
-        return Ok(Authentication::Refused(Refusal::BadRequest));
-    };
-    let state = nonces.nonce(nonce);
-    let Ok(chosen) = chosen(state, nonce, request) else {
-        return Ok(Authentication::Refused(Refusal::BadRequest));
+    let Asked {
+        user,
+        state,
+        chosen,
+    } = match before_key(request, policy, nonces) {
+        Ok(asked) => asked,
+        Err(answer) => return Ok(answer),
     };
     let algorithm = chosen.unwrap_or(PasswordAlgorithmValue::MD5);
     match keys.key(alloc, user, realm, algorithm)? {

@@ -31,3 +31,11 @@ pub mod Refusals
 pub mod StatelessNonces
 pub mod ManyTransactions
 pub mod Versions
+pub mod TurnTimes
+pub mod TurnHandles
+pub mod TurnServers
+pub mod TurnAddresses
+pub mod TurnMaking
+pub mod TurnClients
+pub mod TurnHeads
+pub mod TurnPeers

@@ -1,12 +1,14 @@
 -- What a judgment says of the datagram, case by case.
-use Rattle.std.proofs.Common.{◌≡◌, ℕ, Bool, true, false, List, [], ◌∷◌, Option, Some, None, if◌then◌else◌, refl, subst}
+use Rattle.std.proofs.Common.{◌≡◌, ℕ, Bool, true, false, List, [], ◌∷◌, Option, Some, None, if◌then◌else◌, refl, ap, subst}
 use Rattle.std.proofs.lemmas.Bool.{eqb-true}
 use Rattle.std.specs.Prelude.{is_some, ◌==◌}
-use Rattle.std.specs.Option.{option_map_or}
+use Rattle.std.specs.Option.{option_map_or, option_or}
 use Rattle.stun_grammar.specs.declared.integrity_algorithm.IntegrityAlgorithm.{IntegrityAlgorithm}
-use Rattle.stun_grammar.specs.Headers.{type_field}
+use Rattle.stun_grammar.specs.Headers.{type_field, header_fault}
 use Rattle.stun_grammar.specs.Names.{BINDING}
-use Rattle.stun_grammar.specs.Parsing.{parse_fault}
+use Rattle.stun_grammar.specs.Showing.{frame_fault, length_fault}
+use Rattle.stun_grammar.specs.declared.error.StunParseError.{StunParseError}
+use Rattle.stun_grammar.specs.Parsing.{parse_fault, body_fault}
 use Rattle.stun_base.specs.declared.message_class.MessageClass.{MessageClass}
 use Rattle.stun_base.specs.declared.message_class.MessageClass.TheVariants.{Request, Indication, Success, Error}
 use Rattle.stun_base.specs.MessageTypes.{class_of, method_of}
@@ -23,6 +25,12 @@ use Rattle.turn_server.specs.Indications.{sent_by}
 use Rattle.turn_server.specs.Judging.{Site, Judged, dropped, binding, refused, unknown, sent, sent_on, asked, event_of, SEND, channel_message, indicated, accepted_as, decided_as, requested, by_class, message, judge}
 use Rattle.turn_server.specs.Judgments.{IsOfClass, IsDecided, IsAsked, IsSo, Asks, credentials}
 use Rattle.turn_server.specs.Requests.{asks_table}
+
+-- what has no header doesn't parse
+pub no_header : (d : List ℕ) (e : StunParseError) → header_fault d ≡ Some e → is_some (parse_fault d) ≡ true
+unfolding parse_fault frame_fault
+no_header d e is =
+    ap (λ (o : Option StunParseError). is_some (option_or (option_or o (length_fault d)) (body_fault d))) is
 
 -- what holds of both branches holds of the choice
 either : (P : Judged → Type 0) (b : Bool) (x y : Judged) → (b ≡ true → P x) → (b ≡ false → P y) → P (if b then x else y)

@@ -1,5 +1,5 @@
 -- What a client's datagram is to a server (RFC 8656, sections 5 and 12; RFC 8489, sections 6.3 and 9.2.4).
-use Rattle.std.specs.Prelude.{ℕ, Bool, true, false, List, [], ◌∷◌, Option, None, Some, is_some, ◌==◌, if◌then◌else◌}
+use Rattle.std.specs.Prelude.{ℕ, Bool, true, false, not, ◌&&◌, List, [], ◌∷◌, Option, None, Some, is_some, ◌==◌, if◌then◌else◌}
 use Rattle.std.specs.Option.{option_map_or}
 use Rattle.stun_grammar.specs.declared.integrity_algorithm.IntegrityAlgorithm.{IntegrityAlgorithm}
 use Rattle.stun_grammar.specs.Headers.{type_field}
@@ -14,7 +14,7 @@ use Rattle.stun_authentication.specs.declared.policy.Policy.{Policy}
 use Rattle.stun_authentication.specs.Answers.{Decision, accept, refuse, discard, not_a_request}
 use Rattle.stun_authentication.specs.Identities.{Who}
 use Rattle.stun_authentication.specs.Lookups.{Known, UserKey}
-use Rattle.stun_authentication.specs.LongTerm.{long_term}
+use Rattle.stun_authentication.specs.LongTerm.{is_request, long_term, needs_key as needs_key_by}
 use Rattle.turn_attrs.specs.Channels.{channel_field}
 use Rattle.turn_table.specs.declared.endpoints.Ip.{Ip}
 use Rattle.turn_table.specs.declared.endpoints.Endpoint.{Endpoint}
@@ -123,3 +123,20 @@ judge last_channel site [] = dropped
 judge last_channel site (first ∷ more) =
     if is_channel_byte last_channel first then channel_message (first ∷ more)
     else message site (first ∷ more)
+
+-- ---- Whether it depends on the key of its user what comes of a datagram: it is a request to the table, and
+-- none of the checks of its credentials decides that come before the key is looked up
+
+abbrev pub request_needs_key : Policy → (nonces : List ℕ → Known) → (method : ℕ) → List ℕ → Bool
+request_needs_key policy nonces method d = asks_table method && needs_key_by policy nonces d
+
+abbrev pub message_needs_key : Policy → (nonces : List ℕ → Known) → List ℕ → Bool
+message_needs_key policy nonces d =
+    not (is_some (parse_fault d))
+    && (is_request (class_of (type_field d))
+    && request_needs_key policy nonces (method_of (type_field d)) d)
+
+abbrev pub needs_key : (last_channel : ℕ) → Policy → (nonces : List ℕ → Known) → List ℕ → Bool
+needs_key last_channel policy nonces [] = false
+needs_key last_channel policy nonces (first ∷ more) =
+    not (is_channel_byte last_channel first) && message_needs_key policy nonces (first ∷ more)

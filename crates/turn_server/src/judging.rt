@@ -1,7 +1,8 @@
 //! What a client's datagram is: the data of a Send indication or of a ChannelData message, or a
 //! request, which is authenticated (RFC 8656, sections 5 and 12; RFC 8489, section 9.2.4).
 
-ghost use Rattle.std.specs.Prelude.{◌≡◌, ℕ, false, List, Option, IfOk, IsOk};
+ghost use Rattle.std.specs.Prelude.{◌≡◌, ◌&&◌, ℕ, false, not, is_some, List, Option, IfOk, IsOk};
+ghost use Rattle.stun_grammar.specs.Parsing.{parse_fault};
 ghost use Rattle.stun_base.specs.MessageTypes.{class_of, method_of};
 ghost use Rattle.stun_grammar.specs.Headers.{type_field};
 ghost use Rattle.stun_grammar.specs.declared.integrity_algorithm.IntegrityAlgorithm.{IntegrityAlgorithm};
@@ -10,9 +11,8 @@ ghost use Rattle.stun_types.specs.Message.{message_bytes};
 ghost use Rattle.stun_authentication.specs.Answers.{Decision, Tells as Decides};
 ghost use Rattle.stun_authentication.specs.Identities.{Who, who};
 ghost use Rattle.stun_authentication.specs.Lookups.{Known, UserKey};
-ghost use Rattle.stun_authentication.specs.LongTerm.{needs_key};
 ghost use Rattle.turn_server.specs.ChannelMessages.{last_channel};
-ghost use Rattle.turn_server.specs.Judging.{channel_message, indicated, accepted_as, decided_as, requested, message, judge};
+ghost use Rattle.turn_server.specs.Judging.{channel_message, indicated, accepted_as, decided_as, requested, message, request_needs_key, message_needs_key, needs_key, judge};
 ghost use Rattle.turn_server.specs.Reporting.{Signs, Tells};
 ghost use Rattle.turn_server.specs.Sites.{site_of};
 
@@ -23,8 +23,11 @@ use crate::indication::read_send;
 use crate::request::{asks_table, read_request};
 use crate::{Judged, Site};
 use std::alloc::{AllocError, Global};
-use stun_authentication::{Accepted, Authentication, LongTermKeys, Nonces, authenticate_long_term};
-use stun_types::message::{BINDING, Message, MessageClass};
+use stun_authentication::{
+    Accepted, Authentication, LongTermKeys, Nonces, Policy, authenticate_long_term,
+    needs_key as needs_key_by,
+};
+use stun_types::message::{BINDING, Message, MessageClass, MessageHeader, Method};
 use turn_attrs::methods::SEND;
 use turn_table::Ip;
 
@@ -115,8 +118,9 @@ fn judge_request<'d, N: Nonces, K: LongTermKeys>(
         IfOk result (Tells (requested
         (site_of client site.now (N.state_of nonces.now) (K.key_of keys.now))
         (method_of (type_field d)) d)) }
-    ensures memory { needs_key site.now.policy (N.state_of nonces.now) (message_bytes message.now)
-        ≡ false → IsOk result }
+    ensures memory { let d = message_bytes message.now in
+        request_needs_key site.now.policy (N.state_of nonces.now) (method_of (type_field d)) d ≡ false
+        → IsOk result }
 {
     if message.has_method(BINDING) {
         return Ok(Judged::Binding);
@@ -151,7 +155,7 @@ fn judge_message<'d, N: Nonces, K: LongTermKeys>(
     ensures judged { IfOk result (Tells (message
         (site_of client site.now (N.state_of nonces.now) (K.key_of keys.now))
         datagram.now)) }
-    ensures memory { needs_key site.now.policy (N.state_of nonces.now) datagram.now ≡ false
+    ensures memory { message_needs_key site.now.policy (N.state_of nonces.now) datagram.now ≡ false
         → IsOk result }
 {
     let Ok(message) = Message::from_bytes(datagram) else {
@@ -162,6 +166,59 @@ fn judge_message<'d, N: Nonces, K: LongTermKeys>(
         MessageClass::Indication => Ok(judge_indication(&message)),
         MessageClass::Success | MessageClass::Error => Ok(Judged::Dropped),
     }
+}
+
+/// Whether it depends on the key of its user what comes of a request of this method.
+fn request_needs_key<N: Nonces>(
+    datagram: &[u8],
+    method: Method,
+    policy: Policy,
+    nonces: &N,
+) -> bool
+    ensures { result ≡ (not (is_some (parse_fault datagram.now))
+        && request_needs_key policy (N.state_of nonces.now) method datagram.now) }
+{
+    if !asks_table(method) {
+        return false;
+    }
+    match Message::from_bytes(datagram) {
+        Ok(message) => needs_key_by(&message, policy, nonces),
+        Err(_) => false,
+    }
+}
+
+/// Whether it depends on the key of its user what comes of a message. It reads no more than the header of
+/// what is no request to the table.
+#[tactic(auto, using(crate::proofs::JudgingLemmas::no_header))]
+fn message_needs_key<N: Nonces>(datagram: &[u8], policy: Policy, nonces: &N) -> bool
+    ensures { result ≡ message_needs_key policy (N.state_of nonces.now) datagram.now }
+{
+    let Ok(header) = MessageHeader::from_bytes(datagram) else {
+        return false;
+    };
+    let mtype = header.get_type();
+    match mtype.class() {
+        MessageClass::Request => request_needs_key(datagram, mtype.method(), policy, nonces),
+        MessageClass::Indication | MessageClass::Success | MessageClass::Error => false,
+    }
+}
+
+/// Returns whether it depends on the key of its user what comes of a datagram, as [`judge`] says: it is
+/// a request to the table, and its long-term credentials are looked at
+/// (`stun_authentication::needs_key`). It reads no more than the header of anything else.
+pub(crate) fn needs_key<N: Nonces>(
+    datagram: &[u8],
+    old_channels: bool,
+    policy: Policy,
+    nonces: &N,
+) -> bool
+    ensures { result
+        ≡ needs_key (last_channel old_channels) policy (N.state_of nonces.now) datagram.now }
+{
+    let Some(first) = datagram.first() else {
+        return false;
+    };
+    !is_channel_byte(old_channels, *first) && message_needs_key(datagram, policy, nonces)
 }
 
 /// Returns what comes of a datagram of a client with the IP address `client`. The first of these that
@@ -205,7 +262,8 @@ fn judge_message<'d, N: Nonces, K: LongTermKeys>(
 ///
 /// # Errors
 ///
-/// Only if an allocation failed, while `keys` looked for the key: nothing else takes memory.
+/// Only if an allocation failed, while `keys` looked for the key: nothing else takes memory. So there is
+/// none if `TurnServer::needs_key` is false.
 ///
 /// # Examples
 ///
@@ -244,8 +302,8 @@ pub fn judge<'d, N: Nonces, K: LongTermKeys>(
     ensures judged { IfOk result (Tells (judge (last_channel old_channels)
         (site_of client site.now (N.state_of nonces.now) (K.key_of keys.now))
         datagram.now)) }
-    ensures memory { needs_key site.now.policy (N.state_of nonces.now) datagram.now ≡ false
-        → IsOk result }
+    ensures memory { needs_key (last_channel old_channels) site.now.policy (N.state_of nonces.now)
+        datagram.now ≡ false → IsOk result }
 {
     let Some(first) = datagram.first() else {
         return Ok(Judged::Dropped);

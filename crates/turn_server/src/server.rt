@@ -1,7 +1,6 @@
 //! A TURN server.
 
 ghost use Rattle.std.specs.Prelude.{◌≡◌, ◌≤◌, ◌<◌, ℕ, List, Bool, IfOk, IsOk, OnErr, MatchOption, length, false};
-ghost use Rattle.stun_authentication.specs.LongTerm.{needs_key};
 ghost use Rattle.turn_table.specs.declared.endpoints.Ip.{Ip};
 ghost use Rattle.turn_table.specs.declared.endpoints.Endpoint.{Endpoint};
 ghost use Rattle.turn_table.specs.Outputs.{setup_of, answer_of, sending, receiving};
@@ -15,7 +14,8 @@ ghost use Rattle.turn_table.specs.Users.{user_number};
 ghost use Rattle.turn_server.specs.Acting.{data_act, acted};
 ghost use Rattle.turn_server.specs.Actions.{Acts, Does, IsDone, IsAnswered, opened_in};
 ghost use Rattle.turn_server.specs.Answers.{table_answer};
-ghost use Rattle.turn_server.specs.Judging.{Judged as TakenFor};
+ghost use Rattle.turn_server.specs.ChannelMessages.{last_channel};
+ghost use Rattle.turn_server.specs.Judging.{Judged as TakenFor, needs_key as asks_for_key};
 ghost use Rattle.turn_server.specs.PeersLeft.{peers_left};
 ghost use Rattle.turn_server.specs.Reporting.{Tells};
 ghost use Rattle.turn_server.specs.Requests.{permitting, wanted_by};
@@ -23,10 +23,11 @@ ghost use Rattle.turn_server.specs.Sites.{site_of};
 ghost use Rattle.turn_server.specs.Wanted.{request_with};
 
 use crate::peer_list::collected;
+use crate::judging::needs_key;
 use crate::{Action, Answer, Judged, Peers, Request, Site, judge};
 use std::alloc::{AllocError, Global};
 use std::marker::Model;
-use stun_authentication::{LongTermKeys, Nonces};
+use stun_authentication::{LongTermKeys, Nonces, Policy};
 use stun_types::message::TransactionId;
 use turn_attrs::error_codes::INSUFFICIENT_CAPACITY;
 use turn_table::{
@@ -263,6 +264,17 @@ impl<const P: usize, const C: usize> TurnServer<P, C> {
         }
     }
 
+    /// Returns whether it depends on the key of its user what [`TurnServer::on_client_datagram`] does for
+    /// a datagram: it is a request to the table, and none of the checks decides that come before the key
+    /// is looked up (`stun_authentication::needs_key`). It takes no memory. Of anything but such a
+    /// request it reads no more than the header.
+    pub fn needs_key<N: Nonces>(&self, datagram: &[u8], policy: Policy, nonces: &N) -> bool
+        ensures { result ≡ asks_for_key (last_channel self.now.limits.old_channels) policy
+            (N.state_of nonces.now) datagram.now }
+    {
+        needs_key(datagram, self.table.limits().old_channels, policy, nonces)
+    }
+
     /// Takes a client's datagram: keeps what it changes, and returns what is done for it. [`judge`]
     /// says what it is taken for; the caller writes the response, if one is due, by what
     /// [`Action`] says, and sends it to where the datagram came from.
@@ -275,7 +287,8 @@ impl<const P: usize, const C: usize> TurnServer<P, C> {
     ///
     /// # Errors
     ///
-    /// Only if an allocation failed, while `keys` looked for the key. Nothing has changed then.
+    /// Only if an allocation failed, while `keys` looked for the key ([`TurnServer::needs_key`]). Nothing
+    /// has changed then.
     pub fn on_client_datagram<'d, N: Nonces, K: LongTermKeys, A: PeerPolicy>(
         &mut self,
         alloc: Global,
@@ -292,8 +305,8 @@ impl<const P: usize, const C: usize> TurnServer<P, C> {
             IfOk result (Acts (site_of from.now.client.ip site.now (N.state_of nonces.now)
             (K.key_of keys.now)) setup from.now now datagram.now self.old.state self.new.state) }
         ensures limits { self.new.limits ≡ self.old.limits }
-        ensures memory { needs_key site.now.policy (N.state_of nonces.now) datagram.now ≡ false
-            → IsOk result }
+        ensures memory { asks_for_key (last_channel self.old.limits.old_channels) site.now.policy
+            (N.state_of nonces.now) datagram.now ≡ false → IsOk result }
         ensures err { OnErr result (self.new ≡ self.old) }
     {
         let old_channels = self.table.limits().old_channels;
