@@ -20,7 +20,7 @@ typedef struct {
 static struct {
     struct {
         bool is_there;
-        stun_types_address own, told; /* what its sockets are bound to, and what clients are told */
+        stun_types_address own, outside; /* what its sockets are bound to, and what clients learn */
         spare spares[WISHES];
     } families[FAMILIES];
     uint32_t least, most; /* ports */
@@ -59,20 +59,20 @@ static bool complain(const char *what) {
     return false;
 }
 
-/* Finds the addresses of a family. False: what clients would be told is no address. */
+/* Finds the addresses of a family. False: what clients would learn is no address. */
 static bool find_family(const endpoints *of, int which) {
     uint16_t family = which == 0 ? 4 : 6;
-    stun_types_address *own = &relays.families[which].own, *told = &relays.families[which].told;
+    stun_types_address *own = &relays.families[which].own, *outside = &relays.families[which].outside;
     bool is_given = find_address(RELAY_ADDRESS, family, own);
     bool any_given = text_setting(RELAY_ADDRESS, 0) != NULL;
     relays.families[which].is_there = is_given || (!any_given && find_endpoint(of, family, own));
-    *told = *own;
-    bool is_outside = find_address(EXTERNAL_ADDRESS, family, told);
+    *outside = *own;
+    bool is_outside = find_address(EXTERNAL_ADDRESS, family, outside);
     if (!relays.families[which].is_there) {
         return !is_outside || complain("external-address has no relay-address of its family");
     }
-    if (!is_outside) *told = *own;
-    return !is_unspecified(told) || complain("relay-address is for all addresses: give external-address");
+    if (!is_outside) *outside = *own;
+    return !is_unspecified(outside) || complain("relay-address is for all addresses: give external-address");
 }
 
 /* ---- Opening --------------------------------------------------------------------------------- */
@@ -120,13 +120,13 @@ static bool open_spare(int which, int wish) {
     return false;
 }
 
-/* What the TURN server is told of a spare socket; if there is none, of another one. */
+/* The address of a spare socket for the TURN server; if there is none, of another one. */
 static stun_types_address ready_address(int which, const spare *of, const spare *other) {
     stun_types_address address;
     memset(&address, 0, sizeof address);
     if (of->socket < 0) of = other;
     if (of->socket < 0) return address;
-    address = relays.families[which].told;
+    address = relays.families[which].outside;
     address.port = of->port;
     return address;
 }

@@ -91,6 +91,9 @@ bool prepare_turn(const endpoints *of) {
     if (text_setting(USERS, 0) == NULL && text_setting(SECRET, 0) == NULL) {
         return complain("users and secret are missing");
     }
+    for (const endpoint *at = of->all; at < of->all + of->count; at++) {
+        if (!at->stream && at->workers > 1) return complain("processes can't share a socket that was passed: -j 1");
+    }
     if (!prepare_relays(of) || !make_users()) return false;
     if (getrandom(plan.secret, sizeof plan.secret, 0) != sizeof plan.secret) {
         return cannot("no random numbers");
@@ -120,7 +123,10 @@ bool begin_turn(const turn_process *of) {
     return true;
 }
 
-void begin_turn_at(uint64_t now) { turn.now = now; }
+void begin_turn_at(uint64_t now) {
+    turn.now = now;
+    held = 0;
+}
 
 /* ---- From a client --------------------------------------------------------------------------- */
 
@@ -137,6 +143,13 @@ static void free_keys(void) {
     stun_types_key_free(&turn.keys.sha256);
 }
 
+/* Finds keys of the user of a request. False, and there are none: the user isn't known, or has no more. */
+static bool find_keys(const uint8_t *request, size_t length, unsigned attempt) {
+    if (find_user(request, length, attempt, &turn.keys)) return true;
+    free_keys();
+    return false;
+}
+
 /* Passes a signed request on with the keys of its user: with each of them until one isn't refused. */
 static stun_types_answer pass_on_signed(const turn_client *from, const uint8_t *datagram, size_t length,
                                         uint8_t *room, size_t size, stun_types_turn_action *action) {
@@ -144,7 +157,7 @@ static stun_types_answer pass_on_signed(const turn_client *from, const uint8_t *
     unsigned attempt = 0;
     bool is_known;
     do {
-        is_known = find_user(datagram, length, attempt, &turn.keys);
+        is_known = find_keys(datagram, length, attempt);
         if (!is_known && attempt > 0) break;
         answer = pass_on(from, datagram, length, true, room, size, action);
         free_keys();

@@ -11,12 +11,14 @@ import select
 import shutil
 import signal
 import socket
+import ssl
 import struct
 import subprocess
+import sys
 import time
 
 from harness import Server, after, ask_once, free_port, is_closed
-from operators import folder_of, write
+from operators import HERE, folder_of, write
 from steps import PATIENCE, REQUEST, Skipped, check, run, wait_until
 
 COOKIE = 0x2112A442
@@ -255,10 +257,17 @@ def turn_server(programs, *options, users="user pass\n", secret=None, at=("127.0
                 write(folder / name, text)
                 lines.append(f"{name} {folder / name}")
         write(file, "\n".join(lines) + "\n")
-        words = [*(ALLOWING if allowing else []), *options]
+        words = [*(ALLOWING if allowing else []), *programs.get("options", []), *options]
         with Server(programs["server"], "-c", str(file), *words, at=at, **how) as server:
             server.folder = folder
             yield server
+
+
+def ended(server):
+    """Ends the server, no worker of which has died, and returns what it has counted."""
+    counted = server.end()
+    check(counted["workers_died"] == 0, f"workers have died: {counted}")
+    return counted
 
 
 def reread(server, name, text):
@@ -292,7 +301,7 @@ def relays(programs):
             for stream in (False, True):
                 relay_one(server, address, stream)
         wait_until(lambda: server.sockets() == before, f"sockets are left: {server.sockets()}")
-        counted = server.end()
+        counted = ended(server)
         check(counted["turn_allocated"] == counted["turn_ended"] == 4, str(counted))
         check(counted["turn_to_peer"] == counted["turn_to_client"] == 28, str(counted))
         check(counted["turn_dropped"] == 4 and counted["turn_no_port"] == 0, str(counted))
@@ -325,7 +334,7 @@ def even_ports(programs):
             found.add(port)
         check(len(found) == 16 and sorted(found) != list(range(min(found), min(found) + 16)),
               f"the ports are {found}")
-        server.end()
+        ended(server)
 
 
 def credentials(programs):
@@ -357,7 +366,7 @@ def credentials(programs):
             with Client(server, "short", "word", port=None) as other:
                 other.challenge = client.challenge
                 check(other.ask(ALLOCATE, UDP).code == 438, "a nonce of another client counts")
-        counted = server.end()
+        counted = ended(server)
         check(counted["turn_allocated"] == 9 and counted["turn_stale"] == 2, str(counted))
 
 
@@ -381,7 +390,7 @@ def users_again(programs):
         check(server.wait_for("users-refused")["error"] == "2", "another error")
         with Client(server, "other", "word") as other:
             other.allocate()
-        server.end()
+        ended(server)
 
 
 def limited_name(secret, seconds, name="alice"):
@@ -416,11 +425,11 @@ def time_limited(programs):
             client.allocate()
         with Client(server, *limited_name("north", 100)) as client:
             client.allocate(wanted=401)
-        server.end()
+        ended(server)
     with turn_server(programs, users=None, secret="north\n") as server:
         with Client(server, *limited_name("north", 100)) as client:
             client.allocate()
-        server.end()
+        ended(server)
 
 
 def quotas(programs):
@@ -441,7 +450,7 @@ def quotas(programs):
         first.refresh(0)
         last = client("user5")
         wait_until(lambda: last.ask(ALLOCATE, UDP).code == 0, "there is no room again")
-        counted = server.end()
+        counted = ended(server)
         check(counted["turn_refused"] >= 2 and counted["turn_allocated"] == 6, str(counted))
 
 
@@ -467,8 +476,7 @@ def no_ports(programs):
                 exchange(*clients[-1][:1], peer, clients[-1][1], b"data")
             clients[0][0].refresh(0)
             wait_until(lambda: client.ask(ALLOCATE, UDP).code == 0, "no port is free again")
-            counted = server.end()
-            check(counted["turn_no_port"] > 0 and counted["workers_died"] == 0, str(counted))
+            check(ended(server)["turn_no_port"] > 0, "no port is missing")
 
 
 def forbidden(programs):
@@ -488,7 +496,7 @@ def forbidden(programs):
                     client.permit((address, 7), wanted=403)
                     client.bind(0x4001, (address, 7), wanted=403)
                 client.permit((allowed, 7))
-        check(server.end()["turn_to_peer"] == 0, "it sends")
+        check(ended(server)["turn_to_peer"] == 0, "it sends")
     with turn_server(programs) as server, Client(server) as client, Peer() as peer:
         client.allocate()
         client.permit(("127.0.0.1", 7))
@@ -496,7 +504,7 @@ def forbidden(programs):
         client.send(("127.0.0.1", int(server.port)), REQUEST + bytes(12))
         client.permit(("::1", 7), wanted=443)
         check(client.data(0.3) is None, "the server answers itself")
-        server.end()
+        ended(server)
 
 
 def bandwidths(programs):
@@ -520,7 +528,7 @@ def bandwidths(programs):
             took = time.monotonic() - began
             check(most <= heard <= most + 20 * took + 2, f"{setting}: {heard} in {took:.1f} s")
             exchange(other, peer, other.allocate(), b"data")
-            counted = server.end()
+            counted = ended(server)
             check(counted["turn_over"] == 60 - heard, f"{heard} and {counted}")
 
 
@@ -580,7 +588,7 @@ def connections(programs):
             check(is_closed(again.socket), "the 5-tuple of an allocation is taken over")
         with Client(server, stream=True) as client:
             client.allocate()
-        server.end()
+        ended(server)
 
 
 def unread(programs):
@@ -598,7 +606,7 @@ def unread(programs):
         check(server.counts()["turn_unread"] > 0, "nothing is dropped")
         while (got := deaf.data(1)) is not None:
             check(got == (0x4000, bytes(60000)), "a message is torn")
-        server.end()
+        ended(server)
 
 
 def rates(programs):
@@ -615,20 +623,20 @@ def rates(programs):
             pass
         for _ in range(30):
             exchange(client, peer, relayed, b"data")
-        server.end()
+        ended(server)
 
 
 def outside(programs):
-    """Behind a NAT, clients are told its address. A socket for all addresses answers from the one that
+    """Clients of a server that has a NAT before it learn the NAT's address. A socket for all addresses answers from the one that
     was asked."""
     options = ["-o", "relay-address=127.0.0.3", "-o", "external-address=198.51.100.9"]
     with turn_server(programs, *options) as server, Client(server) as client, Peer() as peer:
         address, port = client.allocate()
-        check(address == "198.51.100.9", f"clients are told {address}")
+        check(address == "198.51.100.9", f"clients learn {address}")
         exchange(client, peer, ("127.0.0.3", port), b"data")
         client.permit(("198.51.100.9", 7))
         client.bind(0x4005, ("198.51.100.9", int(server.port)), wanted=403)
-        server.end()
+        ended(server)
     options = ["-t", "-o", "relay-address=127.0.0.3", "-o", "relay-address=::1"]
     for stream in (False, True):
         with turn_server(programs, *options, at=("::",)) as server, Peer() as peer:
@@ -638,7 +646,7 @@ def outside(programs):
                     exchange(client, peer, relayed, b"data")
                     client.bind(0x4005, (relayed[0], int(server.port)))
                     client.bind(0x4006, ("127.0.0.1", int(server.port)), wanted=403)
-            server.end()
+            ended(server)
 
 
 def misused(programs):
@@ -663,6 +671,80 @@ def misused(programs):
         check(got == 3 and "relay-address" in said, f"status {got}: {said}")
 
 
+def own_client(programs):
+    """stun-turn-client allocates, sends, refreshes and deletes."""
+    echoing = """
+import socket
+peer = socket.socket(socket.AF_INET, socket.SOCK_DGRAM)
+peer.bind(("127.0.0.9", 0))
+print(peer.getsockname()[1], flush=True)
+while True:
+    peer.sendto(*peer.recvfrom(2000))
+"""
+    with turn_server(programs, "-t") as server, \
+            subprocess.Popen([sys.executable, "-c", echoing], stdout=subprocess.PIPE, text=True) as peer:
+        try:
+            port = int(peer.stdout.readline())
+            for stream in ([], ["-t"]):
+                words = ["-u", "user", *stream, "-p", f"127.0.0.9:{port}", "-r", "20", f"127.0.0.1:{server.port}"]
+                status, out, told = run([programs["turn_client"], *words], 3 * PATIENCE,
+                                        env={**os.environ, "STUN_PASSWORD": "pass"})
+                check(status == 0 and "hello" in out, f"status {status}: {out}{told}")
+        finally:
+            peer.kill()
+        wait_until(lambda: server.counts()["turn_ended"] == 2, "the allocations haven't ended")
+        ended(server)
+
+
+def behind_tls(programs):
+    """Clients come by TLS, which the programs end whose configurations are here."""
+    tried = False
+    for name, file in (("stunnel", "stunnel.conf"), ("haproxy", "haproxy.cfg")):
+        if shutil.which(name) and shutil.which("openssl"):
+            behind(programs, name, (HERE / file).read_text())
+            tried = True
+    if not tried:
+        raise Skipped("neither stunnel nor haproxy, with openssl, is on this machine")
+
+
+def behind(programs, name, text):
+    port = free_port(["127.0.0.1"])
+    with turn_server(programs, "-t") as server, Peer() as peer:
+        cert, key, both = (server.folder / it for it in ("cert.pem", "key.pem", "both.pem"))
+        status, _, told = run(["openssl", "req", "-x509", "-newkey", "rsa:2048", "-nodes", "-keyout", str(key),
+                               "-out", str(cert), "-days", "2", "-subj", "/CN=localhost"], PATIENCE)
+        check(status == 0, told)
+        both.write_text(cert.read_text() + key.read_text())
+        for old, new in [(":::5349", f"127.0.0.1:{port}"), ("127.0.0.1:3478", f"127.0.0.1:{server.port}"),
+                         ("/etc/ssl/certs/turn.pem", cert), ("/etc/ssl/private/turn.key", key),
+                         ("/etc/haproxy/turn.pem", both), ("setuid = nobody\nsetgid = nogroup\n", "")]:
+            text = text.replace(old, str(new))
+        file = server.folder / name
+        file.write_text(text)
+        front = subprocess.Popen([name, *(["-f"] if name == "haproxy" else []), str(file)],
+                                 stdout=subprocess.DEVNULL, stderr=subprocess.DEVNULL)
+        try:
+            wait_until(lambda: can_connect(port), f"{name} doesn't listen")
+            trusting = ssl.create_default_context(cafile=str(cert))
+            with Client(server, stream=True) as client:
+                client.socket.close()
+                plain = socket.create_connection(("127.0.0.1", int(port)), PATIENCE)
+                client.socket = trusting.wrap_socket(plain, server_hostname="localhost")
+                exchange(client, peer, client.allocate(), b"data")
+                client.refresh(0)
+        finally:
+            front.kill()
+            front.wait()
+        ended(server)
+
+
+def can_connect(port):
+    with contextlib.suppress(OSError):
+        socket.create_connection(("127.0.0.1", int(port)), 1).close()
+        return True
+    return False
+
+
 def coturn_client(programs):
     """coturn's client, with Send indications and with channels, over UDP and TCP: no message is lost."""
     if not shutil.which("turnutils_uclient") or not shutil.which("turnutils_peer"):
@@ -681,7 +763,7 @@ def coturn_client(programs):
                 sent = re.findall(r"tot_send_msgs=(\d+), tot_recv_msgs=(\d+)\n", out + told)
                 check(status == 0 and lost == ["0"] and sent[-1] == ("2000", "2000"),
                       f"{kind}: status {status}: {(out + told)[-500:]}")
-            server.end()
+            ended(server)
     finally:
         peer.kill()
         peer.wait()
