@@ -93,7 +93,8 @@ bool prepare_turn(const endpoints *of) {
         return complain("users and secret are missing");
     }
     for (const endpoint *at = of->all; at < of->all + of->count; at++) {
-        if (!at->stream && at->workers > 1) return complain("processes can't share a socket that was passed: -j 1");
+        if (at->stream || at->workers == 1) continue;
+        return complain("processes can't share a socket that was passed: -j 1");
     }
     if (!prepare_relays(of) || !make_users()) return false;
     if (getrandom(plan.secret, sizeof plan.secret, 0) != sizeof plan.secret) {
