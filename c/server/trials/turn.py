@@ -824,20 +824,21 @@ def coturn_client(programs):
     if not shutil.which("turnutils_uclient") or not shutil.which("turnutils_peer"):
         raise Skipped("coturn's turnutils_uclient and turnutils_peer aren't on this machine")
     port = free_port(["127.0.0.1"])
-    peer = subprocess.Popen(["turnutils_peer", "-L", "127.0.0.1", "-p", port], stdout=subprocess.DEVNULL,
-                            stderr=subprocess.DEVNULL)
     options = ["-t", "-j", "2", "-o", "old-channels=1", "-o", "user-allocations=1000"]
-    try:
-        with turn_server(programs, *options) as server:
-            for kind in (["-s"], [], ["-s", "-t"], ["-t"]):
-                words = ["turnutils_uclient", "-c", *kind, "-u", "user", "-w", "pass", "-e", "127.0.0.1",
-                         "-r", port, "-p", server.port, "-m", "10", "-n", "200", "127.0.0.1"]
-                status, out, told = run(words, 60)
-                lost = re.findall(r"Total lost packets (\d+)", out + told)
-                sent = re.findall(r"tot_send_msgs=(\d+), tot_recv_msgs=(\d+)\n", out + told)
-                check(status == 0 and lost == ["0"] and sent[-1] == ("2000", "2000"),
-                      f"{kind}: status {status}: {(out + told)[-500:]}")
-            ended(server)
-    finally:
-        peer.kill()
-        peer.wait()
+    with turn_server(programs, *options) as server, contextlib.ExitStack() as all_of:
+        def start(*words, **how):
+            started = all_of.enter_context(subprocess.Popen([*words, "127.0.0.1"], text=True, **how))
+            all_of.callback(started.kill)
+            return started
+        start("turnutils_peer", "-p", port, "-L", stdout=subprocess.DEVNULL, stderr=subprocess.DEVNULL)
+        words = ["turnutils_uclient", "-c", "-u", "user", "-w", "pass", "-e", "127.0.0.1", "-r", port,
+                 "-p", server.port, "-m", "10", "-n", "200"]
+        kinds = (["-s"], [], ["-s", "-t"], ["-t"])
+        ran = [start(*words, *kind, stdout=subprocess.PIPE, stderr=subprocess.STDOUT) for kind in kinds]
+        for kind, one in zip(kinds, ran):
+            out, _ = one.communicate(timeout=5 * PATIENCE)
+            lost = re.findall(r"Total lost packets (\d+)", out)
+            sent = re.findall(r"tot_send_msgs=(\d+), tot_recv_msgs=(\d+)\n", out)
+            right = one.returncode == 0 and lost == ["0"] and sent[-1] == ("2000", "2000")
+            check(right, f"{kind}: status {one.returncode}: {out[-500:]}")
+        ended(server)
