@@ -659,7 +659,8 @@ def connections(programs):
 
 
 def unread(programs):
-    """A client that doesn't read its connection loses data; others don't."""
+    """A client that doesn't read its connection loses data, whole messages, and what it sends passes; others
+    lose nothing."""
     with turn_server(programs, "-t") as server, Peer() as peer, Client(server, stream=True) as deaf, \
             Client(server, stream=True) as client:
         deaf_at, relayed = deaf.allocate(), client.allocate()
@@ -670,6 +671,9 @@ def unread(programs):
                 peer.socket.sendto(bytes(60000), deaf_at)
             peer.socket.sendto(b"data", relayed)
             check(client.data() == (0x4000, b"data"), "another client is hindered")
+            for _ in range(5):
+                deaf.send_on(0x4000, bytes(1000))
+                check(peer.hears() == (deaf_at, bytes(1000)), "what it sends is kept back")
         check(server.counts()["turn_unread"] > 0, "nothing is dropped")
         while (got := deaf.data(1)) is not None:
             check(got == (0x4000, bytes(60000)), "a message is torn")
