@@ -261,6 +261,10 @@ def turn_server(programs, *options, users="user pass\n", secret=None, at=("127.0
         words = [*(ALLOWING if allowing else []), *programs.get("options", []), *options]
         with Server(programs["server"], "-c", str(file), *words, at=at, **how) as server:
             server.folder = folder
+            for address in at:
+                for stream in {False, "-t" in words}:
+                    with Client(server, at={"::": "::1"}.get(address, address), stream=stream) as client:
+                        client.ask_with(REQUEST + bytes(12))  # (now it serves)
             yield server
 
 
