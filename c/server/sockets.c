@@ -3,6 +3,7 @@
 
 #include <fcntl.h>
 #include <netinet/tcp.h>
+#include <sys/resource.h>
 
 #ifndef IPV6_MULTICAST_ALL
 #define IPV6_MULTICAST_ALL 29
@@ -165,4 +166,17 @@ void print_endpoints(const endpoints *of) {
         printf(of->all[i].stream ? " over TCP\n" : " over UDP\n");
     }
     fflush(stdout);
+}
+
+/* ---- Files ----------------------------------------------------------------------------------- */
+
+size_t allow_files(size_t wanted) {
+    struct rlimit limit, more;
+    if (getrlimit(RLIMIT_NOFILE, &limit) != 0) return 0;
+    if (limit.rlim_cur < wanted) {
+        more = limit;
+        more.rlim_cur = wanted < limit.rlim_max ? wanted : limit.rlim_max;
+        if (setrlimit(RLIMIT_NOFILE, &more) == 0) limit = more;
+    }
+    return limit.rlim_cur < wanted ? (size_t)limit.rlim_cur : wanted;
 }
