@@ -19,6 +19,7 @@ LIBC = ctypes.CDLL(None, use_errno=True)
 SERVER = ("192.0.2.1", "2001:db8::1")
 LEFT = ("198.51.100.2", "2001:db8:1::2")
 RIGHT = ("203.0.113.2", "2001:db8:2::2")
+LINK_LOCAL = "fe80::1"  # of the right one
 
 
 def own_network():
@@ -44,7 +45,7 @@ class Host:
         with self.inside():
             for path in ("ipv4/ip_forward", "ipv6/conf/all/forwarding"):
                 pathlib.Path(f"/proc/sys/net/{path}").write_text("0")
-            self.ip("link set lo up")
+        self.ip("link set lo up")
 
     @property
     def path(self):
@@ -62,7 +63,8 @@ class Host:
             os.close(before)
 
     def ip(self, words):
-        status, _, told = run(["ip", *words.split()])
+        with self.inside():
+            status, _, told = run(["ip", *words.split()])
         check(status == 0, f"ip {words}: {told}")
 
     def address(self, device, *addresses):
@@ -83,22 +85,18 @@ class Hosts:
         if not shutil.which("ip"):
             raise Skipped("it takes ip, of iproute2")
         self.server, self.left, self.right = self.all = [Host() for _ in range(3)]
-        with self.server.inside() as server:
-            server.address("lo", f"{SERVER[0]}/32", f"{SERVER[1]}/128")
-            server.ip(f"link add left type veth peer name uplink netns {self.left.path}")
-            server.ip(f"link add right type veth peer name uplink netns {self.right.path}")
+        self.server.address("lo", f"{SERVER[0]}/32", f"{SERVER[1]}/128")
         for name, host, own in [("left", self.left, LEFT), ("right", self.right, RIGHT)]:
             near = [address[:-1] + "1" for address in own]
-            with self.server.inside() as server:
-                server.address(name, f"{near[0]}/24", f"{near[1]}/64")
-            with host.inside():
-                host.ip("link set uplink addrgenmode none")  # (no link-local address, whose making takes time)
-                host.address("uplink", f"{own[0]}/24", f"{own[1]}/64")
-                for address in near:
-                    host.ip(f"route add default via {address}")
-        with self.server.inside() as server:
-            for address in RIGHT:
-                server.ip(f"route add default via {address}")
+            self.server.ip(f"link add {name} type veth peer name uplink netns {host.path}")
+            self.server.address(name, f"{near[0]}/24", f"{near[1]}/64")
+            host.ip("link set uplink addrgenmode none")  # (no link-local address, whose making takes time)
+            host.address("uplink", f"{own[0]}/24", f"{own[1]}/64")
+            for address in near:
+                host.ip(f"route add default via {address}")
+        self.right.address("uplink", f"{LINK_LOCAL}/64")
+        for address in RIGHT:
+            self.server.ip(f"route add default via {address}")
 
     def __enter__(self):
         return self
