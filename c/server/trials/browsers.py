@@ -161,10 +161,10 @@ def relayed(bench, left, right, transport="udp", six=False):
     pages, meeting = bench.once(Pages), Meeting()
     number = str(len(pages.meetings))
     pages.meetings[number] = meeting
-    with bench.server(settings) as port:
+    with bench.server(settings) as started:
         name, password = settings.credentials()
         server = f"[{SERVER[1]}]" if six else SERVER[0]
-        task = {"urls": f"turn:{server}:{port}?transport={transport}", "username": name, "credential": password,
+        task = {"urls": f"turn:{server}:{started.port}?transport={transport}", "username": name, "credential": password,
                 "number": number, "length": LENGTH}
         for side, kind in [("left", left), ("right", right)]:
             pages.tasks[f"{side}-{kind}"].put(json.dumps({**task, "side": side}).encode())

@@ -3,9 +3,9 @@ import contextlib
 import ipaddress
 import socket
 
-from hosts import RIGHT, SERVER, Capture
+from hosts import LEFT, RIGHT, SERVER, Capture
 from steps import check
-from turn_client import Client
+from turn import FAMILY, Client
 from turn_servers import Settings, denied_prefixes
 
 PORT = 5000
@@ -42,36 +42,44 @@ def text(way, address):
     return f"{way} to {address}".encode()
 
 
-def ask_for(client, channel, address):
-    """Asks in all ways for data to go to an address. Returns the error codes."""
-    codes = client.permit(address, PORT), client.bind(channel, address, PORT)
-    client.send(address, PORT, text("by Send", address))
-    client.send_by(channel, text("by a channel", address))
-    return codes
+def ask_for(client, channel, address, wanted):
+    """Asks in all ways for data to go to an address; requests are answered by a code, or 0."""
+    peer = (str(address), PORT)
+    client.permit(peer, wanted)
+    client.bind(channel, peer, wanted)
+    client.send(peer, text("by Send", address))
+    client.send_on(channel, text("by a channel", address))
+
+
+def ask_for_all(bench, server, settings, six, allowed, forbidden):
+    """A client asks for those of the addresses that are of a family."""
+    name, password = settings.credentials()
+    with bench.hosts.left.inside():
+        asking = Client(server, name, password, at=SERVER[six], source=LEFT[six])
+    with asking as client:
+        client.allocate((FAMILY, bytes([2 if six else 1, 0, 0, 0])))
+        for channel, address in enumerate([*allowed, *forbidden], 0x4000):
+            if (address.version == 6) == six:
+                ask_for(client, channel, address, 403 if address in forbidden else 0)
+        client.refresh(0)
 
 
 def denied(bench):
     """A client asks in all ways for data to go to addresses that are denied: it gets 403, and tshark sees
     nothing of it on its way there. It sees what goes to an allowed address, and what goes to the denied ones if
     the server's host sends it itself."""
-    settings, addresses = Settings(), forbidden_addresses()
-    allowed, codes = list(map(ipaddress.ip_address, RIGHT)), {}
-    with bench.server(settings) as port, Capture(bench.hosts.server) as capture:
+    settings, forbidden = Settings(), forbidden_addresses()
+    allowed = list(map(ipaddress.ip_address, RIGHT))
+    with bench.server(settings) as server, Capture(bench.hosts.server) as capture:
         for six in (False, True):
-            with Client(bench.hosts.left, SERVER[six], port, settings.credentials(), six) as client:
-                for channel, address in enumerate([*allowed, *addresses], 0x4000):
-                    if (address.version == 6) == six:
-                        codes[address] = ask_for(client, channel, address)
+            ask_for_all(bench, server, settings, six, allowed, forbidden)
         capture.catch_up()
-        send_directly(bench.hosts.server, addresses)
+        send_directly(bench.hosts.server, forbidden)
         capture.catch_up()
         seen = {payload for _, _, payload in capture.seen}
-    for address in allowed:
-        check(codes[address] == (0, 0), f"{address} is answered by {codes[address]}")
-        for way in ("by Send", "by a channel"):
-            check(text(way, address) in seen, f"nothing is seen that goes {way} to {address}")
-    for address in addresses:
-        check(codes[address] == (403, 403), f"{address} is answered by {codes[address]}")
+    for address in forbidden:
         check(text("directly", address) in seen, f"what goes to {address} isn't seen")
+    for address in [*allowed, *forbidden]:
         for way in ("by Send", "by a channel"):
-            check(text(way, address) not in seen, f"data goes {way} to {address}")
+            goes = text(way, address) in seen
+            check(goes == (address in allowed), f"data {'goes' if goes else 'does not go'} {way} to {address}")

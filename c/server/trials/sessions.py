@@ -53,8 +53,8 @@ def line_of(side):
 def session(bench, command, transport="udp", six=False):
     """Two clients talk through the server, each on its host."""
     settings = Settings(channel_permits=True)  # (aioice refreshes channels, and no permissions)
-    with bench.server(settings) as port:
-        talk(bench, command, SERVER[six], port, transport, *settings.credentials(), bench.seconds, bench.speed)
+    with bench.server(settings) as server:
+        talk(bench, command, SERVER[six], server.port, transport, *settings.credentials(), bench.seconds, bench.speed)
 
 
 def talk(bench, command, *given):

@@ -11,6 +11,7 @@ import shutil
 import socket
 import subprocess
 import time
+import types
 
 from harness import Server, free_port
 from hosts import SERVER
@@ -61,7 +62,7 @@ def answers(address, port):
 
 @contextlib.contextmanager
 def coturn(host, folder, settings):
-    """Starts coturn's turnserver. Yields its port."""
+    """Starts coturn's turnserver. Yields something with its port."""
     program = shutil.which("turnserver")
     if not program:
         raise Skipped("it takes turnserver, of coturn")
@@ -84,7 +85,7 @@ def coturn(host, folder, settings):
         with host.inside():
             for address in SERVER:
                 wait_until(lambda: answers(address, port), "coturn doesn't answer")
-        yield port
+        yield types.SimpleNamespace(port=port)
         check(ran.poll() is None, f"coturn ended with status {ran.returncode}")
     finally:
         ran.kill()
@@ -93,16 +94,16 @@ def coturn(host, folder, settings):
 
 @contextlib.contextmanager
 def this_server(program, host, folder, settings):
-    """Starts this server. Yields its port."""
+    """Starts this server. Yields something with its port."""
     (folder / "users").write_text(f"{USER} {PASSWORD}\n")
     (folder / "secret").write_text(f"{SECRET}\n")
-    options = ["turn=1", f"realm={REALM}", f"old-channels={int(settings.old_channels)}",
-               f"channel-permits={int(settings.channel_permits)}"]
+    options = [f"realm={REALM}", f"old-channels={int(settings.old_channels)}",
+               f"channel-permits={int(settings.channel_permits)}", "user-allocations=100"]
     options += [f"secret={folder}/secret" if settings.timed else f"users={folder}/users"]
     options += [f"relay-address={address}" for address in SERVER]
     with host.inside():
-        server = Server(program, "-t", *(word for it in options for word in ("-o", it)), at=SERVER)
+        server = Server(program, "-t", "--turn", *(word for it in options for word in ("-o", it)), at=SERVER)
     with server:
-        yield server.port
+        yield server
         counted = server.end()
         check(counted["workers_died"] == counted["workers_hung"] == 0, f"the server counted {counted}")

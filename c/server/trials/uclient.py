@@ -48,9 +48,9 @@ def echoed(bench, *flags):
     settings = Settings(old_channels="-s" not in flags)  # (its channels are random ones of RFC 5766)
     name, password = settings.credentials()
     both = []
-    with bench.server(settings) as port, echoing(bench.hosts.right):
+    with bench.server(settings) as server, echoing(bench.hosts.right):
         common = ["turnutils_uclient", "-c", *flags, "-m", CLIENTS, "-n", MESSAGES, "-l", LENGTH, "-z", INTERVAL,
-                  "-u", name, "-w", password, "-p", port, "-r", PEER_PORT]
+                  "-u", name, "-w", password, "-p", server.port, "-r", PEER_PORT]
         try:
             for words in [["-e", RIGHT[0], SERVER[0]], ["-x", "-e", RIGHT[1], SERVER[1]]]:
                 with bench.hosts.left.inside():
