@@ -215,11 +215,6 @@ static inline void set_count(tally *mine, int which, uint64_t number) {
     atomic_store_explicit(&mine->numbers[which], number, memory_order_relaxed);
 }
 
-/* Sends datagrams by a socket, and counts those that the system refuses as `refused`. Returns how many
- * were sent. */
-int send_all(int socket, struct mmsghdr *messages, int messages_count, int flags, tally *mine,
-             int refused);
-
 /* How many datagrams came to sockets whose queues were full. */
 uint64_t dropped_by_all(const endpoints *of);
 
@@ -235,6 +230,23 @@ size_t write_counts(const tally *tallies, size_t tallies_count, uint64_t uptime,
 int open_reports(const char *where);
 void serve_reports(int listener, const tally *tallies, size_t tallies_count, uint64_t began,
                    tally *mine);
+
+/* ---- Datagrams (bundles.c) ------------------------------------------------------------------- */
+
+/* Control messages that say to which of this machine's addresses a datagram was sent, and from which one
+ * is sent. */
+typedef union {
+    size_t aligned; /* as the head of a struct cmsghdr is */
+    char bytes[CMSG_SPACE(sizeof(struct in6_pktinfo)) + CMSG_SPACE(sizeof(struct in_pktinfo))];
+} target_control;
+
+/* Sends datagrams by a socket, and counts those that the system refuses as `refused`. Returns how many
+ * were sent. */
+int send_all(int socket, struct mmsghdr *messages, int messages_count, int flags, tally *mine,
+             int refused);
+
+/* The same without waiting, and the system gets those together that have one address and one length. */
+int send_bundled(int socket, struct mmsghdr *messages, int messages_count, tally *mine, int refused);
 
 /* ---- Replies (reply.c, rate.c) --------------------------------------------------------------- */
 
@@ -265,10 +277,7 @@ typedef struct {
     stun_types_five_tuple tuple;
     struct sockaddr_storage to; /* over UDP, with the control message that names this machine's address */
     socklen_t to_length;
-    union {
-        size_t aligned; /* as the head of a struct cmsghdr is */
-        char bytes[CMSG_SPACE(sizeof(struct in6_pktinfo)) + CMSG_SPACE(sizeof(struct in_pktinfo))];
-    } control;
+    target_control control;
     size_t control_length;
     size_t connection; /* over TCP */
 } turn_client;

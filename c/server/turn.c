@@ -226,7 +226,7 @@ static void send_by_one(void) {
             outgoing.messages[others++] = kept;
         }
     }
-    (void)send_all(by->socket, together, same, MSG_DONTWAIT, turn.process.mine, TURN_FAILED);
+    (void)send_bundled(by->socket, together, same, turn.process.mine, TURN_FAILED);
     outgoing.count = others;
 }
 

@@ -314,12 +314,43 @@ def relay_one(server, address, stream):
         relayed = client.allocate(*family)
         check(relayed[0] == address and 49152 <= relayed[1] <= 65535, f"it relays at {relayed}")
         client.ask_with(REQUEST + secrets.token_bytes(12))
+        before = server.counts()["turn_dropped"]
         stranger.socket.sendto(b"unpermitted", relayed)
+        wait_until(lambda: server.counts()["turn_dropped"] == before + 1, "who isn't permitted isn't dropped")
         exchange(client, peer, relayed, secrets.token_bytes(1000))
         check(client.refresh() == 600 and client.refresh(7200) == 3600, "other lifetimes")
         check(client.refresh(0) == 0, "it doesn't end")
         client.send_on(0x4001, b"late")
         check(client.refresh(wanted=437) is None and peer.hears(0) is None, "it hasn't ended")
+
+
+def bursts(programs):
+    """Data that comes at once, of any lengths, is relayed whole and in order, by one worker that was
+    stopped for a moment."""
+    lengths = [100] * 5 + [50] + [100] * 2 + [1400] * 3 + [1401] * 2 + [0, 7, 0] + [1200] * 20 + [3, 3000, 3]
+    for at, asked in (("127.0.0.1", "127.0.0.1"), ("::", "127.0.0.2"), ("::", "::1")):
+        options = ["-o", f"relay-address={OTHER[asked] if asked in OTHER else '127.0.0.9'}"]
+        with turn_server(programs, *options, at=(at,)) as server, Client(server, at=asked) as client, \
+                Client(server, at=asked) as other, Peer(OTHER.get(asked, "127.0.0.9")) as peer:
+            family = [(FAMILY, b"\2\0\0\0")] if ":" in asked else []
+            worker, = server.workers()
+            relayed = []
+            for it in (client, other):
+                relayed.append(it.allocate(*family))
+                it.bind(0x4001, peer.address)
+            os.kill(worker, signal.SIGSTOP)
+            data = [bytes([i]) * length for i, length in enumerate(lengths)]
+            for one in data:
+                for it in (client, other):
+                    it.send_on(0x4001, one)
+                    peer.socket.sendto(one, relayed[it is other])
+            os.kill(worker, signal.SIGCONT)
+            for it in (client, other):
+                check([it.data() for _ in data] == [(0x4001, one) for one in data], "a client hears other data")
+            heard = [peer.hears() for _ in range(2 * len(data))]
+            for source in relayed:
+                check([it[1] for it in heard if it[0] == source] == data, "the peer hears other data")
+            ended(server)
 
 
 def even_ports(programs):
