@@ -5,6 +5,7 @@ import pathlib
 import shutil
 import subprocess
 import tempfile
+import threading
 import time
 
 HERE = pathlib.Path(__file__).resolve().parent
@@ -14,6 +15,7 @@ REQUEST = bytes.fromhex("000100002112A442")  # and a transaction ID
 PATIENCE = 20  # seconds, for what takes a moment on an idle machine
 
 passed = failed = 0
+counting = threading.Lock()  # of steps that run at once
 wanted = ""  # trials without this in their names aren't run
 archives = []  # what the library is made of, for c/install
 
@@ -45,11 +47,13 @@ def step(name):
     except Skipped as why:
         skip(name, why)
     except (Wrong, OSError, ValueError, KeyError, subprocess.SubprocessError) as error:
-        failed += 1
-        print(f"{name}: {type(error).__name__}: {error}", flush=True)
+        with counting:
+            failed += 1
+            print(f"{name}: {type(error).__name__}: {error}", flush=True)
     else:
-        passed += 1
-        print(f"{name}: right, {time.monotonic() - began:.1f} s", flush=True)
+        with counting:
+            passed += 1
+            print(f"{name}: right, {time.monotonic() - began:.1f} s", flush=True)
 
 
 def trial(name, function, *given):

@@ -5,9 +5,11 @@ SIDE offers|answers SERVER PORT udp|tcp NAME PASSWORD SECONDS SPEED
 A side prints its description in one line and reads that of the other. Then the side that offers sends
 numbered messages for so many seconds, and the other sends each of them back; none may be missing or changed.
 The clock of a client in Python runs SPEED times as fast, so that it refreshes its allocation, permissions and
-channels early; what it waits for an answer isn't shortened. At the end it prints how many messages came back.
+channels early; what it waits for an answer isn't shortened. At the end it prints how many messages came back,
+and how often it refreshed its allocation and bound a channel.
 """
 import asyncio
+import collections
 import json
 import os
 import selectors
@@ -19,6 +21,7 @@ import aioice
 
 PATIENCE = 30  # seconds
 END = b"end"
+answered = collections.Counter()  # requests to the server, by their methods
 
 
 class Arguments:
@@ -50,6 +53,17 @@ def loop_of(speed):
     aioice.turn.time = types.SimpleNamespace(time=lambda: time.time() * speed)
     aioice.stun.RETRY_RTO *= speed
     return HastyLoop(HastySelector())
+
+
+def count_requests(client):
+    """Has a class of clients count its requests to the server that succeed."""
+    ask = client.request_with_retry
+
+    async def ask_and_count(self, request):
+        answer = await ask(self, request)
+        answered[request.message_method.name] += 1
+        return answer
+    client.request_with_retry = ask_and_count
 
 
 def describe(own):
@@ -84,11 +98,13 @@ async def talk(arguments, send, receive):
     await send(END)
     if await asyncio.wait_for(receive(), patience) != END:
         sys.exit("the end came back as something else")
-    print(f"{count} messages came back", flush=True)
+    told = f"{answered['REFRESH']} refreshes, {answered['CHANNEL_BIND']} channels"
+    print(f"{count} messages came back, {told}", flush=True)
 
 
 def run(main):
     arguments = Arguments()
+    count_requests(aioice.turn.TurnClientMixin)
     loop = loop_of(arguments.speed)
     asyncio.set_event_loop(loop)
     loop.run_until_complete(main(arguments))
