@@ -99,8 +99,22 @@ int send_all(int socket, struct mmsghdr *messages, int messages_count, int flags
     return all;
 }
 
+/* Sends one datagram by a shorter way. */
+static int send_one(int socket, const struct msghdr *one, tally *mine, int refused) {
+    ssize_t sent;
+    do {
+        sent = sendto(socket, one->msg_iov->iov_base, one->msg_iov->iov_len, MSG_DONTWAIT, one->msg_name,
+                      one->msg_namelen);
+    } while (sent < 0 && errno == EINTR);
+    if (sent < 0) count(mine, refused, 1);
+    return sent < 0 ? 0 : 1;
+}
+
 int send_bundled(int socket, struct mmsghdr *messages, int messages_count, tally *mine, int refused) {
     int made = 0, done = 0, at = 0, all = 0;
+    if (messages_count == 1 && messages->msg_hdr.msg_controllen == 0) {
+        return send_one(socket, &messages->msg_hdr, mine, refused);
+    }
     if (bundles.is_off || messages_count > MOST) {
         return send_all(socket, messages, messages_count, MSG_DONTWAIT, mine, refused);
     }

@@ -279,15 +279,28 @@ typedef struct {
     socklen_t to_length;
     target_control control;
     size_t control_length;
-    size_t connection; /* over TCP */
+    size_t connection; /* over TCP: its place in the table, and which of all it is */
+    uint64_t serial;
 } turn_client;
+
+/* The relay sockets of a process. A number that the TURN server gives one has its slot in its low 32
+ * bits. */
+typedef struct {
+    uint64_t number;
+    bool is_taken;
+    int socket;     /* -1: none */
+    unsigned asked; /* how many datagrams are received from it at once */
+    uint64_t user; /* other than 0 */
+    uint64_t paid_until;
+    turn_client client;
+} relay;
 
 /* What a process does with a datagram of `length` bytes for a client. The bytes stay until `flush`,
  * which sends what waits; NULL: they are copied. */
 typedef struct {
     void (*deliver)(turn_client *to, uint8_t *bytes, size_t length);
     void (*flush)(void);
-    void (*changed)(const turn_client *of, bool begins); /* an allocation begins, or ends; NULL: so what */
+    void (*changed)(const relay *of, bool begins); /* an allocation begins, or ends; NULL: so what */
     int poller;
     uint64_t first; /* the number of its first relay socket among the events of `poller` */
     tally *mine;
@@ -320,23 +333,11 @@ void take_from_peers(uint64_t number);
 /* Once a second: ends allocations, and opens sockets that are missing. */
 void look_after_relays(void);
 
-/* A connection has been closed: its allocation has nobody any more. */
-void orphan_relays(size_t connection);
+/* A connection has been closed: its allocation, if it still has one, has nobody any more. */
+void orphan_relay(uint64_t number);
 
 /* Whether a 5-tuple still belongs to the allocation of a connection that has been closed. */
 bool is_orphaned(const stun_types_five_tuple *tuple);
-
-/* The relay sockets of a process. A number that the TURN server gives one has its slot in its low 32
- * bits. */
-typedef struct {
-    uint64_t number;
-    bool is_taken;
-    bool is_orphan; /* its client's connection has been closed */
-    int socket; /* -1: none */
-    uint64_t user; /* other than 0 */
-    uint64_t paid_until;
-    turn_client client;
-} relay;
 
 bool prepare_relays(const endpoints *of);
 bool begin_relays(void);

@@ -6,7 +6,8 @@
 
 enum {
     PIECE = 4096,    /* bytes read at once, and of a page */
-    REPLIES = 65536 + 128, /* bytes that wait to be sent: any message takes fewer */
+    RESPONSE = 2048, /* bytes of a response of the TURN server at most, */
+    REPLIES = 65536 + 128 + RESPONSE, /* and of what waits to be sent: a peer's data takes fewer */
     SECOND = 1000,
     CLOSING_TIME = 2000, /* both in milliseconds */
     /* the number of the first endpoint among the connections, and of the first relay socket */
@@ -31,7 +32,9 @@ typedef struct {
     uint64_t accepted, heard; /* when it was accepted, and when its last message was whole */
     uint64_t begun;           /* when the first byte of a message came that isn't whole yet */
     uint64_t closed_at;       /* if it is closing */
-    uint32_t relays;          /* its allocations */
+    uint64_t serial;          /* which of all connections it is */
+    uint32_t relays;          /* its allocations: one, and those that have ended and are still there */
+    uint64_t relay;           /* the newest */
     stun_types_five_tuple tuple;
     stun_types_stream stream;
     size_t piece_at, piece_end;
@@ -52,6 +55,7 @@ static struct {
     int poller;
     bool paused[MOST_ENDPOINTS]; /* listeners from which nothing is accepted for a while */
     uint64_t now; /* when the events that are served were got */
+    uint64_t accepted; /* how many connections there were */
     const endpoints *endpoints;
     tally *mine;
 } tcp;
@@ -111,7 +115,7 @@ static void count_crowds(connection *changed, bool in) {
 
 static void close_connection(connection *closed) {
     connection_bytes *bytes = &tcp.bytes[closed - tcp.connections];
-    if (closed->relays > 0) orphan_relays((size_t)(closed - tcp.connections));
+    if (closed->relays > 0) orphan_relay(closed->relay);
     if (closed->large) (void)madvise(bytes, sizeof *bytes, MADV_DONTNEED);
     close(closed->socket);
     closed->open = false;
@@ -183,9 +187,11 @@ static turn_outcome take_message(const connection *of, connection_bytes *bytes, 
         *written = reply_to(bytes->message, of->stream.message, &of->tuple.client, room);
         return *written > 0 ? TURN_ANSWERED : TURN_NOTHING_DUE;
     }
-    turn_client client = {.tuple = of->tuple, .connection = (size_t)(of - tcp.connections)};
+    turn_client client = {.tuple = of->tuple,
+                          .connection = (size_t)(of - tcp.connections),
+                          .serial = of->serial};
     turn_outcome outcome = take_from_client(&client, bytes->message, of->stream.message, room,
-                                            STUN_TYPES_GREATEST_REPLY, written);
+                                            REPLIES - of->replies_end, written);
     send_to_peers(); /* (the next message overwrites this one) */
     return outcome;
 }
@@ -211,10 +217,11 @@ static void answer_piece(connection *of, connection_bytes *bytes) {
     if (outcome == TURN_NOTHING_DUE) count(tcp.mine, TCP_UNANSWERED, 1);
 }
 
-/* Answers what was read, as long as there is room for any reply. */
+/* Answers what was read, as long as there is room for any reply, or any to a client that has an
+ * allocation. */
 static void answer_pieces(connection *of, connection_bytes *bytes) {
     while (!of->closing && of->piece_at < of->piece_end &&
-           of->replies_end + STUN_TYPES_GREATEST_REPLY <= REPLIES) {
+           of->replies_end + (of->relays > 0 ? RESPONSE : STUN_TYPES_GREATEST_REPLY) <= REPLIES) {
         answer_piece(of, bytes);
     }
 }
@@ -274,8 +281,32 @@ static uint32_t serve_in_turn(connection *of, connection_bytes *bytes) {
     }
 }
 
+/* Makes room at the end of what waits. */
+static void move_to_front(connection *of, connection_bytes *bytes) {
+    if (of->replies_at == 0) return;
+    memmove(bytes->replies, bytes->replies + of->replies_at, of->replies_end - of->replies_at);
+    of->replies_end -= of->replies_at;
+    of->replies_at = 0;
+}
+
+/* The same for a connection with an allocation: what its client doesn't read doesn't hinder what it
+ * sends. */
+static uint32_t serve_relayed(connection *of, connection_bytes *bytes) {
+    if (send_waiting(of, bytes) == BROKEN) return 0;
+    move_to_front(of, bytes);
+    if (of->piece_at == of->piece_end && read_piece(of, bytes) == BROKEN) return 0;
+    answer_pieces(of, bytes);
+    if (of->closing) return serve_in_turn(of, bytes);
+    int sent = send_waiting(of, bytes);
+    if (sent == BROKEN) return 0;
+    bool has_answered = of->piece_at == of->piece_end;
+    return (has_answered ? EPOLLIN : 0u) | (sent == WOULD_WAIT || !has_answered ? EPOLLOUT : 0u);
+}
+
 static void serve_connection(connection *of) {
-    uint32_t events = serve_in_turn(of, &tcp.bytes[of - tcp.connections]);
+    connection_bytes *bytes = &tcp.bytes[of - tcp.connections];
+    bool is_relayed = of->relays > 0 && !of->closing;
+    uint32_t events = is_relayed ? serve_relayed(of, bytes) : serve_in_turn(of, bytes);
     if (events == 0 || !await(of, events)) close_connection(of);
 }
 
@@ -293,26 +324,25 @@ static size_t send_at_once(connection *of, const uint8_t *bytes, size_t length) 
  * what is more than the buffer takes. */
 static void deliver(turn_client *to, uint8_t *message, size_t length) {
     connection *of = &tcp.connections[to->connection];
-    uint8_t *waiting = tcp.bytes[to->connection].replies;
-    if (!of->open || of->closing) return;
+    connection_bytes *bytes = &tcp.bytes[to->connection];
+    if (!of->open || of->closing || of->serial != to->serial) return;
     size_t left = send_at_once(of, message, length);
-    if (left > REPLIES - of->replies_end && of->replies_at > 0) {
-        memmove(waiting, waiting + of->replies_at, of->replies_end - of->replies_at);
-        of->replies_end -= of->replies_at;
-        of->replies_at = 0;
-    }
-    count(tcp.mine, left > REPLIES - of->replies_end ? TURN_UNREAD : TCP_SENT, 1);
-    if (left == 0 || left > REPLIES - of->replies_end) return;
-    memcpy(waiting + of->replies_end, message + length - left, left);
+    if (left == length) move_to_front(of, bytes);
+    bool fits = of->replies_end + left + RESPONSE <= REPLIES;
+    count(tcp.mine, fits ? TCP_SENT : TURN_UNREAD, 1);
+    if (left == 0 || !fits) return;
+    memcpy(bytes->replies + of->replies_end, message + length - left, left);
     of->replies_end += left;
     of->large |= of->replies_end > PIECE;
-    (void)await(of, EPOLLOUT);
+    (void)await(of, of->awaited | EPOLLOUT);
 }
 
 /* Counts the allocations of a connection. Its time-outs begin anew after the last. */
-static void change_relays(const turn_client *client, bool begins) {
-    connection *of = &tcp.connections[client->connection];
+static void change_relays(const relay *changed, bool begins) {
+    connection *of = &tcp.connections[changed->client.connection];
+    if (!of->open || of->serial != changed->client.serial) return;
     of->relays = begins ? of->relays + 1 : of->relays - 1;
+    if (begins) of->relay = changed->number;
     of->accepted = of->heard = tcp.now;
 }
 
@@ -344,6 +374,7 @@ static bool enter(int socket, const struct sockaddr_storage *from) {
     if (place == NULL) return false;
     memset(place, 0, sizeof *place);
     place->socket = socket;
+    place->serial = ++tcp.accepted;
     place->tuple = tuple;
     place->stream.carries = carried();
     place->place = place_of(&tuple.client);

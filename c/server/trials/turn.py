@@ -4,6 +4,7 @@ import contextlib
 import hashlib
 import hmac
 import os
+import random
 import re
 import resource
 import secrets
@@ -141,7 +142,7 @@ class Client:
     def request(self, method, *given, sign=True, number=None):
         """The bytes of a request."""
         number = number or secrets.token_bytes(12)
-        peers = [(PEER, xored(*value, number)) if kind == PEER else (kind, value) for kind, value in given]
+        peers = [(kind, xored(*value, number) if kind == PEER else value) for kind, value in given]
         body = b"".join(attribute(*it) for it in peers) + (self.login() if sign else b"")
         size = (36 if self.sha256 else 24) if sign else 0
         head = struct.pack(">HHI", method, len(body) + size, COOKIE) + number
@@ -260,6 +261,10 @@ def turn_server(programs, *options, users="user pass\n", secret=None, at=("127.0
         words = [*(ALLOWING if allowing else []), *programs.get("options", []), *options]
         with Server(programs["server"], "-c", str(file), *words, at=at, **how) as server:
             server.folder = folder
+            for address in at:
+                for stream in {False, "-t" in words}:
+                    with Client(server, at={"::": "::1"}.get(address, address), stream=stream) as client:
+                        client.ask_with(REQUEST + bytes(12))  # (now it serves)
             yield server
 
 
@@ -346,11 +351,46 @@ def bursts(programs):
                     peer.socket.sendto(one, relayed[it is other])
             os.kill(worker, signal.SIGCONT)
             for it in (client, other):
-                check([it.data() for _ in data] == [(0x4001, one) for one in data], "a client hears other data")
+                heard = [it.data() for _ in data]
+                check(heard == [(0x4001, one) for one in data], "a client hears other data")
             heard = [peer.hears() for _ in range(2 * len(data))]
             for source in relayed:
                 check([it[1] for it in heard if it[0] == source] == data, "the peer hears other data")
             ended(server)
+
+
+def nonsense(programs):
+    """Whatever clients and peers send, over UDP and TCP, the server goes on, and an allocation too."""
+    drawn = random.Random(8656)
+    def changed(message):
+        message = bytearray(message)
+        for _ in range(drawn.choice((0, 1, 1, 2, 8))):
+            message[drawn.randrange(len(message))] = drawn.randrange(256)
+        return bytes(message[: drawn.choice((len(message), len(message), drawn.randrange(len(message) + 1)))])
+    with turn_server(programs, "-t") as server, Client(server) as client, Client(server) as other, \
+            Peer() as peer:
+        relayed = client.allocate()
+        client.bind(0x4001, peer.address)
+        near = [("127.0.0.9", 7), ("10.0.0.1", 7), ("::1", 7), ("198.51.100.1", 0), peer.address]
+        other.challenge = client.challenge
+        for turn in range(3000):
+            to = drawn.choice(near)
+            request = drawn.choice([
+                client.request(drawn.choice((ALLOCATE, REFRESH, PERMIT, BIND)), UDP, (PEER, to),
+                               (CHANNEL, b"\x40\2\0\0"), number=drawn.randbytes(12)),
+                client.request(PERMIT, *[(PEER, to)] * drawn.randrange(80), number=drawn.randbytes(12)),
+                client.request(SEND | INDICATION, (PEER, to), (CONTENT, b"data"), sign=False),
+                b"\x40\1\0\4data", drawn.randbytes(drawn.randrange(1, 100))])
+            drawn.choice((client, other)).socket.send(changed(request))
+            peer.socket.sendto(drawn.randbytes(drawn.randrange(100)), relayed)
+            if turn % 30 == 0:
+                with Client(server, stream=True) as stream:
+                    stream.socket.send(changed(request))
+            if turn % 100 == 0:
+                ask_once(server)
+        with Client(server) as another, Peer() as its_peer:
+            exchange(another, its_peer, another.allocate(), b"data")
+        ended(server)
 
 
 def even_ports(programs):
@@ -623,7 +663,8 @@ def connections(programs):
 
 
 def unread(programs):
-    """A client that doesn't read its connection loses data; others don't."""
+    """A client that doesn't read its connection loses data, whole messages, and what it sends passes; others
+    lose nothing."""
     with turn_server(programs, "-t") as server, Peer() as peer, Client(server, stream=True) as deaf, \
             Client(server, stream=True) as client:
         deaf_at, relayed = deaf.allocate(), client.allocate()
@@ -634,6 +675,9 @@ def unread(programs):
                 peer.socket.sendto(bytes(60000), deaf_at)
             peer.socket.sendto(b"data", relayed)
             check(client.data() == (0x4000, b"data"), "another client is hindered")
+            for _ in range(5):
+                deaf.send_on(0x4000, bytes(1000))
+                check(peer.hears() == (deaf_at, bytes(1000)), "what it sends is kept back")
         check(server.counts()["turn_unread"] > 0, "nothing is dropped")
         while (got := deaf.data(1)) is not None:
             check(got == (0x4000, bytes(60000)), "a message is torn")
@@ -687,19 +731,25 @@ def misused(programs):
         write(users, "user pass\n")
         right = ["realm=example.org", f"users={users}"]
         for status, given, told in [
-            (3, right[1:], "realm"), (3, right[:1], "users"), (3, [*right, "relay-address=192.0.2.1"], "192.0.2.1"),
-            (3, [right[0], f"users={folder}/none"], "none"), (3, [*right, "external-address=2001:db8::1"], "external"),
-            (3, [*right, "relay-address=0.0.0.0"], "external"), (2, ["turn=2"], ""), (2, ["realm="], ""),
-            (2, ["ports=5-4"], ""), (2, ["ports=1"], ""), (2, ["allow=10.0.0.1/8"], ""), (2, ["deny=10/8"], ""),
-            (2, ["allow=10.0.0.0/33"], ""), (2, ["relay-address=host"], ""), (2, ["realm=a", "realm=b"], ""),
-            (2, ["lifetime=1"], ""),
+            (3, right[1:], "realm"), (3, right[:1], "users"), (3, [right[0], f"users={folder}/none"], "none"),
+            (3, [*right, "relay-address=192.0.2.1"], "192.0.2.1"),
+            (3, [*right, "external-address=2001:db8::1"], "external"),
+            (3, [*right, "relay-address=0.0.0.0"], "external"),
+            *((2, [it], "") for it in ("turn=2", "realm=", "ports=5-4", "ports=1", "allow=10.0.0.1/8", "deny=10/8",
+                                       "allow=10.0.0.0/33", "relay-address=host", "lifetime=1")),
+            (2, ["realm=a", "realm=b"], ""),
         ]:
-            words = [word for it in given for word in ("-o", it)]
-            got, _, said = run([programs["server"], "--turn", *words, "127.0.0.1", free_port(["127.0.0.1"])])
+            got, said = start_at(programs, "127.0.0.1", given)
             check(got == status and told in said, f"{given}: status {got}: {said}")
-        words = [word for it in right for word in ("-o", it)]
-        got, _, said = run([programs["server"], "--turn", *words, "0.0.0.0", free_port(["0.0.0.0"])])
+        got, said = start_at(programs, "0.0.0.0", right)
         check(got == 3 and "relay-address" in said, f"status {got}: {said}")
+
+
+def start_at(programs, address, settings):
+    """The status and the errors of a server that can't begin with these settings."""
+    words = [word for it in settings for word in ("-o", it)]
+    status, _, told = run([programs["server"], "--turn", *words, address, free_port([address])])
+    return status, told
 
 
 def own_client(programs):
@@ -717,7 +767,8 @@ while True:
         try:
             port = int(peer.stdout.readline())
             for stream in ([], ["-t"]):
-                words = ["-u", "user", *stream, "-p", f"127.0.0.9:{port}", "-r", "20", f"127.0.0.1:{server.port}"]
+                words = ["-u", "user", *stream, "-p", f"127.0.0.9:{port}", "-r", "20",
+                         f"127.0.0.1:{server.port}"]
                 status, out, told = run([programs["turn_client"], *words], 3 * PATIENCE,
                                         env={**os.environ, "STUN_PASSWORD": "pass"})
                 check(status == 0 and "hello" in out, f"status {status}: {out}{told}")
@@ -742,8 +793,8 @@ def behind(programs, name, text):
     port = free_port(["127.0.0.1"])
     with turn_server(programs, "-t") as server, Peer() as peer:
         cert, key, both = (server.folder / it for it in ("cert.pem", "key.pem", "both.pem"))
-        status, _, told = run(["openssl", "req", "-x509", "-newkey", "rsa:2048", "-nodes", "-keyout", str(key),
-                               "-out", str(cert), "-days", "2", "-subj", "/CN=localhost"], PATIENCE)
+        words = ["openssl", "req", "-x509", "-newkey", "rsa:2048", "-nodes", "-days", "2", "-subj", "/CN=localhost"]
+        status, _, told = run([*words, "-keyout", str(key), "-out", str(cert)], PATIENCE)
         check(status == 0, told)
         both.write_text(cert.read_text() + key.read_text())
         for old, new in [(":::5349", f"127.0.0.1:{port}"), ("127.0.0.1:3478", f"127.0.0.1:{server.port}"),
@@ -781,20 +832,21 @@ def coturn_client(programs):
     if not shutil.which("turnutils_uclient") or not shutil.which("turnutils_peer"):
         raise Skipped("coturn's turnutils_uclient and turnutils_peer aren't on this machine")
     port = free_port(["127.0.0.1"])
-    peer = subprocess.Popen(["turnutils_peer", "-L", "127.0.0.1", "-p", port], stdout=subprocess.DEVNULL,
-                            stderr=subprocess.DEVNULL)
     options = ["-t", "-j", "2", "-o", "old-channels=1", "-o", "user-allocations=1000"]
-    try:
-        with turn_server(programs, *options) as server:
-            for kind in (["-s"], [], ["-s", "-t"], ["-t"]):
-                words = ["turnutils_uclient", "-c", *kind, "-u", "user", "-w", "pass", "-e", "127.0.0.1", "-r", port,
-                         "-p", server.port, "-m", "10", "-n", "200", "127.0.0.1"]
-                status, out, told = run(words, 60)
-                lost = re.findall(r"Total lost packets (\d+)", out + told)
-                sent = re.findall(r"tot_send_msgs=(\d+), tot_recv_msgs=(\d+)\n", out + told)
-                check(status == 0 and lost == ["0"] and sent[-1] == ("2000", "2000"),
-                      f"{kind}: status {status}: {(out + told)[-500:]}")
-            ended(server)
-    finally:
-        peer.kill()
-        peer.wait()
+    with turn_server(programs, *options) as server, contextlib.ExitStack() as all_of:
+        def start(*words, **how):
+            started = all_of.enter_context(subprocess.Popen([*words, "127.0.0.1"], text=True, **how))
+            all_of.callback(started.kill)
+            return started
+        start("turnutils_peer", "-p", port, "-L", stdout=subprocess.DEVNULL, stderr=subprocess.DEVNULL)
+        words = ["turnutils_uclient", "-c", "-u", "user", "-w", "pass", "-e", "127.0.0.1", "-r", port,
+                 "-p", server.port, "-m", "10", "-n", "200"]
+        kinds = (["-s"], [], ["-s", "-t"], ["-t"])
+        ran = [start(*words, *kind, stdout=subprocess.PIPE, stderr=subprocess.STDOUT) for kind in kinds]
+        for kind, one in zip(kinds, ran):
+            out, _ = one.communicate(timeout=5 * PATIENCE)
+            lost = re.findall(r"Total lost packets (\d+)", out)
+            sent = re.findall(r"tot_send_msgs=(\d+), tot_recv_msgs=(\d+)\n", out)
+            right = one.returncode == 0 and lost == ["0"] and sent[-1] == ("2000", "2000")
+            check(right, f"{kind}: status {one.returncode}: {out[-500:]}")
+        ended(server)
