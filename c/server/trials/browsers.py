@@ -1,4 +1,4 @@
-"""Trials with browsers: a data channel between two of them, which is relayed."""
+"""Trials with data channels between browsers, relayed."""
 import collections
 import contextlib
 import http.server
@@ -51,7 +51,7 @@ PROGRAMS = {"Chromium": ["chromium"], "Firefox": ["firefox-esr", "firefox"]}
 
 
 class Meeting:
-    """What two sides, left and right, give each other, and what comes of it."""
+    """A connection of two sides, left and right: what they send each other, and their results."""
 
     def __init__(self):
         self.data = os.urandom(LENGTH)
@@ -113,11 +113,13 @@ class Handler(http.server.BaseHTTPRequestHandler):
 
 
 class Pages(http.server.ThreadingHTTPServer):
-    """What serves the page, and the browsers that show it: each at both sides."""
+    """Serves the page, which each browser shows on both clients' hosts."""
     daemon_threads = True
 
     def __init__(self, bench):
-        self.tasks, self.meetings, self.browsers = collections.defaultdict(queue.Queue), {}, contextlib.ExitStack()
+        self.tasks, self.meetings = collections.defaultdict(queue.Queue), {}
+        self.browsers = contextlib.ExitStack()
+        self.folder = bench.new_folder()
         with bench.hosts.server.inside():
             super().__init__((SERVER[0], 0), Handler)
         self.thread = threading.Thread(target=self.serve_forever, daemon=True)
@@ -125,18 +127,17 @@ class Pages(http.server.ThreadingHTTPServer):
         for kind, programs in PROGRAMS.items():
             for side, host in [("left", bench.hosts.left), ("right", bench.hosts.right)]:
                 if any(map(shutil.which, programs)):
-                    self.browsers.enter_context(self.showing(host, bench.folder, kind, side))
+                    self.browsers.enter_context(self.showing(host, kind, side))
 
     @contextlib.contextmanager
-    def showing(self, host, folder, kind, side):
-        """Shows the page in a browser. It and the processes that it starts have numbers of their own, and
-        all end with the first."""
-        profile = folder / f"{side}-{kind}"
+    def showing(self, host, kind, side):
+        """Shows the page in a browser. Its processes are a namespace's, and end with the first of them."""
+        profile = self.folder / f"{side}-{kind}"
         profile.mkdir()
         url = f"http://{SERVER[0]}:{self.server_port}/relayed.html?page={profile.name}"
         words = ["unshare", "--pid", "--fork", "--kill-child", "--mount-proc", *COMMANDS[kind](profile, url)]
         environment = {**os.environ, "HOME": str(profile), "XDG_RUNTIME_DIR": str(profile)}
-        with open(folder / f"{profile.name}.log", "w") as log, host.inside():
+        with open(self.folder / f"{profile.name}.log", "w") as log, host.inside():
             ran = subprocess.Popen(words, stdin=subprocess.DEVNULL, stdout=log, stderr=log, env=environment)
         try:
             yield
@@ -144,6 +145,11 @@ class Pages(http.server.ThreadingHTTPServer):
             for first in pathlib.Path(f"/proc/{ran.pid}/task/{ran.pid}/children").read_text().split():
                 os.kill(int(first), signal.SIGKILL)
             ran.wait()
+
+    def complaints(self, left, right):
+        """The ends of what two browsers print."""
+        logs = [self.folder / f"left-{left}.log", self.folder / f"right-{right}.log"]
+        return [log.read_text(errors="replace")[-300:] for log in logs]
 
     def close(self):
         self.browsers.close()
@@ -153,10 +159,10 @@ class Pages(http.server.ThreadingHTTPServer):
 
 
 def relayed(bench, left, right, transport="udp", six=False):
-    """10 MB go from a browser to another, by no candidates but relayed ones."""
+    """10 MB go from one browser to another, and only relayed candidates are used."""
     for kind in (left, right):
         if not any(map(shutil.which, PROGRAMS[kind])):
-            raise Skipped(f"it takes {' or '.join(PROGRAMS[kind])}")
+            raise Skipped(f"it needs {' or '.join(PROGRAMS[kind])}")
     settings = Settings(timed=True)
     pages, meeting = bench.once(Pages), Meeting()
     number = str(len(pages.meetings))
@@ -164,8 +170,8 @@ def relayed(bench, left, right, transport="udp", six=False):
     with bench.server(settings) as started:
         name, password = settings.credentials()
         server = f"[{SERVER[1]}]" if six else SERVER[0]
-        task = {"urls": f"turn:{server}:{started.port}?transport={transport}", "username": name, "credential": password,
-                "number": number, "length": LENGTH}
+        task = {"urls": f"turn:{server}:{started.port}?transport={transport}", "username": name,
+                "credential": password, "number": number, "length": LENGTH}
         for side, kind in [("left", left), ("right", right)]:
             pages.tasks[f"{side}-{kind}"].put(json.dumps({**task, "side": side}).encode())
         try:
@@ -176,7 +182,8 @@ def relayed(bench, left, right, transport="udp", six=False):
                     raise Wrong(f"{side}: {value.decode()}")
                 results[side, what] = value
         except queue.Empty:
-            raise Wrong(f"after {PATIENCE} s there is {sorted(results)}") from None
+            told = pages.complaints(left, right)
+            raise Wrong(f"after {PATIENCE} s there is {sorted(results)}: {told}") from None
         finally:
             meeting.over.set()
     check(results["right", "data"] == meeting.data, "other data arrived")

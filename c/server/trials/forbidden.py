@@ -1,4 +1,4 @@
-"""A trial with peers that a TURN server denies: nothing of a client's reaches them."""
+"""A trial with peers that a TURN server denies: it sends them nothing."""
 import contextlib
 import ipaddress
 import socket
@@ -14,7 +14,7 @@ ALL_NODES = "ff02::1"
 
 
 def forbidden_addresses():
-    """Those with names, and one of each prefix."""
+    """Those above, and one of each prefix that is denied by default."""
     found = list(map(ipaddress.ip_address, NAMED))
     for prefix in denied_prefixes():
         address = prefix[1]
@@ -26,7 +26,7 @@ def forbidden_addresses():
 
 
 def send_directly(host, addresses):
-    """Sends a datagram from a host to each address, without a server."""
+    """Sends a datagram from a host to each address."""
     with host.inside(), contextlib.ExitStack() as all_of:
         scope = socket.if_nametoindex("right")
         kinds = {4: socket.AF_INET, 6: socket.AF_INET6}
@@ -43,7 +43,7 @@ def text(way, address):
 
 
 def ask_for(client, channel, address, wanted):
-    """Asks in all ways for data to go to an address; requests are answered by a code, or 0."""
+    """Asks in all ways for data to go to an address. Requests must get an error code; 0 means success."""
     peer = (str(address), PORT)
     client.permit(peer, wanted)
     client.bind(channel, peer, wanted)
@@ -52,7 +52,7 @@ def ask_for(client, channel, address, wanted):
 
 
 def ask_for_all(bench, server, settings, six, allowed, forbidden):
-    """A client asks for those of the addresses that are of a family."""
+    """A client asks for the addresses of one family."""
     name, password = settings.credentials()
     with bench.hosts.left.inside():
         asking = Client(server, name, password, at=SERVER[six], source=LEFT[six])
@@ -65,9 +65,8 @@ def ask_for_all(bench, server, settings, six, allowed, forbidden):
 
 
 def denied(bench):
-    """A client asks in all ways for data to go to addresses that are denied: it gets 403, and tshark sees
-    nothing of it on its way there. It sees what goes to an allowed address, and what goes to the denied ones if
-    the server's host sends it itself."""
+    """A client asks in all ways for data to go to denied addresses: it gets 403, and tshark sees none of
+    the data. It does see data to allowed addresses, and what the server's host itself sends to denied ones."""
     settings, forbidden = Settings(), forbidden_addresses()
     allowed = list(map(ipaddress.ip_address, RIGHT))
     with bench.server(settings) as server, Capture(bench.hosts.server) as capture:
@@ -82,4 +81,4 @@ def denied(bench):
     for address in [*allowed, *forbidden]:
         for way in ("by Send", "by a channel"):
             goes = text(way, address) in seen
-            check(goes == (address in allowed), f"data {'goes' if goes else 'does not go'} {way} to {address}")
+            check(goes == (address in allowed), f"{'data' if goes else 'no data'} {way} to {address}")

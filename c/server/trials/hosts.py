@@ -1,5 +1,4 @@
-"""Hosts for trials with several: networks of their own, in which a server and its clients run as on machines
-that reach each other by it alone."""
+"""Hosts: networks of this machine, in which a server and two clients run as on three machines."""
 import concurrent.futures
 import contextlib
 import ctypes
@@ -15,7 +14,7 @@ from steps import PATIENCE, Skipped, Wrong, check, run, wait_until
 
 NEW_NETWORK = 0x40000000
 LIBC = ctypes.CDLL(None, use_errno=True)
-# the server's addresses are in neither client's network (RFC 5737, RFC 3849)
+# for documentation (RFC 5737, RFC 3849), and so not denied by default
 SERVER = ("192.0.2.1", "2001:db8::1")
 LEFT = ("198.51.100.2", "2001:db8:1::2")
 RIGHT = ("203.0.113.2", "2001:db8:2::2")
@@ -23,22 +22,22 @@ LINK_LOCAL = "fe80::1"  # of the right one
 
 
 def own_network():
-    """An open file of this thread's network."""
+    """Opens this thread's network."""
     return os.open("/proc/thread-self/ns/net", os.O_RDONLY | os.O_CLOEXEC)
 
 
 def new_network():
-    """An open file of a new network. It is gone once no file and no process of it is left."""
+    """Opens a new network, which ends with the last file and process of it."""
     def make():
         if LIBC.unshare(NEW_NETWORK) != 0:
-            raise Skipped("it takes the right to make networks (root, or CAP_SYS_ADMIN)")
+            raise Skipped("it needs the right to make networks, as root has it")
         return own_network()
     with concurrent.futures.ThreadPoolExecutor(1) as own:
         return own.submit(make).result()
 
 
 class Host:
-    """A network, with the programs that are started in it."""
+    """A network. It forwards no packets."""
 
     def __init__(self):
         self.network = new_network()
@@ -47,13 +46,11 @@ class Host:
                 pathlib.Path(f"/proc/sys/net/{path}").write_text("0")
         self.ip("link set lo up")
 
-    @property
-    def path(self):
-        return f"/proc/{os.getpid()}/fd/{self.network}"
+        self.path = f"/proc/{os.getpid()}/fd/{self.network}"
 
     @contextlib.contextmanager
     def inside(self):
-        """What this thread opens and starts is in this network for a while."""
+        """Sockets that this thread opens, and processes that it starts, are on this host."""
         before = own_network()
         try:
             check(LIBC.setns(self.network, NEW_NETWORK) == 0, "setns")
@@ -63,11 +60,13 @@ class Host:
             os.close(before)
 
     def ip(self, words):
+        """Runs ip on this host."""
         with self.inside():
             status, _, told = run(["ip", *words.split()])
         check(status == 0, f"ip {words}: {told}")
 
     def address(self, device, *addresses):
+        """Gives a device addresses, and switches it on."""
         for address in addresses:
             nodad = "nodad" if ":" in address else ""
             self.ip(f"address add {address} dev {device} {nodad}")
@@ -78,19 +77,19 @@ class Host:
 
 
 class Hosts:
-    """A server between two clients, which it doesn't forward packets of. Whatever is for nobody goes to
-    the right one."""
+    """A server between two clients, left and right. The server's packets for unknown addresses go to the
+    right one."""
 
     def __init__(self):
         if not shutil.which("ip"):
-            raise Skipped("it takes ip, of iproute2")
+            raise Skipped("it needs ip (iproute2)")
         self.server, self.left, self.right = self.all = [Host() for _ in range(3)]
         self.server.address("lo", f"{SERVER[0]}/32", f"{SERVER[1]}/128")
         for name, host, own in [("left", self.left, LEFT), ("right", self.right, RIGHT)]:
             near = [address[:-1] + "1" for address in own]
             self.server.ip(f"link add {name} type veth peer name uplink netns {host.path}")
             self.server.address(name, f"{near[0]}/24", f"{near[1]}/64")
-            host.ip("link set uplink addrgenmode none")  # (no link-local address, whose making takes time)
+            host.ip("link set uplink addrgenmode none")  # (a link-local address would be tentative at first)
             host.address("uplink", f"{own[0]}/24", f"{own[1]}/64")
             for address in near:
                 host.ip(f"route add default via {address}")
@@ -107,7 +106,7 @@ class Hosts:
 
 
 def apart(hosts):
-    """The clients reach the server, and not each other."""
+    """The left client reaches the server, and doesn't reach the right one."""
     for left, right, server in zip(LEFT, RIGHT, SERVER):
         with contextlib.ExitStack() as all_of:
             listening = {}
@@ -122,18 +121,18 @@ def apart(hosts):
                 asking.bind((left, 0))
                 for own in listening.values():
                     asking.sendto(b"?", own.getsockname())
-            check(listening[server].recv(9) == b"?", "the server got something else")
+            check(listening[server].recv(9) == b"?", "the server receives something else")
             listening[right].settimeout(0.3)
             with contextlib.suppress(socket.timeout):
-                raise Wrong(f"the right client got {listening[right].recv(9)} from the left one")
+                raise Wrong(f"{left} reaches {right}: {listening[right].recv(9)}")
 
 
 class Capture:
-    """The datagrams that a host sends and receives on whatever interface, as tshark sees them."""
+    """Has tshark see the datagrams of all interfaces of a host."""
 
     def __init__(self, host):
         if not shutil.which("tshark"):
-            raise Skipped("it takes tshark")
+            raise Skipped("it needs tshark")
         words = ["tshark", "-i", "any", "-l", "-n", "-f", "udp", "-T", "fields", "-E", "occurrence=l"]
         for field in ("ip.dst", "ipv6.dst", "udp.dstport", "udp.payload"):
             words += ["-e", field]
@@ -151,7 +150,7 @@ class Capture:
             self.seen.append((four or six, int(port), bytes.fromhex(payload)))
 
     def catch_up(self):
-        """Waits until a datagram of now is seen, so that all earlier ones are."""
+        """Waits until tshark has seen all datagrams up to now."""
         mark = os.urandom(16)
 
         def marked():

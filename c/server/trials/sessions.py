@@ -1,4 +1,4 @@
-"""Trials with two clients of a TURN server that reach each other through it alone: see sides/session.py."""
+"""Trials with sessions of two clients, relayed: see sides/session.py."""
 import pathlib
 import re
 import select
@@ -17,7 +17,7 @@ def python_side(module):
     """The command of a side in Python."""
     status, _, told = run([SYSTEM_PYTHON, "-c", f"import {module}"])
     if status != 0:
-        raise Skipped(f"it takes {module} for {SYSTEM_PYTHON}: {told.strip().splitlines()[-1:]}")
+        raise Skipped(f"it needs {module} for {SYSTEM_PYTHON}: {told.strip().splitlines()[-1:]}")
     return [SYSTEM_PYTHON, "-B", str(SIDES / f"with_{module}.py")]
 
 
@@ -30,7 +30,7 @@ def aiortc(bench, **how):
 
 
 def refreshed(_, refreshes, channels):
-    """A client refreshed its allocation, and its channel, which it had bound."""
+    """The client has refreshed its allocation and its channel."""
     check(int(refreshes) >= 1 and int(channels) >= 2, f"{refreshes} refreshes, {channels} channels")
 
 
@@ -40,7 +40,7 @@ def libnice(bench, **how):
     except FileNotFoundError:
         status = 1
     if status != 0 or not c_compiler():
-        raise Skipped("it takes libnice with its headers (libnice-dev), pkg-config and a C compiler")
+        raise Skipped("it needs libnice with its headers (libnice-dev), pkg-config and a C compiler")
     program = bench.new_folder() / "with_libnice"
     build(c_compiler(), "-Wall", "-Wextra", SIDES / "with_libnice.c", "-o", program, *flags.split())
     session(bench, [str(program)], **how)
@@ -55,16 +55,15 @@ def line_of(side):
 
 
 def session(bench, command, transport="udp", six=False):
-    """Two clients talk through the server, each on its host. Returns how many messages came back to the one,
-    and what else it counts."""
-    settings = Settings(channel_permits=True)  # (aioice refreshes channels, and no permissions)
+    """Two clients talk through the server. Returns the numbers that the one that offers prints."""
+    settings = Settings(channel_permits=True)  # (aioice doesn't refresh permissions, only channels)
     with bench.server(settings) as server:
-        return talk(bench, command, SERVER[six], server.port, transport, *settings.credentials(), bench.seconds,
-                    bench.speed)
+        return talk(bench, command, SERVER[six], server.port, transport, *settings.credentials(),
+                    bench.seconds, bench.speed)
 
 
 def talk(bench, command, *given):
-    """Starts two sides, and waits until they have talked."""
+    """Starts two sides, gives each the other's description, and waits until they have talked."""
     pipes = dict.fromkeys(["stdin", "stdout", "stderr"], subprocess.PIPE)
     both = []
     try:

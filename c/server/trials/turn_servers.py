@@ -25,13 +25,13 @@ DEFAULTS = TOP / "crates/turn_table/src/peers/defaults.rt"
 
 @dataclasses.dataclass
 class Settings:
-    """What a trial asks of a server: users with names or with credentials that a secret makes for a time."""
-    timed: bool = False
+    """What a trial asks of a server."""
+    timed: bool = False  # credentials are valid for a time
     old_channels: bool = False
     channel_permits: bool = False
 
     def credentials(self):
-        """A name and a password that are good now."""
+        """A name and a password."""
         if not self.timed:
             return USER, PASSWORD
         name = f"{int(time.time()) + 3600}:{USER}"
@@ -50,7 +50,7 @@ def denied_prefixes():
 
 
 def answers(address, port):
-    """Whether a server answers a binding request."""
+    """Whether a server answers binding requests."""
     family = socket.AF_INET6 if ":" in address else socket.AF_INET
     with socket.socket(family, socket.SOCK_DGRAM) as asking, contextlib.suppress(OSError):
         asking.settimeout(0.2)
@@ -65,7 +65,7 @@ def coturn(host, folder, settings):
     """Starts coturn's turnserver. Yields something with its port."""
     program = shutil.which("turnserver")
     if not program:
-        raise Skipped("it takes turnserver, of coturn")
+        raise Skipped("it needs turnserver, of coturn")
     with host.inside():
         port = free_port(SERVER)
     words = [program, "-n", "--no-cli", "--no-tls", "--no-dtls", "--no-software-attribute", "--realm", REALM,

@@ -15,7 +15,7 @@ PATIENCE = 120
 
 @contextlib.contextmanager
 def echoing(host):
-    """Has turnutils_peer echo at a host."""
+    """Runs turnutils_peer on a host: it echoes."""
     words = ["turnutils_peer", "-p", str(PEER_PORT)]
     for address in RIGHT:
         words += ["-L", address]
@@ -31,7 +31,7 @@ def echoing(host):
 
 
 def expect_echoes(ran):
-    """Waits for a turnutils_uclient, which has to have sent and received every message."""
+    """Waits for turnutils_uclient, which has to receive each message that it sends."""
     said, _ = ran.communicate(timeout=PATIENCE)
     total = str(CLIENTS * MESSAGES)
     sums = re.findall(r"tot_send_msgs=(\d+), tot_recv_msgs=(\d+)", said)
@@ -41,16 +41,16 @@ def expect_echoes(ran):
 
 
 def echoed(bench, *flags):
-    """turnutils_uclient sends messages through the server to turnutils_peer, and gets each of them again;
-    over IPv4, and at the same time over IPv6."""
+    """turnutils_uclient sends messages through the server to turnutils_peer and receives them again, over
+    IPv4 and IPv6 at once."""
     if not shutil.which("turnutils_uclient") or not shutil.which("turnutils_peer"):
-        raise Skipped("it takes turnutils_uclient and turnutils_peer, of coturn")
+        raise Skipped("it needs turnutils_uclient and turnutils_peer, of coturn")
     settings = Settings(old_channels="-s" not in flags)  # (its channels are random ones of RFC 5766)
     name, password = settings.credentials()
     both = []
     with bench.server(settings) as server, echoing(bench.hosts.right):
-        common = ["turnutils_uclient", "-c", *flags, "-m", CLIENTS, "-n", MESSAGES, "-l", LENGTH, "-z", INTERVAL,
-                  "-u", name, "-w", password, "-p", server.port, "-r", PEER_PORT]
+        common = ["turnutils_uclient", "-c", *flags, "-m", CLIENTS, "-n", MESSAGES, "-l", LENGTH,
+                  "-z", INTERVAL, "-u", name, "-w", password, "-p", server.port, "-r", PEER_PORT]
         try:
             for words in [["-e", RIGHT[0], SERVER[0]], ["-x", "-e", RIGHT[1], SERVER[1]]]:
                 with bench.hosts.left.inside():

@@ -1,12 +1,12 @@
-"""One side of a session between two clients of a TURN server: what those in Python share.
+"""One side of a session between two clients of a TURN server: what the sides in Python share.
 
 SIDE offers|answers SERVER PORT udp|tcp NAME PASSWORD SECONDS SPEED
 
-A side prints its description in one line and reads that of the other. Then the side that offers sends
-numbered messages for so many seconds, and the other sends each of them back; none may be missing or changed.
-The clock of a client in Python runs SPEED times as fast, so that it refreshes its allocation, permissions and
-channels early; what it waits for an answer isn't shortened. At the end it prints how many messages came back,
-and how often it refreshed its allocation and bound a channel.
+A side prints its description in one line, and reads that of the other. Then the side that offers sends
+numbered messages for SECONDS, and the other sends each back: none may be missing or changed. The clock of a
+side in Python runs SPEED times as fast, so that it refreshes its allocation and its channel early; its
+retransmissions to the server keep their real time. At the end the side that offers prints how many messages
+came back, and in Python how often it refreshed its allocation and bound a channel.
 """
 import asyncio
 import collections
@@ -33,30 +33,37 @@ class Arguments:
         self.seconds, self.speed = int(words[6]), int(words[7])
 
 
-class HastySelector(selectors.DefaultSelector):
-    speed = 1
+class FastSelector(selectors.DefaultSelector):
+    """Waits for times of a fast clock."""
+
+    def __init__(self, speed):
+        super().__init__()
+        self.speed = speed
 
     def select(self, timeout=None):
         return super().select(timeout and timeout / self.speed)
 
 
-class HastyLoop(asyncio.SelectorEventLoop):
-    """A loop whose clock runs fast."""
+class FastLoop(asyncio.SelectorEventLoop):
+    """An event loop whose clock runs fast."""
+
+    def __init__(self, speed):
+        self.speed = speed
+        super().__init__(FastSelector(speed))
 
     def time(self):
-        return super().time() * HastySelector.speed
+        return super().time() * self.speed
 
 
-def loop_of(speed):
-    """A loop for clients whose clocks run fast."""
-    HastySelector.speed = speed
+def hasten(speed):
+    """Has aioice's clocks run fast, but not those of its retransmissions."""
     aioice.turn.time = types.SimpleNamespace(time=lambda: time.time() * speed)
     aioice.stun.RETRY_RTO *= speed
-    return HastyLoop(HastySelector())
+    asyncio.set_event_loop(FastLoop(speed))
 
 
 def count_requests(client):
-    """Has a class of clients count its requests to the server that succeed."""
+    """Has a class of clients count the requests that the server answers with success."""
     ask = client.request_with_retry
 
     async def ask_and_count(self, request):
@@ -67,18 +74,18 @@ def count_requests(client):
 
 
 def describe(own):
-    """Gives the other side a description."""
+    """Sends this side's description to the other."""
     print(json.dumps(own), flush=True)
 
 
 async def described():
-    """The description of the other side."""
+    """Waits for the other side's description."""
     loop = asyncio.get_running_loop()
     return json.loads(await loop.run_in_executor(None, sys.stdin.readline))
 
 
 async def talk(arguments, send, receive):
-    """Sends messages and gets each again, or sends back what comes, until the end."""
+    """Sends messages and waits for each to come back, or sends back what comes, until the end."""
     patience = PATIENCE * arguments.speed
     if not arguments.offers:
         message = b""
@@ -103,8 +110,8 @@ async def talk(arguments, send, receive):
 
 
 def run(main):
+    """Runs a side: a coroutine of its arguments."""
     arguments = Arguments()
     count_requests(aioice.turn.TurnClientMixin)
-    loop = loop_of(arguments.speed)
-    asyncio.set_event_loop(loop)
-    loop.run_until_complete(main(arguments))
+    hasten(arguments.speed)
+    asyncio.get_event_loop().run_until_complete(main(arguments))

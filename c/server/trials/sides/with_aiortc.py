@@ -7,7 +7,7 @@ from aioice import Connection, TransportPolicy
 from aiortc import (RTCConfiguration, RTCIceServer, RTCPeerConnection, RTCSessionDescription,
                     rtcicetransport)
 
-# aiortc has no iceTransportPolicy
+# aiortc doesn't have iceTransportPolicy
 rtcicetransport.Connection = functools.partial(Connection, transport_policy=TransportPolicy.RELAY)
 
 
