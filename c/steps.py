@@ -5,6 +5,7 @@ import pathlib
 import shutil
 import subprocess
 import tempfile
+import threading
 import time
 
 HERE = pathlib.Path(__file__).resolve().parent
@@ -14,6 +15,7 @@ REQUEST = bytes.fromhex("000100002112A442")  # and a transaction ID
 PATIENCE = 20  # seconds, for what takes a moment on an idle machine
 
 passed = failed = 0
+counting = threading.Lock()  # of steps that run at once
 wanted = ""  # trials without this in their names aren't run
 archives = []  # what the library is made of, for c/install
 
@@ -45,11 +47,13 @@ def step(name):
     except Skipped as why:
         skip(name, why)
     except (Wrong, OSError, ValueError, KeyError, subprocess.SubprocessError) as error:
-        failed += 1
-        print(f"{name}: {type(error).__name__}: {error}", flush=True)
+        with counting:
+            failed += 1
+            print(f"{name}: {type(error).__name__}: {error}", flush=True)
     else:
-        passed += 1
-        print(f"{name}: right, {time.monotonic() - began:.1f} s", flush=True)
+        with counting:
+            passed += 1
+            print(f"{name}: right, {time.monotonic() - began:.1f} s", flush=True)
 
 
 def trial(name, function, *given):
@@ -107,23 +111,34 @@ def kit_library():
     return pathlib.Path(told.stdout.strip()).parent / "c/liblibc_c.a"
 
 
+def c_compiler():
+    return shutil.which("gcc") or shutil.which("cc")
+
+
+def run_in_folder(name, run_all):
+    """Runs `run_all(folder)` in a new folder, and prints how many steps passed. Returns the status of the script."""
+    began = time.monotonic()
+    with tempfile.TemporaryDirectory(prefix=name) as folder:
+        run_all(pathlib.Path(folder))
+    print(f"{time.monotonic() - began:.0f} s\n{passed} passed, {failed} failed")
+    return 1 if failed or not passed else 0
+
+
 def run_over(given, folder_name, run_all):
     """Runs `run_all(compiler, folder, libraries)` over the library that c/library.py makes of the archives that
     the arguments name, or of those of this tree and of `rt`. Returns the status of the script."""
     global archives
     given = [pathlib.Path(word).resolve() for word in given]
     archives = [given[0] if given else ARCHIVE, given[1] if len(given) > 1 else kit_library()]
-    compiler = shutil.which("gcc") or shutil.which("cc")
+    compiler = c_compiler()
     missing = [] if compiler else ["no C compiler (gcc or cc) was found: nothing was built or run"]
     missing += [f"there is no library {it}" for it in archives if not it.is_file()]
     if missing:
         print("\n".join(missing) + "\n0 passed, 1 failed")
         return 1
-    began = time.monotonic()
-    with tempfile.TemporaryDirectory(prefix=folder_name) as name:
-        folder = pathlib.Path(name)
+
+    def run_over_library(folder):
         library = folder / "libstun_types.a"
         subprocess.run([HERE / "library.py", library, *archives], check=True)
         run_all(compiler, folder, [library])
-    print(f"{time.monotonic() - began:.0f} s\n{passed} passed, {failed} failed")
-    return 1 if failed or not passed else 0
+    return run_in_folder(folder_name, run_over_library)

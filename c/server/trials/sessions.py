@@ -1,0 +1,85 @@
+"""Trials with sessions of two clients, relayed: see sides/session.py."""
+import pathlib
+import re
+import select
+import subprocess
+
+from hosts import SERVER
+from steps import Skipped, build, c_compiler, check, run
+from turn_servers import Settings
+
+SIDES = pathlib.Path(__file__).resolve().parent / "sides"
+SYSTEM_PYTHON = "/usr/bin/python3"  # Debian's packages are of this one
+PATIENCE = 60
+
+
+def python_side(module):
+    """The command of a side in Python."""
+    status, _, told = run([SYSTEM_PYTHON, "-c", f"import {module}"])
+    if status != 0:
+        raise Skipped(f"it needs {module} for {SYSTEM_PYTHON}: {told.strip().splitlines()[-1:]}")
+    return [SYSTEM_PYTHON, "-B", str(SIDES / f"with_{module}.py")]
+
+
+def aioice(bench, **how):
+    refreshed(*session(bench, python_side("aioice"), **how))
+
+
+def aiortc(bench, **how):
+    refreshed(*session(bench, python_side("aiortc"), **how))
+
+
+def refreshed(_, refreshes, channels):
+    """The client has refreshed its allocation and its channel."""
+    check(int(refreshes) >= 1 and int(channels) >= 2, f"{refreshes} refreshes, {channels} channels")
+
+
+def libnice(bench, **how):
+    try:
+        status, flags, _ = run(["pkg-config", "--cflags", "--libs", "nice"])
+    except FileNotFoundError:
+        status = 1
+    if status != 0 or not c_compiler():
+        raise Skipped("it needs libnice with its headers (libnice-dev), pkg-config and a C compiler")
+    program = bench.new_folder() / "with_libnice"
+    build(c_compiler(), "-Wall", "-Wextra", SIDES / "with_libnice.c", "-o", program, *flags.split())
+    session(bench, [str(program)], **how)
+
+
+def line_of(side):
+    """The next line that a side prints."""
+    ready, _, _ = select.select([side.stdout], [], [], PATIENCE)
+    line = side.stdout.readline() if ready else ""
+    check(line, f"a side prints nothing: {side.poll()}")
+    return line
+
+
+def session(bench, command, transport="udp", six=False):
+    """Two clients talk through the server. Returns the numbers that the one that offers prints."""
+    settings = Settings(channel_permits=True)  # (aioice doesn't refresh permissions, only channels)
+    with bench.server(settings) as server:
+        return talk(bench, command, SERVER[six], server.port, transport, *settings.credentials(),
+                    bench.seconds, bench.speed)
+
+
+def talk(bench, command, *given):
+    """Starts two sides, gives each the other's description, and waits until they have talked."""
+    pipes = dict.fromkeys(["stdin", "stdout", "stderr"], subprocess.PIPE)
+    both = []
+    try:
+        for host, role in [(bench.hosts.left, "offers"), (bench.hosts.right, "answers")]:
+            with host.inside():
+                both.append(subprocess.Popen([*command, role, *map(str, given)], text=True, **pipes))
+        for one, other in [both, both[::-1]]:
+            other.stdin.write(line_of(one))
+            other.stdin.flush()
+        told = [side.communicate(timeout=bench.seconds + 2 * PATIENCE) for side in both]
+        for side, (_, complaint) in zip(both, told):
+            check(side.returncode == 0, f"status {side.returncode}: {complaint[-1000:]}")
+        counted = re.findall(r"\d+", told[0][0])
+        check(counted and int(counted[0]) > 10 * bench.seconds, f"it said {told}")
+        return counted
+    finally:
+        for side in both:
+            side.kill()
+            side.communicate()

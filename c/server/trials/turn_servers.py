@@ -1,0 +1,109 @@
+"""The servers that other people's clients are tried against: this one, or coturn in its place. Both serve
+UDP and TCP at the server's addresses, and relay there."""
+import base64
+import contextlib
+import dataclasses
+import hashlib
+import hmac
+import ipaddress
+import re
+import shutil
+import socket
+import subprocess
+import time
+import types
+
+from harness import Server, free_port
+from hosts import SERVER
+from steps import REQUEST, Skipped, TOP, check, wait_until
+
+REALM = "example.org"
+USER, PASSWORD = "alice", "wonderland"
+SECRET = "a secret of the server and of those who give credentials"
+DEFAULTS = TOP / "crates/turn_table/src/peers/defaults.rt"
+
+
+@dataclasses.dataclass
+class Settings:
+    """What a trial asks of a server."""
+    timed: bool = False  # credentials are valid for a time
+    old_channels: bool = False
+    channel_permits: bool = False
+
+    def credentials(self):
+        """A name and a password."""
+        if not self.timed:
+            return USER, PASSWORD
+        name = f"{int(time.time()) + 3600}:{USER}"
+        digest = hmac.digest(SECRET.encode(), name.encode(), hashlib.sha1)
+        return name, base64.b64encode(digest).decode()
+
+
+def denied_prefixes():
+    """The prefixes that this server denies by default."""
+    found = []
+    for kind, number, length in re.findall(r"v([46])!\((0x[0-9A-F_]+) / (\d+)\)", DEFAULTS.read_text()):
+        address = ipaddress.IPv6Address if kind == "6" else ipaddress.IPv4Address
+        found.append(ipaddress.ip_network((address(int(number, 16)), int(length))))
+    check(len(found) > 10, f"{DEFAULTS} has no list of prefixes")
+    return found
+
+
+def answers(address, port):
+    """Whether a server answers binding requests."""
+    family = socket.AF_INET6 if ":" in address else socket.AF_INET
+    with socket.socket(family, socket.SOCK_DGRAM) as asking, contextlib.suppress(OSError):
+        asking.settimeout(0.2)
+        asking.connect((address, int(port)))
+        asking.send(REQUEST + bytes(12))
+        return asking.recv(2048)[:2] == b"\1\1"
+    return False
+
+
+@contextlib.contextmanager
+def coturn(host, folder, settings):
+    """Starts coturn's turnserver. Yields something with its port."""
+    program = shutil.which("turnserver")
+    if not program:
+        raise Skipped("it needs turnserver, of coturn")
+    with host.inside():
+        port = free_port(SERVER)
+    words = [program, "-n", "--no-cli", "--no-tls", "--no-dtls", "--no-software-attribute", "--realm", REALM,
+             "--listening-port", port, "--pidfile", folder / "turnserver.pid", "--log-file", "stdout",
+             "--db", folder / "turnserver.db"]
+    for address in SERVER:
+        words += ["--listening-ip", address, "--relay-ip", address]
+    # (a range from :: would have all of IPv4 in it)
+    words += [f"--denied-peer-ip={it[1]}-{it[-1]}" for it in denied_prefixes()]
+    if settings.timed:
+        words += ["--use-auth-secret", "--static-auth-secret", SECRET]
+    else:
+        words += ["--lt-cred-mech", "--user", f"{USER}:{PASSWORD}"]
+    with open(folder / "turnserver.log", "w") as log, host.inside():
+        ran = subprocess.Popen(list(map(str, words)), stdin=subprocess.DEVNULL, stdout=log, stderr=log)
+    try:
+        with host.inside():
+            for address in SERVER:
+                wait_until(lambda: answers(address, port), "coturn doesn't answer")
+        yield types.SimpleNamespace(port=port)
+        check(ran.poll() is None, f"coturn ended with status {ran.returncode}")
+    finally:
+        ran.kill()
+        ran.wait()
+
+
+@contextlib.contextmanager
+def this_server(program, host, folder, settings):
+    """Starts this server. Yields something with its port."""
+    (folder / "users").write_text(f"{USER} {PASSWORD}\n")
+    (folder / "secret").write_text(f"{SECRET}\n")
+    options = [f"realm={REALM}", f"old-channels={int(settings.old_channels)}",
+               f"channel-permits={int(settings.channel_permits)}", "user-allocations=100"]
+    options += [f"secret={folder}/secret" if settings.timed else f"users={folder}/users"]
+    options += [f"relay-address={address}" for address in SERVER]
+    with host.inside():
+        server = Server(program, "-t", "--turn", *(word for it in options for word in ("-o", it)), at=SERVER)
+    with server:
+        yield server
+        counted = server.end()
+        check(counted["workers_died"] == counted["workers_hung"] == 0, f"the server counted {counted}")
