@@ -94,7 +94,8 @@ def check_content(wrong, root, kit):
     documents = root / "share/doc/stun_types"
     examples = [f"examples/{it.name}" for it in sorted((HERE / "examples").glob("messages.*"))]
     guides = [f"guide/{it}.md" for it in ("C", "PROGRAMS", "STUN-SERVER", "TROUBLESHOOTING")]
-    more = ["RELEASE.txt", "SHA256SUMS", "uninstall", "stun-server.conf", "stun-server.service"]
+    more = ["RELEASE.txt", "SHA256SUMS", "uninstall", "stun-server.conf", "stun-server.service",
+            "stunnel.conf", "haproxy.cfg"]
     more = [f"share/doc/stun_types/{it}" for it in [*more, *examples, *guides]]
     server = ["bin/stun-server", "share/man/man8/stun-server.8"]
     compare(wrong, tree(root), sorted({*installed(), *PROGRAMS, *server, *more}))

@@ -78,7 +78,7 @@ def wait_until(holds, what):
 def build(compiler, *words):
     """Compiles sources, if the compiler has no complaint."""
     command = [compiler, "-O2", "-I", HERE, *words]
-    status, out, told = run(list(map(str, command)), 60)
+    status, out, told = run(list(map(str, command)), 300)
     check(status == 0, (out + told)[:2000])
 
 

@@ -89,6 +89,27 @@ static inline bool address_of(const struct sockaddr_storage *from, stun_types_ad
     return true;
 }
 
+/* An address of the library for a socket of its family. */
+static inline void socket_address_of(const stun_types_address *from, socket_address *to) {
+    struct sockaddr_in four;
+    struct sockaddr_in6 six;
+    memset(&four, 0, sizeof four);
+    memset(&six, 0, sizeof six);
+    if (from->family == 4) {
+        four.sin_family = AF_INET;
+        four.sin_port = htons(from->port);
+        memcpy(&four.sin_addr, from->octets, sizeof four.sin_addr);
+        memcpy(&to->bytes, &four, sizeof four);
+        to->length = sizeof four;
+    } else {
+        six.sin6_family = AF_INET6;
+        six.sin6_port = htons(from->port);
+        memcpy(&six.sin6_addr, from->octets, sizeof six.sin6_addr);
+        memcpy(&to->bytes, &six, sizeof six);
+        to->length = sizeof six;
+    }
+}
+
 /* Whether an address has a port; 0 is none. */
 static inline bool has_port(const socket_address *address) {
     stun_types_address read;

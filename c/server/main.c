@@ -1,8 +1,9 @@
 /* A STUN server: it returns to each client the address that its request came from, over UDP and
- * TCP. docs/guide/STUN-SERVER.md says how to run it.
+ * TCP; and a TURN server: it relays data between its users and their peers.
+ * docs/guide/STUN-SERVER.md says how to run it.
  *
  *     cc -std=c11 -O2 -I c FILES libstun_types.a -o stun-server
- *     ./stun-server [-t] [-j PROCESSES] [-U USER] [-m PATH|PORT] [-c FILE] [-o NAME=NUMBER]..
+ *     ./stun-server [-t] [--turn] [-j PROCESSES] [-U USER] [-m PATH|PORT] [-c FILE] [-o NAME=VALUE]..
  *         ADDRESS PORT [ADDRESS PORT]..
  *
  * ADDRESS is an IPv4 or IPv6 address of this machine. 0.0.0.0 stands for all its IPv4 addresses,
@@ -11,7 +12,7 @@
  *
  * Each address has as many processes over UDP as -j says, and all TCP connections have one. A
  * process over them replaces one that dies or hangs. Whatever a client sends or doesn't read, the
- * others are served. The workers allocate nothing.
+ * others are served. Without TURN the workers allocate nothing.
  *
  * Standard output says where it listens. Standard error has a line for each event, and one with
  * the counts at SIGHUP, at SIGUSR1 and at the end, which SIGTERM and SIGINT bring. At SIGHUP the
@@ -21,6 +22,7 @@
 #include "server.h"
 
 #include <fcntl.h>
+#include <getopt.h>
 
 server_options options = {.processes = 1};
 
@@ -30,8 +32,8 @@ bool cannot(const char *what) {
 }
 
 static int print_usage(FILE *to) {
-    fprintf(to, "usage: stun-server [-t] [-j PROCESSES] [-U USER] [-m PATH|PORT] [-c FILE] "
-                "[-o NAME=NUMBER].. ADDRESS PORT [ADDRESS PORT]..\n"
+    fprintf(to, "usage: stun-server [-t] [--turn] [-j PROCESSES] [-U USER] [-m PATH|PORT] [-c FILE] "
+                "[-o NAME=VALUE].. ADDRESS PORT [ADDRESS PORT]..\n"
                 "       stun-server -h | -V\n");
     return to == stdout ? 0 : 2;
 }
@@ -42,11 +44,12 @@ static int print_help(void) {
            "ADDRESS            an IP address of this machine; 0.0.0.0 or :: stands for all\n"
            "PORT               1 to 65535\n"
            "-t                 serve TCP too\n"
+           "--turn             the same as -o turn=1\n"
            "-j PROCESSES       1 to %d for each address over UDP; 1 unless it is given\n"
            "-U USER            run with this user's rights once the sockets are open\n"
            "-m PATH or PORT    say the counts by this UNIX socket or port of 127.0.0.1, over HTTP\n"
-           "-c FILE            read settings from lines NAME NUMBER, and again at SIGHUP\n"
-           "-o NAME=NUMBER     set one of these (least to most, default):\n",
+           "-c FILE            read settings from lines NAME VALUE, and again at SIGHUP\n"
+           "-o NAME=VALUE      set one of these (least to most, default):\n",
            MOST_WORKERS);
     print_settings();
     return fflush(stdout) == 0 ? STATUS_DONE : STATUS_BROKEN;
@@ -77,6 +80,7 @@ static bool read_option(int option, const char *value) {
     case 'o': return read_setting(value);
     case 'c': return *(options.file = value) != 0;
     case 'm': return is_place(options.reports = value);
+    case 'T': return read_setting("turn=1");
     default: return false;
     }
 }
@@ -107,6 +111,9 @@ static bool open_all(endpoints *opened, const socket_address *addresses, size_t 
     }
     for (size_t i = 0; i < opened->count; i++) listeners += opened->all[i].stream;
     connect_notify();
+    if (setting(TURN) && allow_files(OTHER_FILES + turn_files()) < OTHER_FILES + turn_files()) {
+        say(WARNING, "event=few-files allocations=%u\n", (unsigned)setting(ALLOCATIONS));
+    }
     return listeners == 0 || make_connections(listeners);
 }
 
@@ -122,6 +129,7 @@ static int run(const socket_address *addresses, size_t count, uint32_t passed) {
     if (!open_all(&opened, addresses, count, passed)) return STATUS_BROKEN;
     if (options.reports != NULL && (reports = open_reports(options.reports)) < 0) return STATUS_BROKEN;
     if ((rates = make_rate_table()) == NULL) return STATUS_BROKEN;
+    if (setting(TURN) && !prepare_turn(&opened)) return STATUS_BROKEN;
     if (options.user != NULL && !become_user(options.user)) return STATUS_BROKEN;
     return supervise(&opened, rates, reports) ? STATUS_DONE : STATUS_BROKEN;
 }
@@ -141,7 +149,8 @@ int main(int count, char **arguments) {
     open_standard();
     setvbuf(stderr, line, _IOLBF, sizeof line); /* each line is written at once */
     if (!make_settings()) return STATUS_BROKEN;
-    while ((option = getopt(count, arguments, "+:tj:U:o:c:m:hV")) != -1) {
+    static const struct option long_options[] = {{"turn", no_argument, NULL, 'T'}, {NULL, 0, NULL, 0}};
+    while ((option = getopt_long(count, arguments, "+:tj:U:o:c:m:hV", long_options, NULL)) != -1) {
         if (option == 'h') return print_help();
         if (option == 'V') return print_version();
         if (!read_option(option, optarg)) return print_usage(stderr);

@@ -1,5 +1,6 @@
-/* A limit of the answers to one prefix: the first 24 bits of an IPv4 address, or 56 of IPv6. Each
- * prefix may have `rate` answers at once, and `rate` a second from then on.
+/* A limit of the answers to one prefix: the first 24 bits of an IPv4 address, or 56 of IPv6; and of the
+ * octets that are relayed for one user, or one allocation. Each prefix may have `rate` answers at once,
+ * and `rate` a second from then on.
  *
  * For each prefix the table has the time until which its answers are paid for: an answer moves it
  * by a `rate`th of a second, and is given if it then is at most a second ahead (the generic cell
@@ -58,12 +59,36 @@ static place *find_place(rate_table *table, uint64_t prefix) {
     return quiet;
 }
 
-bool may_answer(rate_table *table, const stun_types_address *source, uint32_t rate, uint64_t now) {
-    place *of = find_place(table, prefix_of(source));
+/* Moves a time by a price, if it then is at most a second ahead. */
+static bool pay(uint64_t *until, uint64_t price, uint64_t now) {
+    uint64_t paid = (*until > now ? *until : now) + price;
+    if (paid > now + SECOND) return false;
+    *until = paid;
+    return true;
+}
+
+/* The same in the table. */
+static bool pay_in(rate_table *table, uint64_t prefix, uint64_t price, uint64_t now) {
+    place *of = find_place(table, prefix);
     uint64_t until = atomic_load_explicit(&of->paid_until, memory_order_relaxed);
-    if (until < now) until = now;
-    until += SECOND / rate;
-    if (until > now + SECOND) return false;
+    if (!pay(&until, price, now)) return false;
     atomic_store_explicit(&of->paid_until, until, memory_order_relaxed);
     return true;
+}
+
+bool may_answer(rate_table *table, const stun_types_address *source, uint32_t rate, uint64_t now) {
+    return pay_in(table, prefix_of(source), SECOND / rate, now);
+}
+
+/* What octets take of a second; a datagram that is longer than a second's takes it all. */
+static uint64_t price_of(size_t octets, uint32_t rate) {
+    return octets < rate ? (uint64_t)octets * SECOND / rate : SECOND;
+}
+
+bool may_pass(rate_table *table, uint64_t user, uint32_t rate, size_t octets, uint64_t now) {
+    return pay_in(table, user, price_of(octets, rate), now);
+}
+
+bool may_pass_by(uint64_t *paid_until, uint32_t rate, size_t octets, uint64_t now) {
+    return pay(paid_until, price_of(octets, rate), now);
 }

@@ -1,9 +1,8 @@
 /* The reply to a message, with its SOFTWARE or without. */
 #include "server.h"
 
-/* Takes the SOFTWARE out of a reply, and computes its FINGERPRINT anew if it has one. Returns how
- * many bytes are left. */
-static size_t without_software(uint8_t *reply, size_t length) {
+/* (its FINGERPRINT is computed anew if it has one) */
+size_t without_software(uint8_t *reply, size_t length) {
     enum { HEADER = 20, ATTRIBUTE_HEADER = 4, FINGERPRINT = 8 };
     stun_types_attribute software, fingerprint;
     if (!stun_types_find(reply, length, STUN_TYPES_ATTRIBUTE_SOFTWARE, &software)) return length;

@@ -53,14 +53,21 @@ static bool allow_folder(int made, const char *folder) {
     return added;
 }
 
-int close_off_system(const char *folder) {
+static bool allow_folders(int made, const char *const *folders, size_t count) {
+    for (size_t i = 0; i < count; i++) {
+        if (!allow_folder(made, folders[i])) return false;
+    }
+    return true;
+}
+
+int close_off_system(const char *const *folders, size_t count) {
     enum { ASK_VERSION = 1 };
     int version = (int)syscall(SYS_landlock_create_ruleset, NULL, 0, ASK_VERSION);
     if (prctl(PR_SET_NO_NEW_PRIVS, 1, 0, 0, 0) != 0 || version < 1) return 0;
     ruleset rules = rules_in(version);
     int made = (int)syscall(SYS_landlock_create_ruleset, &rules, size_in(version), 0);
     if (made < 0) return 0;
-    bool closed = (folder == NULL || allow_folder(made, folder)) &&
+    bool closed = allow_folders(made, folders, count) &&
                   syscall(SYS_landlock_restrict_self, made, 0) == 0;
     close(made);
     return closed ? version : 0;
@@ -85,9 +92,9 @@ bool can_filter(void) {
 
 #ifdef MACHINE
 
-/* Steps that read a call, each for what the one before left it. */
+/* Steps that read a call. What they compare is the number of the call, unless arguments were loaded. */
 typedef struct {
-    struct sock_filter steps[96];
+    struct sock_filter steps[160];
     unsigned short count;
 } program;
 
@@ -106,50 +113,68 @@ static void end_by(program *to, uint32_t action) {
     to->steps[to->count++] = (struct sock_filter)BPF_STMT(BPF_RET | BPF_K, action);
 }
 
-static void allow(program *to, int call) {
-    compare(to, call, 0, 1);
+/* An argument, which is an integer, and what it has to be. */
+typedef struct {
+    size_t place;
+    int number;
+} argument;
+
+/* Allows a call whose arguments are some numbers. (Both machines have the lower half of an argument
+ * first.) */
+static void allow_if(program *to, int call, const argument *arguments, uint8_t count) {
+    compare(to, call, 0, (uint8_t)(2 * count + (count > 0 ? 2 : 1)));
+    for (uint8_t i = 0; i < count; i++) {
+        load(to, offsetof(struct seccomp_data, args) + 8 * arguments[i].place);
+        compare(to, arguments[i].number, 0, (uint8_t)(2 * (count - 1 - i) + 1));
+    }
     end_by(to, SECCOMP_RET_ALLOW);
+    if (count > 0) load(to, offsetof(struct seccomp_data, nr));
 }
 
-enum { REQUIRED = 3 }; /* steps */
+static void allow(program *to, int call) { allow_if(to, call, NULL, 0); }
 
-/* Ends the process unless an argument, an integer, is a number. (Both machines have the lower half
- * of an argument first.) */
-static void require(program *to, int argument, int number) {
-    load(to, offsetof(struct seccomp_data, args) + 8 * (size_t)argument);
-    compare(to, number, 1, 0);
-    end_by(to, SECCOMP_RET_KILL_PROCESS);
+static void allow_one_if(program *to, int call, size_t place, int number) {
+    allow_if(to, call, &(argument){place, number}, 1);
 }
 
-/* Allows a call of which one argument is a number. */
-static void allow_if(program *to, int call, int argument, int number) {
-    compare(to, call, 0, REQUIRED + 1);
-    require(to, argument, number);
-    end_by(to, SECCOMP_RET_ALLOW);
+static void allow_option(program *to, int level, int name) {
+    const argument option[] = {{1, level}, {2, name}};
+    allow_if(to, SYS_setsockopt, option, 2);
 }
 
-/* What a worker for UDP does: it sends by its own socket alone. */
-static void allow_udp(program *to, int own) {
-    allow(to, SYS_recvmmsg);
-    allow_if(to, SYS_sendmmsg, 0, own);
+static void allow_events(program *to) {
+#ifdef SYS_epoll_wait
+    allow(to, SYS_epoll_wait);
+#endif
+    allow(to, SYS_epoll_pwait);
+    allow(to, SYS_epoll_ctl);
 }
 
 /* What a worker with connections does: it sends to no address, and opens no connection by that. */
 static void allow_tcp(program *to) {
-    static const int calls[] = {
-#ifdef SYS_epoll_wait
-        SYS_epoll_wait,
-#endif
-        SYS_epoll_pwait, SYS_recvfrom, SYS_epoll_ctl, SYS_accept4
-    };
+    allow_events(to);
+    allow(to, SYS_recvfrom);
+    allow(to, SYS_accept4);
+    allow_one_if(to, SYS_sendto, 5, 0);
+    allow_one_if(to, SYS_shutdown, 1, SHUT_WR);
+    allow_one_if(to, SYS_madvise, 2, MADV_DONTNEED);
+    allow_option(to, SOL_SOCKET, SO_LINGER);
+}
+
+/* What a worker does that relays: it opens sockets for UDP, and sends by each; and the library takes
+ * memory, while it authenticates a request. */
+static void allow_relays(program *to, bool tcp) {
+    enum { UDP = SOCK_DGRAM | SOCK_NONBLOCK | SOCK_CLOEXEC };
+    const argument four[] = {{0, AF_INET}, {1, UDP}}, six[] = {{0, AF_INET6}, {1, UDP}};
+    const argument memory[] = {{2, PROT_READ | PROT_WRITE}, {3, MAP_PRIVATE | MAP_ANONYMOUS}};
+    static const int calls[] = {SYS_recvmmsg, SYS_sendmmsg, SYS_bind, SYS_getsockname, SYS_getrandom,
+                                SYS_brk, SYS_munmap};
+    if (!tcp) allow_events(to);
     for (size_t i = 0; i < sizeof calls / sizeof *calls; i++) allow(to, calls[i]);
-    allow_if(to, SYS_sendto, 5, 0);
-    allow_if(to, SYS_shutdown, 1, SHUT_WR);
-    allow_if(to, SYS_madvise, 2, MADV_DONTNEED);
-    compare(to, SYS_setsockopt, 0, 2 * REQUIRED + 1);
-    require(to, 1, SOL_SOCKET);
-    require(to, 2, SO_LINGER);
-    end_by(to, SECCOMP_RET_ALLOW);
+    allow_if(to, SYS_socket, four, 2);
+    allow_if(to, SYS_socket, six, 2);
+    allow_if(to, SYS_mmap, memory, 2);
+    allow_option(to, IPPROTO_IPV6, IPV6_V6ONLY);
 }
 
 static void allow_both(program *to) {
@@ -164,27 +189,33 @@ static void allow_both(program *to) {
 }
 
 /* SPEC_ALLOW: the processor may speculate as before. Older systems would slow the process down,
- * against code in it that reads its memory; it holds no secrets. */
-bool filter_calls(int own) {
+ * against code in it that reads its memory; unless it relays it holds no secrets. */
+bool filter_calls(int own, bool relays) {
     program made = {.count = 0};
     load(&made, offsetof(struct seccomp_data, arch));
     compare(&made, (int)MACHINE, 1, 0);
     end_by(&made, SECCOMP_RET_KILL_PROCESS);
     load(&made, offsetof(struct seccomp_data, nr));
-    if (own >= 0) allow_udp(&made, own);
-    else allow_tcp(&made);
+    if (relays) allow_relays(&made, own < 0);
+    if (own < 0) {
+        allow_tcp(&made);
+    } else if (!relays) {
+        allow(&made, SYS_recvmmsg);
+        allow_one_if(&made, SYS_sendmmsg, 0, own);
+    }
     allow_both(&made);
     end_by(&made, SECCOMP_RET_KILL_PROCESS);
     struct sock_fprog filter = {made.count, made.steps};
+    unsigned long flags = relays ? 0 : SECCOMP_FILTER_FLAG_SPEC_ALLOW;
     return prctl(PR_SET_NO_NEW_PRIVS, 1, 0, 0, 0) == 0 &&
-           syscall(SYS_seccomp, SECCOMP_SET_MODE_FILTER, SECCOMP_FILTER_FLAG_SPEC_ALLOW,
-                   &filter) == 0;
+           syscall(SYS_seccomp, SECCOMP_SET_MODE_FILTER, flags, &filter) == 0;
 }
 
 #else
 
-bool filter_calls(int own) {
+bool filter_calls(int own, bool relays) {
     (void)own;
+    (void)relays;
     return false;
 }
 

@@ -20,7 +20,9 @@
 enum {
     MOST_WORKERS = 64, /* processes that serve UDP */
     MOST_ENDPOINTS = 128,
-    MOST_CONNECTIONS = 4096
+    MOST_CONNECTIONS = 4096,
+    MOST_ALLOCATIONS = 100000, /* of one process */
+    OTHER_FILES = 16 + MOST_WORKERS /* that a process may have open */
 };
 
 /* What the arguments ask for. It is written before the first worker starts, and then only read. */
@@ -46,23 +48,44 @@ enum {
     SOFTWARE,
     SANDBOX,
     LOG_LEVEL,
+    TURN,
+    ALLOCATIONS,
+    USER_ALLOCATIONS,
+    LIFETIME, /* this and the next in seconds */
+    NONCE_LIFETIME,
+    CHANNEL_PERMITS,
+    OLD_CHANNELS,
+    SHA256,
+    BANDWIDTH, /* this and the next in octets a second */
+    USER_BANDWIDTH,
     SETTINGS
 };
 
-/* In memory that all processes share, and that a worker can only read. */
+/* The settings that are texts. Some may be given several times. They don't change. */
+enum { REALM, USERS, SECRET, RELAY_ADDRESS, EXTERNAL_ADDRESS, PORTS, DENY, ALLOW, TEXTS };
+
+/* The numbers, in memory that all processes share, and that a worker can only read. */
 extern _Atomic uint32_t *settings;
 
 static inline uint32_t setting(int which) {
     return atomic_load_explicit(&settings[which], memory_order_relaxed);
 }
 
+/* The text of a setting that was given for the `turn`th time, from 0 on; NULL: it wasn't. */
+const char *text_setting(int which, size_t turn);
+
 /* Makes the settings, as they usually are. */
 bool make_settings(void);
 void protect_settings(void);
 void print_settings(void);
 
-/* Reads NAME=NUMBER of the arguments, which the file doesn't change. */
+/* Reads NAME=VALUE of the arguments, which the file doesn't change. */
 bool read_setting(const char *text);
+
+/* Reads texts of settings: an IP address, whose port is 0; LOW-HIGH; an IP address or ADDRESS/LENGTH. */
+bool read_ip(const char *text, stun_types_address *read);
+bool read_range(const char *text, uint32_t *least, uint32_t *most);
+bool read_prefix(const char *text, stun_types_prefix *read);
 
 /* Reads the file of settings: at the start, when what is wrong is printed, and again, when that is
  * an event. */
@@ -103,6 +126,9 @@ void print_endpoints(const endpoints *of);
 /* Sets what a listener and its connections have of the settings. */
 void prepare_listeners(const endpoints *of);
 
+/* Lets the process have so many files open, if the system allows them. Returns how many it may. */
+size_t allow_files(size_t wanted);
+
 /* ---- The service manager (service.c) --------------------------------------------------------- */
 
 /* Counts the open sockets that the server was started with, from number FIRST_PASSED on. False:
@@ -121,15 +147,15 @@ void notify_alive(void);
  * If this user has started the server, it keeps its other groups, unless it may drop them. */
 bool become_user(const char *name);
 
-/* Closes off files, TCP sockets of its own and other processes by Landlock; the files in one folder
- * can be read still, unless that is NULL. Returns the version of Landlock that does so, or 0. */
-int close_off_system(const char *folder);
+/* Closes off files, TCP sockets of its own and other processes by Landlock; the files in some folders
+ * can be read still. Returns the version of Landlock that does so, or 0. */
+int close_off_system(const char *const *folders, size_t count);
 
 /* Whether the system filters system calls (seccomp), and whether it does so from now on: then a
  * call that serving doesn't make ends the process. own: the socket by which a worker for UDP sends;
- * -1: it has connections. */
+ * -1: it has connections. relays: it opens sockets for UDP, and sends by each. */
 bool can_filter(void);
-bool filter_calls(int own);
+bool filter_calls(int own, bool relays);
 
 /* ---- Counts (counts.c) ----------------------------------------------------------------------- */
 
@@ -150,6 +176,20 @@ enum {
     TCP_RECEIVED,
     TCP_SENT, /* given to a connection to be sent */
     TCP_UNANSWERED,
+    TURN_ALLOCATED,
+    TURN_ENDED,
+    TURN_UNAUTHORIZED, /* responses 401, 438, and others that are errors */
+    TURN_STALE,
+    TURN_REFUSED,
+    TURN_TO_PEER, /* datagrams, and then octets of their data */
+    TURN_TO_CLIENT,
+    TURN_TO_PEER_OCTETS,
+    TURN_TO_CLIENT_OCTETS,
+    TURN_DROPPED, /* datagrams of peers that nobody has permitted */
+    TURN_UNREAD,  /* a client doesn't read its connection */
+    TURN_OVER,    /* over a bandwidth */
+    TURN_FAILED,  /* the system refused to send to a peer */
+    TURN_NO_PORT, /* no relay socket could be opened */
     UDP_DROPPED, /* this and the next two are the supervisor's */
     WORKERS_DIED,
     WORKERS_HUNG,
@@ -175,6 +215,11 @@ static inline void set_count(tally *mine, int which, uint64_t number) {
     atomic_store_explicit(&mine->numbers[which], number, memory_order_relaxed);
 }
 
+/* Sends datagrams by a socket, and counts those that the system refuses as `refused`. Returns how many
+ * were sent. */
+int send_all(int socket, struct mmsghdr *messages, int messages_count, int flags, tally *mine,
+             int refused);
+
 /* How many datagrams came to sockets whose queues were full. */
 uint64_t dropped_by_all(const endpoints *of);
 
@@ -198,12 +243,128 @@ void serve_reports(int listener, const tally *tallies, size_t tallies_count, uin
 size_t reply_to(const uint8_t *message, size_t length, const stun_types_address *source,
                 uint8_t *room);
 
-/* When each prefix may have its next answers, in memory that all processes share. */
+/* The reply to a binding request without its SOFTWARE. Returns its length. */
+size_t without_software(uint8_t *reply, size_t length);
+
+/* When each prefix, or each user, may have its next answers, in memory that all processes share. */
 typedef struct rate_table rate_table;
 rate_table *make_rate_table(void);
 
 /* Whether a client may have an answer now (in nanoseconds) by a rate; then it counts as given. */
 bool may_answer(rate_table *table, const stun_types_address *source, uint32_t rate, uint64_t now);
+
+/* Whether so many octets may pass now, by a rate in octets a second, for a user who has a number other
+ * than 0; and by a bucket of the caller's, zero at first. Then they count as passed. */
+bool may_pass(rate_table *table, uint64_t user, uint32_t rate, size_t octets, uint64_t now);
+bool may_pass_by(uint64_t *paid_until, uint32_t rate, size_t octets, uint64_t now);
+
+/* ---- TURN (turn.c, relays.c, users.c, hmac.c) ------------------------------------------------ */
+
+/* A client as a process sees it: its 5-tuple, and how it is reached. */
+typedef struct {
+    stun_types_five_tuple tuple;
+    struct sockaddr_storage to; /* over UDP, with the control message that names this machine's address */
+    socklen_t to_length;
+    union {
+        size_t aligned; /* as the head of a struct cmsghdr is */
+        char bytes[CMSG_SPACE(sizeof(struct in6_pktinfo)) + CMSG_SPACE(sizeof(struct in_pktinfo))];
+    } control;
+    size_t control_length;
+    size_t connection; /* over TCP */
+} turn_client;
+
+/* What a process does with a datagram of `length` bytes for a client. The bytes stay until `flush`,
+ * which sends what waits; NULL: they are copied. */
+typedef struct {
+    void (*deliver)(turn_client *to, uint8_t *bytes, size_t length);
+    void (*flush)(void);
+    void (*changed)(const turn_client *of, bool begins); /* an allocation begins, or ends; NULL: so what */
+    int poller;
+    uint64_t first; /* the number of its first relay socket among the events of `poller` */
+    tally *mine;
+} turn_process;
+
+/* Reads what the settings say of TURN, and tests it, before the workers start. False: why is printed. */
+bool prepare_turn(const endpoints *of);
+
+/* How many files a process has open for TURN. */
+size_t turn_files(void);
+
+/* Makes a worker's server and its first sockets. */
+bool begin_turn(const turn_process *of);
+
+/* A turn of the worker's loop begins. */
+void begin_turn_at(uint64_t now);
+
+/* What a client's datagram leads to. */
+typedef enum { TURN_NOTHING_DUE, TURN_RELAYED, TURN_ANSWERED, TURN_ACCEPTED } turn_outcome;
+
+/* Takes a client's datagram. TURN_ANSWERED, TURN_ACCEPTED: *written bytes of the room are the response,
+ * in the latter case to a request of a user. Data for a peer waits for send_to_peers. */
+turn_outcome take_from_client(const turn_client *from, const uint8_t *datagram, size_t length,
+                              uint8_t *room, size_t size, size_t *written);
+void send_to_peers(void);
+
+/* Receives a few datagrams from the relay socket of an event. */
+void take_from_peers(uint64_t number);
+
+/* Once a second: ends allocations, and opens sockets that are missing. */
+void look_after_relays(void);
+
+/* A connection has been closed: its allocation has nobody any more. */
+void orphan_relays(size_t connection);
+
+/* Whether a 5-tuple still belongs to the allocation of a connection that has been closed. */
+bool is_orphaned(const stun_types_five_tuple *tuple);
+
+/* The relay sockets of a process. A number that the TURN server gives one has its slot in its low 32
+ * bits. */
+typedef struct {
+    uint64_t number;
+    bool is_taken;
+    bool is_orphan; /* its client's connection has been closed */
+    int socket; /* -1: none */
+    uint64_t user; /* other than 0 */
+    uint64_t paid_until;
+    turn_client client;
+} relay;
+
+bool prepare_relays(const endpoints *of);
+bool begin_relays(void);
+
+/* Opens the spare sockets that are missing. */
+void open_spares(tally *mine);
+const stun_types_turn_ready *ready_sockets(void);
+
+/* Makes the spare socket with an address a relay's. NULL: there is none, or the number isn't free. */
+relay *take_spare(const stun_types_address *address, uint64_t number);
+relay *find_relay(uint64_t number);
+relay *relay_at(size_t slot); /* NULL: it is nobody's */
+void close_relay_socket(relay *closed);
+void free_relay(relay *freed);
+
+/* The prefixes of DENY or ALLOW, and the addresses that clients send to. */
+enum { MOST_PREFIXES = 512, MOST_LISTENING = 1024 };
+size_t read_prefixes(int which, stun_types_prefix *read);
+size_t list_listening(const endpoints *of, stun_types_address *listed);
+
+/* The files of users and of secrets, at the start, and again. */
+bool make_users(void);
+bool read_users_again(void);
+void protect_users(bool is_needed);
+
+/* The keys of a user whom a request names, and their number. attempt: a user by a time-limited name
+ * has as many as there are secrets. False: there are no more. */
+typedef struct {
+    stun_types_key md5, sha256;
+    uint64_t user;
+} user_keys;
+bool find_user(const uint8_t *request, size_t length, unsigned attempt, user_keys *found);
+
+/* HMAC-SHA1 (RFC 2104). */
+enum { SHA1_LENGTH = 20 };
+void hmac_sha1(const void *key, size_t key_length, const void *text, size_t length,
+               uint8_t result[SHA1_LENGTH]);
 
 /* ---- Processes (supervisor.c, udp.c, tcp.c) -------------------------------------------------- */
 
@@ -224,7 +385,9 @@ sigset_t awaited_signals(void);
  * has died too often in a row. */
 bool supervise(const endpoints *of, rate_table *rates, int reports);
 
-void serve_udp(const endpoint *from, rate_table *rates, tally *mine);
+/* What a worker for UDP does before its system calls are filtered, and from then on. */
+bool begin_udp(const endpoint *from, rate_table *rates, tally *mine);
+void serve_udp(void);
 
 /* Makes the table of connections, which the worker for TCP inherits. */
 bool make_connections(size_t listeners);

@@ -3,6 +3,7 @@
 
 #include <fcntl.h>
 #include <netinet/tcp.h>
+#include <sys/resource.h>
 
 #ifndef IPV6_MULTICAST_ALL
 #define IPV6_MULTICAST_ALL 29
@@ -165,4 +166,35 @@ void print_endpoints(const endpoints *of) {
         printf(of->all[i].stream ? " over TCP\n" : " over UDP\n");
     }
     fflush(stdout);
+}
+
+/* ---- Files and datagrams --------------------------------------------------------------------- */
+
+size_t allow_files(size_t wanted) {
+    struct rlimit limit, more;
+    if (getrlimit(RLIMIT_NOFILE, &limit) != 0) return 0;
+    if (limit.rlim_cur < wanted) {
+        more = limit;
+        more.rlim_cur = wanted < limit.rlim_max ? wanted : limit.rlim_max;
+        if (setrlimit(RLIMIT_NOFILE, &more) == 0) limit = more;
+    }
+    return limit.rlim_cur < wanted ? (size_t)limit.rlim_cur : wanted;
+}
+
+int send_all(int socket, struct mmsghdr *messages, int messages_count, int flags, tally *mine,
+             int refused) {
+    int done = 0, all = 0;
+    while (done < messages_count) {
+        int sent = sendmmsg(socket, messages + done, (unsigned)(messages_count - done), flags);
+        if (sent < 0 && errno == EINTR) continue;
+        if (sent > 0) {
+            all += sent;
+            done += sent;
+        } else {
+            count(mine, refused, 1);
+            raise_by(&mine->beats, 1); /* (it may have waited for a second) */
+            done++;
+        }
+    }
+    return all;
 }

@@ -97,6 +97,26 @@ static void heed_signals(void) {
     sigprocmask(SIG_UNBLOCK, &signals, NULL);
 }
 
+/* The files that are read again at SIGHUP. */
+enum { MOST_FILES = 3 };
+static size_t list_files(const char *files[MOST_FILES]) {
+    const char *all[MOST_FILES] = {options.file, NULL, NULL};
+    size_t count = 0;
+    if (setting(TURN)) {
+        all[1] = text_setting(USERS, 0);
+        all[2] = text_setting(SECRET, 0);
+    }
+    for (size_t i = 0; i < MOST_FILES; i++) {
+        if (all[i] != NULL) files[count++] = all[i];
+    }
+    return count;
+}
+
+static bool has_files(void) {
+    const char *files[MOST_FILES];
+    return list_files(files) > 0;
+}
+
 /* Closes the sockets that a worker doesn't use: it has one over UDP, all over TCP, or that for
  * reports. */
 static void close_others(const worker *as) {
@@ -109,8 +129,14 @@ static void close_others(const worker *as) {
     if (as->kind != FOR_REPORTS && group.reports >= 0) close(group.reports);
 }
 
+/* What a worker does before its system calls are filtered. */
+static bool begin(const worker *as, tally *mine) {
+    if (as->kind == FOR_UDP) return begin_udp(as->from, group.rates, mine);
+    return as->kind != FOR_TCP || begin_tcp(group.endpoints, mine);
+}
+
 static void serve(const worker *as, tally *mine) {
-    if (as->kind == FOR_UDP) serve_udp(as->from, group.rates, mine);
+    if (as->kind == FOR_UDP) serve_udp();
     if (as->kind == FOR_TCP) serve_tcp();
     if (as->kind == FOR_REPORTS) {
         serve_reports(group.reports, group.tallies, group.count + 1, group.began, mine);
@@ -125,12 +151,14 @@ static void work(const worker *as, tally *mine, pid_t supervisor) {
     heed_signals();
     close_others(as);
     protect_settings();
-    if (as->kind == FOR_TCP && !begin_tcp(group.endpoints, mine)) _exit(1);
-    if (setting(SANDBOX) && options.file != NULL) close_off_system(NULL);
+    protect_users(as->kind != FOR_REPORTS);
+    if (!begin(as, mine)) _exit(1);
+    if (setting(SANDBOX) && has_files()) close_off_system(NULL, 0);
     close(STDIN_FILENO);
     close(STDOUT_FILENO);
     int own = as->from != NULL ? as->from->socket : -1;
-    if (setting(SANDBOX) && can_filter() && !filter_calls(own)) {
+    bool relays = setting(TURN) && as->kind != FOR_REPORTS;
+    if (setting(SANDBOX) && can_filter() && !filter_calls(own, relays)) {
         cannot("seccomp");
         _exit(1);
     }
@@ -326,6 +354,7 @@ static bool look_after(void) {
         int number = sigtimedwait(&signals, NULL, waits ? &moment : &second);
         if (number == SIGTERM || number == SIGINT) return true;
         if (number == SIGHUP && read_settings_again()) prepare_listeners(group.endpoints);
+        if (number == SIGHUP && setting(TURN)) (void)read_users_again();
         if (number == SIGHUP || number == SIGUSR1) print_now();
         note_dead();
         if (is_hopeless()) return false;
@@ -338,13 +367,18 @@ static bool look_after(void) {
     }
 }
 
-/* Closes off the system, but for the folder of the settings. Returns Landlock's version, or 0. */
+/* Closes off the system, but for the folders of the files that are read again. Returns Landlock's
+ * version, or 0. */
 static int close_off(void) {
-    char path[4096] = "";
+    static char paths[MOST_FILES][4096];
+    const char *files[MOST_FILES], *folders[MOST_FILES];
+    size_t count = list_files(files);
     if (!setting(SANDBOX)) return 0;
-    if (options.file == NULL) return close_off_system(NULL);
-    if (strlen(options.file) < sizeof path) memcpy(path, options.file, strlen(options.file));
-    return close_off_system(dirname(path));
+    for (size_t i = 0; i < count; i++) {
+        if (strlen(files[i]) < sizeof paths[i]) memcpy(paths[i], files[i], strlen(files[i]));
+        folders[i] = dirname(paths[i]);
+    }
+    return close_off_system(folders, count);
 }
 
 bool supervise(const endpoints *from, rate_table *rates, int reports) {

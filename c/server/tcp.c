@@ -3,14 +3,15 @@
 
 #include <sys/epoll.h>
 #include <sys/mman.h>
-#include <sys/resource.h>
 
 enum {
     PIECE = 4096,    /* bytes read at once, and of a page */
-    REPLIES = 65536, /* bytes of replies that wait to be sent */
+    REPLIES = 65536 + 128, /* bytes that wait to be sent: any message takes fewer */
     SECOND = 1000,
     CLOSING_TIME = 2000, /* both in milliseconds */
-    LISTENERS = MOST_CONNECTIONS /* the number of the first endpoint among the connections */
+    /* the number of the first endpoint among the connections, and of the first relay socket */
+    LISTENERS = MOST_CONNECTIONS,
+    RELAYS = LISTENERS + MOST_ENDPOINTS
 };
 
 /* The neighbourhoods of an address, the widest first: /48, /56 and /64 of IPv6, and of IPv4 /24,
@@ -30,7 +31,8 @@ typedef struct {
     uint64_t accepted, heard; /* when it was accepted, and when its last message was whole */
     uint64_t begun;           /* when the first byte of a message came that isn't whole yet */
     uint64_t closed_at;       /* if it is closing */
-    stun_types_address source;
+    uint32_t relays;          /* its allocations */
+    stun_types_five_tuple tuple;
     stun_types_stream stream;
     size_t piece_at, piece_end;
     size_t replies_at, replies_end;
@@ -58,16 +60,9 @@ static struct {
 
 /* As many connections as the process may have: it asks the system for as many files as it may. */
 static size_t most_connections(size_t other_files) {
-    struct rlimit limit, more;
-    rlim_t wanted = setting(MAX_CONNECTIONS) + other_files;
-    if (getrlimit(RLIMIT_NOFILE, &limit) != 0) return 1;
-    if (limit.rlim_cur < wanted) {
-        more = limit;
-        more.rlim_cur = wanted < limit.rlim_max ? wanted : limit.rlim_max;
-        if (setrlimit(RLIMIT_NOFILE, &more) == 0) limit = more;
-    }
-    if (limit.rlim_cur >= wanted) return setting(MAX_CONNECTIONS);
-    return limit.rlim_cur > other_files ? (size_t)limit.rlim_cur - other_files : 1;
+    size_t allowed = allow_files(setting(MAX_CONNECTIONS) + other_files + turn_files());
+    if (allowed >= setting(MAX_CONNECTIONS) + other_files) return setting(MAX_CONNECTIONS);
+    return allowed > other_files ? allowed - other_files : 1;
 }
 
 /* Memory of the process, all zeros, that takes room where it is written. */
@@ -78,7 +73,6 @@ static void *zeros(size_t size) {
 }
 
 bool make_connections(size_t listeners) {
-    enum { OTHER_FILES = 16 + MOST_WORKERS };
     size_t most = most_connections(OTHER_FILES + listeners);
     tcp.connections = zeros(most * sizeof *tcp.connections);
     tcp.bytes = zeros(most * sizeof *tcp.bytes);
@@ -117,6 +111,7 @@ static void count_crowds(connection *changed, bool in) {
 
 static void close_connection(connection *closed) {
     connection_bytes *bytes = &tcp.bytes[closed - tcp.connections];
+    if (closed->relays > 0) orphan_relays((size_t)(closed - tcp.connections));
     if (closed->large) (void)madvise(bytes, sizeof *bytes, MADV_DONTNEED);
     close(closed->socket);
     closed->open = false;
@@ -131,9 +126,10 @@ static void reset_connection(connection *closed) {
     close_connection(closed);
 }
 
-/* Whether a connection is needed less than another: it is of a fuller neighbourhood, compared from
- * the widest on, or of ones as full, and has been idle longer. */
+/* Whether a connection is needed less than another: the other has an allocation; or it is of a fuller
+ * neighbourhood, compared from the widest on, or of ones as full, and has been idle longer. */
 static bool is_needed_less(const connection *a, const connection *b) {
+    if ((a->relays > 0) != (b->relays > 0)) return b->relays > 0;
     for (int i = 0; i < NEIGHBOURHOODS; i++) {
         if (a->crowds[i] != b->crowds[i]) return a->crowds[i] > b->crowds[i];
     }
@@ -149,13 +145,14 @@ static connection *find_least_needed(void) {
     return least;
 }
 
-/* A place for a new connection: a free one if there is. */
+/* A place for a new connection: a free one if there is. NULL: each connection has an allocation. */
 static connection *free_place(void) {
     for (connection *at = tcp.connections; at < tcp.open_end; at++) {
         if (!at->open) return at;
     }
     if (tcp.open_end < tcp.end) return tcp.open_end;
     connection *least = find_least_needed();
+    if (least->relays > 0) return NULL;
     reset_connection(least);
     count(tcp.mine, TCP_DISPLACED, 1);
     return least;
@@ -179,6 +176,20 @@ static bool await(connection *of, uint32_t events) {
 
 /* ---- A connection ---------------------------------------------------------------------------- */
 
+/* Makes the reply to the message of a connection, or has the TURN server take it. */
+static turn_outcome take_message(const connection *of, connection_bytes *bytes, size_t *written) {
+    uint8_t *room = bytes->replies + of->replies_end;
+    if (!setting(TURN)) {
+        *written = reply_to(bytes->message, of->stream.message, &of->tuple.client, room);
+        return *written > 0 ? TURN_ANSWERED : TURN_NOTHING_DUE;
+    }
+    turn_client client = {.tuple = of->tuple, .connection = (size_t)(of - tcp.connections)};
+    turn_outcome outcome = take_from_client(&client, bytes->message, of->stream.message, room,
+                                            STUN_TYPES_GREATEST_REPLY, written);
+    send_to_peers(); /* (the next message overwrites this one) */
+    return outcome;
+}
+
 /* Takes bytes of the piece that was read, and makes the reply to the message that they end. */
 static void answer_piece(connection *of, connection_bytes *bytes) {
     size_t taken = 0, pending = of->stream.pending;
@@ -190,13 +201,14 @@ static void answer_piece(connection *of, connection_bytes *bytes) {
     if (answer.code != STUN_TYPES_OK) of->closing = true;
     if (pending == 0) of->begun = tcp.now;
     if (answer.code != STUN_TYPES_OK || of->stream.message == 0) return;
-    size_t length = reply_to(bytes->message, of->stream.message, &of->source,
-                             bytes->replies + of->replies_end);
+    size_t length = 0;
+    turn_outcome outcome = take_message(of, bytes, &length);
     of->replies_end += length;
     of->large |= of->replies_end > PIECE;
     of->heard = tcp.now;
     count(tcp.mine, TCP_RECEIVED, 1);
-    count(tcp.mine, length > 0 ? TCP_SENT : TCP_UNANSWERED, 1);
+    if (length > 0) count(tcp.mine, TCP_SENT, 1);
+    if (outcome == TURN_NOTHING_DUE) count(tcp.mine, TCP_UNANSWERED, 1);
 }
 
 /* Answers what was read, as long as there is room for any reply. */
@@ -267,17 +279,74 @@ static void serve_connection(connection *of) {
     if (events == 0 || !await(of, events)) close_connection(of);
 }
 
+/* ---- Data of peers --------------------------------------------------------------------------- */
+
+/* Sends bytes at once if nothing else waits. Returns how many are left. */
+static size_t send_at_once(connection *of, const uint8_t *bytes, size_t length) {
+    if (of->replies_at < of->replies_end) return length;
+    of->replies_at = of->replies_end = 0;
+    ssize_t sent = send(of->socket, bytes, length, MSG_NOSIGNAL);
+    return sent < 0 ? length : length - (size_t)sent;
+}
+
+/* Gives a connection a message with a peer's data, or drops that whole: a client that doesn't read loses
+ * what is more than the buffer takes. */
+static void deliver(turn_client *to, uint8_t *message, size_t length) {
+    connection *of = &tcp.connections[to->connection];
+    uint8_t *waiting = tcp.bytes[to->connection].replies;
+    if (!of->open || of->closing) return;
+    size_t left = send_at_once(of, message, length);
+    if (left > REPLIES - of->replies_end && of->replies_at > 0) {
+        memmove(waiting, waiting + of->replies_at, of->replies_end - of->replies_at);
+        of->replies_end -= of->replies_at;
+        of->replies_at = 0;
+    }
+    count(tcp.mine, left > REPLIES - of->replies_end ? TURN_UNREAD : TCP_SENT, 1);
+    if (left == 0 || left > REPLIES - of->replies_end) return;
+    memcpy(waiting + of->replies_end, message + length - left, left);
+    of->replies_end += left;
+    of->large |= of->replies_end > PIECE;
+    (void)await(of, EPOLLOUT);
+}
+
+/* Counts the allocations of a connection. Its time-outs begin anew after the last. */
+static void change_relays(const turn_client *client, bool begins) {
+    connection *of = &tcp.connections[client->connection];
+    of->relays = begins ? of->relays + 1 : of->relays - 1;
+    of->accepted = of->heard = tcp.now;
+}
+
 /* ---- Accepting ------------------------------------------------------------------------------- */
+
+/* The 5-tuple of an accepted connection. False: it can't be served. */
+static bool read_tuple(int socket, const struct sockaddr_storage *from, stun_types_five_tuple *tuple) {
+    struct sockaddr_storage own;
+    socklen_t length = sizeof own;
+    memset(tuple, 0, sizeof *tuple);
+    tuple->stream = 1;
+    if (!address_of(from, &tuple->client)) return false;
+    if (!setting(TURN)) return true;
+    return getsockname(socket, (struct sockaddr *)&own, &length) == 0 &&
+           address_of(&own, &tuple->server) && !is_orphaned(tuple);
+}
+
+/* What the stream of a connection carries. */
+static stun_types_stream_kind carried(void) {
+    if (!setting(TURN)) return STUN_TYPES_STREAM_MESSAGES;
+    return setting(OLD_CHANNELS) ? STUN_TYPES_STREAM_OLD_CHANNEL_DATA : STUN_TYPES_STREAM_CHANNEL_DATA;
+}
 
 /* Enters an accepted connection into the table. False: it can't be served. */
 static bool enter(int socket, const struct sockaddr_storage *from) {
-    stun_types_address source;
-    if (!address_of(from, &source)) return false;
+    stun_types_five_tuple tuple;
+    if (!read_tuple(socket, from, &tuple)) return false;
     connection *place = free_place();
+    if (place == NULL) return false;
     memset(place, 0, sizeof *place);
     place->socket = socket;
-    place->source = source;
-    place->place = place_of(&source);
+    place->tuple = tuple;
+    place->stream.carries = carried();
+    place->place = place_of(&tuple.client);
     place->awaited = EPOLLIN;
     place->accepted = place->heard = tcp.now;
     if (!control(EPOLL_CTL_ADD, socket, EPOLLIN, (size_t)(place - tcp.connections))) return false;
@@ -324,9 +393,11 @@ static bool is_over(uint64_t since, uint32_t seconds) {
     return tcp.now - since >= (uint64_t)seconds * SECOND;
 }
 
-/* Why a connection is to be closed, as the count that goes up for it; COUNTS: it isn't. */
+/* Why a connection is to be closed, as the count that goes up for it; COUNTS: it isn't. One with an
+ * allocation lasts as long as that. */
 static int overdue(const connection *of) {
     if (of->stream.pending > 0 && is_over(of->begun, setting(REQUEST_TIMEOUT))) return TCP_SLOW;
+    if (of->relays > 0) return COUNTS;
     if (is_over(of->heard, setting(IDLE_TIMEOUT))) return TCP_IDLE;
     if (is_over(of->accepted, setting(MAX_AGE))) return TCP_AGED;
     return COUNTS;
@@ -353,7 +424,8 @@ static void close_overdue(void) {
 
 static void serve_event(const struct epoll_event *event) {
     size_t number = (size_t)event->data.u64;
-    if (number >= LISTENERS) accept_one(number - LISTENERS);
+    if (number >= RELAYS) take_from_peers(number);
+    else if (number >= LISTENERS) accept_one(number - LISTENERS);
     else if (tcp.connections[number].open) serve_connection(&tcp.connections[number]);
 }
 
@@ -368,7 +440,9 @@ bool begin_tcp(const endpoints *of, tally *mine) {
             return cannot("no epoll");
         }
     }
-    return true;
+    return !setting(TURN) || begin_turn(&(turn_process){.deliver = deliver, .changed = change_relays,
+                                                        .poller = tcp.poller, .first = RELAYS,
+                                                        .mine = mine});
 }
 
 void serve_tcp(void) {
@@ -378,9 +452,11 @@ void serve_tcp(void) {
         raise_by(&tcp.mine->beats, 1);
         int ready = epoll_wait(tcp.poller, events, 64, SECOND);
         tcp.now = milliseconds();
+        if (setting(TURN)) begin_turn_at(nanoseconds());
         for (int i = 0; i < ready; i++) serve_event(&events[i]);
         if (tcp.now - looked < SECOND) continue;
         looked = tcp.now;
         close_overdue();
+        if (setting(TURN)) look_after_relays();
     }
 }

@@ -1,19 +1,23 @@
-/* Serving UDP: datagrams are received, and replies sent, in batches. */
+/* Serving UDP: datagrams are received, and replies sent, in batches. With TURN a turn of the loop sends
+ * all that goes to clients at once: replies, and the data of their peers. */
 #include "server.h"
 
 #include <poll.h>
 #include <stddef.h>
+#include <sys/epoll.h>
 
 enum {
     BATCH = 64,
+    TO_CLIENTS = 2 * BATCH, /* replies, and data of peers */
+    SECOND = 1000000000,
     /* no datagram is longer; the odd number of lines of the cache spreads the buffers over it */
     DATAGRAM_ROOM = 65536 + 64,
     REPLY_ROOM = 32896 + 64
 };
 
 /* A batch: what was received, and the replies to it. */
-static struct mmsghdr received[BATCH], replies[BATCH];
-static struct iovec received_at[BATCH], replies_at[BATCH];
+static struct mmsghdr received[BATCH], replies[TO_CLIENTS];
+static struct iovec received_at[BATCH], replies_at[TO_CLIENTS];
 static struct sockaddr_storage sources[BATCH];
 static uint8_t datagrams[BATCH][DATAGRAM_ROOM], reply_rooms[BATCH][REPLY_ROOM];
 
@@ -25,7 +29,13 @@ static union {
 } targets[BATCH];
 static bool many_targets;
 
-static rate_table *limits;
+static struct {
+    const endpoint *from;
+    rate_table *limits;
+    tally *mine;
+    int poller; /* with TURN */
+    int owed;   /* how many of `replies` wait */
+} udp;
 
 static void make_ready(int i) {
     struct msghdr *header = &received[i].msg_hdr;
@@ -42,9 +52,11 @@ static void make_all_ready(void) {
         received_at[i].iov_len = sizeof datagrams[i];
         received[i].msg_hdr.msg_iov = &received_at[i];
         received[i].msg_hdr.msg_iovlen = 1;
+        make_ready(i);
+    }
+    for (int i = 0; i < TO_CLIENTS; i++) {
         replies[i].msg_hdr.msg_iov = &replies_at[i];
         replies[i].msg_hdr.msg_iovlen = 1;
-        make_ready(i);
     }
 }
 
@@ -70,81 +82,201 @@ static bool take_target(struct msghdr *header) {
     return true;
 }
 
-/* Addresses the reply to datagram i, which has been written. */
-static void address_reply(int i, int owed, size_t length) {
-    struct msghdr *from = &received[i].msg_hdr, *to = &replies[owed].msg_hdr;
-    replies_at[owed].iov_base = reply_rooms[owed];
-    replies_at[owed].iov_len = length;
+/* Addresses what goes back to where a datagram came from. */
+static void address_reply(const struct msghdr *from, uint8_t *bytes, size_t length) {
+    struct msghdr *to = &replies[udp.owed].msg_hdr;
+    replies_at[udp.owed].iov_base = bytes;
+    replies_at[udp.owed].iov_len = length;
     to->msg_name = from->msg_name;
     to->msg_namelen = from->msg_namelen;
     to->msg_control = from->msg_control;
     to->msg_controllen = from->msg_controllen;
+    udp.owed++;
 }
 
 /* Whether a reply may be sent, now, by a rate. Of those over the limit one in `slip` may, whoever's
  * it is: nobody is silenced by requests that others forge in the name of the prefix. */
-static bool is_within(const stun_types_address *source, uint32_t rate, uint64_t now, tally *mine) {
+static bool is_within(const stun_types_address *source, uint32_t rate, uint64_t now) {
     static uint32_t over;
     uint32_t slip = setting(SLIP);
-    if (may_answer(limits, source, rate, now)) return true;
+    if (may_answer(udp.limits, source, rate, now)) return true;
     bool slips = slip > 0 && ++over % slip == 0;
-    count(mine, slips ? UDP_SLIPPED : UDP_LIMITED, 1);
+    count(udp.mine, slips ? UDP_SLIPPED : UDP_LIMITED, 1);
     return slips;
 }
 
-/* Makes the reply to datagram i, as reply number `owed`. False: it gets none. */
-static bool answer_datagram(int i, int owed, uint32_t rate, uint64_t now, tally *mine) {
-    stun_types_address source;
-    size_t length = 0;
-    if (address_of(&sources[i], &source) &&
-        (!many_targets || take_target(&received[i].msg_hdr))) {
-        length = reply_to(datagrams[i], received[i].msg_len, &source, reply_rooms[owed]);
-    }
-    if (length == 0) count(mine, UDP_UNANSWERED, 1);
-    if (length == 0 || (rate > 0 && !is_within(&source, rate, now, mine))) return false;
-    address_reply(i, owed, length);
-    return true;
+/* Reads the source of datagram i. False: it gets no reply. */
+static bool read_source(int i, stun_types_address *source) {
+    return address_of(&sources[i], source) && (!many_targets || take_target(&received[i].msg_hdr));
 }
 
-/* Sends replies. One that the system refuses is left out: its client asks again. */
-static void send_replies(int socket, int owed, tally *mine) {
-    int done = 0;
-    while (done < owed) {
-        int sent = sendmmsg(socket, replies + done, (unsigned)(owed - done), 0);
-        if (sent < 0 && errno == EINTR) continue;
-        if (sent > 0) {
-            count(mine, UDP_SENT, (uint64_t)sent);
-            done += sent;
-        } else {
-            count(mine, UDP_FAILED, 1);
-            raise_by(&mine->beats, 1); /* (it may have waited for a second) */
-            done++;
-        }
-    }
+/* Makes the reply to datagram i. */
+static void answer_datagram(int i, uint32_t rate, uint64_t now) {
+    stun_types_address source;
+    uint8_t *room = reply_rooms[i];
+    size_t length = 0;
+    if (read_source(i, &source)) length = reply_to(datagrams[i], received[i].msg_len, &source, room);
+    if (length == 0) count(udp.mine, UDP_UNANSWERED, 1);
+    if (length == 0 || (rate > 0 && !is_within(&source, rate, now))) return;
+    address_reply(&received[i].msg_hdr, room, length);
+}
+
+/* Sends what waits. One that the system refuses is left out: its client asks again. */
+static void send_replies(int flags) {
+    int sent = send_all(udp.from->socket, replies, udp.owed, flags, udp.mine, UDP_FAILED);
+    count(udp.mine, UDP_SENT, (uint64_t)sent);
+    udp.owed = 0;
+}
+
+/* Receives a batch. Returns how many datagrams it has. */
+static int receive_batch(int flags) {
+    int got = recvmmsg(udp.from->socket, received, BATCH, flags, NULL);
+    /* (an error that stays would else be met without a pause) */
+    if (got < 0 && errno != EINTR && errno != EAGAIN) poll(NULL, 0, 10);
+    if (got > 0) count(udp.mine, UDP_RECEIVED, (uint64_t)got);
+    return got;
 }
 
 /* Receives a batch and answers it. */
-static void serve_batch(int socket, tally *mine) {
-    int got = recvmmsg(socket, received, BATCH, MSG_WAITFORONE, NULL), owed = 0;
-    if (got < 0) {
-        /* (an error that stays would else be met without a pause) */
-        if (errno != EINTR && errno != EAGAIN) poll(NULL, 0, 10);
-        return;
-    }
+static void serve_batch(void) {
+    int got = receive_batch(MSG_WAITFORONE);
     uint32_t rate = setting(RATE);
     uint64_t now = rate > 0 ? nanoseconds() : 0;
-    for (int i = 0; i < got; i++) owed += answer_datagram(i, owed, rate, now, mine);
-    count(mine, UDP_RECEIVED, (uint64_t)got);
-    send_replies(socket, owed, mine);
+    for (int i = 0; i < got; i++) answer_datagram(i, rate, now);
+    send_replies(0);
     for (int i = 0; i < got; i++) make_ready(i);
 }
 
-void serve_udp(const endpoint *from, rate_table *rates, tally *mine) {
-    many_targets = from->wildcard;
-    limits = rates;
-    make_all_ready();
+/* ---- With TURN ------------------------------------------------------------------------------- */
+
+/* The address of this machine to which a datagram was sent. */
+static stun_types_address target_of(const struct msghdr *header) {
+    struct sockaddr_storage bytes;
+    stun_types_address target = udp.from->address;
+    struct msghdr copy = *header;
+    struct in_pktinfo four;
+    struct in6_pktinfo six;
+    socket_address at;
+    memset(&bytes, 0, sizeof bytes);
+    for (struct cmsghdr *in = CMSG_FIRSTHDR(&copy); many_targets && in != NULL;
+         in = CMSG_NXTHDR(&copy, in)) {
+        stun_types_address found = {.port = target.port};
+        if (in->cmsg_level == IPPROTO_IP && in->cmsg_type == IP_PKTINFO) {
+            memcpy(&four, CMSG_DATA(in), sizeof four);
+            memcpy(found.octets, &four.ipi_addr, sizeof four.ipi_addr);
+            found.family = 4;
+        } else if (in->cmsg_level == IPPROTO_IPV6 && in->cmsg_type == IPV6_PKTINFO) {
+            memcpy(&six, CMSG_DATA(in), sizeof six);
+            memcpy(found.octets, &six.ipi6_addr, sizeof six.ipi6_addr);
+            found.family = 6;
+        } else {
+            continue;
+        }
+        /* (an address of IPv4 may come as one that is mapped to IPv6) */
+        socket_address_of(&found, &at);
+        (void)address_of(&at.bytes, &target);
+    }
+    return target;
+}
+
+/* Who has sent datagram i. */
+static turn_client client_of(int i, const stun_types_address *source) {
+    const struct msghdr *header = &received[i].msg_hdr;
+    turn_client client;
+    memset(&client, 0, sizeof client);
+    client.tuple.client = *source;
+    client.tuple.server = target_of(header);
+    client.to = sources[i];
+    client.to_length = header->msg_namelen;
+    client.control_length = header->msg_controllen;
+    if (header->msg_controllen > 0) memcpy(&client.control, &targets[i], sizeof client.control);
+    return client;
+}
+
+/* Takes datagram i to the TURN server. What is of no user counts as a reply. */
+static void relay_datagram(int i, uint32_t rate, uint64_t now) {
+    stun_types_address source;
+    turn_outcome outcome = TURN_NOTHING_DUE;
+    size_t length = 0;
+    if (read_source(i, &source)) {
+        turn_client client = client_of(i, &source);
+        outcome = take_from_client(&client, datagrams[i], received[i].msg_len, reply_rooms[i],
+                                   REPLY_ROOM, &length);
+    }
+    if (outcome == TURN_NOTHING_DUE) count(udp.mine, UDP_UNANSWERED, 1);
+    if (outcome == TURN_NOTHING_DUE || outcome == TURN_RELAYED) return;
+    if (outcome == TURN_ANSWERED && rate > 0 && !is_within(&source, rate, now)) return;
+    address_reply(&received[i].msg_hdr, reply_rooms[i], length);
+}
+
+static void deliver(turn_client *to, uint8_t *bytes, size_t length) {
+    const struct msghdr header = {.msg_name = &to->to,
+                                  .msg_namelen = to->to_length,
+                                  .msg_control = to->control_length > 0 ? &to->control : NULL,
+                                  .msg_controllen = to->control_length};
+    address_reply(&header, bytes, length);
+}
+
+static void flush(void) { send_replies(MSG_DONTWAIT); }
+
+/* Serves whatever is ready: the batch of clients, and a few datagrams of each relay socket. */
+static void serve_turn(void) {
+    struct epoll_event events[BATCH];
+    int ready = epoll_wait(udp.poller, events, BATCH, 1000), got = 0;
+    uint32_t rate = setting(RATE);
+    uint64_t now = nanoseconds();
+    begin_turn_at(now);
+    for (int i = 0; i < ready; i++) {
+        if (events[i].data.u64 != 0) {
+            take_from_peers(events[i].data.u64);
+            continue;
+        }
+        got = receive_batch(MSG_DONTWAIT);
+        for (int j = 0; j < got; j++) relay_datagram(j, rate, now);
+    }
+    send_to_peers();
+    flush();
+    for (int i = 0; i < got; i++) make_ready(i);
+}
+
+static void serve_turns(void) {
+    uint64_t looked = nanoseconds();
     while (!ending) {
-        raise_by(&mine->beats, 1);
-        serve_batch(from->socket, mine);
+        raise_by(&udp.mine->beats, 1);
+        serve_turn();
+        if (nanoseconds() - looked < SECOND) continue;
+        looked = nanoseconds();
+        look_after_relays();
+    }
+}
+
+/* ---- The run --------------------------------------------------------------------------------- */
+
+static bool begin_turns(void) {
+    struct epoll_event event;
+    udp.poller = epoll_create1(EPOLL_CLOEXEC);
+    memset(&event, 0, sizeof event);
+    event.events = EPOLLIN;
+    if (udp.poller < 0 || epoll_ctl(udp.poller, EPOLL_CTL_ADD, udp.from->socket, &event) != 0) {
+        return cannot("no epoll");
+    }
+    return begin_turn(&(turn_process){.deliver = deliver, .flush = flush, .poller = udp.poller,
+                                      .first = 1, .mine = udp.mine});
+}
+
+bool begin_udp(const endpoint *from, rate_table *rates, tally *mine) {
+    many_targets = from->wildcard;
+    udp.from = from;
+    udp.limits = rates;
+    udp.mine = mine;
+    make_all_ready();
+    return !setting(TURN) || begin_turns();
+}
+
+void serve_udp(void) {
+    if (setting(TURN)) serve_turns();
+    while (!ending) {
+        raise_by(&udp.mine->beats, 1);
+        serve_batch();
     }
 }

@@ -68,11 +68,12 @@ def settings(programs):
 
 
 def settings_file(programs):
-    """The file of settings that is installed has each setting, with its default."""
+    """The file of settings that is installed has each setting, with its default if that is a number."""
     _, out, _ = run([programs["server"], "-h"])
-    usual = re.findall(r"^   ([a-z-]+) .*, (\d+)\)$", out, re.M)
+    known = re.findall(r"^   ([a-z0-9-]+) +.*?(?:, (\d+)\))?$", out, re.M)
     text = (HERE / "stun-server.conf").read_text()
-    check(re.findall(r"^#([a-z-]+) (\d+)$", text, re.M) == usual and usual, f"the file isn't {usual}")
+    given = re.findall(r"^#([a-z0-9-]+) (?:(\d+)|\S+)$", text, re.M)
+    check(given == known and len(known) > 20, f"the file has {given}, and not {known}")
     check(not re.search(r"^[^#\n]", text, re.M), "it changes something")
 
 
@@ -158,10 +159,10 @@ def manual_page(programs):
     page = HERE / "stun-server.8"
     text = page.read_text().replace("\\-", "-")
     _, out, _ = run([programs["server"], "-h"])
-    words = re.findall(r"^ {0,3}(-\w|[a-z-]+) ", out, re.M)
+    words = re.findall(r"^ {0,3}(-\w|[a-z0-9-]+) ", out, re.M)
     sources = "".join(it.read_text() for it in HERE.glob("*.c"))
     words += re.findall(r"event=([a-z-]+)", sources) + ["worker-died", "worker-hung"]
-    words += re.findall(r'= "((?:udp|tcp|workers)_\w+)"', sources)
+    words += re.findall(r'= "((?:udp|tcp|turn|workers)_\w+)"', sources)
     check(len(words) > 40, f"the words are {words}")
     lacks = [it for it in words if it not in text]
     check(not lacks, f"it lacks {lacks}")

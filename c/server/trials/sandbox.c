@@ -5,11 +5,12 @@
  *
  * The first line has the version of Landlock, 0 for none, and whether system calls can be filtered.
  * Then each attempt has a line for a process without a sandbox, for one with Landlock, and for one
- * with both as a worker over UDP has them, and over TCP: the error that it met, 0 for none, or -31
- * if SIGSYS ended the process. */
+ * with both as a worker over UDP has them, over TCP, and over either if it relays: the error that it met,
+ * 0 for none, or -31 if SIGSYS ended the process. */
 #include "../server.h"
 
 #include <fcntl.h>
+#include <sys/mman.h>
 #include <sys/wait.h>
 
 enum { OWN = 77 }; /* the number of a socket, which isn't open */
@@ -19,6 +20,24 @@ static int open_file(void) { return open("/etc/passwd", O_RDONLY | O_CLOEXEC); }
 static int make_file(void) { return open("/tmp", O_TMPFILE | O_RDWR | O_CLOEXEC, 0600); }
 
 static int make_socket(void) { return socket(AF_INET, SOCK_DGRAM | SOCK_CLOEXEC, 0); }
+
+static int make_relay(void) {
+    return socket(AF_INET, SOCK_DGRAM | SOCK_CLOEXEC | SOCK_NONBLOCK, 0);
+}
+
+static int make_stream(void) {
+    return socket(AF_INET, SOCK_STREAM | SOCK_CLOEXEC | SOCK_NONBLOCK, 0);
+}
+
+static int make_code(void) {
+    int all = PROT_READ | PROT_WRITE | PROT_EXEC;
+    return mmap(NULL, 4096, all, MAP_PRIVATE | MAP_ANONYMOUS, -1, 0) == MAP_FAILED ? -1 : 0;
+}
+
+static int take_memory(void) {
+    int all = PROT_READ | PROT_WRITE;
+    return mmap(NULL, 4096, all, MAP_PRIVATE | MAP_ANONYMOUS, -1, 0) == MAP_FAILED ? -1 : 0;
+}
 
 static int start_process(void) {
     pid_t started = fork();
@@ -81,7 +100,9 @@ static const struct {
     int (*try)(void);
 } attempts[] = {
     {"open-file", open_file},         {"make-file", make_file},
-    {"make-socket", make_socket},     {"start-process", start_process},
+    {"make-socket", make_socket},     {"make-relay", make_relay},
+    {"make-stream", make_stream},     {"make-code", make_code},
+    {"take-memory", take_memory},     {"start-process", start_process},
     {"start-program", start_program}, {"signal-parent", signal_parent},
     {"send-by-other", send_by_other}, {"send-to", send_to},
     {"end-listener", end_listener},   {"reuse-address", reuse_address},
@@ -90,7 +111,7 @@ static const struct {
     {"close", close_none},
 };
 
-enum { NO_SANDBOX, LANDLOCK, UDP, TCP };
+enum { NO_SANDBOX, LANDLOCK, UDP, TCP, UDP_RELAY, TCP_RELAY };
 
 /* Makes an attempt in a process of its own. Returns its error, or below 0 the signal that ended
  * that. */
@@ -98,8 +119,9 @@ static int outcome(int sandbox, int (*try)(void)) {
     int status = 0;
     pid_t child = fork();
     if (child == 0) {
-        if (sandbox >= LANDLOCK) close_off_system(NULL);
-        if (sandbox >= UDP) filter_calls(sandbox == UDP ? OWN : -1);
+        bool udp = sandbox == UDP || sandbox == UDP_RELAY;
+        if (sandbox >= LANDLOCK) close_off_system(NULL, 0);
+        if (sandbox >= UDP) filter_calls(udp ? OWN : -1, sandbox >= UDP_RELAY);
         _exit(try() >= 0 ? 0 : errno);
     }
     waitpid(child, &status, 0);
@@ -107,14 +129,15 @@ static int outcome(int sandbox, int (*try)(void)) {
 }
 
 int main(void) {
-    static const char *const sandboxes[] = {"none", "landlock", "udp", "tcp"};
+    static const char *const sandboxes[] = {"none",    "landlock",  "udp",
+                                             "tcp",     "udp-relay", "tcp-relay"};
     int version = 0;
     pid_t child = fork();
-    if (child == 0) _exit(close_off_system(NULL));
+    if (child == 0) _exit(close_off_system(NULL, 0));
     waitpid(child, &version, 0);
     printf("landlock %d filter %d\n", WEXITSTATUS(version), can_filter());
     fflush(stdout);
-    for (int sandbox = NO_SANDBOX; sandbox <= TCP; sandbox++) {
+    for (int sandbox = NO_SANDBOX; sandbox <= TCP_RELAY; sandbox++) {
         for (size_t i = 0; i < sizeof attempts / sizeof *attempts; i++) {
             printf("%s %s %d\n", sandboxes[sandbox], attempts[i].name,
                    outcome(sandbox, attempts[i].try));

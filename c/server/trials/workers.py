@@ -201,14 +201,15 @@ def sandbox(programs):
     lines = [line.split() for line in out.splitlines()]
     version, can_filter = int(lines[0][1]), lines[0][3] == "1"
     met = {(kind, name): int(error) for kind, name, error in lines[1:]}
-    check(len(met) == 4 * 15, out)
-    allowed = {("udp", "send-by-own"), ("tcp", "send-back"), ("tcp", "set-linger"),
-               ("udp", "close"), ("tcp", "close")}
+    check(len(met) == 6 * 19, out)
+    relays = {"make-relay", "take-memory", "send-by-own", "send-by-other", "close"}
+    allowed = {"udp": {"send-by-own", "close"}, "tcp": {"send-back", "set-linger", "close"},
+               "udp-relay": relays, "tcp-relay": relays | {"send-back", "set-linger"}}
     closed = {"open-file", "make-file", "start-program"} if version >= 1 else set()
     closed |= {"signal-parent"} if version >= 6 else set()
     for (kind, name), error in met.items():
-        if kind in ("udp", "tcp") and can_filter:
-            wanted = 0 if (kind, name) in allowed else -signal.SIGSYS
+        if kind in allowed and can_filter:
+            wanted = 0 if name in allowed[kind] else -signal.SIGSYS
             check(error == wanted, f"{kind} {name}: {error}")
         else:
             refused = kind != "none" and name in closed

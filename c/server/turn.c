@@ -1,0 +1,354 @@
+/* The TURN server of a process: what the library decides is done here with sockets. */
+#include "server.h"
+
+#include <sys/epoll.h>
+#include <sys/random.h>
+
+enum {
+    SECRET_LENGTH = 32,
+    FEW = 16,  /* datagrams that are received from one relay socket before it is the others' turn */
+    HELD = 64, /* datagrams of peers, and for peers, that wait to be sent at once */
+    /* what comes before the data, the longest datagram, and zeros after it; an odd number of lines of
+     * the cache spreads the rooms over it */
+    PEER_ROOM = STUN_TYPES_TURN_HEAD + 65536 + 16 + 64,
+    IDS = 64
+};
+
+/* What was settled before the workers started. */
+static struct {
+    stun_types_turn_settings settings;
+    stun_types_prefix denied[MOST_PREFIXES], allowed[MOST_PREFIXES];
+    stun_types_address listening[MOST_LISTENING];
+    size_t denied_count, allowed_count, listening_count;
+    uint8_t secret[SECRET_LENGTH]; /* of the nonces of all processes */
+    rate_table *users;
+} plan;
+
+static struct {
+    stun_types_turn server;
+    turn_process process;
+    uint64_t now;
+    user_keys keys;
+    size_t orphans;
+    stun_types_id ids[IDS]; /* random */
+    size_t ids_left;
+} turn;
+
+/* Datagrams for peers that wait, and those of peers. */
+static struct {
+    struct mmsghdr messages[HELD];
+    struct iovec places[HELD];
+    socket_address peers[HELD];
+    relay *from[HELD];
+    int count;
+} outgoing;
+static struct mmsghdr incoming[FEW];
+static struct iovec incoming_at[FEW];
+static struct sockaddr_storage sources[FEW];
+static uint8_t rooms[HELD][PEER_ROOM];
+static size_t held;
+
+/* ---- The start ------------------------------------------------------------------------------- */
+
+static bool complain(const char *what) {
+    fprintf(stderr, "stun-server: turn: %s\n", what);
+    return false;
+}
+
+static void set_settings(void) {
+    bool has_hashes = text_setting(SECRET, 0) == NULL; /* a hash doesn't say until when it is valid */
+    plan.settings.window = setting(NONCE_LIFETIME);
+    plan.settings.allocations = setting(ALLOCATIONS);
+    plan.settings.of_user = setting(USER_ALLOCATIONS);
+    plan.settings.greatest_lifetime = setting(LIFETIME);
+    if (setting(SHA256)) plan.settings.features |= STUN_TYPES_FEATURE_PASSWORD_ALGORITHMS;
+    if (has_hashes) plan.settings.features |= STUN_TYPES_FEATURE_USERNAME_ANONYMITY;
+    plan.settings.channel_permits = setting(CHANNEL_PERMITS);
+    plan.settings.old_channels = setting(OLD_CHANNELS);
+}
+
+/* Makes a TURN server. */
+static bool make_server(stun_types_turn *made) {
+    const char *realm = text_setting(REALM, 0), *software = setting(SOFTWARE) ? "stun-types" : "";
+    stun_types_key secret = STUN_TYPES_KEY_INIT;
+    size_t length = sizeof plan.settings.seed;
+    if (getrandom(plan.settings.seed, length, 0) != (ssize_t)length) return cannot("no random numbers");
+    stun_types_answer answer = stun_types_key_from_bytes(&secret, plan.secret, sizeof plan.secret,
+                                                         STUN_TYPES_INTEGRITY_ANY);
+    if (answer.code == STUN_TYPES_OK) {
+        answer = stun_types_turn_new(made, &plan.settings, realm, strlen(realm), software,
+                                     strlen(software), &secret, plan.denied, plan.denied_count,
+                                     plan.allowed, plan.allowed_count, plan.listening,
+                                     plan.listening_count);
+    }
+    stun_types_key_free(&secret);
+    return answer.code == STUN_TYPES_OK || complain(stun_types_message_of(answer.code));
+}
+
+bool prepare_turn(const endpoints *of) {
+    stun_types_turn tried = STUN_TYPES_TURN_INIT;
+    if (text_setting(REALM, 0) == NULL) return complain("realm is missing");
+    if (text_setting(USERS, 0) == NULL && text_setting(SECRET, 0) == NULL) {
+        return complain("users and secret are missing");
+    }
+    for (const endpoint *at = of->all; at < of->all + of->count; at++) {
+        if (!at->stream && at->workers > 1) return complain("processes can't share a socket that was passed: -j 1");
+    }
+    if (!prepare_relays(of) || !make_users()) return false;
+    if (getrandom(plan.secret, sizeof plan.secret, 0) != sizeof plan.secret) {
+        return cannot("no random numbers");
+    }
+    set_settings();
+    plan.denied_count = read_prefixes(DENY, plan.denied);
+    plan.allowed_count = read_prefixes(ALLOW, plan.allowed);
+    plan.listening_count = list_listening(of, plan.listening);
+    if ((plan.users = make_rate_table()) == NULL || !make_server(&tried)) return false;
+    stun_types_turn_free(&tried);
+    return true;
+}
+
+size_t turn_files(void) { return setting(TURN) ? setting(ALLOCATIONS) + 16 : 0; }
+
+bool begin_turn(const turn_process *of) {
+    turn.process = *of;
+    turn.now = nanoseconds();
+    for (int i = 0; i < FEW; i++) {
+        incoming[i].msg_hdr.msg_name = &sources[i];
+        incoming[i].msg_hdr.msg_iov = &incoming_at[i];
+        incoming[i].msg_hdr.msg_iovlen = 1;
+    }
+    if (!make_server(&turn.server) || !begin_relays()) return false;
+    memset(plan.secret, 0, sizeof plan.secret);
+    open_spares(turn.process.mine);
+    return true;
+}
+
+void begin_turn_at(uint64_t now) {
+    turn.now = now;
+    held = 0;
+}
+
+/* ---- From a client --------------------------------------------------------------------------- */
+
+static stun_types_answer pass_on(const turn_client *from, const uint8_t *datagram, size_t length,
+                                 bool looked_up, uint8_t *room, size_t size,
+                                 stun_types_turn_action *action) {
+    return stun_types_turn_client(&turn.server, turn.now, &from->tuple, datagram, length,
+                                  ready_sockets(), looked_up, &turn.keys.md5, &turn.keys.sha256, room,
+                                  size, action);
+}
+
+static void free_keys(void) {
+    stun_types_key_free(&turn.keys.md5);
+    stun_types_key_free(&turn.keys.sha256);
+}
+
+/* Finds keys of the user of a request. False, and there are none: the user isn't known, or has no more. */
+static bool find_keys(const uint8_t *request, size_t length, unsigned attempt) {
+    if (find_user(request, length, attempt, &turn.keys)) return true;
+    free_keys();
+    return false;
+}
+
+/* Passes a signed request on with the keys of its user: with each of them until one isn't refused. */
+static stun_types_answer pass_on_signed(const turn_client *from, const uint8_t *datagram, size_t length,
+                                        uint8_t *room, size_t size, stun_types_turn_action *action) {
+    stun_types_answer answer;
+    unsigned attempt = 0;
+    bool is_known;
+    do {
+        is_known = find_keys(datagram, length, attempt);
+        if (!is_known && attempt > 0) break;
+        answer = pass_on(from, datagram, length, true, room, size, action);
+        free_keys();
+    } while (is_known && answer.code == STUN_TYPES_OK && action->took == 0 &&
+             action->code == STUN_TYPES_CODE_UNAUTHORIZED && ++attempt > 0);
+    return answer;
+}
+
+/* Keeps the socket of a new allocation. If it can't be waited for, the allocation has none. */
+static void keep_socket(const turn_client *of, const stun_types_turn_action *action) {
+    struct epoll_event event;
+    relay *taken = take_spare(&action->peer, action->relay);
+    open_spares(turn.process.mine);
+    if (taken == NULL) return;
+    taken->client = *of;
+    taken->user = turn.keys.user;
+    memset(&event, 0, sizeof event);
+    event.events = EPOLLIN;
+    event.data.u64 = turn.process.first + (action->relay & UINT32_MAX);
+    if (epoll_ctl(turn.process.poller, EPOLL_CTL_ADD, taken->socket, &event) != 0) {
+        close_relay_socket(taken);
+    }
+    if (turn.process.changed != NULL) turn.process.changed(of, true);
+    count(turn.process.mine, TURN_ALLOCATED, 1);
+}
+
+/* Whether octets of data may pass by the bandwidths of an allocation and of its user. */
+static bool may_relay(relay *by, size_t octets) {
+    uint32_t rate = setting(BANDWIDTH), of_user = setting(USER_BANDWIDTH);
+    bool may = (rate == 0 || may_pass_by(&by->paid_until, rate, octets, turn.now)) &&
+               (of_user == 0 || may_pass(plan.users, by->user, of_user, octets, turn.now));
+    if (!may) count(turn.process.mine, TURN_OVER, 1);
+    return may;
+}
+
+/* Has data wait to be sent to a peer. */
+static void send_later(const stun_types_turn_action *action, const uint8_t *datagram) {
+    relay *from = find_relay(action->relay);
+    if (from == NULL || from->socket < 0 || !may_relay(from, action->length)) return;
+    if (outgoing.count == HELD) send_to_peers();
+    int at = outgoing.count++;
+    socket_address_of(&action->peer, &outgoing.peers[at]);
+    outgoing.messages[at].msg_hdr.msg_name = &outgoing.peers[at].bytes;
+    outgoing.messages[at].msg_hdr.msg_namelen = outgoing.peers[at].length;
+    outgoing.messages[at].msg_hdr.msg_iov = &outgoing.places[at];
+    outgoing.messages[at].msg_hdr.msg_iovlen = 1;
+    outgoing.places[at].iov_base = (void *)(uintptr_t)(datagram + action->at);
+    outgoing.places[at].iov_len = action->length;
+    outgoing.from[at] = from;
+    count(turn.process.mine, TURN_TO_PEER, 1);
+    count(turn.process.mine, TURN_TO_PEER_OCTETS, action->length);
+}
+
+/* Sends what waits and has the same socket as the first of it, and takes it out. */
+static void send_by_one(void) {
+    static struct mmsghdr together[HELD];
+    const relay *by = outgoing.from[0];
+    int same = 0, others = 0;
+    for (int i = 0; i < outgoing.count; i++) {
+        if (outgoing.from[i] == by) {
+            together[same++] = outgoing.messages[i];
+        } else {
+            struct mmsghdr kept = outgoing.messages[i];
+            outgoing.from[others] = outgoing.from[i];
+            outgoing.messages[i] = outgoing.messages[others];
+            outgoing.messages[others++] = kept;
+        }
+    }
+    (void)send_all(by->socket, together, same, MSG_DONTWAIT, turn.process.mine, TURN_FAILED);
+    outgoing.count = others;
+}
+
+void send_to_peers(void) {
+    while (outgoing.count > 0) send_by_one();
+}
+
+/* Counts a response by its code. */
+static void count_response(uint32_t code) {
+    if (code == 0) return;
+    count(turn.process.mine, code == STUN_TYPES_CODE_UNAUTHORIZED ? TURN_UNAUTHORIZED
+                             : code == STUN_TYPES_CODE_STALE_NONCE ? TURN_STALE
+                                                                   : TURN_REFUSED, 1);
+}
+
+turn_outcome take_from_client(const turn_client *from, const uint8_t *datagram, size_t length,
+                              uint8_t *room, size_t size, size_t *written) {
+    stun_types_turn_action action = {.took = 0};
+    stun_types_answer answer = pass_on(from, datagram, length, false, room, size, &action);
+    bool is_signed = answer.code == STUN_TYPES_OK && action.kind == STUN_TYPES_TURN_NEEDS_KEY;
+    if (is_signed) answer = pass_on_signed(from, datagram, length, room, size, &action);
+    if (action.took) keep_socket(from, &action);
+    if (answer.code != STUN_TYPES_OK) return TURN_NOTHING_DUE;
+    if (action.kind == STUN_TYPES_TURN_TO_PEER) {
+        send_later(&action, datagram);
+        return TURN_RELAYED;
+    }
+    if (action.kind != STUN_TYPES_TURN_RESPONSE) return TURN_NOTHING_DUE;
+    count_response(action.code);
+    *written = action.length;
+    bool is_refused = action.code == STUN_TYPES_CODE_UNAUTHORIZED ||
+                      action.code == STUN_TYPES_CODE_STALE_NONCE;
+    if (is_signed && !is_refused) return TURN_ACCEPTED;
+    if (!setting(SOFTWARE)) *written = without_software(room, action.length);
+    return TURN_ANSWERED;
+}
+
+/* ---- From a peer ----------------------------------------------------------------------------- */
+
+/* A random transaction ID, the same until it is used. */
+static const stun_types_id *next_id(void) {
+    if (turn.ids_left == 0 && getrandom(turn.ids, sizeof turn.ids, 0) == sizeof turn.ids) {
+        turn.ids_left = IDS;
+    }
+    return &turn.ids[turn.ids_left > 0 ? turn.ids_left - 1 : 0];
+}
+
+/* Delivers the data of a peer, which was received in a room after the place of a head. */
+static void relay_data(relay *by, const struct sockaddr_storage *source, uint8_t *room, size_t length) {
+    stun_types_address peer;
+    stun_types_turn_delivery delivery;
+    if (!address_of(source, &peer)) return;
+    stun_types_answer answer =
+        stun_types_turn_peer(&turn.server, turn.now, &peer, by->number, length, next_id(), room,
+                             STUN_TYPES_TURN_HEAD, &delivery);
+    if (answer.code != STUN_TYPES_OK || !delivery.sends) {
+        count(turn.process.mine, TURN_DROPPED, 1);
+        return;
+    }
+    if (!may_relay(by, length)) return;
+    if (delivery.head_length > 4 && turn.ids_left > 0) turn.ids_left--;
+    memset(room + STUN_TYPES_TURN_HEAD + length, 0, delivery.padding);
+    turn.process.deliver(&by->client, room + STUN_TYPES_TURN_HEAD - delivery.head_length,
+                         delivery.head_length + length + delivery.padding);
+    count(turn.process.mine, TURN_TO_CLIENT, 1);
+    count(turn.process.mine, TURN_TO_CLIENT_OCTETS, length);
+}
+
+void take_from_peers(uint64_t number) {
+    relay *by = relay_at((size_t)(number - turn.process.first));
+    if (by == NULL || by->socket < 0) return;
+    if (held + FEW > HELD) {
+        if (turn.process.flush != NULL) turn.process.flush();
+        held = 0;
+    }
+    for (size_t i = 0; i < FEW; i++) {
+        incoming[i].msg_hdr.msg_namelen = sizeof sources[i];
+        incoming_at[i].iov_base = rooms[held + i] + STUN_TYPES_TURN_HEAD;
+        incoming_at[i].iov_len = 65536;
+    }
+    int got = recvmmsg(by->socket, incoming, FEW, MSG_DONTWAIT, NULL);
+    for (int i = 0; i < got; i++) relay_data(by, &sources[i], rooms[held + (size_t)i], incoming[i].msg_len);
+    if (got > 0) held += (size_t)got;
+}
+
+/* ---- The end of allocations ------------------------------------------------------------------ */
+
+static void end_relay(uint64_t number) {
+    relay *ended = find_relay(number);
+    count(turn.process.mine, TURN_ENDED, 1);
+    if (ended == NULL) return;
+    if (ended->is_orphan) turn.orphans--;
+    else if (turn.process.changed != NULL) turn.process.changed(&ended->client, false);
+    free_relay(ended);
+}
+
+void look_after_relays(void) {
+    enum { MANY = 64 };
+    uint64_t ended[MANY];
+    size_t count;
+    do {
+        count = stun_types_turn_poll(&turn.server, turn.now, ended, MANY);
+        for (size_t i = 0; i < count && i < MANY; i++) end_relay(ended[i]);
+    } while (count == MANY);
+    open_spares(turn.process.mine);
+}
+
+void orphan_relays(size_t connection) {
+    for (size_t slot = 0; slot < setting(ALLOCATIONS); slot++) {
+        relay *of = relay_at(slot);
+        if (of == NULL || of->is_orphan || of->client.connection != connection) continue;
+        of->is_orphan = true;
+        turn.orphans++;
+        close_relay_socket(of);
+    }
+}
+
+bool is_orphaned(const stun_types_five_tuple *tuple) {
+    for (size_t slot = 0; turn.orphans > 0 && slot < setting(ALLOCATIONS); slot++) {
+        const relay *of = relay_at(slot);
+        if (of == NULL || !of->is_orphan) continue;
+        if (memcmp(&of->client.tuple, tuple, sizeof *tuple) == 0) return true;
+    }
+    return false;
+}
