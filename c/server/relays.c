@@ -72,7 +72,7 @@ static bool find_family(const endpoints *of, int which) {
         return !is_outside || complain("external-address has no relay-address of its family");
     }
     if (!is_outside) *outside = *own;
-    return !is_unspecified(outside) || complain("relay-address is for all addresses: give external-address");
+    return !is_unspecified(outside) || complain("relay-address stands for several: give external-address");
 }
 
 /* ---- Opening --------------------------------------------------------------------------------- */

@@ -152,7 +152,6 @@ static void allow_events(program *to) {
 
 /* What a worker with connections does: it sends to no address, and opens no connection by that. */
 static void allow_tcp(program *to) {
-    allow_events(to);
     allow(to, SYS_recvfrom);
     allow(to, SYS_accept4);
     allow_one_if(to, SYS_sendto, 5, 0);
@@ -163,13 +162,12 @@ static void allow_tcp(program *to) {
 
 /* What a worker does that relays: it opens sockets for UDP, and sends by each; and the library takes
  * memory, while it authenticates a request. */
-static void allow_relays(program *to, bool tcp) {
+static void allow_relays(program *to) {
     enum { UDP = SOCK_DGRAM | SOCK_NONBLOCK | SOCK_CLOEXEC };
     const argument four[] = {{0, AF_INET}, {1, UDP}}, six[] = {{0, AF_INET6}, {1, UDP}};
     const argument memory[] = {{2, PROT_READ | PROT_WRITE}, {3, MAP_PRIVATE | MAP_ANONYMOUS}};
-    static const int calls[] = {SYS_recvmmsg, SYS_sendmmsg, SYS_bind, SYS_getsockname, SYS_getrandom,
-                                SYS_brk, SYS_munmap};
-    if (!tcp) allow_events(to);
+    static const int calls[] = {SYS_recvmmsg,  SYS_sendmmsg, SYS_sendto, SYS_bind, SYS_getsockname,
+                                SYS_getrandom, SYS_brk,      SYS_munmap};
     for (size_t i = 0; i < sizeof calls / sizeof *calls; i++) allow(to, calls[i]);
     allow_if(to, SYS_socket, four, 2);
     allow_if(to, SYS_socket, six, 2);
@@ -196,7 +194,8 @@ bool filter_calls(int own, bool relays) {
     compare(&made, (int)MACHINE, 1, 0);
     end_by(&made, SECCOMP_RET_KILL_PROCESS);
     load(&made, offsetof(struct seccomp_data, nr));
-    if (relays) allow_relays(&made, own < 0);
+    if (own < 0 || relays) allow_events(&made);
+    if (relays) allow_relays(&made);
     if (own < 0) {
         allow_tcp(&made);
     } else if (!relays) {

@@ -215,11 +215,6 @@ static inline void set_count(tally *mine, int which, uint64_t number) {
     atomic_store_explicit(&mine->numbers[which], number, memory_order_relaxed);
 }
 
-/* Sends datagrams by a socket, and counts those that the system refuses as `refused`. Returns how many
- * were sent. */
-int send_all(int socket, struct mmsghdr *messages, int messages_count, int flags, tally *mine,
-             int refused);
-
 /* How many datagrams came to sockets whose queues were full. */
 uint64_t dropped_by_all(const endpoints *of);
 
@@ -235,6 +230,23 @@ size_t write_counts(const tally *tallies, size_t tallies_count, uint64_t uptime,
 int open_reports(const char *where);
 void serve_reports(int listener, const tally *tallies, size_t tallies_count, uint64_t began,
                    tally *mine);
+
+/* ---- Datagrams (bundles.c) ------------------------------------------------------------------- */
+
+/* Control messages that say to which of this machine's addresses a datagram was sent, and from which one
+ * is sent. */
+typedef union {
+    size_t aligned; /* as the head of a struct cmsghdr is */
+    char bytes[CMSG_SPACE(sizeof(struct in6_pktinfo)) + CMSG_SPACE(sizeof(struct in_pktinfo))];
+} target_control;
+
+/* Sends datagrams by a socket, and counts those that the system refuses as `refused`. Returns how many
+ * were sent. */
+int send_all(int socket, struct mmsghdr *messages, int messages_count, int flags, tally *mine,
+             int refused);
+
+/* The same without waiting, and the system gets those together that have one address and one length. */
+int send_bundled(int socket, struct mmsghdr *messages, int messages_count, tally *mine, int refused);
 
 /* ---- Replies (reply.c, rate.c) --------------------------------------------------------------- */
 
@@ -265,20 +277,30 @@ typedef struct {
     stun_types_five_tuple tuple;
     struct sockaddr_storage to; /* over UDP, with the control message that names this machine's address */
     socklen_t to_length;
-    union {
-        size_t aligned; /* as the head of a struct cmsghdr is */
-        char bytes[CMSG_SPACE(sizeof(struct in6_pktinfo)) + CMSG_SPACE(sizeof(struct in_pktinfo))];
-    } control;
+    target_control control;
     size_t control_length;
-    size_t connection; /* over TCP */
+    size_t connection; /* over TCP: its place in the table, and which of all it is */
+    uint64_t serial;
 } turn_client;
+
+/* The relay sockets of a process. A number that the TURN server gives one has its slot in its low 32
+ * bits. */
+typedef struct {
+    uint64_t number;
+    bool is_taken;
+    int socket;     /* -1: none */
+    unsigned asked; /* how many datagrams are received from it at once */
+    uint64_t user; /* other than 0 */
+    uint64_t paid_until;
+    turn_client client;
+} relay;
 
 /* What a process does with a datagram of `length` bytes for a client. The bytes stay until `flush`,
  * which sends what waits; NULL: they are copied. */
 typedef struct {
     void (*deliver)(turn_client *to, uint8_t *bytes, size_t length);
     void (*flush)(void);
-    void (*changed)(const turn_client *of, bool begins); /* an allocation begins, or ends; NULL: so what */
+    void (*changed)(const relay *of, bool begins); /* an allocation begins, or ends; NULL: so what */
     int poller;
     uint64_t first; /* the number of its first relay socket among the events of `poller` */
     tally *mine;
@@ -311,23 +333,11 @@ void take_from_peers(uint64_t number);
 /* Once a second: ends allocations, and opens sockets that are missing. */
 void look_after_relays(void);
 
-/* A connection has been closed: its allocation has nobody any more. */
-void orphan_relays(size_t connection);
+/* A connection has been closed: its allocation, if it still has one, has nobody any more. */
+void orphan_relay(uint64_t number);
 
 /* Whether a 5-tuple still belongs to the allocation of a connection that has been closed. */
 bool is_orphaned(const stun_types_five_tuple *tuple);
-
-/* The relay sockets of a process. A number that the TURN server gives one has its slot in its low 32
- * bits. */
-typedef struct {
-    uint64_t number;
-    bool is_taken;
-    bool is_orphan; /* its client's connection has been closed */
-    int socket; /* -1: none */
-    uint64_t user; /* other than 0 */
-    uint64_t paid_until;
-    turn_client client;
-} relay;
 
 bool prepare_relays(const endpoints *of);
 bool begin_relays(void);

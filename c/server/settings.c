@@ -75,7 +75,7 @@ static const struct {
     [USERS] = {"users", 1, is_path, "a file of lines NAME PASSWORD, NAME md5:KEY or NAME sha256:KEY"},
     [SECRET] = {"secret", 1, is_path, "a file of secrets, one a line, for names that are valid for a time"},
     [RELAY_ADDRESS] = {"relay-address", 2, is_address,
-                       "whose ports are relayed, one of a family; where it listens unless it is given"},
+                       "the one with relayed ports, one of a family; unless it is given, the first of ADDRESS"},
     [EXTERNAL_ADDRESS] = {"external-address", 2, is_address,
                           "what a NAT makes of relay-address, one of a family"},
     [PORTS] = {"ports", 1, is_range, "LOW-HIGH, ports of relay-address (49152-65535)"},

@@ -168,7 +168,7 @@ void print_endpoints(const endpoints *of) {
     fflush(stdout);
 }
 
-/* ---- Files and datagrams --------------------------------------------------------------------- */
+/* ---- Files ----------------------------------------------------------------------------------- */
 
 size_t allow_files(size_t wanted) {
     struct rlimit limit, more;
@@ -179,22 +179,4 @@ size_t allow_files(size_t wanted) {
         if (setrlimit(RLIMIT_NOFILE, &more) == 0) limit = more;
     }
     return limit.rlim_cur < wanted ? (size_t)limit.rlim_cur : wanted;
-}
-
-int send_all(int socket, struct mmsghdr *messages, int messages_count, int flags, tally *mine,
-             int refused) {
-    int done = 0, all = 0;
-    while (done < messages_count) {
-        int sent = sendmmsg(socket, messages + done, (unsigned)(messages_count - done), flags);
-        if (sent < 0 && errno == EINTR) continue;
-        if (sent > 0) {
-            all += sent;
-            done += sent;
-        } else {
-            count(mine, refused, 1);
-            raise_by(&mine->beats, 1); /* (it may have waited for a second) */
-            done++;
-        }
-    }
-    return all;
 }

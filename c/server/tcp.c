@@ -31,7 +31,9 @@ typedef struct {
     uint64_t accepted, heard; /* when it was accepted, and when its last message was whole */
     uint64_t begun;           /* when the first byte of a message came that isn't whole yet */
     uint64_t closed_at;       /* if it is closing */
-    uint32_t relays;          /* its allocations */
+    uint64_t serial;          /* which of all connections it is */
+    uint32_t relays;          /* its allocations: one, and those that have ended and are still there */
+    uint64_t relay;           /* the newest */
     stun_types_five_tuple tuple;
     stun_types_stream stream;
     size_t piece_at, piece_end;
@@ -52,6 +54,7 @@ static struct {
     int poller;
     bool paused[MOST_ENDPOINTS]; /* listeners from which nothing is accepted for a while */
     uint64_t now; /* when the events that are served were got */
+    uint64_t accepted; /* how many connections there were */
     const endpoints *endpoints;
     tally *mine;
 } tcp;
@@ -111,7 +114,7 @@ static void count_crowds(connection *changed, bool in) {
 
 static void close_connection(connection *closed) {
     connection_bytes *bytes = &tcp.bytes[closed - tcp.connections];
-    if (closed->relays > 0) orphan_relays((size_t)(closed - tcp.connections));
+    if (closed->relays > 0) orphan_relay(closed->relay);
     if (closed->large) (void)madvise(bytes, sizeof *bytes, MADV_DONTNEED);
     close(closed->socket);
     closed->open = false;
@@ -183,7 +186,9 @@ static turn_outcome take_message(const connection *of, connection_bytes *bytes, 
         *written = reply_to(bytes->message, of->stream.message, &of->tuple.client, room);
         return *written > 0 ? TURN_ANSWERED : TURN_NOTHING_DUE;
     }
-    turn_client client = {.tuple = of->tuple, .connection = (size_t)(of - tcp.connections)};
+    turn_client client = {.tuple = of->tuple,
+                          .connection = (size_t)(of - tcp.connections),
+                          .serial = of->serial};
     turn_outcome outcome = take_from_client(&client, bytes->message, of->stream.message, room,
                                             STUN_TYPES_GREATEST_REPLY, written);
     send_to_peers(); /* (the next message overwrites this one) */
@@ -294,7 +299,7 @@ static size_t send_at_once(connection *of, const uint8_t *bytes, size_t length) 
 static void deliver(turn_client *to, uint8_t *message, size_t length) {
     connection *of = &tcp.connections[to->connection];
     uint8_t *waiting = tcp.bytes[to->connection].replies;
-    if (!of->open || of->closing) return;
+    if (!of->open || of->closing || of->serial != to->serial) return;
     size_t left = send_at_once(of, message, length);
     if (left > REPLIES - of->replies_end && of->replies_at > 0) {
         memmove(waiting, waiting + of->replies_at, of->replies_end - of->replies_at);
@@ -310,9 +315,11 @@ static void deliver(turn_client *to, uint8_t *message, size_t length) {
 }
 
 /* Counts the allocations of a connection. Its time-outs begin anew after the last. */
-static void change_relays(const turn_client *client, bool begins) {
-    connection *of = &tcp.connections[client->connection];
+static void change_relays(const relay *changed, bool begins) {
+    connection *of = &tcp.connections[changed->client.connection];
+    if (!of->open || of->serial != changed->client.serial) return;
     of->relays = begins ? of->relays + 1 : of->relays - 1;
+    if (begins) of->relay = changed->number;
     of->accepted = of->heard = tcp.now;
 }
 
@@ -344,6 +351,7 @@ static bool enter(int socket, const struct sockaddr_storage *from) {
     if (place == NULL) return false;
     memset(place, 0, sizeof *place);
     place->socket = socket;
+    place->serial = ++tcp.accepted;
     place->tuple = tuple;
     place->stream.carries = carried();
     place->place = place_of(&tuple.client);

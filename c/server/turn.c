@@ -29,7 +29,8 @@ static struct {
     turn_process process;
     uint64_t now;
     user_keys keys;
-    size_t orphans;
+    relay **orphans; /* whose connections have been closed */
+    size_t orphans_count;
     stun_types_id ids[IDS]; /* random */
     size_t ids_left;
 } turn;
@@ -92,7 +93,8 @@ bool prepare_turn(const endpoints *of) {
         return complain("users and secret are missing");
     }
     for (const endpoint *at = of->all; at < of->all + of->count; at++) {
-        if (!at->stream && at->workers > 1) return complain("processes can't share a socket that was passed: -j 1");
+        if (at->stream || at->workers == 1) continue;
+        return complain("processes can't share a socket that was passed: -j 1");
     }
     if (!prepare_relays(of) || !make_users()) return false;
     if (getrandom(plan.secret, sizeof plan.secret, 0) != sizeof plan.secret) {
@@ -112,12 +114,18 @@ size_t turn_files(void) { return setting(TURN) ? setting(ALLOCATIONS) + 16 : 0; 
 bool begin_turn(const turn_process *of) {
     turn.process = *of;
     turn.now = nanoseconds();
+    for (int i = 0; i < HELD; i++) {
+        outgoing.messages[i].msg_hdr.msg_name = &outgoing.peers[i].bytes;
+        outgoing.messages[i].msg_hdr.msg_iov = &outgoing.places[i];
+        outgoing.messages[i].msg_hdr.msg_iovlen = 1;
+    }
     for (int i = 0; i < FEW; i++) {
         incoming[i].msg_hdr.msg_name = &sources[i];
         incoming[i].msg_hdr.msg_iov = &incoming_at[i];
         incoming[i].msg_hdr.msg_iovlen = 1;
     }
-    if (!make_server(&turn.server) || !begin_relays()) return false;
+    turn.orphans = calloc(setting(ALLOCATIONS), sizeof *turn.orphans);
+    if (turn.orphans == NULL || !make_server(&turn.server) || !begin_relays()) return false;
     memset(plan.secret, 0, sizeof plan.secret);
     open_spares(turn.process.mine);
     return true;
@@ -180,7 +188,7 @@ static void keep_socket(const turn_client *of, const stun_types_turn_action *act
     if (epoll_ctl(turn.process.poller, EPOLL_CTL_ADD, taken->socket, &event) != 0) {
         close_relay_socket(taken);
     }
-    if (turn.process.changed != NULL) turn.process.changed(of, true);
+    if (turn.process.changed != NULL) turn.process.changed(taken, true);
     count(turn.process.mine, TURN_ALLOCATED, 1);
 }
 
@@ -200,10 +208,7 @@ static void send_later(const stun_types_turn_action *action, const uint8_t *data
     if (outgoing.count == HELD) send_to_peers();
     int at = outgoing.count++;
     socket_address_of(&action->peer, &outgoing.peers[at]);
-    outgoing.messages[at].msg_hdr.msg_name = &outgoing.peers[at].bytes;
     outgoing.messages[at].msg_hdr.msg_namelen = outgoing.peers[at].length;
-    outgoing.messages[at].msg_hdr.msg_iov = &outgoing.places[at];
-    outgoing.messages[at].msg_hdr.msg_iovlen = 1;
     outgoing.places[at].iov_base = (void *)(uintptr_t)(datagram + action->at);
     outgoing.places[at].iov_len = action->length;
     outgoing.from[at] = from;
@@ -211,27 +216,13 @@ static void send_later(const stun_types_turn_action *action, const uint8_t *data
     count(turn.process.mine, TURN_TO_PEER_OCTETS, action->length);
 }
 
-/* Sends what waits and has the same socket as the first of it, and takes it out. */
-static void send_by_one(void) {
-    static struct mmsghdr together[HELD];
-    const relay *by = outgoing.from[0];
-    int same = 0, others = 0;
-    for (int i = 0; i < outgoing.count; i++) {
-        if (outgoing.from[i] == by) {
-            together[same++] = outgoing.messages[i];
-        } else {
-            struct mmsghdr kept = outgoing.messages[i];
-            outgoing.from[others] = outgoing.from[i];
-            outgoing.messages[i] = outgoing.messages[others];
-            outgoing.messages[others++] = kept;
-        }
-    }
-    (void)send_all(by->socket, together, same, MSG_DONTWAIT, turn.process.mine, TURN_FAILED);
-    outgoing.count = others;
-}
-
 void send_to_peers(void) {
-    while (outgoing.count > 0) send_by_one();
+    for (int at = 0, end; at < outgoing.count; at = end) {
+        const relay *by = outgoing.from[at];
+        for (end = at + 1; end < outgoing.count && outgoing.from[end] == by; end++) {}
+        (void)send_bundled(by->socket, outgoing.messages + at, end - at, turn.process.mine, TURN_FAILED);
+    }
+    outgoing.count = 0;
 }
 
 /* Counts a response by its code. */
@@ -295,6 +286,22 @@ static void relay_data(relay *by, const struct sockaddr_storage *source, uint8_t
     count(turn.process.mine, TURN_TO_CLIENT_OCTETS, length);
 }
 
+/* Receives a few datagrams from a relay socket, as many as came the last time and some more: to look for
+ * another one that isn't there takes time. Returns how many there are. */
+static size_t receive(relay *by) {
+    unsigned asked = by->asked > 0 ? by->asked : 1;
+    for (size_t i = 0; i < asked; i++) {
+        incoming[i].msg_hdr.msg_namelen = sizeof sources[i];
+        incoming_at[i].iov_base = rooms[held + i] + STUN_TYPES_TURN_HEAD;
+        incoming_at[i].iov_len = 65536;
+    }
+    int got = recvmmsg(by->socket, incoming, asked, MSG_DONTWAIT, NULL);
+    if (got < 1) return 0;
+    unsigned most = (unsigned)got == asked ? 2 * asked : (unsigned)got * 2 <= asked ? (unsigned)got : asked;
+    by->asked = most < FEW ? most : FEW;
+    return (size_t)got;
+}
+
 void take_from_peers(uint64_t number) {
     relay *by = relay_at((size_t)(number - turn.process.first));
     if (by == NULL || by->socket < 0) return;
@@ -302,24 +309,26 @@ void take_from_peers(uint64_t number) {
         if (turn.process.flush != NULL) turn.process.flush();
         held = 0;
     }
-    for (size_t i = 0; i < FEW; i++) {
-        incoming[i].msg_hdr.msg_namelen = sizeof sources[i];
-        incoming_at[i].iov_base = rooms[held + i] + STUN_TYPES_TURN_HEAD;
-        incoming_at[i].iov_len = 65536;
-    }
-    int got = recvmmsg(by->socket, incoming, FEW, MSG_DONTWAIT, NULL);
-    for (int i = 0; i < got; i++) relay_data(by, &sources[i], rooms[held + (size_t)i], incoming[i].msg_len);
-    if (got > 0) held += (size_t)got;
+    size_t got = receive(by);
+    for (size_t i = 0; i < got; i++) relay_data(by, &sources[i], rooms[held + i], incoming[i].msg_len);
+    held += got;
 }
 
 /* ---- The end of allocations ------------------------------------------------------------------ */
+
+/* Takes a relay out of the orphans, if it is one. */
+static void forget_orphan(const relay *of) {
+    for (size_t i = 0; i < turn.orphans_count; i++) {
+        if (turn.orphans[i] == of) turn.orphans[i] = turn.orphans[--turn.orphans_count];
+    }
+}
 
 static void end_relay(uint64_t number) {
     relay *ended = find_relay(number);
     count(turn.process.mine, TURN_ENDED, 1);
     if (ended == NULL) return;
-    if (ended->is_orphan) turn.orphans--;
-    else if (turn.process.changed != NULL) turn.process.changed(&ended->client, false);
+    forget_orphan(ended);
+    if (turn.process.changed != NULL) turn.process.changed(ended, false);
     free_relay(ended);
 }
 
@@ -334,21 +343,16 @@ void look_after_relays(void) {
     open_spares(turn.process.mine);
 }
 
-void orphan_relays(size_t connection) {
-    for (size_t slot = 0; slot < setting(ALLOCATIONS); slot++) {
-        relay *of = relay_at(slot);
-        if (of == NULL || of->is_orphan || of->client.connection != connection) continue;
-        of->is_orphan = true;
-        turn.orphans++;
-        close_relay_socket(of);
-    }
+void orphan_relay(uint64_t number) {
+    relay *of = find_relay(number);
+    if (of == NULL) return;
+    turn.orphans[turn.orphans_count++] = of;
+    close_relay_socket(of);
 }
 
 bool is_orphaned(const stun_types_five_tuple *tuple) {
-    for (size_t slot = 0; turn.orphans > 0 && slot < setting(ALLOCATIONS); slot++) {
-        const relay *of = relay_at(slot);
-        if (of == NULL || !of->is_orphan) continue;
-        if (memcmp(&of->client.tuple, tuple, sizeof *tuple) == 0) return true;
+    for (size_t i = 0; i < turn.orphans_count; i++) {
+        if (memcmp(&turn.orphans[i]->client.tuple, tuple, sizeof *tuple) == 0) return true;
     }
     return false;
 }

@@ -23,10 +23,7 @@ static uint8_t datagrams[BATCH][DATAGRAM_ROOM], reply_rooms[BATCH][REPLY_ROOM];
 
 /* To which of this machine's addresses a datagram was sent: the reply comes from there. The system
  * says so if the socket stands for several addresses. */
-static union {
-    size_t aligned; /* as the head of a struct cmsghdr is */
-    char bytes[CMSG_SPACE(sizeof(struct in6_pktinfo)) + CMSG_SPACE(sizeof(struct in_pktinfo))];
-} targets[BATCH];
+static target_control targets[BATCH];
 static bool many_targets;
 
 static struct {
@@ -122,8 +119,8 @@ static void answer_datagram(int i, uint32_t rate, uint64_t now) {
 }
 
 /* Sends what waits. One that the system refuses is left out: its client asks again. */
-static void send_replies(int flags) {
-    int sent = send_all(udp.from->socket, replies, udp.owed, flags, udp.mine, UDP_FAILED);
+static void send_replies(void) {
+    int sent = send_all(udp.from->socket, replies, udp.owed, 0, udp.mine, UDP_FAILED);
     count(udp.mine, UDP_SENT, (uint64_t)sent);
     udp.owed = 0;
 }
@@ -143,7 +140,7 @@ static void serve_batch(void) {
     uint32_t rate = setting(RATE);
     uint64_t now = rate > 0 ? nanoseconds() : 0;
     for (int i = 0; i < got; i++) answer_datagram(i, rate, now);
-    send_replies(0);
+    send_replies();
     for (int i = 0; i < got; i++) make_ready(i);
 }
 
@@ -217,7 +214,11 @@ static void deliver(turn_client *to, uint8_t *bytes, size_t length) {
     address_reply(&header, bytes, length);
 }
 
-static void flush(void) { send_replies(MSG_DONTWAIT); }
+static void flush(void) {
+    int sent = send_bundled(udp.from->socket, replies, udp.owed, udp.mine, UDP_FAILED);
+    count(udp.mine, UDP_SENT, (uint64_t)sent);
+    udp.owed = 0;
+}
 
 /* Serves whatever is ready: the batch of clients, and a few datagrams of each relay socket. */
 static void serve_turn(void) {

@@ -276,7 +276,8 @@ static void make_password(const uint8_t hmac[SHA1_LENGTH], char password[PASSWOR
     memcpy(padded, hmac, SHA1_LENGTH);
     padded[SHA1_LENGTH] = 0;
     for (size_t i = 0; i < PASSWORD_LENGTH / 4; i++) {
-        uint32_t three = (uint32_t)padded[3 * i] << 16 | (uint32_t)padded[3 * i + 1] << 8 | padded[3 * i + 2];
+        const uint8_t *at = padded + 3 * i;
+        uint32_t three = (uint32_t)at[0] << 16 | (uint32_t)at[1] << 8 | at[2];
         for (size_t j = 0; j < 4; j++) password[4 * i + j] = digits[three >> (18 - 6 * j) & 63];
     }
     password[PASSWORD_LENGTH - 1] = '=';

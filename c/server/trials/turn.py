@@ -4,6 +4,7 @@ import contextlib
 import hashlib
 import hmac
 import os
+import random
 import re
 import resource
 import secrets
@@ -141,7 +142,7 @@ class Client:
     def request(self, method, *given, sign=True, number=None):
         """The bytes of a request."""
         number = number or secrets.token_bytes(12)
-        peers = [(PEER, xored(*value, number)) if kind == PEER else (kind, value) for kind, value in given]
+        peers = [(kind, xored(*value, number) if kind == PEER else value) for kind, value in given]
         body = b"".join(attribute(*it) for it in peers) + (self.login() if sign else b"")
         size = (36 if self.sha256 else 24) if sign else 0
         head = struct.pack(">HHI", method, len(body) + size, COOKIE) + number
@@ -314,12 +315,78 @@ def relay_one(server, address, stream):
         relayed = client.allocate(*family)
         check(relayed[0] == address and 49152 <= relayed[1] <= 65535, f"it relays at {relayed}")
         client.ask_with(REQUEST + secrets.token_bytes(12))
+        before = server.counts()["turn_dropped"]
         stranger.socket.sendto(b"unpermitted", relayed)
+        wait_until(lambda: server.counts()["turn_dropped"] == before + 1, "who isn't permitted isn't dropped")
         exchange(client, peer, relayed, secrets.token_bytes(1000))
         check(client.refresh() == 600 and client.refresh(7200) == 3600, "other lifetimes")
         check(client.refresh(0) == 0, "it doesn't end")
         client.send_on(0x4001, b"late")
         check(client.refresh(wanted=437) is None and peer.hears(0) is None, "it hasn't ended")
+
+
+def bursts(programs):
+    """Data that comes at once, of any lengths, is relayed whole and in order, by one worker that was
+    stopped for a moment."""
+    lengths = [100] * 5 + [50] + [100] * 2 + [1400] * 3 + [1401] * 2 + [0, 7, 0] + [1200] * 20 + [3, 3000, 3]
+    for at, asked in (("127.0.0.1", "127.0.0.1"), ("::", "127.0.0.2"), ("::", "::1")):
+        options = ["-o", f"relay-address={OTHER[asked] if asked in OTHER else '127.0.0.9'}"]
+        with turn_server(programs, *options, at=(at,)) as server, Client(server, at=asked) as client, \
+                Client(server, at=asked) as other, Peer(OTHER.get(asked, "127.0.0.9")) as peer:
+            family = [(FAMILY, b"\2\0\0\0")] if ":" in asked else []
+            worker, = server.workers()
+            relayed = []
+            for it in (client, other):
+                relayed.append(it.allocate(*family))
+                it.bind(0x4001, peer.address)
+            os.kill(worker, signal.SIGSTOP)
+            data = [bytes([i]) * length for i, length in enumerate(lengths)]
+            for one in data:
+                for it in (client, other):
+                    it.send_on(0x4001, one)
+                    peer.socket.sendto(one, relayed[it is other])
+            os.kill(worker, signal.SIGCONT)
+            for it in (client, other):
+                heard = [it.data() for _ in data]
+                check(heard == [(0x4001, one) for one in data], "a client hears other data")
+            heard = [peer.hears() for _ in range(2 * len(data))]
+            for source in relayed:
+                check([it[1] for it in heard if it[0] == source] == data, "the peer hears other data")
+            ended(server)
+
+
+def nonsense(programs):
+    """Whatever clients and peers send, over UDP and TCP, the server goes on, and an allocation too."""
+    drawn = random.Random(8656)
+    def changed(message):
+        message = bytearray(message)
+        for _ in range(drawn.choice((0, 1, 1, 2, 8))):
+            message[drawn.randrange(len(message))] = drawn.randrange(256)
+        return bytes(message[: drawn.choice((len(message), len(message), drawn.randrange(len(message) + 1)))])
+    with turn_server(programs, "-t") as server, Client(server) as client, Client(server) as other, \
+            Peer() as peer:
+        relayed = client.allocate()
+        client.bind(0x4001, peer.address)
+        near = [("127.0.0.9", 7), ("10.0.0.1", 7), ("::1", 7), ("198.51.100.1", 0), peer.address]
+        other.challenge = client.challenge
+        for turn in range(3000):
+            to = drawn.choice(near)
+            request = drawn.choice([
+                client.request(drawn.choice((ALLOCATE, REFRESH, PERMIT, BIND)), UDP, (PEER, to),
+                               (CHANNEL, b"\x40\2\0\0"), number=drawn.randbytes(12)),
+                client.request(PERMIT, *[(PEER, to)] * drawn.randrange(80), number=drawn.randbytes(12)),
+                client.request(SEND | INDICATION, (PEER, to), (CONTENT, b"data"), sign=False),
+                b"\x40\1\0\4data", drawn.randbytes(drawn.randrange(1, 100))])
+            drawn.choice((client, other)).socket.send(changed(request))
+            peer.socket.sendto(drawn.randbytes(drawn.randrange(100)), relayed)
+            if turn % 30 == 0:
+                with Client(server, stream=True) as stream:
+                    stream.socket.send(changed(request))
+            if turn % 100 == 0:
+                ask_once(server)
+        with Client(server) as another, Peer() as its_peer:
+            exchange(another, its_peer, another.allocate(), b"data")
+        ended(server)
 
 
 def even_ports(programs):
@@ -656,19 +723,25 @@ def misused(programs):
         write(users, "user pass\n")
         right = ["realm=example.org", f"users={users}"]
         for status, given, told in [
-            (3, right[1:], "realm"), (3, right[:1], "users"), (3, [*right, "relay-address=192.0.2.1"], "192.0.2.1"),
-            (3, [right[0], f"users={folder}/none"], "none"), (3, [*right, "external-address=2001:db8::1"], "external"),
-            (3, [*right, "relay-address=0.0.0.0"], "external"), (2, ["turn=2"], ""), (2, ["realm="], ""),
-            (2, ["ports=5-4"], ""), (2, ["ports=1"], ""), (2, ["allow=10.0.0.1/8"], ""), (2, ["deny=10/8"], ""),
-            (2, ["allow=10.0.0.0/33"], ""), (2, ["relay-address=host"], ""), (2, ["realm=a", "realm=b"], ""),
-            (2, ["lifetime=1"], ""),
+            (3, right[1:], "realm"), (3, right[:1], "users"), (3, [right[0], f"users={folder}/none"], "none"),
+            (3, [*right, "relay-address=192.0.2.1"], "192.0.2.1"),
+            (3, [*right, "external-address=2001:db8::1"], "external"),
+            (3, [*right, "relay-address=0.0.0.0"], "external"),
+            *((2, [it], "") for it in ("turn=2", "realm=", "ports=5-4", "ports=1", "allow=10.0.0.1/8", "deny=10/8",
+                                       "allow=10.0.0.0/33", "relay-address=host", "lifetime=1")),
+            (2, ["realm=a", "realm=b"], ""),
         ]:
-            words = [word for it in given for word in ("-o", it)]
-            got, _, said = run([programs["server"], "--turn", *words, "127.0.0.1", free_port(["127.0.0.1"])])
+            got, said = start_at(programs, "127.0.0.1", given)
             check(got == status and told in said, f"{given}: status {got}: {said}")
-        words = [word for it in right for word in ("-o", it)]
-        got, _, said = run([programs["server"], "--turn", *words, "0.0.0.0", free_port(["0.0.0.0"])])
+        got, said = start_at(programs, "0.0.0.0", right)
         check(got == 3 and "relay-address" in said, f"status {got}: {said}")
+
+
+def start_at(programs, address, settings):
+    """The status and the errors of a server that can't begin with these settings."""
+    words = [word for it in settings for word in ("-o", it)]
+    status, _, told = run([programs["server"], "--turn", *words, address, free_port([address])])
+    return status, told
 
 
 def own_client(programs):
@@ -686,7 +759,8 @@ while True:
         try:
             port = int(peer.stdout.readline())
             for stream in ([], ["-t"]):
-                words = ["-u", "user", *stream, "-p", f"127.0.0.9:{port}", "-r", "20", f"127.0.0.1:{server.port}"]
+                words = ["-u", "user", *stream, "-p", f"127.0.0.9:{port}", "-r", "20",
+                         f"127.0.0.1:{server.port}"]
                 status, out, told = run([programs["turn_client"], *words], 3 * PATIENCE,
                                         env={**os.environ, "STUN_PASSWORD": "pass"})
                 check(status == 0 and "hello" in out, f"status {status}: {out}{told}")
@@ -711,8 +785,8 @@ def behind(programs, name, text):
     port = free_port(["127.0.0.1"])
     with turn_server(programs, "-t") as server, Peer() as peer:
         cert, key, both = (server.folder / it for it in ("cert.pem", "key.pem", "both.pem"))
-        status, _, told = run(["openssl", "req", "-x509", "-newkey", "rsa:2048", "-nodes", "-keyout", str(key),
-                               "-out", str(cert), "-days", "2", "-subj", "/CN=localhost"], PATIENCE)
+        words = ["openssl", "req", "-x509", "-newkey", "rsa:2048", "-nodes", "-days", "2", "-subj", "/CN=localhost"]
+        status, _, told = run([*words, "-keyout", str(key), "-out", str(cert)], PATIENCE)
         check(status == 0, told)
         both.write_text(cert.read_text() + key.read_text())
         for old, new in [(":::5349", f"127.0.0.1:{port}"), ("127.0.0.1:3478", f"127.0.0.1:{server.port}"),
@@ -756,8 +830,8 @@ def coturn_client(programs):
     try:
         with turn_server(programs, *options) as server:
             for kind in (["-s"], [], ["-s", "-t"], ["-t"]):
-                words = ["turnutils_uclient", "-c", *kind, "-u", "user", "-w", "pass", "-e", "127.0.0.1", "-r", port,
-                         "-p", server.port, "-m", "10", "-n", "200", "127.0.0.1"]
+                words = ["turnutils_uclient", "-c", *kind, "-u", "user", "-w", "pass", "-e", "127.0.0.1",
+                         "-r", port, "-p", server.port, "-m", "10", "-n", "200", "127.0.0.1"]
                 status, out, told = run(words, 60)
                 lost = re.findall(r"Total lost packets (\d+)", out + told)
                 sent = re.findall(r"tot_send_msgs=(\d+), tot_recv_msgs=(\d+)\n", out + told)
