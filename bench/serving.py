@@ -1,6 +1,7 @@
 """What bench/servers and bench/relays share: servers that are started, and what they take of the machine."""
 import os
 import pathlib
+import re
 import socket
 import subprocess
 import sys
@@ -48,6 +49,47 @@ def processor_time(process):
 def memory(process):
     """The octets of memory that a process and those that it started have resident."""
     return sum(int(fields[21]) for _, fields in processes_of(process)) * os.sysconf("SC_PAGE_SIZE")
+
+
+class Load:
+    """A run of relay_load: the clients and peers of a TURN server, which obey commands. A command prepares it, as
+    taskset does."""
+
+    def __init__(self, program, server, *options, command=()):
+        self.server = server
+        pipes = {"stdin": subprocess.PIPE, "stdout": subprocess.PIPE, "text": True}
+        self.ran = subprocess.Popen([*command, program, *options, *server], **pipes)
+
+    def __enter__(self):
+        return self
+
+    def __exit__(self, *_):
+        self.ran.stdin.close()
+        self.ran.wait()
+        self.ran.stdout.close()
+
+    def begin(self, command):
+        self.ran.stdin.write(command + "\n")
+        self.ran.stdin.flush()
+
+    def end(self):
+        """What the command that began has counted, by name."""
+        line = self.ran.stdout.readline().strip()
+        if not line:
+            raise OSError("the load has ended")
+        counts = {name.strip(): int(number) for name, number in re.findall(r"([a-z ]+) (\d+),", line)}
+        delays = re.search(r"delay (\d+) (\d+) (\d+) us", line)
+        return {**counts, "delays": list(map(int, delays.groups())) if delays else [], "line": line}
+
+    def obey(self, command):
+        self.begin(command)
+        return self.end()
+
+
+def is_whole(counted):
+    """Whether all that was relayed came, once, as it was sent."""
+    came = counted["sent"] == counted["at peers"] == counted["back"]
+    return came and counted["wrong"] == counted["repeated"] == 0
 
 
 def require(missing):
