@@ -1149,6 +1149,125 @@ stun_types_answer stun_types_write_channel_data(uint16_t channel, const void *da
                                                 size_t data_length, bool padded, uint8_t *room,
                                                 size_t size, size_t *written);
 
+/* ---- A TURN server (RFC 8656) ------------------------------------------------------------------ */
+
+/* A TURN server without sockets and without a clock, on the heap: its allocations, with their permissions
+   and channels, at most 16 of each. It begins as STUN_TYPES_TURN_INIT, is made by stun_types_turn_new,
+   which frees what it held before, and ended by stun_types_turn_free. C neither reads nor writes nor
+   copies its fields; whether a struct holds a server is seen as with a key. Each call has it alone: one
+   server for each thread, or a lock. */
+typedef struct {
+    void *at;
+    uint64_t held;
+} stun_types_turn;
+
+#define STUN_TYPES_TURN_INIT { NULL, 0 }
+
+/* STUN_TYPES_TURN_INIT, for languages that read no macros. */
+stun_types_turn stun_types_turn_none(void);
+
+typedef struct {
+    uint64_t window;            /* for how many seconds a nonce is valid */
+    uint64_t seed[2];           /* random: it keys the hash of 5-tuples */
+    stun_types_policy policy;   /* which requests are taken, and which integrity attributes count */
+    uint32_t allocations;       /* at most; one that has ended counts until a poll reports it */
+    uint32_t of_user;           /* the most live allocations of one user */
+    uint32_t greatest_lifetime; /* seconds; below 600 it counts as 600 */
+    uint32_t features;          /* as in stun_types_make_nonce. With STUN_TYPES_FEATURE_PASSWORD_ALGORITHMS
+                                   a 401 offers SHA-256 and then MD5 */
+    uint32_t channel_permits;   /* not 0: a channel permits its exact peer as long as it lasts */
+    uint32_t old_channels;      /* not 0: channels 0x5000 to 0x7FFF are allowed too (RFC 5766) */
+    uint64_t reserved;
+} stun_types_turn_settings;
+
+/* Addresses whose first length bits are those of this one. Its port is ignored. */
+typedef struct {
+    stun_types_address address;
+    uint16_t length;
+} stun_types_prefix;
+
+/* Makes a server with no allocation. It takes all memory that its table ever needs. realm and software
+   are texts; a software of no bytes: responses have no SOFTWARE. secret makes the nonces, as in
+   stun_types_make_nonce; it is copied. denied, allowed: which peers clients may reach; the longest prefix
+   that contains an address decides, of equal ones denied, then allowed, then the default (see TURN.md).
+   listening: the addresses and ports that clients send to; each is denied.
+   BAD_ARGUMENT: the settings, a prefix, an address, or a secret of fewer than 16 bytes. NO_KEY: there is no secret. INVALID_DATA, TOO_LARGE: a
+   text isn't UTF-8, or has more than 763 bytes. Allocates: OUT_OF_MEMORY. If the call fails, the server stays as it was. */
+stun_types_answer stun_types_turn_new(stun_types_turn *server, const stun_types_turn_settings *settings,
+                                      const void *realm, size_t realm_length,
+                                      const void *software, size_t software_length,
+                                      const stun_types_key *secret,
+                                      const stun_types_prefix *denied, size_t denied_count,
+                                      const stun_types_prefix *allowed, size_t allowed_count,
+                                      const stun_types_address *listening, size_t listening_count);
+
+/* Ends the server and frees its memory, overwriting its secret. With STUN_TYPES_TURN_INIT it does nothing. */
+void stun_types_turn_free(stun_types_turn *server);
+
+/* Who sent a datagram, the address of the server that it came to, and by which transport. */
+typedef struct {
+    stun_types_address client, server;
+    uint16_t stream; /* 0: UDP; 1: a stream (TCP, TLS), from which stun_types_stream_push cut the message */
+} stun_types_five_tuple;
+
+/* The sockets that are ready for Allocate requests, by the addresses that clients get: family 0, none.
+   One for any port, one whose port is even; the same socket may be both. If ipv4 is 0 the server has no
+   IPv4 to offer (440), otherwise a socket that isn't ready is 508; ipv6 in the same way. */
+typedef struct {
+    stun_types_address any_ipv4, even_ipv4, any_ipv6, even_ipv6;
+    uint16_t ipv4, ipv6;
+} stun_types_turn_ready;
+
+typedef STUN_TYPES_ENUM(stun_types_turn_kind) {
+    STUN_TYPES_TURN_NOTHING = 0,   /* nothing is sent */
+    STUN_TYPES_TURN_RESPONSE = 1,  /* room[0 .. length) goes back to the client, from where it sent to */
+    STUN_TYPES_TURN_TO_PEER = 2,   /* datagram[at .. at + length) goes to `peer`, from the socket `relay` */
+    STUN_TYPES_TURN_NEEDS_KEY = 3  /* it is signed: find its user's keys, and call again with them */
+} stun_types_turn_kind;
+
+typedef struct {
+    uint64_t relay;           /* TO_PEER, and if took: the number of a socket */
+    size_t at, length;        /* in bytes */
+    stun_types_address peer;  /* TO_PEER; if took, the relayed address, that of the socket that was ready */
+    stun_types_turn_kind kind;
+    uint32_t took;            /* 1: the socket with the address `peer` is an allocation's from now on, by
+                                 the number `relay`: have another one ready for the next call */
+    uint32_t code;            /* RESPONSE: the error code, or 0 if it is a success response */
+} stun_types_turn_action;
+
+/* Takes a client's datagram: keeps what it changes, and says what is to be sent. now is a monotonic clock of the
+   caller's, in nanoseconds since any moment that stays the same; the nonces count its seconds.
+   keys is NULL or ... */
+stun_types_answer stun_types_turn_client(stun_types_turn *server, uint64_t now,
+                                         const stun_types_five_tuple *from,
+                                         const uint8_t *datagram, size_t length,
+                                         const stun_types_turn_ready *ready,
+                                         bool looked_up,
+                                         const stun_types_key *md5_key, const stun_types_key *sha256_key,
+                                         uint8_t *room, size_t size, stun_types_turn_action *action);
+
+/* Where the data of a peer goes. */
+typedef struct {
+    stun_types_five_tuple to;
+    uint16_t sends;        /* 1: head[48 - head_length .. 48), the data, `padding` zeros; 0: it is dropped */
+    uint16_t head_length;  /* 4, 36 or 48 */
+    uint16_t padding;      /* 0 to 3; 0 over UDP */
+} stun_types_turn_delivery;
+
+#define STUN_TYPES_TURN_HEAD 48
+
+/* Takes a datagram of a peer, of data_length bytes, which came from `peer` to the socket `relay`. The data is
+   neither read nor moved: what comes before it is written at the end of head, STUN_TYPES_TURN_HEAD bytes. So receive at buffer + 48, and
+   pass buffer as head. id: random; the transaction ID of a Data indication. */
+stun_types_answer stun_types_turn_peer(stun_types_turn *server, uint64_t now, uint64_t relay,
+                                       size_t data_length, const stun_types_address *peer,
+                                       const stun_types_id *id, uint8_t *head, size_t head_size,
+                                       stun_types_turn_delivery *delivery);
+
+/* Ends allocations whose time is over, at most room of them, and writes the numbers of their sockets, to be
+   closed. Returns how many; if that is less than room, none is left. Call it once a second. SIZE_MAX: arguments overlap. */
+size_t stun_types_turn_poll(stun_types_turn *server, uint64_t now, uint64_t *ended, size_t room);
+
 /* ---- Layout ----------------------------------------------------------------------------------- */
 
 /* A program that lays out a type otherwise than the library (-fshort-enums, -fpack-struct, another
