@@ -13,7 +13,7 @@ static const struct {
 } parts[] = {
     {"numbers", test_numbers}, {"reading", test_reading}, {"keys", test_keys},
     {"writing", test_writing}, {"servers", test_servers}, {"clients", test_clients},
-    {"streams", test_streams}, {"nulls", test_nulls}, {"calls", test_calls},
+    {"streams", test_streams}, {"turn", test_turn}, {"nulls", test_nulls}, {"calls", test_calls},
     {"overlaps", test_overlaps},
 };
 
