@@ -1259,8 +1259,8 @@ typedef struct {
 /* Takes a datagram of a peer, of data_length bytes, which came from `peer` to the socket `relay`. The data is
    neither read nor moved: what comes before it is written at the end of head, STUN_TYPES_TURN_HEAD bytes. So receive at buffer + 48, and
    pass buffer as head. id: random; the transaction ID of a Data indication. */
-stun_types_answer stun_types_turn_peer(stun_types_turn *server, uint64_t now, uint64_t relay,
-                                       size_t data_length, const stun_types_address *peer,
+stun_types_answer stun_types_turn_peer(stun_types_turn *server, uint64_t now,
+                                       const stun_types_address *peer, uint64_t relay, size_t data_length,
                                        const stun_types_id *id, uint8_t *head, size_t head_size,
                                        stun_types_turn_delivery *delivery);
 

@@ -144,7 +144,7 @@ CALL(turn_client) {
                                   at[7]));
 }
 CALL(turn_peer) {
-    REPORT(stun_types_turn_peer(at[0], 0, 1, 3, at[1], at[2], at[3], STUN_TYPES_TURN_HEAD, at[4]));
+    REPORT(stun_types_turn_peer(at[0], 0, at[1], 1, 3, at[2], at[3], STUN_TYPES_TURN_HEAD, at[4]));
 }
 CALL(turn_poll) { REPORT_COUNT(stun_types_turn_poll(at[0], 0, at[1], 2)); }
 

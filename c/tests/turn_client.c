@@ -209,5 +209,5 @@ stun_types_answer turn_from_peer(stun_types_turn *server, uint64_t now, uint64_t
                                  const stun_types_address *peer, size_t data_length,
                                  const stun_types_id *id, uint8_t *head, size_t head_size,
                                  stun_types_turn_delivery *delivery) {
-    return stun_types_turn_peer(server, now, relay, data_length, peer, id, head, head_size, delivery);
+    return stun_types_turn_peer(server, now, peer, relay, data_length, id, head, head_size, delivery);
 }
