@@ -1164,6 +1164,7 @@ typedef struct {
 #define STUN_TYPES_TURN_INIT { NULL, 0 }
 
 /* STUN_TYPES_TURN_INIT, for languages that read no macros. */
+STUN_TYPES_NODISCARD
 stun_types_turn stun_types_turn_none(void);
 
 typedef struct {
@@ -1180,19 +1181,22 @@ typedef struct {
     uint64_t reserved;
 } stun_types_turn_settings;
 
-/* Addresses whose first length bits are those of this one. Its port is ignored. */
+/* Addresses whose first length bits are those of this one, which has no other bits. Its port is ignored. */
 typedef struct {
     stun_types_address address;
     uint16_t length;
 } stun_types_prefix;
 
-/* Makes a server with no allocation. It takes all memory that its table ever needs. realm and software
-   are texts; a software of no bytes: responses have no SOFTWARE. secret makes the nonces, as in
-   stun_types_make_nonce; it is copied. denied, allowed: which peers clients may reach; the longest prefix
-   that contains an address decides, of equal ones denied, then allowed, then the default (see TURN.md).
-   listening: the addresses and ports that clients send to; each is denied.
-   BAD_ARGUMENT: the settings, a prefix, an address, or a secret of fewer than 16 bytes. NO_KEY: there is no secret. INVALID_DATA, TOO_LARGE: a
-   text isn't UTF-8, or has more than 763 bytes. Allocates: OUT_OF_MEMORY. If the call fails, the server stays as it was. */
+/* Makes a server with no allocation. It takes all memory that its table ever needs: some 2,000 bytes for each
+   allocation. realm and software are texts; a software of no bytes: responses have no SOFTWARE. secret makes
+   the nonces, as in stun_types_make_nonce; it is copied. denied, allowed: which peers clients may reach; the
+   longest prefix that contains an address decides, of equal ones denied, then allowed, then the default (see
+   TURN.md). listening: the addresses and ports that clients send to; each is denied.
+   The first of these: BAD_ARGUMENT: the settings; NO_KEY: there is no secret; BAD_ARGUMENT: it has fewer than
+   16 bytes; INVALID_DATA, TOO_LARGE: the realm, then the software isn't UTF-8, or has more than 763 bytes;
+   BAD_ARGUMENT: a family that is neither 4 nor 6, a prefix longer than an address of its family, or with
+   other bits. Allocates: OUT_OF_MEMORY. If the call fails, the server stays as it was. */
+STUN_TYPES_NODISCARD STUN_TYPES_NONNULL((1, 2, 7))
 stun_types_answer stun_types_turn_new(stun_types_turn *server, const stun_types_turn_settings *settings,
                                       const void *realm, size_t realm_length,
                                       const void *software, size_t software_length,
@@ -1202,6 +1206,7 @@ stun_types_answer stun_types_turn_new(stun_types_turn *server, const stun_types_
                                       const stun_types_address *listening, size_t listening_count);
 
 /* Ends the server and frees its memory, overwriting its secret. With STUN_TYPES_TURN_INIT it does nothing. */
+STUN_TYPES_NONNULL((1))
 void stun_types_turn_free(stun_types_turn *server);
 
 /* Who sent a datagram, the address of the server that it came to, and by which transport. */
@@ -1219,53 +1224,73 @@ typedef struct {
 } stun_types_turn_ready;
 
 typedef STUN_TYPES_ENUM(stun_types_turn_kind) {
-    STUN_TYPES_TURN_NOTHING = 0,   /* nothing is sent */
-    STUN_TYPES_TURN_RESPONSE = 1,  /* room[0 .. length) goes back to the client, from where it sent to */
-    STUN_TYPES_TURN_TO_PEER = 2,   /* datagram[at .. at + length) goes to `peer`, from the socket `relay` */
-    STUN_TYPES_TURN_NEEDS_KEY = 3  /* it is signed: find its user's keys, and call again with them */
+    STUN_TYPES_TURN_NOTHING = 0,  /* nothing is sent */
+    STUN_TYPES_TURN_RESPONSE = 1, /* room[0 .. length) goes back to the client, from where it sent to */
+    STUN_TYPES_TURN_TO_PEER = 2,  /* datagram[at .. at + length) goes to `peer`, from the socket `relay` */
+    STUN_TYPES_TURN_NEEDS_KEY = 3 /* it is signed: find its user's keys, and call again with them */
 } stun_types_turn_kind;
 
 typedef struct {
-    uint64_t relay;           /* TO_PEER, and if took: the number of a socket */
-    size_t at, length;        /* in bytes */
-    stun_types_address peer;  /* TO_PEER; if took, the relayed address, that of the socket that was ready */
+    uint64_t relay;            /* TO_PEER, and if took: the number of a socket */
+    size_t at, length;         /* in bytes */
+    stun_types_address peer;   /* TO_PEER; if took, the relayed address, that of the socket that was ready */
     stun_types_turn_kind kind;
-    uint32_t took;            /* 1: the socket with the address `peer` is an allocation's from now on, by
-                                 the number `relay`: have another one ready for the next call */
-    uint32_t code;            /* RESPONSE: the error code, or 0 if it is a success response */
+    uint32_t took;             /* 1: the socket with the address `peer` is an allocation's from now on, by
+                                  the number `relay`: have another one ready for the next call */
+    uint32_t code;             /* RESPONSE: the error code, or 0 if it is a success response */
 } stun_types_turn_action;
 
-/* Takes a client's datagram: keeps what it changes, and says what is to be sent. now is a monotonic clock of the
-   caller's, in nanoseconds since any moment that stays the same; the nonces count its seconds.
-   keys is NULL or ... */
+/* Takes a client's datagram: keeps what it changes, and says what is to be sent. now is a monotonic clock
+   of the caller's, in nanoseconds since any moment that stays the same; the nonces count its whole seconds.
+
+   looked_up is false, and both keys hold none, when a datagram comes. If the kind is
+   STUN_TYPES_TURN_NEEDS_KEY, nothing has changed: it is a signed request, whose USERNAME or USERHASH
+   (stun_types_find) names the user. Call again with the same arguments, looked_up true, and the user's keys
+   by MD5 and by SHA-256 (stun_types_key_long_term). A key that holds none: there is no such user. If
+   looked_up is true the kind is never STUN_TYPES_TURN_NEEDS_KEY.
+
+   A response is written into room. 1,000 bytes are enough for a realm and a software of 300 bytes together.
+   TOO_SMALL, OUT_OF_MEMORY: it isn't written, and the kind is STUN_TYPES_TURN_NOTHING. The request has taken
+   effect, though: relay, peer and took say what it took, and when the client sends it again it is answered.
+   INVALID_DATA: neither is there a response, since the key is of the other integrity algorithm.
+   BAD_ARGUMENT, if nothing has changed: there is no server, a family is neither 4 nor 6, an address that is
+   ready is of the other family, or stream is neither 0 nor 1. Allocates, but not for data. */
+STUN_TYPES_NODISCARD STUN_TYPES_NONNULL((1, 3, 6, 8, 9, 12))
 stun_types_answer stun_types_turn_client(stun_types_turn *server, uint64_t now,
                                          const stun_types_five_tuple *from,
                                          const uint8_t *datagram, size_t length,
-                                         const stun_types_turn_ready *ready,
-                                         bool looked_up,
-                                         const stun_types_key *md5_key, const stun_types_key *sha256_key,
+                                         const stun_types_turn_ready *ready, bool looked_up,
+                                         const stun_types_key *md5_key,
+                                         const stun_types_key *sha256_key,
                                          uint8_t *room, size_t size, stun_types_turn_action *action);
 
 /* Where the data of a peer goes. */
 typedef struct {
     stun_types_five_tuple to;
-    uint16_t sends;        /* 1: head[48 - head_length .. 48), the data, `padding` zeros; 0: it is dropped */
-    uint16_t head_length;  /* 4, 36 or 48 */
-    uint16_t padding;      /* 0 to 3; 0 over UDP */
+    uint16_t sends;       /* 1: head[size - head_length .. size), the data, padding zeros; 0: it is dropped */
+    uint16_t head_length; /* 4 on a channel; else 36, or 48 for a peer with an IPv6 address */
+    uint16_t padding;     /* 0 to 3; on a channel over UDP 0 */
 } stun_types_turn_delivery;
 
 #define STUN_TYPES_TURN_HEAD 48
 
-/* Takes a datagram of a peer, of data_length bytes, which came from `peer` to the socket `relay`. The data is
-   neither read nor moved: what comes before it is written at the end of head, STUN_TYPES_TURN_HEAD bytes. So receive at buffer + 48, and
-   pass buffer as head. id: random; the transaction ID of a Data indication. */
+/* Takes a datagram of data_length bytes, which came from `peer` to the socket `relay`. The data is neither
+   read nor moved: what comes before it is written at the end of head, of size bytes, at least
+   STUN_TYPES_TURN_HEAD. So receive at buffer + 48, and pass buffer as head. id: random; the transaction ID of
+   a Data indication. It is dropped if the socket is no live allocation's, if there is no permission for the
+   peer, or if the message is longer than the transport to the client takes: 65,507 bytes over UDP and IPv4,
+   65,527 over UDP and IPv6, and 65,555 on a stream.
+   BAD_ARGUMENT: there is no server, or a family that is neither 4 nor 6. TOO_SMALL: head is shorter. */
+STUN_TYPES_NODISCARD STUN_TYPES_NONNULL((1, 3, 6, 9))
 stun_types_answer stun_types_turn_peer(stun_types_turn *server, uint64_t now,
-                                       const stun_types_address *peer, uint64_t relay, size_t data_length,
-                                       const stun_types_id *id, uint8_t *head, size_t head_size,
-                                       stun_types_turn_delivery *delivery);
+                                       const stun_types_address *peer, uint64_t relay,
+                                       size_t data_length, const stun_types_id *id,
+                                       uint8_t *head, size_t size, stun_types_turn_delivery *delivery);
 
 /* Ends allocations whose time is over, at most room of them, and writes the numbers of their sockets, to be
-   closed. Returns how many; if that is less than room, none is left. Call it once a second. SIZE_MAX: arguments overlap. */
+   closed. Returns how many; if that is less than room, none is left. Without a server it is 0. Call it once a
+   second. */
+STUN_TYPES_NODISCARD STUN_TYPES_NONNULL((1))
 size_t stun_types_turn_poll(stun_types_turn *server, uint64_t now, uint64_t *ended, size_t room);
 
 /* ---- Layout ----------------------------------------------------------------------------------- */
@@ -1295,6 +1320,7 @@ STUN_TYPES_LAYOUT(action_kind_size, sizeof(stun_types_action_kind) == 4);
 STUN_TYPES_LAYOUT(end_size, sizeof(stun_types_end) == 4);
 STUN_TYPES_LAYOUT(received_kind_size, sizeof(stun_types_received_kind) == 4);
 STUN_TYPES_LAYOUT(stream_kind_size, sizeof(stun_types_stream_kind) == 4);
+STUN_TYPES_LAYOUT(turn_kind_size, sizeof(stun_types_turn_kind) == 4);
 STUN_TYPES_LAYOUT(answer_size, sizeof(stun_types_answer) == 24);
 STUN_TYPES_LAYOUT(answer_code, offsetof(stun_types_answer, code) == 0);
 STUN_TYPES_LAYOUT(answer_type, offsetof(stun_types_answer, type) == 4);
@@ -1400,6 +1426,47 @@ STUN_TYPES_LAYOUT(channel_data_size, sizeof(stun_types_channel_data) == 16);
 STUN_TYPES_LAYOUT(channel_data_data_at, offsetof(stun_types_channel_data, data_at) == 0);
 STUN_TYPES_LAYOUT(channel_data_channel, offsetof(stun_types_channel_data, channel) == 8);
 STUN_TYPES_LAYOUT(channel_data_length, offsetof(stun_types_channel_data, length) == 10);
+STUN_TYPES_LAYOUT(turn_size, sizeof(stun_types_turn) == 16);
+STUN_TYPES_LAYOUT(turn_at, offsetof(stun_types_turn, at) == 0);
+STUN_TYPES_LAYOUT(turn_held, offsetof(stun_types_turn, held) == 8);
+STUN_TYPES_LAYOUT(turn_settings_size, sizeof(stun_types_turn_settings) == 72);
+STUN_TYPES_LAYOUT(turn_settings_window, offsetof(stun_types_turn_settings, window) == 0);
+STUN_TYPES_LAYOUT(turn_settings_seed, offsetof(stun_types_turn_settings, seed) == 8);
+STUN_TYPES_LAYOUT(turn_settings_policy, offsetof(stun_types_turn_settings, policy) == 24);
+STUN_TYPES_LAYOUT(turn_settings_allocations, offsetof(stun_types_turn_settings, allocations) == 40);
+STUN_TYPES_LAYOUT(turn_settings_of_user, offsetof(stun_types_turn_settings, of_user) == 44);
+STUN_TYPES_LAYOUT(turn_settings_greatest_lifetime, offsetof(stun_types_turn_settings, greatest_lifetime) == 48);
+STUN_TYPES_LAYOUT(turn_settings_features, offsetof(stun_types_turn_settings, features) == 52);
+STUN_TYPES_LAYOUT(turn_settings_channel_permits, offsetof(stun_types_turn_settings, channel_permits) == 56);
+STUN_TYPES_LAYOUT(turn_settings_old_channels, offsetof(stun_types_turn_settings, old_channels) == 60);
+STUN_TYPES_LAYOUT(turn_settings_reserved, offsetof(stun_types_turn_settings, reserved) == 64);
+STUN_TYPES_LAYOUT(prefix_size, sizeof(stun_types_prefix) == 22);
+STUN_TYPES_LAYOUT(prefix_address, offsetof(stun_types_prefix, address) == 0);
+STUN_TYPES_LAYOUT(prefix_length, offsetof(stun_types_prefix, length) == 20);
+STUN_TYPES_LAYOUT(five_tuple_size, sizeof(stun_types_five_tuple) == 42);
+STUN_TYPES_LAYOUT(five_tuple_client, offsetof(stun_types_five_tuple, client) == 0);
+STUN_TYPES_LAYOUT(five_tuple_server, offsetof(stun_types_five_tuple, server) == 20);
+STUN_TYPES_LAYOUT(five_tuple_stream, offsetof(stun_types_five_tuple, stream) == 40);
+STUN_TYPES_LAYOUT(turn_ready_size, sizeof(stun_types_turn_ready) == 84);
+STUN_TYPES_LAYOUT(turn_ready_any_ipv4, offsetof(stun_types_turn_ready, any_ipv4) == 0);
+STUN_TYPES_LAYOUT(turn_ready_even_ipv4, offsetof(stun_types_turn_ready, even_ipv4) == 20);
+STUN_TYPES_LAYOUT(turn_ready_any_ipv6, offsetof(stun_types_turn_ready, any_ipv6) == 40);
+STUN_TYPES_LAYOUT(turn_ready_even_ipv6, offsetof(stun_types_turn_ready, even_ipv6) == 60);
+STUN_TYPES_LAYOUT(turn_ready_ipv4, offsetof(stun_types_turn_ready, ipv4) == 80);
+STUN_TYPES_LAYOUT(turn_ready_ipv6, offsetof(stun_types_turn_ready, ipv6) == 82);
+STUN_TYPES_LAYOUT(turn_action_size, sizeof(stun_types_turn_action) == 56);
+STUN_TYPES_LAYOUT(turn_action_relay, offsetof(stun_types_turn_action, relay) == 0);
+STUN_TYPES_LAYOUT(turn_action_at, offsetof(stun_types_turn_action, at) == 8);
+STUN_TYPES_LAYOUT(turn_action_length, offsetof(stun_types_turn_action, length) == 16);
+STUN_TYPES_LAYOUT(turn_action_peer, offsetof(stun_types_turn_action, peer) == 24);
+STUN_TYPES_LAYOUT(turn_action_kind, offsetof(stun_types_turn_action, kind) == 44);
+STUN_TYPES_LAYOUT(turn_action_took, offsetof(stun_types_turn_action, took) == 48);
+STUN_TYPES_LAYOUT(turn_action_code, offsetof(stun_types_turn_action, code) == 52);
+STUN_TYPES_LAYOUT(turn_delivery_size, sizeof(stun_types_turn_delivery) == 48);
+STUN_TYPES_LAYOUT(turn_delivery_to, offsetof(stun_types_turn_delivery, to) == 0);
+STUN_TYPES_LAYOUT(turn_delivery_sends, offsetof(stun_types_turn_delivery, sends) == 42);
+STUN_TYPES_LAYOUT(turn_delivery_head_length, offsetof(stun_types_turn_delivery, head_length) == 44);
+STUN_TYPES_LAYOUT(turn_delivery_padding, offsetof(stun_types_turn_delivery, padding) == 46);
 /* (until here) */
 #undef STUN_TYPES_LAYOUT
 
