@@ -259,7 +259,7 @@ static void test_turn_servers(void) {
     CHECK(action->kind == STUN_TYPES_TURN_NOTHING);
     ANSWERS(stun_types_turn_client(server, 0, from, request.bytes, request.length, ready, false,
                                    no_key(), no_key(), NULL, 0, action),
-            LENGTHS(STUN_TYPES_TOO_SMALL, 32, 0));
+            LENGTHS(STUN_TYPES_TOO_SMALL, 48, 0));
     ANSWERS(stun_types_turn_peer(server, 0, &address, 0, 0, &id, NULL, 0, delivery),
             LENGTHS(STUN_TYPES_TOO_SMALL, STUN_TYPES_TURN_HEAD, 0));
     CHECK(stun_types_turn_poll(server, 0, NULL, 0) == 0);

@@ -263,7 +263,7 @@ static bool answer_event(turn_row *it, const char *name) {
     size_t at;
     for (at = 0; at < COUNT(known_events); at++)
         if (strcmp(known_events[at].name, name) == 0) {
-            if (!turn_fill(it)) return false;
+            turn_fill(it);
             answer_space();
             return known_events[at].does(it);
         }

@@ -63,10 +63,9 @@ turn_nonce turn_nonce_now(const turn_row *it, size_t tuple);
 bool turn_ask(turn_row *it, size_t tuple, slice datagram, size_t user, bool has_sockets);
 
 /* Leaves as much room in the allocation of each client as the rows say, 4 permissions and 3 channels, if
-   the row names so many peers and binds so many channels that it matters. It is called before each event.
-   False if there is no memory, and the answer is that. */
+   the row names so many peers and binds so many channels that it matters. It is called before each event. */
 void turn_expect(turn_row *it, size_t peers, size_t channels);
-bool turn_fill(turn_row *it);
+void turn_fill(turn_row *it);
 
 /* The response of the last action, and the code in its ERROR-CODE, 0 if it is a success response. */
 slice turn_response(const turn_row *it);

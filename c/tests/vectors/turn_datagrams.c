@@ -243,7 +243,7 @@ static void expect(turn_row *it) {
 
 /* Appends the word for an event; false if no more events are to follow. */
 static bool answer_event(turn_row *it, const char *name) {
-    if (!turn_fill(it)) return false;
+    turn_fill(it);
     answer_space();
     if (strcmp(name, "from") == 0) return from_client(it);
     if (strcmp(name, "arrive") == 0) from_peer(it);

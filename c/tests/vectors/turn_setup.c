@@ -273,7 +273,7 @@ static stun_types_address fill_peer(uint16_t family, size_t number) {
 }
 
 /* Binds a channel to a peer of the runner's own, which permits the peer too. */
-static bool fill_one(turn_row *it, size_t tuple, size_t number) {
+static void fill_one(turn_row *it, size_t tuple, size_t number) {
     static turn_message message;
     const turn_nonce nonce = turn_nonce_now(it, tuple);
     const stun_types_address peer = fill_peer(it->families[tuple], number);
@@ -285,26 +285,27 @@ static bool fill_one(turn_row *it, size_t tuple, size_t number) {
     turn_sign(&message, &it->users[it->owners[tuple]], STUN_TYPES_PASSWORD_MD5, &nonce);
     datagram.bytes = message.bytes;
     datagram.length = message.length;
-    if (!turn_ask(it, tuple, datagram, it->owners[tuple], true)) return false;
+    heap_own(true);
+    CHECK(turn_ask(it, tuple, datagram, it->owners[tuple], true));
+    heap_own(false);
     CHECK(it->action->kind == STUN_TYPES_TURN_RESPONSE);
     CHECK(it->action->code == 0 || it->action->code == STUN_TYPES_CODE_ALLOCATION_MISMATCH);
     if (it->action->code != 0) it->owners[tuple] = TURN_USERS;
-    return true;
 }
 
 void turn_expect(turn_row *it, size_t peers, size_t channels) {
     it->is_filled = peers > ROW_PERMISSIONS || channels > ROW_CHANNELS;
 }
 
-bool turn_fill(turn_row *it) {
+/* (memory is refused in the row's calls alone) */
+void turn_fill(turn_row *it) {
     size_t tuple, number;
     for (tuple = 0; tuple < TURN_TUPLES && it->is_filled; tuple++) {
         if (it->filled_at[tuple] == it->now + 1) continue;
         for (number = 0; number < FILL_CHANNELS && it->owners[tuple] < TURN_USERS; number++)
-            if (!fill_one(it, tuple, number)) return false;
+            fill_one(it, tuple, number);
         it->filled_at[tuple] = it->now + 1;
     }
-    return true;
 }
 
 /* ---- responses and data */
