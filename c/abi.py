@@ -39,6 +39,13 @@ TYPES = {
     "challenge": "CChallenge",
     "stream": "CStream",
     "channel_data": "CChannelMessage",
+    "turn": "CTurn",
+    "turn_settings": "CTurnSettings",
+    "prefix": "CPrefix",
+    "five_tuple": "CFiveTuple",
+    "turn_ready": "CTurnReady",
+    "turn_action": "CTurnAction",
+    "turn_delivery": "CDelivery",
 }
 # Fields that have another name in Rattle.
 NAMES = {"type": ("atype", "mtype"), "message_class": ("class",), "at": ("place",)}

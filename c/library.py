@@ -22,7 +22,15 @@ import header
 from checks import archives
 
 # What a refused call leaves as zeros, which permit nothing: verdicts, and what these calls write.
-VERDICTS = {"validated", "authentication", "action", "received", "nonce_state"}
+VERDICTS = {
+    "validated",
+    "authentication",
+    "action",
+    "received",
+    "nonce_state",
+    "turn_action",
+    "turn_delivery",
+}
 ZEROS = {
     ("stun_types_transaction_begin", "transaction"),
     ("stun_types_binding_reply", "reply_length"),

@@ -26,7 +26,7 @@ pub struct Address {
 }
 
 /// An address in C's form. What follows the four bytes of an IPv4 address is zero.
-fn in_c(addr: SocketAddr) -> Address
+pub(crate) fn in_c(addr: SocketAddr) -> Address
     ensures { Holds addr result }
 {
     let mut octets = [0; 16];

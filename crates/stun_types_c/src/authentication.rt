@@ -71,9 +71,9 @@ const UNDECIDED: CAuthenticated = CAuthenticated {
 
 /// The key of the one user that a caller has looked up, by either password algorithm.
 #[derive(Drop)]
-struct OneUser<'a> {
-    md5: Option<&'a IntegrityKey>,
-    sha256: Option<&'a IntegrityKey>,
+pub(crate) struct OneUser<'a> {
+    pub(crate) md5: Option<&'a IntegrityKey>,
+    pub(crate) sha256: Option<&'a IntegrityKey>,
 }
 
 /// A copy of a key, if there is one.
@@ -270,7 +270,7 @@ fn tell(
 }
 
 /// The key that a handle holds, if it holds one.
-fn key_in(key: &SharedKey) -> Option<&IntegrityKey>
+pub(crate) fn key_in(key: &SharedKey) -> Option<&IntegrityKey>
     ensures { borrowed_of result ≡ held_of (shared_key key.now) }
 {
     key.key()

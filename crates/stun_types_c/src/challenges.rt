@@ -56,7 +56,7 @@ pub(crate) fn no_retry(reason: NoRetry) -> CResult
 }
 
 /// The offset of the value of the first attribute of a type; 0 if there is none.
-fn value_at(response: &[u8], atype: u16) -> usize
+pub(crate) fn value_at(response: &[u8], atype: u16) -> usize
     ensures { result ≡ value_at atype response.now }
 {
     match first_shown(response, atype) {

@@ -22,7 +22,7 @@ use stun_authentication::{
     Challenge, ChallengeError, Refusal, SecurityFeatures, nonce_cookie, refuse_long_term,
     refuse_short_term, security_features,
 };
-use stun_types::attribute::{Nonce, Realm};
+use stun_types::attribute::{Nonce, PasswordAlgorithmValue, Realm};
 use stun_types::message::{Message, MessageClass, MessageWriteVec};
 use stun_types::prelude::*;
 
@@ -35,7 +35,7 @@ pub struct Cookie {
 }
 
 /// The request that C passes.
-fn request_in(bytes: &[u8]) -> Result<Message<'_>, CResult>
+pub(crate) fn request_in(bytes: &[u8]) -> Result<Message<'_>, CResult>
     ensures { MatchResult result
         (λ message. (message_answer bytes.now ≡ None) × (message_bytes message ≡ bytes.now)
         × (class_of (type_field bytes.now) ≡ Request))
@@ -113,7 +113,7 @@ pub extern "C" fn stun_types_refuse_short_term(
 }
 
 /// The REALM of C's bytes.
-fn realm_of(alloc: Global, bytes: &[u8]) -> Result<Realm, CResult>
+pub(crate) fn realm_of(alloc: Global, bytes: &[u8]) -> Result<Realm, CResult>
     ensures { MatchResult result
         (λ realm. (text_answer bytes.now ≡ None) × (text_bytes realm ≡ bytes.now))
         (λ answer. (text_answer bytes.now ≡ Some answer) ⊎ (answer ≡ plain OUT_OF_MEMORY)) }
@@ -156,19 +156,18 @@ fn texts_of(alloc: Global, realm: &[u8], nonce: &[u8]) -> Result<(Realm, Nonce),
 }
 
 /// What a realm, a nonce and algorithms ask for.
-fn challenge_with<'a>(
+pub(crate) fn challenge_with<'a>(
     alloc: Global,
     realm: &'a Realm,
     nonce: &'a Nonce,
-    algorithms: &AlgorithmList,
+    algorithms: &[PasswordAlgorithmValue],
 ) -> Result<Challenge<'a>, CResult>
-    ensures { let asked = asked_of (text_bytes realm.now) (text_bytes nonce.now)
-        (take algorithms.now.count algorithms.now.all) in
+    ensures { let asked = asked_of (text_bytes realm.now) (text_bytes nonce.now) algorithms.now in
         MatchResult result
         (λ challenge. (list_answer asked ≡ None) × (asked_in challenge ≡ asked))
         (λ answer. (list_answer asked ≡ Some answer) ⊎ (answer ≡ plain OUT_OF_MEMORY)) }
 {
-    match Challenge::new(alloc, realm, nonce, algorithms.as_slice()) {
+    match Challenge::new(alloc, realm, nonce, algorithms) {
         Ok(challenge) => Ok(challenge),
         Err(ChallengeError::OutOfMemory) => Err(plain(codes::OUT_OF_MEMORY)),
         Err(_) => Err(plain(codes::BAD_ARGUMENT)),
@@ -176,7 +175,7 @@ fn challenge_with<'a>(
 }
 
 /// Writes the response that refuses a request by long-term credentials, with what it asks for.
-fn write_refusal(
+pub(crate) fn write_refusal(
     alloc: Global,
     message: &Message<'_>,
     refusal: Refusal,
@@ -222,7 +221,7 @@ fn refuse_asking(
         Ok(texts) => texts,
         Err(answer) => return answer,
     };
-    match challenge_with(alloc, &realm, &nonce, algorithms) {
+    match challenge_with(alloc, &realm, &nonce, algorithms.as_slice()) {
         Ok(challenge) => write_refusal(alloc, message, refusal, &challenge, room, written),
         Err(answer) => answer,
     }

@@ -10,7 +10,12 @@ use std::net::SocketAddr;
 use stun_server::reply_into;
 
 /// Writes the reply to a datagram that came from an address.
-fn reply_to(bytes: &[u8], source: SocketAddr, room: &mut [u8], reply_length: &mut usize) -> CResult
+pub(crate) fn reply_to(
+    bytes: &[u8],
+    source: SocketAddr,
+    room: &mut [u8],
+    reply_length: &mut usize,
+) -> CResult
     ensures { RepliesTo source bytes.now result room.old room.new reply_length.new }
 {
     *reply_length = 0;

@@ -21,7 +21,7 @@ use stun_keys::keys::key_of_bytes;
 use stun_types::message::IntegrityKey;
 
 /// A maker of nonces with a copy of a secret.
-fn maker_of(
+pub(crate) fn maker_of(
     alloc: Global,
     secret: &IntegrityKey,
     features: SecurityFeatures,

@@ -1,0 +1,252 @@
+//! Making a TURN server, and ending it.
+
+use crate::address::{Address, socket_of};
+use crate::authentication::{CPolicy, policy_of};
+use crate::call_result::{CResult, plain, write_result};
+use crate::codes;
+use crate::refusals::{features_of, realm_of};
+use crate::shared_key::SharedKey;
+use crate::stateless_nonces::maker_of;
+use crate::turn_core::{Access, PeerRules, TurnCore};
+use crate::turn_handle::{CTurn, put};
+use crate::values::text_in;
+use crate::versions::NoKey;
+use std::alloc::{AllocError, Global};
+use std::net::SocketAddr;
+use stun_authentication::{NonceMaker, Policy, SecurityFeatures};
+use stun_types::attribute::Software;
+use turn_server::TurnServer;
+use turn_table::Limits;
+use turn_table::peers::Prefix;
+
+/// What a TURN server is made by, as C sets it.
+#[repr(C)]
+#[derive(Clone, Copy, Drop)]
+pub struct CTurnSettings {
+    /// For how many seconds a nonce is valid.
+    pub window: u64,
+    /// What keys the hash of 5-tuples.
+    pub seed: [u64; 2],
+    /// Which requests are taken.
+    pub policy: CPolicy,
+    /// How many allocations there are at most.
+    pub allocations: u32,
+    /// The most live allocations of one user.
+    pub of_user: u32,
+    /// The maximum lifetime in seconds.
+    pub greatest_lifetime: u32,
+    /// The number of the features that a nonce promises.
+    pub features: u32,
+    /// Not 0: a channel permits its peer.
+    pub channel_permits: u32,
+    /// Not 0: channels of RFC 5766 are allowed too.
+    pub old_channels: u32,
+    /// 0.
+    pub reserved: u64,
+}
+
+/// A prefix of addresses.
+#[repr(C)]
+#[derive(Clone, Copy, Drop)]
+pub struct CPrefix {
+    /// An address of the prefix, whose other bits are 0.
+    pub address: Address,
+    /// How many bits the prefix has.
+    pub length: u16,
+}
+
+/// A handle that holds no server, as C declares it: the words of `CTurn`.
+#[unsafe(no_mangle)]
+pub extern "C" fn stun_types_turn_none() -> NoKey {
+    NoKey { at: 0, held: 0 }
+}
+
+/// Ends the server that a handle holds. Of one that holds none it does nothing.
+#[unsafe(no_mangle)]
+pub extern "C" fn stun_types_turn_free(alloc: Global, server: &mut CTurn) {
+    *server = CTurn::none(alloc);
+}
+
+/// The prefix that C's form names.
+fn prefix_of(named: &CPrefix) -> Option<Prefix> {
+    if named.length > 128 {
+        return None;
+    }
+    let address = socket_of(&named.address)?;
+    Prefix::new(address.ip(), named.length as u8).ok()
+}
+
+/// The prefixes that C's forms name.
+fn prefixes_of(alloc: Global, named: &[CPrefix]) -> Result<Vec<Prefix>, CResult> {
+    let mut prefixes = Vec::new(alloc);
+    for one in named {
+        let Some(prefix) = prefix_of(one) else {
+            return Err(plain(codes::BAD_ARGUMENT));
+        };
+        if prefixes.push(prefix).is_err() {
+            return Err(plain(codes::OUT_OF_MEMORY));
+        }
+    }
+    Ok(prefixes)
+}
+
+/// The addresses that C's forms name.
+fn addresses_of(alloc: Global, named: &[Address]) -> Result<Vec<SocketAddr>, CResult> {
+    let mut addresses = Vec::new(alloc);
+    for one in named {
+        let Some(address) = socket_of(one) else {
+            return Err(plain(codes::BAD_ARGUMENT));
+        };
+        if addresses.push(address).is_err() {
+            return Err(plain(codes::OUT_OF_MEMORY));
+        }
+    }
+    Ok(addresses)
+}
+
+/// The rules of what C passes.
+fn rules_of(
+    alloc: Global,
+    denied: &[CPrefix],
+    allowed: &[CPrefix],
+    listening: &[Address],
+) -> Result<PeerRules, CResult> {
+    let denied = prefixes_of(alloc, denied)?;
+    let allowed = prefixes_of(alloc, allowed)?;
+    let listening = addresses_of(alloc, listening)?;
+    Ok(PeerRules {
+        denied,
+        allowed,
+        listening,
+    })
+}
+
+/// The SOFTWARE of C's bytes, or none of no bytes.
+fn software_of(alloc: Global, bytes: &[u8]) -> Result<Option<Software>, CResult> {
+    if bytes.is_empty() {
+        return Ok(None);
+    }
+    let Some(text) = text_in(bytes) else {
+        return Err(plain(codes::INVALID_DATA));
+    };
+    match Software::new(alloc, text) {
+        Ok(software) => Ok(Some(software)),
+        Err(error) => Err(write_result(error)),
+    }
+}
+
+/// What makes the nonces, by the secret that C passes.
+fn maker_with(
+    alloc: Global,
+    secret: &SharedKey,
+    features: SecurityFeatures,
+    window: u64,
+) -> Result<NonceMaker, CResult> {
+    match secret.key() {
+        Some(key) => maker_of(alloc, key, features, window),
+        None => Err(plain(codes::NO_KEY)),
+    }
+}
+
+/// The policy and the features of the settings.
+fn checked(settings: &CTurnSettings) -> Option<(Policy, SecurityFeatures)> {
+    if settings.reserved != 0 {
+        return None;
+    }
+    let policy = policy_of(&settings.policy)?;
+    let features = features_of(settings.features)?;
+    Some((policy, features))
+}
+
+/// How a server authenticates by what C passes.
+fn access_of(
+    alloc: Global,
+    settings: &CTurnSettings,
+    realm: &[u8],
+    secret: &SharedKey,
+) -> Result<Access, CResult> {
+    let Some((policy, features)) = checked(settings) else {
+        return Err(plain(codes::BAD_ARGUMENT));
+    };
+    let maker = maker_with(alloc, secret, features, settings.window)?;
+    let realm = realm_of(alloc, realm)?;
+    Ok(Access {
+        maker,
+        realm,
+        policy,
+        offers: features.password_algorithms,
+    })
+}
+
+/// The bounds of the settings.
+fn limits_of(settings: &CTurnSettings) -> Limits {
+    Limits {
+        allocations: settings.allocations,
+        of_user: settings.of_user,
+        greatest_lifetime: settings.greatest_lifetime,
+        channel_permits: settings.channel_permits != 0,
+        old_channels: settings.old_channels != 0,
+    }
+}
+
+/// A server on the heap, with no allocation.
+fn core_of(
+    alloc: Global,
+    settings: &CTurnSettings,
+    access: Access,
+    software: Option<Software>,
+    rules: PeerRules,
+) -> Result<Box<TurnCore>, AllocError> {
+    let server = TurnServer::new(alloc, limits_of(settings), settings.seed)?;
+    let core = TurnCore {
+        server,
+        access,
+        software,
+        rules,
+    };
+    Ok(Box::new(alloc, core)?)
+}
+
+/// A server by what C passes.
+fn made_of(
+    alloc: Global,
+    settings: &CTurnSettings,
+    realm: &[u8],
+    software: &[u8],
+    secret: &SharedKey,
+    denied: &[CPrefix],
+    allowed: &[CPrefix],
+    listening: &[Address],
+) -> Result<Box<TurnCore>, CResult> {
+    let access = access_of(alloc, settings, realm, secret)?;
+    let software = software_of(alloc, software)?;
+    let rules = rules_of(alloc, denied, allowed, listening)?;
+    match core_of(alloc, settings, access, software, rules) {
+        Ok(core) => Ok(core),
+        Err(AllocError) => Err(plain(codes::OUT_OF_MEMORY)),
+    }
+}
+
+/// Makes a server with no allocation.
+#[unsafe(no_mangle)]
+pub extern "C" fn stun_types_turn_new(
+    alloc: Global,
+    server: &mut CTurn,
+    settings: &CTurnSettings,
+    realm: &[u8],
+    software: &[u8],
+    secret: &SharedKey,
+    denied: &[CPrefix],
+    allowed: &[CPrefix],
+    listening: &[Address],
+) -> CResult {
+    match made_of(
+        alloc, settings, realm, software, secret, denied, allowed, listening,
+    ) {
+        Ok(core) => {
+            put(server, core);
+            plain(codes::OK)
+        }
+        Err(answer) => answer,
+    }
+}
