@@ -33,10 +33,8 @@ static const stun_types_address peers[] = {
     {{0xFD, 0, 0, 0, 0, 0, 0, 0, 0, 0, 0, 0, 0, 0, 0, 1}, 4000, 6},
 };
 
-static const pair *const keys[MODEL_TURN_USERS][2] = {
-    {&pairs[LOGIN_MD5], &pairs[LOGIN_SHA256]},
-    {&pairs[PASSWORD], &pairs[LONG_KEY]},
-};
+/* The keys of the users by both password algorithms; the second's may be made for one integrity algorithm. */
+static const pair *keys[MODEL_TURN_USERS][2] = {{&pairs[LOGIN_MD5], &pairs[LOGIN_SHA256]}};
 
 /* ---- messages of clients */
 
@@ -92,7 +90,7 @@ static void take_asked(source *from, unsigned method) {
         append_number(0x000C, how % 32 == 30 ? take_four(from) : (0x4000 + how % 3) << 16,
                       how == 93 ? 2 : 4);
     if (method == STUN_TYPES_METHOD_CREATE_PERMISSION)
-        for (i = how == 255 ? 60 : 0; i < (how == 255 ? 66 : how % 4); i++) take_peer(from);
+        for (i = 0; i < (how == 255 ? 66 : how % 4); i++) take_peer(from);
     if (method == STUN_TYPES_METHOD_CREATE_PERMISSION && how == 254)
         for (i = 0; i < 20; i++) {
             stun_types_address peer = peers[0];
@@ -218,8 +216,11 @@ static void check_done(stun_types_answer answer, const stun_types_turn_action *a
         done->opened->relay = action->relay;
     }
     if (answer.code != STUN_TYPES_OK) {
-        HOLDS(is_response && answer.code == STUN_TYPES_TOO_SMALL && answer.actual == size
-              && answer.expected > size);
+        HOLDS(is_response);
+        if (answer.code != STUN_TYPES_INVALID_DATA)
+            HOLDS(answer.code == STUN_TYPES_TOO_SMALL && answer.actual == size
+                  && answer.expected > size);
+        else HOLDS(done->key != NULL && !model_serves(done->key, done->algorithm));
         HOLDS(action->kind == STUN_TYPES_TURN_NOTHING && action->code == 0 && action->length == 0);
         HOLDS(is_filled(room, size));
         return;
@@ -237,7 +238,7 @@ static void check_done(stun_types_answer answer, const stun_types_turn_action *a
 }
 
 /* The sockets that are ready: each allocation gets one of its own. */
-static stun_types_turn_ready ready_of(unsigned how, uint16_t port) {
+static stun_types_turn_ready ready_of(unsigned how, uint16_t port_of_next) {
     stun_types_turn_ready ready;
     memset(&ready, 0, sizeof ready);
     ready.ipv4 = how % 16 != 15;
@@ -245,15 +246,16 @@ static stun_types_turn_ready ready_of(unsigned how, uint16_t port) {
     if (how % 16 != 14) ready.any_ipv4 = own;
     if (how % 16 < 12) ready.even_ipv4 = own;
     if (how / 16 % 4 != 2) ready.any_ipv6 = ready.even_ipv6 = clients[2];
-    ready.any_ipv4.port = ready.even_ipv4.port = ready.any_ipv6.port = ready.even_ipv6.port = port;
+    ready.any_ipv4.port = ready.even_ipv4.port = port_of_next;
+    ready.any_ipv6.port = ready.even_ipv6.port = port_of_next;
     if (ready.ipv4 == 0) memset(&ready.any_ipv4, 0, 2 * sizeof ready.any_ipv4);
     if (ready.ipv6 == 0) memset(&ready.any_ipv6, 0, 2 * sizeof ready.any_ipv6);
     return ready;
 }
 
-static void check_client(source *from, const stun_types_five_tuple *tuple, uint16_t port) {
+static void check_client(source *from, const stun_types_five_tuple *tuple, uint16_t next) {
     unsigned how = take(from), user;
-    const stun_types_turn_ready sockets = ready_of(how, port), *ready = copy_of(&sockets, sizeof sockets);
+    const stun_types_turn_ready sockets = ready_of(how, next), *ready = copy_of(&sockets, sizeof sockets);
     const stun_types_five_tuple *came = copy_of(tuple, sizeof *tuple);
     const uint8_t *bytes = give(message.bytes, message.length);
     size_t size = how == 255 ? take(from) : RESPONSE;
@@ -362,10 +364,10 @@ static void check_arguments(source *from, const stun_types_five_tuple *tuple) {
 }
 
 static void take_moment(source *from) {
-    static const uint64_t steps[] = {0, 1, 10, 299, 300, 301, 599, 600, 601, 1200};
+    static const uint64_t steps[] = {0, 1, 10, 60, 100, 199, 200, 201, 299, 300, 301, 599, 600};
     unsigned how = take(from);
-    if (how % 16 < 10) now += steps[how % 16] * SECOND;
-    else if (how % 16 < 14) now += take_four(from);
+    if (how % 16 < COUNT(steps)) now += steps[how % 16] * SECOND;
+    else if (how % 16 == 13) now += take_four(from);
     else now -= now < 20 * SECOND ? 0 : 20 * SECOND - (how % 16 == 15);
 }
 
@@ -385,6 +387,8 @@ static bool begin(source *from) {
     settings.features = more % 4;
     settings.channel_permits = how / 16 % 2;
     settings.old_channels = how / 32 % 2;
+    keys[1][0] = &pairs[how / 64 == 2 ? PASSWORD_SHA1 : how / 64 == 3 ? PASSWORD_SHA256 : PASSWORD];
+    keys[1][1] = &pairs[LONG_KEY];
     if (more / 4 % 8 == 7) settings.policy = *take_policy(from);
     if (more == 255) settings.reserved = take(from);
     model.settings = settings;
@@ -412,38 +416,67 @@ static bool begin(source *from) {
     return false;
 }
 
-static void check_event(source *from, uint16_t port) {
-    unsigned how = take(from), who = take(from);
+/* The 5-tuple of a number: a client, one of two addresses of the server, and the transport. */
+static stun_types_five_tuple tuple_of(unsigned number) {
     stun_types_five_tuple tuple;
     memset(&tuple, 0, sizeof tuple);
-    tuple.client = clients[who % 16 == 15 ? 3 : who % 3];
+    tuple.client = clients[number % 32 == 31 ? 3 : number % 3];
     tuple.server = own;
-    tuple.server.port = (uint16_t)(own.port + who / 16 % 2);
-    tuple.stream = who / 64 == 3;
-    if (how % 16 < 9 || how == 255) {
-        take_message(from, how == 255 ? 3 : how % 16, &tuple.client);
-        if (how / 16 == 15) check_arguments(from, &tuple);
+    tuple.server.port = (uint16_t)(own.port + number / 32 % 2);
+    tuple.stream = number / 64 == 3;
+    return tuple;
+}
+
+/* The client of most datagrams, and the port of the next socket. */
+static unsigned usual;
+static uint16_t port;
+
+static void check_event(source *from) {
+    unsigned how = take(from), who = take(from), kind = how % 32;
+    stun_types_five_tuple tuple = tuple_of(who % 8 < 6 ? usual : take(from));
+    if (kind < 22) {
+        take_message(from, kind < 11 ? kind % 9 : kind < 16 ? 7 + kind % 2 : 2 + kind % 4,
+                     &tuple.client);
+        if (how == 21) check_arguments(from, &tuple);
         check_client(from, &tuple, port);
-    } else if (how % 16 == 9) {
-        if (from->left > 0 && from->left < ROOM) {
-            message.length = from->left < 60 ? from->left : 60;
-            take_bytes(from, message.bytes, message.length);
-            check_client(from, &tuple, port);
-        }
-    } else if (how % 16 < 12) check_peer(from);
-    else if (how % 16 == 12) check_poll(from);
+    } else if (kind == 22) {
+        message.length = from->left < 60 ? from->left : 60;
+        take_bytes(from, message.bytes, message.length);
+        check_client(from, &tuple, port);
+    } else if (kind < 27) check_peer(from);
+    else if (kind < 29) check_poll(from);
     else take_moment(from);
+    port = (uint16_t)(port + 2);
+}
+
+/* Gets an allocation for the usual client, a permission, and a channel. */
+static void begin_usual(void) {
+    static const uint8_t asks[][16] = {
+        {0, 0},
+        {3, 0, 0, 1, 0},
+        {4, 0, 0, 0, 0},
+    };
+    size_t i;
+    for (i = 0; i < COUNT(asks); i++) {
+        source from;
+        from.bytes = asks[i];
+        from.left = sizeof asks[i];
+        check_event(&from);
+    }
 }
 
 void check_turn(source *from) {
-    size_t first;
-    uint16_t i;
-    now = take(from) * SECOND;
+    size_t first, i;
+    unsigned how = take(from);
+    now = how / 2 * SECOND;
+    port = 50000;
+    usual = take(from);
     if (!begin(from)) return;
     first = places_used();
+    if (how % 8 != 7) begin_usual();
     for (i = 0; i < EVENTS && from->left > 0; i++) {
-        check_event(from, (uint16_t)(50000 + 2 * i));
         release_places(first);
+        check_event(from);
     }
     stun_types_turn_free(server);
     HOLDS(server->at == NULL && server->held == 0);
