@@ -90,8 +90,8 @@ static void take_asked(source *from, unsigned method) {
         append_number(0x000C, how % 32 == 30 ? take_four(from) : (0x4000 + how % 3) << 16,
                       how == 93 ? 2 : 4);
     if (method == STUN_TYPES_METHOD_CREATE_PERMISSION)
-        for (i = 0; i < (how == 255 ? 66 : how % 4); i++) take_peer(from);
-    if (method == STUN_TYPES_METHOD_CREATE_PERMISSION && how == 254)
+        for (i = 0; i < (how >= 254 ? how - 190 : how % 4); i++) take_peer(from);
+    if (method == STUN_TYPES_METHOD_CREATE_PERMISSION && how == 252)
         for (i = 0; i < 20; i++) {
             stun_types_address peer = peers[0];
             peer.octets[3] = (uint8_t)(i + how % 3);

@@ -650,6 +650,40 @@ static void test_one_key(void) {
     end();
 }
 
+/* A key that was made for the integrity attribute that the response doesn't have: the request takes effect,
+   and there is no response. */
+static void test_other_key(void) {
+    turn_user both;
+    turn_nonce nonce;
+    uint8_t bytes[16];
+    size_t length;
+    stun_types_integrity algorithm;
+    slice asked;
+    begin("a key for the other integrity attribute");
+    both = alice;
+    nonce = turn_nonce_at(&nonces, 0, &client);
+    write_allocate(1);
+    turn_add(&message, STUN_TYPES_ATTRIBUTE_USERNAME, "alice", 5);
+    turn_add(&message, STUN_TYPES_ATTRIBUTE_REALM, turn_realm, strlen(turn_realm));
+    turn_add(&message, STUN_TYPES_ATTRIBUTE_NONCE, nonce.bytes, sizeof nonce.bytes);
+    ANSWERS(stun_types_add_integrity(message.bytes, sizeof message.bytes, &message.length,
+                                     &alice.md5, STUN_TYPES_INTEGRITY_SHA256),
+            OK_ANSWER);
+    asked = datagram();
+    ANSWERS(stun_types_key_bytes(&alice.md5, bytes, sizeof bytes, &length, &algorithm), OK_ANSWER);
+    alice.md5 = stun_types_key_none();
+    ANSWERS(stun_types_key_from_bytes(&alice.md5, bytes, length, STUN_TYPES_INTEGRITY_SHA256),
+            OK_ANSWER);
+    ANSWERS(take_in(server, 0, asked, ROOM), PLAIN(STUN_TYPES_INVALID_DATA));
+    CHECK(action->kind == STUN_TYPES_TURN_NOTHING && action->length == 0 && action->code == 0);
+    CHECK(action->took == 1 && turn_is_same_address(&action->peer, &ready->any_ipv4));
+    stun_types_key_free(&alice.md5);
+    alice = both;
+    take(0, asked);
+    CHECK(action->kind == STUN_TYPES_TURN_RESPONSE && action->code == 0 && action->took == 0);
+    end();
+}
+
 /* ---- responses, and the sockets that allocations take */
 
 static void test_again(void) {
@@ -843,6 +877,13 @@ static void test_heads(void) {
         ANSWERS(turn_from_peer(server, 0, relay, &peer, 3, &id, head, sizes[i], delivery),
                 LENGTHS(STUN_TYPES_TOO_SMALL, STUN_TYPES_TURN_HEAD, sizes[i]));
         CHECK(is_untouched(head, sizes[i]) && is_nothing(delivery, sizeof *delivery));
+    }
+    {
+        uint8_t *head = room(60);
+        ANSWERS(turn_from_peer(server, 0, relay, &peer, 3, &id, head, 60,
+                               NEW(stun_types_turn_delivery)),
+                OK_ANSWER);
+        CHECK(is_untouched(head, 24) && head[24] == 0 && head[25] == 0x17 && head[59] == 3);
     }
     delivery = deliver(0, relay, &peer, 3);
     CHECK(delivery->sends == 1 && delivery->head_length == 36 && delivery->padding == 1);
@@ -1085,6 +1126,7 @@ void test_turn(void) {
     test_peer_arguments();
     test_needs_key();
     test_one_key();
+    test_other_key();
     test_again();
     test_even();
     test_families();
