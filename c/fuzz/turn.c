@@ -52,8 +52,8 @@ static void append_address(unsigned type, const stun_types_address *address) {
 /* A peer: often one of few, and any port or address of them. */
 static void take_peer(source *from) {
     unsigned how = take(from);
-    stun_types_address peer = peers[how / 2 % 8 < 5 ? how / 2 % 3 : how / 2 % 8];
-    if (how % 16 == 15) peer.octets[3] = (uint8_t)take(from);
+    stun_types_address peer = peers[how % 4 != 0 ? how / 4 % 3 : how / 4 % 8];
+    if (how % 32 == 31) peer.octets[3] = (uint8_t)take(from);
     append_address(0x0012, &peer);
 }
 

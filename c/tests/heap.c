@@ -74,9 +74,13 @@ long heap_faults(void) {
 
 static bool holds(const uint8_t *bytes, size_t length, const uint8_t *secret,
                   size_t secret_length) {
-    size_t at;
-    for (at = 0; at + secret_length <= length; at++)
-        if (memcmp(bytes + at, secret, secret_length) == 0) return true;
+    const uint8_t *at = bytes, *end = bytes + length;
+    while ((size_t)(end - at) >= secret_length) {
+        at = memchr(at, secret[0], (size_t)(end - at) - secret_length + 1);
+        if (at == NULL) return false;
+        if (memcmp(at, secret, secret_length) == 0) return true;
+        at++;
+    }
     return false;
 }
 
