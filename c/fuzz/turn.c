@@ -58,7 +58,7 @@ static void take_peer(source *from) {
 }
 
 static void append_number(unsigned type, uint32_t number, size_t length) {
-    uint8_t value[4];
+    uint8_t value[8] = {0};
     value[0] = (uint8_t)(number >> 24);
     value[1] = (uint8_t)(number >> 16);
     value[2] = (uint8_t)(number >> 8);
@@ -67,16 +67,21 @@ static void append_number(unsigned type, uint32_t number, size_t length) {
 }
 
 static void take_lifetime(source *from) {
-    static const uint32_t seconds[] = {0, 1, 600, 601, 3600, UINT32_MAX};
+    static const uint32_t seconds[] = {0, 0, 0, 1, 600, 601, 3600, UINT32_MAX};
     unsigned how = take(from);
-    if (how % 3 == 0) append_number(0x000D, seconds[how / 3 % 6], how == 255 ? 3 : 4);
+    if (how % 2 == 1) append_number(0x000D, seconds[how / 2 % 8], how == 255 ? 3 : 4);
+}
+
+/* One of few channels, also of those that only an older client binds. */
+static uint32_t channel_of(unsigned how) {
+    return (model.settings.old_channels != 0 && how / 64 == 1 ? 0x5000 : 0x4000) + how % 3;
 }
 
 /* What a request of a method has, but for its credentials; one in some has another length or value. */
 static void take_asked(source *from, unsigned method) {
     unsigned how = take(from), i;
     if (method == STUN_TYPES_METHOD_ALLOCATE) {
-        if (how % 32 != 31) append_number(0x0019, how % 32 == 30 ? 6u << 24 : 17u << 24, 4);
+        if (how % 32 != 31) append_number(0x0019, how % 32 == 30 ? how << 24 : 17u << 24, 4);
         if (how / 32 >= 5) append_number(0x0017, (how / 32 - 4) << 24, how == 250 ? 3 : 4);
         if (how / 32 == 4 && how % 2 == 0) append_number(0x0018, how % 4 == 0 ? 0 : 0x80u << 24, 1);
         if (how / 32 == 3 && how % 4 == 0) append_number(0x8000, how % 16 == 4 ? 1u << 24 : 2u << 24, 4);
@@ -87,7 +92,7 @@ static void take_asked(source *from, unsigned method) {
     if (method == STUN_TYPES_METHOD_ALLOCATE || method == STUN_TYPES_METHOD_REFRESH)
         take_lifetime(from);
     if (method == STUN_TYPES_METHOD_CHANNEL_BIND && how % 32 != 31)
-        append_number(0x000C, how % 32 == 30 ? take_four(from) : (0x4000 + how % 3) << 16,
+        append_number(0x000C, how % 32 == 30 ? take_four(from) : channel_of(how) << 16,
                       how == 93 ? 2 : 4);
     if (method == STUN_TYPES_METHOD_CREATE_PERMISSION)
         for (i = 0; i < (how >= 254 ? how - 190 : how % 4); i++) take_peer(from);
@@ -153,10 +158,10 @@ static void take_message(source *from, unsigned kind, const stun_types_address *
     } else {
         message.length = 4 + take(from) % 8;
         memset(message.bytes, 0, message.length + 4);
-        message.bytes[0] = (uint8_t)(how / 4 % 16 == 15 ? take(from) : 0x40);
-        message.bytes[1] = (uint8_t)(how % 3);
+        message.bytes[0] = (uint8_t)(how / 4 % 16 == 15 ? take(from) : channel_of(how) >> 8);
+        message.bytes[1] = (uint8_t)channel_of(how);
         message.bytes[3] = (uint8_t)(message.length - 4);
-        message.length += how / 16 % 4;
+        message.length += how / 4 % 4;
     }
     if (take(from) % 16 == 15 && message.length > 0) change(&message, from);
 }
@@ -443,7 +448,7 @@ static void check_event(source *from) {
         message.length = from->left < 60 ? from->left : 60;
         take_bytes(from, message.bytes, message.length);
         check_client(from, &tuple, port);
-    } else if (kind < 27) check_peer(from);
+    } else if (kind < 26) check_peer(from);
     else if (kind < 29) check_poll(from);
     else take_moment(from);
     port = (uint16_t)(port + 2);
