@@ -4,6 +4,7 @@
 #include "check.h"
 #include "heap.h"
 #include "keychain.h"
+#include "reference.h"
 #include "tests.h"
 #include "turn_client.h"
 
@@ -438,6 +439,60 @@ static void test_lives(void) {
     stun_types_turn_free(server);
     CHECK(memcmp(server, &none, sizeof none) == 0 && heap_held() == held);
     end();
+}
+
+/* The server keeps nothing of what it is made by: all of it is overwritten, and the secret freed. */
+static void test_copied(void) {
+    stun_types_turn_settings settings = usual;
+    stun_types_key secret = STUN_TYPES_KEY_INIT;
+    stun_types_prefix denied = {{{198, 51, 100, 8}, 0, 4}, 32};
+    stun_types_address second = own;
+    slice value = {NULL, 0}, all;
+    uint8_t *realm, *software;
+    begin_alone("what a server is made by is copied");
+    realm = copy(turn_realm, strlen(turn_realm));
+    software = copy("a server", 8);
+    ANSWERS(stun_types_key_copy(&secret, &nonces.secret), OK_ANSWER);
+    ANSWERS(stun_types_turn_new(server, &settings, realm, strlen(turn_realm), software, 8, &secret,
+                                &denied, 1, NULL, 0, &second, 1),
+            OK_ANSWER);
+    stun_types_key_free(&secret);
+    memset(realm, FILL, strlen(turn_realm));
+    memset(software, FILL, 8);
+    memset(&settings, FILL, sizeof settings);
+    memset(&denied, FILL, sizeof denied);
+    memset(&second, FILL, sizeof second);
+    CHECK(allocate(0, 1) == 0 && lifetime() == 600);
+    all = response();
+    CHECK(turn_find(all.bytes, all.length, STUN_TYPES_ATTRIBUTE_SOFTWARE, &value));
+    CHECK_BYTES(value.bytes, value.length, text("a server"));
+    CHECK(permit(0, &peer) == 0 && permit(0, &other_peer) == 403);
+    CHECK(bind_channel(0, 0x4000, &own) == 403);
+    end();
+}
+
+/* No block that is given back holds the secret or the user's key, nor what an HMAC makes of them. */
+static void test_overwritten(void) {
+    uint8_t bytes[32];
+    size_t length = 0;
+    stun_types_integrity algorithm;
+    int i;
+    begin("secrets are overwritten");
+    heap_forget_secrets();
+    for (i = 0; i < 2; i++) {
+        ANSWERS(stun_types_key_bytes(i == 0 ? &nonces.secret : &alice.md5, bytes, sizeof bytes,
+                                     &length, &algorithm),
+                OK_ANSWER);
+        secrets_of(bytes, length, heap_add_secret);
+    }
+    CHECK(length == 16);
+    write_allocate(2);
+    take(0, datagram());
+    CHECK(action->code == 401);
+    CHECK(allocate(0, 1) == 0 && permit(0, &peer) == 0 && refresh(0, 600) == 0);
+    end();
+    CHECK(heap_faults() == 0);
+    heap_forget_secrets();
 }
 
 /* Zeros of the greatest lifetime, and of an allocation's window. */
@@ -1119,6 +1174,8 @@ void test_turn(void) {
     test_making();
     test_secrets();
     test_lives();
+    test_copied();
+    test_overwritten();
     test_lifetimes();
     test_prefixes();
     test_listening();
