@@ -1,5 +1,5 @@
-/* A TURN server: datagrams of its clients, right, changed and any, those of peers, polls and moments. What it
- * does is what the model does. */
+/* A TURN server: datagrams of its clients, right, changed and any, those of peers, polls and
+ * moments. What it does is what the model does. */
 #include <string.h>
 
 #include "../tests/model_turn.h"
@@ -33,7 +33,8 @@ static const stun_types_address peers[] = {
     {{0xFD, 0, 0, 0, 0, 0, 0, 0, 0, 0, 0, 0, 0, 0, 0, 1}, 4000, 6},
 };
 
-/* The keys of the users by both password algorithms; the second's may be made for one integrity algorithm. */
+/* The keys of the users by both password algorithms; the second's may be made for one integrity
+   algorithm. */
 static const pair *keys[MODEL_TURN_USERS][2] = {{&pairs[LOGIN_MD5], &pairs[LOGIN_SHA256]}};
 
 /* ---- messages of clients */
@@ -84,7 +85,8 @@ static void take_asked(source *from, unsigned method) {
         if (how % 32 != 31) append_number(0x0019, how % 32 == 30 ? how << 24 : 17u << 24, 4);
         if (how / 32 >= 5) append_number(0x0017, (how / 32 - 4) << 24, how == 250 ? 3 : 4);
         if (how / 32 == 4 && how % 2 == 0) append_number(0x0018, how % 4 == 0 ? 0 : 0x80u << 24, 1);
-        if (how / 32 == 3 && how % 4 == 0) append_number(0x8000, how % 16 == 4 ? 1u << 24 : 2u << 24, 4);
+        if (how / 32 == 3 && how % 4 == 0)
+            append_number(0x8000, how % 16 == 4 ? 1u << 24 : 2u << 24, 4);
         if (how % 64 == 13) append(&message, 0x0022, "12345678", how == 13 ? 7 : 8);
     }
     if (method == STUN_TYPES_METHOD_REFRESH && how % 8 == 7)
@@ -120,8 +122,7 @@ static void take_credentials(source *from, const stun_types_address *client) {
     made.client = client;
     model_nonce(&made, now / SECOND - (how == 255 ? 601 : how == 254 ? 600 : 0), nonce);
     if (how % 64 != 62) append(&message, 0x0006, texts[0].bytes, texts[0].length);
-    else
-        append(&message, 0x001E, hash, model_digest(STUN_TYPES_PASSWORD_SHA256, texts, 2, hash));
+    else append(&message, 0x001E, hash, model_digest(STUN_TYPES_PASSWORD_SHA256, texts, 2, hash));
     append(&message, 0x0014, texts[1].bytes, texts[1].length);
     append(&message, 0x0015, nonce, sizeof nonce);
     if (is_listed) append(&message, 0x8002, list, sizeof list);
@@ -198,7 +199,8 @@ static void check_response(const uint8_t *room, size_t length, const model_turn_
     if (found != NULL)
         HOLDS(found->length == 4
               && ((uint32_t)model_number(room + found->value_at) << 16
-                  | model_number(room + found->value_at + 2)) == done->lifetime);
+                  | model_number(room + found->value_at + 2))
+                     == done->lifetime);
     found = model_find(&shown, 0x0016);
     HOLDS((found != NULL) == (done->action.peer.family != 0));
     if (found == NULL) return;
@@ -260,7 +262,8 @@ static stun_types_turn_ready ready_of(unsigned how, uint16_t port_of_next) {
 
 static void check_client(source *from, const stun_types_five_tuple *tuple, uint16_t next) {
     unsigned how = take(from), user;
-    const stun_types_turn_ready sockets = ready_of(how, next), *ready = copy_of(&sockets, sizeof sockets);
+    const stun_types_turn_ready sockets = ready_of(how, next),
+                                *ready = copy_of(&sockets, sizeof sockets);
     const stun_types_five_tuple *came = copy_of(tuple, sizeof *tuple);
     const uint8_t *bytes = give(message.bytes, message.length);
     size_t size = how == 255 ? take(from) : RESPONSE;
@@ -323,7 +326,9 @@ static void check_peer(source *from) {
     unsigned how = take(from), channel;
     const stun_types_address *peer = copy_of(&peers[how % 8], sizeof *peers);
     uint64_t relay = model.all[how / 8 % MODEL_TURN_ALLOCATIONS].relay + (how / 32 == 7);
-    size_t length = how / 32 == 6 ? 65450 + take(from) % 110u : how == 160 ? SIZE_MAX : take(from) % 32u;
+    size_t length = how / 32 == 6 ? 65450 + take(from) % 110u
+                    : how == 160  ? SIZE_MAX
+                                  : take(from) % 32u;
     size_t size = STUN_TYPES_TURN_HEAD + (how / 32 == 5 ? take(from) % 9u : 0);
     uint8_t *head = place(size);
     const stun_types_id *id = copy_of("transactions", sizeof *id);
@@ -365,7 +370,8 @@ static void check_arguments(source *from, const stun_types_five_tuple *tuple) {
                                          &pairs[LOGIN_MD5].key, &pairs[LOGIN_SHA256].key, room,
                                          RESPONSE, action),
                   BAD_ARGUMENT));
-    HOLDS(is_filled(room, RESPONSE) && action->kind == STUN_TYPES_TURN_NOTHING && action->took == 0);
+    HOLDS(is_filled(room, RESPONSE) && action->kind == STUN_TYPES_TURN_NOTHING
+          && action->took == 0);
 }
 
 static void take_moment(source *from) {
@@ -410,9 +416,9 @@ static bool begin(source *from) {
     }
     server = NEW(stun_types_turn);
     *server = stun_types_turn_none();
-    answer = stun_types_turn_new(server, copy_of(&settings, sizeof settings), copy_of("realm", 5), 5,
-                                 copy_of("a server", 8), more / 128 * 8u, &pairs[SECRET].key, NULL, 0,
-                                 NULL, 0, copy_of(&own, sizeof own), 1);
+    answer = stun_types_turn_new(server, copy_of(&settings, sizeof settings), copy_of("realm", 5),
+                                 5, copy_of("a server", 8), more / 128 * 8u, &pairs[SECRET].key,
+                                 NULL, 0, NULL, 0, copy_of(&own, sizeof own), 1);
     if (settings.reserved == 0 && model_is_policy(&settings.policy)) {
         HOLDS(answer.code == STUN_TYPES_OK && server->at != NULL);
         return true;
@@ -440,7 +446,10 @@ static void check_event(source *from) {
     unsigned how = take(from), who = take(from), kind = how % 32;
     stun_types_five_tuple tuple = tuple_of(who % 8 < 6 ? usual : take(from));
     if (kind < 22) {
-        take_message(from, kind < 11 ? kind % 9 : kind < 16 ? 7 + kind % 2 : 2 + kind % 4,
+        take_message(from,
+                     kind < 11   ? kind % 9
+                     : kind < 16 ? 7 + kind % 2
+                                 : 2 + kind % 4,
                      &tuple.client);
         if (how == 21) check_arguments(from, &tuple);
         check_client(from, &tuple, port);

@@ -21,29 +21,18 @@ static const struct {
     uint16_t family;
     unsigned length;
 } denied[] = {
-    {{0}, 4, 8},
-    {{10}, 4, 8},
-    {{100, 64}, 4, 10},
-    {{127}, 4, 8},
-    {{169, 254}, 4, 16},
-    {{172, 16}, 4, 12},
-    {{192, 0, 0}, 4, 24},
-    {{192, 168}, 4, 16},
-    {{198, 18}, 4, 15},
-    {{224}, 4, 4},
-    {{240}, 4, 4},
-    {{0, 0x64, 0xFF, 0x9B, 0, 1}, 6, 48},
-    {{0x20, 0x01}, 6, 23},
-    {{0x20, 0x02}, 6, 16},
-    {{0xFC}, 6, 7},
-    {{0xFE, 0x80}, 6, 10},
-    {{0xFF}, 6, 8},
+    {{0}, 4, 8},           {{10}, 4, 8},          {{100, 64}, 4, 10},
+    {{127}, 4, 8},         {{169, 254}, 4, 16},   {{172, 16}, 4, 12},
+    {{192, 0, 0}, 4, 24},  {{192, 168}, 4, 16},   {{198, 18}, 4, 15},
+    {{224}, 4, 4},         {{240}, 4, 4},         {{0, 0x64, 0xFF, 0x9B, 0, 1}, 6, 48},
+    {{0x20, 0x01}, 6, 23}, {{0x20, 0x02}, 6, 16}, {{0xFC}, 6, 7},
+    {{0xFE, 0x80}, 6, 10}, {{0xFF}, 6, 8},
 };
 
 /* Those of 96 bits: ::/96, ::ffff:0:0/96 and 64:ff9b::/96. */
 static bool holds_ipv4(const stun_types_address *address) {
-    static const uint8_t prefixes[][12] = {{0}, {0, 0, 0, 0, 0, 0, 0, 0, 0, 0, 0xFF, 0xFF},
-                                           {0, 0x64, 0xFF, 0x9B}};
+    static const uint8_t prefixes[][12] = {
+        {0}, {0, 0, 0, 0, 0, 0, 0, 0, 0, 0, 0xFF, 0xFF}, {0, 0x64, 0xFF, 0x9B}};
     size_t i;
     for (i = 0; i < COUNT(prefixes); i++)
         if (address->family == 6 && memcmp(address->octets, prefixes[i], 12) == 0) return true;
@@ -164,12 +153,13 @@ static bool is_malformed(const view *it, unsigned type, size_t wanted) {
 }
 
 static bool is_comprehended(const view *it) {
-    static const uint16_t known[]
-        = {0x0001, 0x0006, 0x0008, 0x0009, 0x000A, 0x000C, 0x000D, 0x0012, 0x0013, 0x0014,
-           0x0015, 0x0016, 0x0017, 0x0018, 0x0019, 0x001C, 0x001D, 0x001E, 0x0020, 0x0022};
+    static const uint16_t known[] = {0x0001, 0x0006, 0x0008, 0x0009, 0x000A, 0x000C, 0x000D,
+                                     0x0012, 0x0013, 0x0014, 0x0015, 0x0016, 0x0017, 0x0018,
+                                     0x0019, 0x001C, 0x001D, 0x001E, 0x0020, 0x0022};
     size_t i, j;
     for (i = 0; i < it->shown.count; i++) {
-        for (j = 0; j < COUNT(known) && known[j] != it->shown.all[i].type; j++) {}
+        for (j = 0; j < COUNT(known) && known[j] != it->shown.all[i].type; j++) {
+        }
         if (j == COUNT(known) && it->shown.all[i].type < 0x8000) return false;
     }
     return true;
@@ -181,7 +171,8 @@ static bool peers_of(const view *it, stun_types_address *peers, size_t *count) {
     for (i = *count = 0; i < it->shown.count; i++) {
         const stun_types_attribute *one = &it->shown.all[i];
         if (one->type != 0x0012) continue;
-        if (model_address(it->bytes + one->value_at, one->length, &peers[*count]).code != STUN_TYPES_OK)
+        if (model_address(it->bytes + one->value_at, one->length, &peers[*count]).code
+            != STUN_TYPES_OK)
             return false;
         model_xor(it->bytes, &peers[(*count)++]);
     }
@@ -247,7 +238,8 @@ static uint32_t wish_of(const view *it, const stun_types_address *client,
 }
 
 /* A place for an allocation of a user, or why there is none. */
-static uint32_t place_for(model_turn *turn, unsigned user, uint32_t wish, model_allocation **place) {
+static uint32_t place_for(model_turn *turn, unsigned user, uint32_t wish,
+                          model_allocation **place) {
     size_t i, taken = 0, of_user = 0;
     *place = NULL;
     for (i = 0; i < MODEL_TURN_ALLOCATIONS; i++) {

@@ -1,5 +1,5 @@
-/* The model's TURN server: what RFC 8656 says, and vectors/turn and vectors/turn-server where it leaves a
- * choice. All times are in nanoseconds, and add up to less than 2^64. */
+/* The model's TURN server: what RFC 8656 says, and vectors/turn and vectors/turn-server where it
+ * leaves a choice. All times are in nanoseconds, and add up to less than 2^64. */
 #ifndef MODEL_TURN_H
 #define MODEL_TURN_H
 
@@ -37,8 +37,8 @@ typedef struct {
     model_allocation all[MODEL_TURN_ALLOCATIONS];
 } model_turn;
 
-/* What is done for a client's datagram: `action` without a relay that the server chooses and a response's
-   length, and what else a response says. */
+/* What is done for a client's datagram: `action` without a relay that the server chooses and a
+   response's length, and what else a response says. */
 typedef struct {
     stun_types_turn_action action;
     bool is_request;          /* of a user; if not, no key is needed */
@@ -56,12 +56,14 @@ void model_turn_client(model_turn *turn, uint64_t now, const stun_types_five_tup
 /* The user whom a message names, or MODEL_TURN_USERS. */
 unsigned model_turn_user(const model_turn *turn, const uint8_t *bytes, size_t length);
 
-/* Where a peer's datagram of so many bytes goes: all zeros, nowhere; and the number of the channel, or 0. */
+/* Who gets a peer's datagram of so many bytes: nobody, if all is zero. Returns the number of the
+   channel, or 0 for a Data indication. */
 unsigned model_turn_peer(model_turn *turn, uint64_t now, uint64_t relay,
                          const stun_types_address *peer, size_t length,
                          stun_types_turn_delivery *delivery);
 
-/* How many allocations have ended; and that the end of one is reported, false if there is no such end. */
+/* How many allocations have ended; and that the end of one is reported, false if there is no such
+   end. */
 size_t model_turn_ended(model_turn *turn, uint64_t now);
 bool model_turn_report(model_turn *turn, uint64_t relay);
 

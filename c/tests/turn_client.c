@@ -55,8 +55,8 @@ turn_nonce turn_nonce_at(const turn_nonces *nonces, uint64_t seconds,
     size_t written = 0;
     memset(&nonce, 0, sizeof nonce);
     heap_own(true);
-    ANSWERS(stun_types_make_nonce(&nonces->secret, nonces->features, nonces->window, seconds, client,
-                                  nonce.bytes, sizeof nonce.bytes, &written),
+    ANSWERS(stun_types_make_nonce(&nonces->secret, nonces->features, nonces->window, seconds,
+                                  client, nonce.bytes, sizeof nonce.bytes, &written),
             OK_ANSWER);
     heap_own(false);
     return nonce;
@@ -89,8 +89,9 @@ void turn_add(turn_message *message, uint16_t type, const void *value, size_t le
 }
 
 void turn_add_u32(turn_message *message, uint16_t type, uint32_t number) {
-    ANSWERS(stun_types_add_u32(message->bytes, sizeof message->bytes, &message->length, type, number),
-            OK_ANSWER);
+    ANSWERS(
+        stun_types_add_u32(message->bytes, sizeof message->bytes, &message->length, type, number),
+        OK_ANSWER);
 }
 
 void turn_add_peer(turn_message *message, const stun_types_address *peer) {
@@ -123,11 +124,11 @@ void turn_sign(turn_message *message, const turn_user *user, stun_types_password
         turn_add(message, STUN_TYPES_ATTRIBUTE_PASSWORD_ALGORITHMS, list, sizeof list);
         turn_add(message, STUN_TYPES_ATTRIBUTE_PASSWORD_ALGORITHM, sha256, sizeof sha256);
     }
-    ANSWERS(stun_types_add_integrity(message->bytes, sizeof message->bytes, &message->length,
-                                     is_md5 ? &user->md5 : &user->sha256,
-                                     is_md5 ? STUN_TYPES_INTEGRITY_SHA1
-                                            : STUN_TYPES_INTEGRITY_SHA256),
-            OK_ANSWER);
+    ANSWERS(
+        stun_types_add_integrity(message->bytes, sizeof message->bytes, &message->length,
+                                 is_md5 ? &user->md5 : &user->sha256,
+                                 is_md5 ? STUN_TYPES_INTEGRITY_SHA1 : STUN_TYPES_INTEGRITY_SHA256),
+        OK_ANSWER);
 }
 
 void turn_channel_data(turn_message *message, uint16_t number, slice data) {
@@ -187,9 +188,9 @@ static stun_types_answer take_once(const turn_call *call, uint64_t now, slice da
                                     is_known ? &user->sha256 : &none, call->room, call->size,
                                     call->action);
     if (answer.code == STUN_TYPES_OK && call->action->kind == STUN_TYPES_TURN_RESPONSE)
-        CHECK(call->action->length >= 20 && call->action->length <= call->size
-              && is_untouched(call->room + call->action->length,
-                              call->size - call->action->length));
+        CHECK(
+            call->action->length >= 20 && call->action->length <= call->size
+            && is_untouched(call->room + call->action->length, call->size - call->action->length));
     else CHECK(is_untouched(call->room, call->size));
     return answer;
 }
@@ -209,5 +210,6 @@ stun_types_answer turn_from_peer(stun_types_turn *server, uint64_t now, uint64_t
                                  const stun_types_address *peer, size_t data_length,
                                  const stun_types_id *id, uint8_t *head, size_t head_size,
                                  stun_types_turn_delivery *delivery) {
-    return stun_types_turn_peer(server, now, peer, relay, data_length, id, head, head_size, delivery);
+    return stun_types_turn_peer(server, now, peer, relay, data_length, id, head, head_size,
+                                delivery);
 }

@@ -1,5 +1,5 @@
-/* What a client of a TURN server writes, by the library's own calls, in the realm `example.org`. Each call
- * checks that it succeeds. What a call allocates is the test's own (heap_own). */
+/* What a client of a TURN server writes, by the library's own calls, in the realm `example.org`.
+ * Each call checks that it succeeds. What a call allocates is the test's own (heap_own). */
 #ifndef TURN_CLIENT_H
 #define TURN_CLIENT_H
 
@@ -72,8 +72,9 @@ stun_types_address turn_address(const uint8_t *bytes, size_t length, uint16_t ty
 
 bool turn_is_same_address(const stun_types_address *one, const stun_types_address *other);
 
-/* Calls stun_types_turn_client as a server does: at first with no keys, and with those of one of the users
-   if it needs them. The first call must have changed nothing that the second one shows. */
+/* Calls stun_types_turn_client as a server does: at first with no keys, and with those of one of
+   the users if it needs them. The first call must have changed nothing that the second one shows.
+   */
 typedef struct {
     stun_types_turn *server;
     const stun_types_five_tuple *from;

@@ -1,7 +1,7 @@
-/* TURN servers in several threads: turn_threads [ROUNDS]. Four threads have a server each, and then one that
- * they share by a lock; the keys of the user and the secret of the nonces are one for all. In each round a
- * client gets an allocation, uses it and ends it, and what the server does is compared with what it did for one
- * thread alone. The last line is 'N passed, M failed'. */
+/* TURN servers in several threads: turn_threads [ROUNDS]. Four threads have a server each, and then
+ * one that they share by a lock; the keys of the user and the secret of the nonces are one for all.
+ * In each round a client gets an allocation, uses it and ends it, and what the server does is
+ * compared with what it did for one thread alone. The last line is 'N passed, M failed'. */
 #define _POSIX_C_SOURCE 200112L
 #include <pthread.h>
 #include <stdio.h>
@@ -18,7 +18,8 @@ static stun_types_key secret = STUN_TYPES_KEY_INIT, md5_key = STUN_TYPES_KEY_INI
 static const stun_types_address peer = {{198, 51, 100, 7}, 4000, 4};
 static const stun_types_address own = {{203, 0, 113, 1}, 3478, 4};
 
-/* What a server does in each step of a round: but for the number of the socket, the same in each round. */
+/* What a server does in each step of a round: but for the number of the socket, the same in each
+   round. */
 typedef struct {
     uint32_t answer, kind, code, took, length, port;
 } step;
@@ -75,7 +76,8 @@ static void add_peer(agent *self) {
 static void sign(agent *self) {
     uint8_t nonce[STUN_TYPES_NONCE_LENGTH];
     size_t length = 0;
-    must(stun_types_make_nonce(&secret, 0, 600, 7, &self->from.client, nonce, sizeof nonce, &length));
+    must(stun_types_make_nonce(&secret, 0, 600, 7, &self->from.client, nonce, sizeof nonce,
+                               &length));
     add(self, STUN_TYPES_ATTRIBUTE_USERNAME, "user", 4);
     add(self, STUN_TYPES_ATTRIBUTE_REALM, "realm", 5);
     add(self, STUN_TYPES_ATTRIBUTE_NONCE, nonce, length);
@@ -89,8 +91,9 @@ static void take(agent *self) {
     uint8_t room[ROOM];
     step *done = &self->done.steps[self->next++];
     lock(self);
-    answer = stun_types_turn_client(self->server, 7000000000, &self->from, self->message, self->length,
-                                    &self->ready, true, &md5_key, &sha256_key, room, ROOM, &action);
+    answer =
+        stun_types_turn_client(self->server, 7000000000, &self->from, self->message, self->length,
+                               &self->ready, true, &md5_key, &sha256_key, room, ROOM, &action);
     unlock(self);
     done->answer = answer.code;
     done->kind = action.kind;
@@ -99,7 +102,8 @@ static void take(agent *self) {
     done->length = (uint32_t)action.length;
     done->port = action.took ? 0 : action.peer.port;
     if (action.took) self->relay = action.relay;
-    else if (action.kind == STUN_TYPES_TURN_TO_PEER && action.relay != self->relay) done->answer = 99;
+    else if (action.kind == STUN_TYPES_TURN_TO_PEER && action.relay != self->relay)
+        done->answer = 99;
 }
 
 static void request(agent *self, stun_types_method method) {
@@ -129,8 +133,8 @@ static void arrive(agent *self) {
     const stun_types_id id = {{7}};
     stun_types_answer answer;
     lock(self);
-    answer = stun_types_turn_peer(self->server, 7000000000, &peer, self->relay, 3, &id, self->done.head,
-                                  sizeof self->done.head, &self->done.delivery);
+    answer = stun_types_turn_peer(self->server, 7000000000, &peer, self->relay, 3, &id,
+                                  self->done.head, sizeof self->done.head, &self->done.delivery);
     unlock(self);
     self->done.steps[self->next++].answer = answer.code;
     /* (the clients of threads that share a server have other ports) */
@@ -203,12 +207,13 @@ static void make_server(stun_types_turn *server) {
     settings.window = 600;
     settings.allocations = 2 * THREADS;
     settings.of_user = THREADS;
-    CHECK(!stun_types_turn_new(server, &settings, "realm", 5, "a server", 8, &secret, NULL, 0, NULL, 0,
-                               &own, 1)
+    CHECK(!stun_types_turn_new(server, &settings, "realm", 5, "a server", 8, &secret, NULL, 0, NULL,
+                               0, &own, 1)
                .code);
 }
 
-static void begin_agent(agent *self, stun_types_turn *server, pthread_mutex_t *lock, size_t number) {
+static void begin_agent(agent *self, stun_types_turn *server, pthread_mutex_t *lock,
+                        size_t number) {
     memset(self, 0, sizeof *self);
     self->server = server;
     self->lock = lock;
@@ -275,8 +280,9 @@ static int run(int are_shared) {
 
 int main(int count, char **arguments) {
     if (count > 1) rounds = strtoul(arguments[1], NULL, 10);
-    CHECK(!stun_types_key_from_bytes(&secret, "a secret of the server", 22, STUN_TYPES_INTEGRITY_ANY)
-               .code);
+    CHECK(
+        !stun_types_key_from_bytes(&secret, "a secret of the server", 22, STUN_TYPES_INTEGRITY_ANY)
+             .code);
     CHECK(!stun_types_key_long_term(&md5_key, "user", 4, "realm", 5, "pass", 4,
                                     STUN_TYPES_PASSWORD_MD5)
                .code);

@@ -1,5 +1,5 @@
-/* What a TURN server keeps, and does with requests, data and time: the datagram of each event is written
-   here, and signed by its user. */
+/* What a TURN server keeps, and does with requests, data and time: the datagram of each event is
+   written here, and signed by its user. */
 #include "turn.h"
 
 #include <stdlib.h>
@@ -43,10 +43,10 @@ static uint32_t lifetime_of(slice response) {
 
 /* Appends what a success response to an Allocate request says, and keeps whose the allocation is. */
 static void answer_allocated(turn_row *it, slice response) {
-    stun_types_address relayed
-        = turn_address(response.bytes, response.length, STUN_TYPES_ATTRIBUTE_XOR_RELAYED_ADDRESS);
-    stun_types_address mapped
-        = turn_address(response.bytes, response.length, STUN_TYPES_ATTRIBUTE_XOR_MAPPED_ADDRESS);
+    stun_types_address relayed =
+        turn_address(response.bytes, response.length, STUN_TYPES_ATTRIBUTE_XOR_RELAYED_ADDRESS);
+    stun_types_address mapped =
+        turn_address(response.bytes, response.length, STUN_TYPES_ATTRIBUTE_XOR_MAPPED_ADDRESS);
     CHECK(turn_is_same_address(&mapped, &it->from->client));
     CHECK(it->action->took == 0 || turn_is_same_address(&relayed, &it->action->peer));
     it->owners[tuple] = user;
@@ -253,9 +253,9 @@ static const struct {
     const char *name;
     bool (*does)(turn_row *it);
 } known_events[] = {
-    {"allocate", allocate},   {"refresh", refresh}, {"permit", permit},
-    {"bind", bind_channel},   {"unfit", unfit},     {"send", send_data},
-    {"channel", channel},     {"arrive", arrive},   {"poll", poll_sockets},
+    {"allocate", allocate}, {"refresh", refresh}, {"permit", permit},
+    {"bind", bind_channel}, {"unfit", unfit},     {"send", send_data},
+    {"channel", channel},   {"arrive", arrive},   {"poll", poll_sockets},
 };
 
 /* Appends the word for an event; false if no more events are to follow. */
@@ -277,7 +277,8 @@ static void expect(turn_row *it) {
     size_t peers = 0, channels = 0;
     for (at = call_rest(); (at = strstr(at, "permit ")) != NULL; at++) {
         const char *list = strchr(at + 7, ' ');
-        for (peers++; list != NULL && list[1] != 0 && list[1] != ' '; list++) peers += list[1] == ',';
+        for (peers++; list != NULL && list[1] != 0 && list[1] != ' '; list++)
+            peers += list[1] == ',';
     }
     for (at = call_rest(); (at = strstr(at, "bind ")) != NULL; at++) channels++;
     turn_expect(it, peers + channels, channels);
@@ -313,7 +314,8 @@ static bool allocate_both(turn_row *it) {
 static bool answer_peer(turn_row *it, char *word, uint16_t number) {
     const stun_types_address peer = turn_endpoint(word);
     tuple = peer.family == 4 ? 0 : 1;
-    begin(it, peer.port == 0 ? STUN_TYPES_METHOD_CREATE_PERMISSION : STUN_TYPES_METHOD_CHANNEL_BIND);
+    begin(it,
+          peer.port == 0 ? STUN_TYPES_METHOD_CREATE_PERMISSION : STUN_TYPES_METHOD_CHANNEL_BIND);
     if (peer.port != 0) turn_add_channel(&message, number);
     turn_add_peer(&message, &peer);
     if (!ask(it, true)) return false;
@@ -335,4 +337,5 @@ static void peers(void) {
     turn_end_row(&row_);
 }
 
-const verb verbs_of_turn[] = {{"events", events, true}, {"peers", peers, true}, {NULL, NULL, false}};
+const verb verbs_of_turn[] = {
+    {"events", events, true}, {"peers", peers, true}, {NULL, NULL, false}};

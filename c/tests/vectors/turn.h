@@ -1,4 +1,5 @@
-/* A TURN server that answers the rows of vectors/turn and vectors/turn-server, through its calls in C. */
+/* A TURN server that answers the rows of vectors/turn and vectors/turn-server, through its calls in
+   C. */
 #ifndef TURN_H
 #define TURN_H
 
@@ -24,7 +25,8 @@ typedef struct {
     stun_types_turn_ready *ready;
     stun_types_turn_action *action;
     uint8_t *room, *head;
-    /* Whose the allocation of a 5-tuple is that the row has got, and of which family; TURN_USERS, nobody's. */
+    /* Whose the allocation of a 5-tuple is that the row has got, and of which family; TURN_USERS,
+       nobody's. */
     size_t owners[TURN_TUPLES];
     uint16_t families[TURN_TUPLES];
     /* Whether turn_fill has to occupy a part of each allocation, and when it did. */
@@ -33,8 +35,8 @@ typedef struct {
     uint64_t requests;
 } turn_row;
 
-/* Makes the server of a SETUP, with nonces that are valid for so many seconds; false if there is no memory,
-   and the answer is that. Ends it. */
+/* Makes the server of a SETUP, with nonces that are valid for so many seconds; false if there is no
+   memory, and the answer is that. Ends it. */
 bool turn_begin_row(turn_row *it, char *setup, uint64_t window);
 void turn_end_row(turn_row *it);
 
@@ -62,8 +64,9 @@ turn_nonce turn_nonce_now(const turn_row *it, size_t tuple);
    then on. False if there is no memory, and the answer is that. */
 bool turn_ask(turn_row *it, size_t tuple, slice datagram, size_t user, bool has_sockets);
 
-/* Leaves as much room in the allocation of each client as the rows say, 4 permissions and 3 channels, if
-   the row names so many peers and binds so many channels that it matters. It is called before each event. */
+/* Leaves as much room in the allocation of each client as the rows say, 4 permissions and 3
+   channels, if the row names so many peers and binds so many channels that it matters. It is called
+   before each event. */
 void turn_expect(turn_row *it, size_t peers, size_t channels);
 void turn_fill(turn_row *it);
 
@@ -77,8 +80,8 @@ size_t turn_socket_of(const stun_types_address *address);
 /* Appends the word for data to a peer: of the last action, for this datagram. */
 void answer_to_peer(const turn_row *it, slice datagram);
 
-/* What a peer's datagram becomes, of a row's words SOCKET PEER DATA: the octets that go to a client, or
-   none, and where they go. */
+/* What a peer's datagram becomes, of a row's words SOCKET PEER DATA: the octets that go to a
+   client, and to which, or none. */
 typedef struct {
     bool is_sent;
     stun_types_turn_delivery delivery;

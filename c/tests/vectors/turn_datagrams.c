@@ -1,5 +1,5 @@
-/* A TURN server that is asked by datagrams, and what its responses say. The server makes its nonces: those in
-   the rows' requests are replaced, and what was signed is signed again. */
+/* A TURN server that is asked by datagrams, and what its responses say. The server makes its
+   nonces: those in the rows' requests are replaced, and what was signed is signed again. */
 #include "turn.h"
 
 #include <stdlib.h>
@@ -32,7 +32,7 @@ static const stun_types_key *signer_of(const turn_row *it, slice datagram, size_
     return NULL;
 }
 
-/* Appends an attribute as it is, also behind those that end a message. */
+/* Appends an attribute as it is, also after those that end a message. */
 static void append(turn_message *to, const uint8_t *attribute, size_t length) {
     memcpy(to->bytes + to->length, attribute, length);
     to->length += length;
@@ -40,7 +40,8 @@ static void append(turn_message *to, const uint8_t *attribute, size_t length) {
     to->bytes[3] = (uint8_t)(to->length - 20);
 }
 
-/* Appends an attribute: the server's nonce for NONCE, and what is computed anew for what ends the message. */
+/* Appends an attribute: the server's nonce for NONCE, and what is computed anew for what ends the
+   message. */
 static void append_new(turn_message *to, const uint8_t *attribute, size_t length,
                        const turn_nonce *nonce, const stun_types_key *signer) {
     const unsigned type = (unsigned)(attribute[0] << 8 | attribute[1]);
@@ -57,7 +58,7 @@ static void append_new(turn_message *to, const uint8_t *attribute, size_t length
     else append(to, attribute, length);
 }
 
-/* A datagram with the server's nonce in the place of that of the rows; a stale one is of a moment to
+/* A datagram with the server's nonce instead of that of the rows; a stale one is of a moment to
    come. */
 static slice renewed(const turn_row *it, size_t tuple, slice datagram, size_t user) {
     static turn_message made;
@@ -70,7 +71,8 @@ static slice renewed(const turn_row *it, size_t tuple, slice datagram, size_t us
     if (stun_types_parse(datagram.bytes, datagram.length).code != STUN_TYPES_OK
         || !find_value(datagram, STUN_TYPES_ATTRIBUTE_NONCE, &value))
         return datagram;
-    if (is_text(value, FRESH, strlen(FRESH))) nonce = turn_nonce_at(&it->nonces, seconds, &from.client);
+    if (is_text(value, FRESH, strlen(FRESH)))
+        nonce = turn_nonce_at(&it->nonces, seconds, &from.client);
     else if (is_text(value, STALE, strlen(STALE)))
         nonce = turn_nonce_at(&it->nonces, seconds + 1000, &from.client);
     else return datagram;
@@ -103,15 +105,15 @@ static void answer_allocation(const turn_row *it, slice response) {
         answer_text("%lu", (unsigned long)turn_number(value));
     }
     if (find_value(response, STUN_TYPES_ATTRIBUTE_XOR_RELAYED_ADDRESS, &value)) {
-        address = turn_address(response.bytes, response.length,
-                               STUN_TYPES_ATTRIBUTE_XOR_RELAYED_ADDRESS);
+        address =
+            turn_address(response.bytes, response.length, STUN_TYPES_ATTRIBUTE_XOR_RELAYED_ADDRESS);
         CHECK(it->action->took == 0 || turn_is_same_address(&address, &it->action->peer));
         part(address.family == 4 ? "relayed4-" : "relayed6-");
         answer_text("%zu", turn_socket_of(&address));
     }
     if (find_value(response, STUN_TYPES_ATTRIBUTE_XOR_MAPPED_ADDRESS, &value)) {
-        address
-            = turn_address(response.bytes, response.length, STUN_TYPES_ATTRIBUTE_XOR_MAPPED_ADDRESS);
+        address =
+            turn_address(response.bytes, response.length, STUN_TYPES_ATTRIBUTE_XOR_MAPPED_ADDRESS);
         part(turn_is_same_address(&address, &it->from->client) ? "mapped" : "!!disagree mapped");
     }
     if (find_value(response, STUN_TYPES_ATTRIBUTE_ADDRESS_ERROR_CODE, &value)) {
@@ -130,8 +132,7 @@ static bool has_value(slice message, uint16_t type, const void *bytes, size_t le
 /* Appends what an error response says beside its code. */
 static void answer_error(const turn_row *it, slice response) {
     static const uint8_t offered[] = {0, 2, 0, 0, 0, 1, 0, 0};
-    const turn_nonce nonce
-        = turn_nonce_at(&it->nonces, it->now / 1000000000, &it->from->client);
+    const turn_nonce nonce = turn_nonce_at(&it->nonces, it->now / 1000000000, &it->from->client);
     slice value;
     size_t at;
     if (find_value(response, STUN_TYPES_ATTRIBUTE_UNKNOWN_ATTRIBUTES, &value)) {
@@ -143,11 +144,11 @@ static void answer_error(const turn_row *it, slice response) {
     if (find_value(response, STUN_TYPES_ATTRIBUTE_REALM, &value)
         || find_value(response, STUN_TYPES_ATTRIBUTE_NONCE, &value)
         || find_value(response, STUN_TYPES_ATTRIBUTE_PASSWORD_ALGORITHMS, &value)) {
-        bool is_right
-            = has_value(response, STUN_TYPES_ATTRIBUTE_REALM, turn_realm, strlen(turn_realm))
-              && has_value(response, STUN_TYPES_ATTRIBUTE_NONCE, nonce.bytes, sizeof nonce.bytes)
-              && has_value(response, STUN_TYPES_ATTRIBUTE_PASSWORD_ALGORITHMS, offered,
-                           sizeof offered);
+        bool is_right =
+            has_value(response, STUN_TYPES_ATTRIBUTE_REALM, turn_realm, strlen(turn_realm))
+            && has_value(response, STUN_TYPES_ATTRIBUTE_NONCE, nonce.bytes, sizeof nonce.bytes)
+            && has_value(response, STUN_TYPES_ATTRIBUTE_PASSWORD_ALGORITHMS, offered,
+                         sizeof offered);
         part(is_right ? "challenge" : "!!disagree challenge");
     }
 }
@@ -166,7 +167,8 @@ static void answer_signed(const turn_row *it, slice request, slice response, siz
     part("");
     if (user >= TURN_USERS
         || stun_types_validate(response.bytes, response.length,
-                               is_sha256 ? &it->users[user].sha256 : &it->users[user].md5, &validated)
+                               is_sha256 ? &it->users[user].sha256 : &it->users[user].md5,
+                               &validated)
                    .code
                != STUN_TYPES_OK)
         answer_text("!!disagree key");
@@ -197,9 +199,9 @@ static void keep_owner(turn_row *it, size_t tuple, size_t user) {
     const slice response = turn_response(it);
     if (header_of(response).method != STUN_TYPES_METHOD_ALLOCATE || it->action->code != 0) return;
     it->owners[tuple] = user;
-    it->families[tuple] = turn_address(response.bytes, response.length,
-                                       STUN_TYPES_ATTRIBUTE_XOR_RELAYED_ADDRESS)
-                              .family;
+    it->families[tuple] =
+        turn_address(response.bytes, response.length, STUN_TYPES_ATTRIBUTE_XOR_RELAYED_ADDRESS)
+            .family;
     it->filled_at[tuple] = 0;
 }
 
@@ -231,8 +233,8 @@ static void from_peer(turn_row *it) {
     }
 }
 
-/* How many peers the requests of the events name, and how many of them bind a channel, by their octets in
-   hexadecimal. */
+/* How many peers the requests of the events name, and how many of them bind a channel, by their
+   octets in hexadecimal. */
 static void expect(turn_row *it) {
     const char *at;
     size_t peers = 0, channels = 0;

@@ -1,4 +1,5 @@
-/* What the rows of a TURN server share: its setup, 5-tuples, sockets, and the words of data and polls. */
+/* What the rows of a TURN server share: its setup, 5-tuples, sockets, and the words of data and
+   polls. */
 #include "turn.h"
 
 #include <stdlib.h>
@@ -6,8 +7,8 @@
 
 #include "../heap.h"
 
-/* How many permissions and channels an allocation has in C, and in the rows; how many peers and channels
-   of the runner's own fill the difference. */
+/* How many permissions and channels an allocation has in C, and in the rows; how many peers and
+   channels of the runner's own fill the difference. */
 enum { PERMISSIONS = 16, CHANNELS = 16, ROW_PERMISSIONS = 4, ROW_CHANNELS = 3 };
 enum { FILL_PEERS = PERMISSIONS - ROW_PERMISSIONS, FILL_CHANNELS = CHANNELS - ROW_CHANNELS };
 
@@ -114,8 +115,8 @@ static stun_types_turn_settings settings_of(turn_row *it, char *word, uint64_t w
     settings.window = window;
     settings.seed[0] = 1;
     settings.seed[1] = 2;
-    settings.features
-        = STUN_TYPES_FEATURE_PASSWORD_ALGORITHMS | STUN_TYPES_FEATURE_USERNAME_ANONYMITY;
+    settings.features =
+        STUN_TYPES_FEATURE_PASSWORD_ALGORITHMS | STUN_TYPES_FEATURE_USERNAME_ANONYMITY;
     it->has_ipv6 = it->has_sockets = true;
     for (at = 0; at < COUNT(numbers); at++) {
         const char *part = next_part(&word, ':');
@@ -189,8 +190,8 @@ void turn_end_row(turn_row *it) {
 /* The address of the socket of a family with a number. */
 static stun_types_address socket_address(uint16_t family, size_t number) {
     static const stun_types_address ipv4 = {{203, 0, 113, 1}, 50000, 4};
-    static const stun_types_address ipv6
-        = {{0x20, 1, 0x0D, 0xB8, 0, 0, 0, 0, 0, 0, 0, 0, 0, 0, 0, 1}, 50000, 6};
+    static const stun_types_address ipv6 = {
+        {0x20, 1, 0x0D, 0xB8, 0, 0, 0, 0, 0, 0, 0, 0, 0, 0, 0, 1}, 50000, 6};
     stun_types_address address = family == 4 ? ipv4 : ipv6;
     address.port = (uint16_t)(address.port + 2 * number);
     return address;
@@ -263,8 +264,8 @@ bool turn_ask(turn_row *it, size_t tuple, slice datagram, size_t user, bool has_
 /* The address of a peer of the runner's own. */
 static stun_types_address fill_peer(uint16_t family, size_t number) {
     static const stun_types_address ipv4 = {{192, 0, 2, 200}, 7000, 4};
-    static const stun_types_address ipv6
-        = {{0x20, 1, 0x0D, 0xB8, 0xFF, 0xFF, 0, 0, 0, 0, 0, 0, 0, 0, 0, 200}, 7000, 6};
+    static const stun_types_address ipv6 = {
+        {0x20, 1, 0x0D, 0xB8, 0xFF, 0xFF, 0, 0, 0, 0, 0, 0, 0, 0, 0, 200}, 7000, 6};
     stun_types_address peer = family == 4 ? ipv4 : ipv6;
     uint8_t *last = &peer.octets[family == 4 ? 3 : 15];
     *last = (uint8_t)(*last + number % FILL_PEERS);
@@ -322,7 +323,8 @@ uint32_t turn_code(slice response) {
     uint16_t code = 0;
     size_t at, length;
     if (header_of(response).message_class == STUN_TYPES_CLASS_SUCCESS) return 0;
-    if (!stun_types_find(response.bytes, response.length, STUN_TYPES_ATTRIBUTE_ERROR_CODE, &attribute)) {
+    if (!stun_types_find(response.bytes, response.length, STUN_TYPES_ATTRIBUTE_ERROR_CODE,
+                         &attribute)) {
         fail("an error response without an ERROR-CODE");
         return 0;
     }
