@@ -171,5 +171,6 @@ void check_nonces(source *from);
 void check_credentials(source *from);
 void check_challenges(source *from);
 void check_transactions(source *from);
+void check_turn(source *from);
 
 #endif

@@ -23,15 +23,20 @@ static struct {
     size_t length;
 } secrets[SECRETS];
 
-static bool is_allowed, are_all_refused;
+static bool is_allowed, are_all_refused, is_own, is_unmeasured;
 static long asked, refused, refusals, held, faults;
 static size_t secret_count, most;
 
 void heap_allow(bool allowed) {
     is_allowed = allowed;
+    is_own = is_unmeasured = false;
     asked = refused = refusals = 0;
     most = 0;
 }
+
+void heap_own(bool are_own) { is_own = are_own; }
+
+void heap_measure(bool measures) { is_unmeasured = !measures; }
 
 void heap_refuse(long number) {
     asked = 0;
@@ -69,14 +74,22 @@ long heap_faults(void) {
 
 static bool holds(const uint8_t *bytes, size_t length, const uint8_t *secret,
                   size_t secret_length) {
-    size_t at;
-    for (at = 0; at + secret_length <= length; at++)
-        if (memcmp(bytes + at, secret, secret_length) == 0) return true;
+    const uint8_t *at = bytes, *end = bytes + length;
+    while ((size_t)(end - at) >= secret_length) {
+        at = memchr(at, secret[0], (size_t)(end - at) - secret_length + 1);
+        if (at == NULL) return false;
+        if (memcmp(at, secret, secret_length) == 0) return true;
+        at++;
+    }
     return false;
 }
 
-/* Whether the block that is asked for now is refused. */
-static bool is_refused(void) {
+/* Counts the block that is asked for now, and says whether it is refused. */
+static bool is_refused(size_t size) {
+    if (is_own) return false;
+    asked++;
+    if (!is_allowed) faults++;
+    if (size > most && !is_unmeasured) most = size;
     return refused != 0 && (are_all_refused ? asked >= refused : asked == refused);
 }
 
@@ -89,10 +102,7 @@ static size_t place_of(const void *block) {
 void *__wrap_malloc(size_t size) {
     size_t place;
     void *block;
-    asked++;
-    if (!is_allowed) faults++;
-    if (size > most) most = size;
-    if (is_refused()) {
+    if (is_refused(size)) {
         refusals++;
         return NULL;
     }

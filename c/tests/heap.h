@@ -10,6 +10,10 @@
    says. */
 void heap_allow(bool allowed);
 
+/* From now on, whether a block that is taken is the test's own: it may be, and is neither counted, refused
+   nor measured. */
+void heap_own(bool is_own);
+
 /* The allocation with this number from now on is refused: 1 the next, 0 none. */
 void heap_refuse(long number);
 
@@ -20,8 +24,10 @@ void heap_refuse_from(long number);
 long heap_asked(void);
 long heap_refused(void);
 
-/* The bytes of the largest block that was asked for since heap_allow. */
+/* The bytes of the largest block that was asked for since heap_allow. From heap_measure(false) on blocks
+   don't count for it, until heap_measure(true). */
 size_t heap_most(void);
+void heap_measure(bool measures);
 
 /* How many blocks are taken and not given back. */
 long heap_held(void);

@@ -234,6 +234,40 @@ static void test_clients_and_streams(void) {
     CHECK(*taken == 0);
 }
 
+static void test_turn_servers(void) {
+    static const stun_types_turn none = STUN_TYPES_TURN_INIT;
+    stun_types_turn_settings *settings = NEW(stun_types_turn_settings);
+    stun_types_turn *server = NEW(stun_types_turn);
+    stun_types_five_tuple *from = NEW(stun_types_five_tuple);
+    stun_types_turn_ready *ready = NEW(stun_types_turn_ready);
+    stun_types_turn_action *action = NEW(stun_types_turn_action);
+    stun_types_turn_delivery *delivery = NEW(stun_types_turn_delivery);
+    stun_types_key *key = password_key(text("a secret of the server"));
+    const slice request = hex(REQUEST);
+    memset(settings, 0, sizeof *settings);
+    memset(ready, 0, sizeof *ready);
+    memset(from, 0, sizeof *from);
+    from->client = from->server = address;
+    settings->allocations = 2;
+    *server = none;
+    heap_allow(true);
+    ANSWERS(stun_types_turn_new(server, settings, NULL, 0, NULL, 0, key, NULL, 0, NULL, 0, NULL, 0),
+            OK_ANSWER);
+    ANSWERS(stun_types_turn_client(server, 0, from, NULL, 0, ready, false, no_key(), no_key(), NULL, 0,
+                                   action),
+            OK_ANSWER);
+    CHECK(action->kind == STUN_TYPES_TURN_NOTHING);
+    ANSWERS(stun_types_turn_client(server, 0, from, request.bytes, request.length, ready, false,
+                                   no_key(), no_key(), NULL, 0, action),
+            LENGTHS(STUN_TYPES_TOO_SMALL, 48, 0));
+    ANSWERS(stun_types_turn_peer(server, 0, &address, 0, 0, &id, NULL, 0, delivery),
+            LENGTHS(STUN_TYPES_TOO_SMALL, STUN_TYPES_TURN_HEAD, 0));
+    CHECK(stun_types_turn_poll(server, 0, NULL, 0) == 0);
+    heap_allow(false);
+    stun_types_turn_free(server);
+    stun_types_key_free(key);
+}
+
 void test_nulls(void) {
     row("slices that are NULL", "that are read");
     test_read();
@@ -249,4 +283,6 @@ void test_nulls(void) {
     test_answers();
     row("slices that are NULL", "of clients and streams");
     test_clients_and_streams();
+    row("slices that are NULL", "of TURN servers");
+    test_turn_servers();
 }

@@ -4,16 +4,17 @@
 
 #include "check.h"
 #include "heap.h"
+#include "keychain.h"
 #include "samples.h"
 #include "tests.h"
 
-enum { ARGUMENTS = 7, APART = 512 };
+enum { ARGUMENTS = 9, APART = 512 };
 
 /* An argument of a call: what it is for the call, how many bytes it has, at which multiples it is
    aligned, and what it begins with, in hexadecimal; zeros follow. Of a call that is refused, verdicts are
-   zeros, and nothing else has changed. */
+   zeros, and nothing else has changed. SERVER is a TURN server, which is made for all calls. */
 typedef struct {
-    enum { READ = 1, WRITTEN, VERDICT, KEY } is;
+    enum { READ = 1, WRITTEN, VERDICT, KEY, SERVER } is;
     size_t size, align;
     const char *begins;
 } argument;
@@ -135,6 +136,18 @@ CALL(write_channel_data) {
     REPORT(stun_types_write_channel_data(0x4000, at[0], 4, true, at[1], 20, at[2]));
 }
 
+CALL(turn_new) {
+    REPORT(stun_types_turn_new(at[0], at[1], at[2], 5, at[3], 4, at[4], at[5], 2, at[6], 1, at[7], 2));
+}
+CALL(turn_client) {
+    REPORT(stun_types_turn_client(at[0], 0, at[1], at[2], 20, at[3], true, at[4], at[5], at[6], 60,
+                                  at[7]));
+}
+CALL(turn_peer) {
+    REPORT(stun_types_turn_peer(at[0], 0, at[1], 1, 3, at[2], at[3], STUN_TYPES_TURN_HEAD, at[4]));
+}
+CALL(turn_poll) { REPORT_COUNT(stun_types_turn_poll(at[0], 0, at[1], 2)); }
+
 /* ---- the calls, and what they are given: answers that aren't REFUSED, if no arguments overlap */
 
 #define BYTES(size, begins) {READ, size, 1, begins}
@@ -154,6 +167,7 @@ CALL(write_channel_data) {
 #define SCHEDULE "F401 00*6 4C9A 00*6 07000000 10000000 00*16"
 #define SENT SCHEDULE " 00*28 01000000 0100 01 04 0000"
 #define POLICY GIVEN(sizeof(stun_types_policy), "")
+#define TURN_SERVER {SERVER, sizeof(stun_types_turn), 8, ""}
 
 static const guarded_call calls[] = {
     {"stun_types_framed_length", framed_length, {BYTES(20, HEADER), COUNTED}},
@@ -255,6 +269,20 @@ static const guarded_call calls[] = {
      {BYTES(8, "40000004 01020304"), LEFT(sizeof(stun_types_channel_data), "")}},
     {"stun_types_write_channel_data", write_channel_data,
      {BYTES(4, ""), ROOM(20, ""), COUNTED}},
+    {"stun_types_turn_new", turn_new,
+     {LEFT(sizeof(stun_types_turn), ""), GIVEN(sizeof(stun_types_turn_settings), ""), BYTES(5, ""),
+      BYTES(4, ""), GIVEN(sizeof(stun_types_key), ""),
+      GIVEN(2 * sizeof(stun_types_prefix), "00*18 0400 0000 00*18 0600"),
+      GIVEN(sizeof(stun_types_prefix), "00*18 0400"),
+      GIVEN(2 * sizeof(stun_types_address), "00*18 0400 00*18 0600")}},
+    {"stun_types_turn_client", turn_client,
+     {TURN_SERVER, GIVEN(sizeof(stun_types_five_tuple), "00*18 0400 00*18 0400"), BYTES(20, HEADER),
+      GIVEN(sizeof(stun_types_turn_ready), ""), GIVEN(sizeof(stun_types_key), ""),
+      GIVEN(sizeof(stun_types_key), ""), ROOM(60, ""), ZEROED(sizeof(stun_types_turn_action))}},
+    {"stun_types_turn_peer", turn_peer,
+     {TURN_SERVER, ADDRESS, BYTES(sizeof(stun_types_id), ""), ROOM(STUN_TYPES_TURN_HEAD, ""),
+      ZEROED(sizeof(stun_types_turn_delivery))}},
+    {"stun_types_turn_poll", turn_poll, {TURN_SERVER, LEFT(2 * sizeof(uint64_t), "")}},
 };
 
 /* ---- the arguments, in one block of memory */
@@ -330,15 +358,35 @@ static void check_two(const guarded_call *it, size_t one, size_t other, uint64_t
     CHECK(allowed(it, at) == apart);
 }
 
+/* Makes the server that calls are given. */
+static void make_server(stun_types_turn *server) {
+    static const stun_types_turn none = STUN_TYPES_TURN_INIT;
+    stun_types_turn_settings settings;
+    stun_types_key *secret = bytes_key(text("a secret of the server"), STUN_TYPES_INTEGRITY_ANY);
+    memset(&settings, 0, sizeof settings);
+    *server = none;
+    heap_allow(true);
+    ANSWERS(stun_types_turn_new(server, &settings, NULL, 0, NULL, 0, secret, NULL, 0, NULL, 0, NULL,
+                                0),
+            OK_ANSWER);
+    heap_allow(false);
+    stun_types_key_free(secret);
+}
+
 void test_overlaps(void) {
+    stun_types_turn server;
     size_t i, one, other;
+    row("arguments that overlap", "a TURN server is made");
+    make_server(&server);
     for (i = 0; i < COUNT(calls); i++) {
         const guarded_call *it = &calls[i];
         const size_t count = count_of(it);
         void *at[ARGUMENTS];
         uint64_t apart;
         row("arguments that overlap", it->name);
-        for (one = 0; one < count; one++) begins[one] = hex(it->arguments[one].begins);
+        for (one = 0; one < count; one++)
+            begins[one] = it->arguments[one].is == SERVER ? given(&server, sizeof server)
+                                                          : hex(it->arguments[one].begins);
         spread(at);
         apart = allowed(it, at);
         CHECK(apart != REFUSED);
@@ -347,4 +395,5 @@ void test_overlaps(void) {
                 if (one != other && (it->arguments[one].is != READ || it->arguments[other].is != READ))
                     check_two(it, one, other, apart);
     }
+    stun_types_turn_free(&server);
 }

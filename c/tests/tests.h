@@ -9,6 +9,8 @@ void test_writing(void);
 void test_servers(void);
 void test_clients(void);
 void test_streams(void);
+void test_turn(void);
+void test_turn_answers(void);
 void test_nulls(void);
 void test_calls(void);
 void test_overlaps(void);

@@ -39,9 +39,7 @@ static bool promises(slice nonce) {
         && (features & STUN_TYPES_FEATURE_PASSWORD_ALGORITHMS) != 0;
 }
 
-/* The number of the user whom a message names, by USERNAME or USERHASH; COUNT(users) if it is none
-   of them. */
-static size_t user_of(slice message) {
+size_t user_of(slice message) {
     stun_types_hash hash;
     slice name;
     size_t at;

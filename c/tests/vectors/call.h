@@ -10,8 +10,9 @@ enum { ANY_ROOM = 66000 };
 
 /* ---- words */
 
-/* The next word, or NULL after the last. */
+/* The next word, or NULL after the last; and the text of all that are left. */
 char *call_word(void);
+const char *call_rest(void);
 
 /* The next word as octets, as a number of hexadecimal digits, and as a decimal number. A word of
    another form makes the answer `?`. */
@@ -116,6 +117,10 @@ bool is_response_to(const stun_types_header *request, const stun_types_header *r
 /* Whether a message shows an attribute of a type: *value is that of the first. */
 bool find_value(slice octets, uint16_t type, slice *value);
 
+/* The number of the user whom a message names, by USERNAME or USERHASH: 0 alice, 1 bob, 2 carol, or 3 if
+   it is none of them. */
+size_t user_of(slice message);
+
 /* ---- verbs */
 
 /* A verb, the function that answers its calls, and whether a call of it may allocate. */
@@ -127,7 +132,8 @@ typedef struct {
 
 extern const verb verbs_of_parse[], verbs_of_show[], verbs_of_validate[], verbs_of_keys[],
     verbs_of_values[], verbs_of_write[], verbs_of_replies[], verbs_of_servers[], verbs_of_streams[],
-    verbs_of_transactions[], verbs_of_authentication[], verbs_of_print[];
+    verbs_of_transactions[], verbs_of_authentication[], verbs_of_print[], verbs_of_turn[],
+    verbs_of_turn_datagrams[];
 
 /* The words of the classes, by their numbers. */
 extern const char *const class_words[4];

@@ -26,6 +26,7 @@ static const verb *const tables[] = {
     verbs_of_parse,  verbs_of_show,    verbs_of_validate, verbs_of_keys,
     verbs_of_values, verbs_of_write,   verbs_of_replies,  verbs_of_servers,
     verbs_of_streams, verbs_of_transactions, verbs_of_authentication, verbs_of_print,
+    verbs_of_turn,   verbs_of_turn_datagrams,
 };
 
 /* ---- answers */
@@ -139,6 +140,8 @@ void answer_each_way(void (*way)(uint32_t number), uint32_t count) {
 /* ---- words */
 
 char *call_word(void) { return next_part(&rest, ' '); }
+
+const char *call_rest(void) { return rest == NULL ? "" : rest; }
 
 char *next_part(char **word, char mark) {
     char *part = *word, *end;

@@ -1,0 +1,406 @@
+/* A TURN server in C: making one and ending it, and which peers it relays to. What it does then is
+ * asked by turn_answers.c and the rows of vectors/. */
+#include <string.h>
+
+#include "check.h"
+#include "heap.h"
+#include "keychain.h"
+#include "reference.h"
+#include "tests.h"
+#include "turn_site.h"
+
+/* ---- a struct that holds no server */
+
+static void check_no_server(const char *name, uint8_t byte) {
+    uint64_t *ended;
+    uint8_t *head;
+    stun_types_turn_delivery *delivery;
+    const stun_types_id id = turn_id(5);
+    site_begin_alone(name);
+    memset(site.server, byte, sizeof *site.server);
+    site_write_allocate(1);
+    heap_allow(false);
+    ANSWERS(site_take_in(site.server, 0, site_datagram(), SITE_ROOM),
+            PLAIN(STUN_TYPES_BAD_ARGUMENT));
+    CHECK(is_zero(site.action, sizeof *site.action));
+    head = room(STUN_TYPES_TURN_HEAD);
+    delivery = NEW(stun_types_turn_delivery);
+    ANSWERS(
+        turn_from_peer(site.server, 0, 0, &site_peer, 3, &id, head, STUN_TYPES_TURN_HEAD, delivery),
+        PLAIN(STUN_TYPES_BAD_ARGUMENT));
+    CHECK(is_untouched(head, STUN_TYPES_TURN_HEAD) && is_zero(delivery, sizeof *delivery));
+    ended = (uint64_t *)(void *)room(8);
+    CHECK(stun_types_turn_poll(site.server, 0, ended, 1) == 0);
+    CHECK(is_untouched(ended, 8));
+    heap_allow(true);
+    site_end();
+}
+
+static void test_no_server(void) {
+    check_no_server("none, of zeros", 0);
+    check_no_server("none, of a repeated byte", FILL);
+    check_no_server("none, of ones", 0xFF);
+    row("a TURN server", "STUN_TYPES_TURN_INIT");
+    CHECK(stun_types_turn_none().at == NULL && stun_types_turn_none().held == 0);
+}
+
+/* ---- what it is made by */
+
+/* How many bytes a text has at most. */
+enum { LONGEST_TEXT = 763 };
+
+/* Each changes what a server is made by, so that the call is refused, or isn't. */
+static void no_policy(turn_making *it) { it->settings.policy.algorithm = (stun_types_integrity)1; }
+static void no_hmac_length(turn_making *it) { it->settings.policy.min_hmac_length = 17; }
+static void policy_reserved(turn_making *it) { it->settings.policy.reserved = 1; }
+static void four_features(turn_making *it) { it->settings.features = 4; }
+static void settings_reserved(turn_making *it) { it->settings.reserved = 1; }
+static void settings_reserved_high(turn_making *it) { it->settings.reserved = (uint64_t)1 << 63; }
+static void no_secret(turn_making *it) { it->secret = no_key(); }
+static void denies(turn_making *it, uint16_t family, uint16_t length) {
+    it->denied[0].address.family = family;
+    it->denied[0].length = length;
+    it->denied_count = 1;
+}
+static void allows(turn_making *it, uint16_t family, uint16_t length) {
+    it->allowed[1] = it->allowed[0];
+    it->allowed[0].address.family = 4;
+    it->allowed[1].address.family = family;
+    it->allowed[1].length = length;
+    it->allowed_count = 2;
+}
+static void denied_33(turn_making *it) { denies(it, 4, 33); }
+static void denied_129(turn_making *it) { denies(it, 6, 129); }
+static void denied_264(turn_making *it) { denies(it, 6, 256 + 8); }
+static void denied_family(turn_making *it) { denies(it, 5, 8); }
+static void allowed_33(turn_making *it) { allows(it, 4, 33); }
+static void allowed_129(turn_making *it) { allows(it, 6, 129); }
+static void allowed_family(turn_making *it) { allows(it, 0, 0); }
+static void listening_family(turn_making *it) { it->listening[0].family = 0; }
+static void second_listening(turn_making *it) { it->listening_count = 2; }
+static void realm_bytes(turn_making *it) { it->realm = hex("C1BF"); }
+static void software_bytes(turn_making *it) { it->software = hex("FF"); }
+static void realm_764(turn_making *it) { it->realm = hex("61*764"); }
+static void software_764(turn_making *it) { it->software = hex("61*764"); }
+static void denied_bits(turn_making *it) {
+    denies(it, 4, 30);
+    it->denied[0].address.octets[3] = 6;
+}
+static void allowed_bits(turn_making *it) {
+    allows(it, 6, 127);
+    it->allowed[1].address.octets[15] = 1;
+}
+static void settings_and_no_secret(turn_making *it) {
+    settings_reserved(it);
+    no_secret(it);
+}
+static void both_texts(turn_making *it) {
+    realm_764(it);
+    software_bytes(it);
+}
+static void prefix_and_no_secret(turn_making *it) {
+    denied_33(it);
+    no_secret(it);
+}
+static void prefix_and_realm(turn_making *it) {
+    allowed_129(it);
+    realm_bytes(it);
+}
+static void no_secret_and_realm(turn_making *it) {
+    no_secret(it);
+    realm_bytes(it);
+}
+static void whole_prefixes(turn_making *it) {
+    denies(it, 4, 32);
+    allows(it, 6, 128);
+}
+static void all_addresses(turn_making *it) {
+    denies(it, 6, 0);
+    allows(it, 4, 0);
+}
+static void long_texts(turn_making *it) {
+    it->realm = hex("61*763");
+    it->software = hex("62*763");
+}
+static void no_listening(turn_making *it) { it->listening_count = 0; }
+static void no_features(turn_making *it) { it->settings.features = 0; }
+static void nothing(turn_making *it) {
+    it->settings.allocations = it->settings.of_user = it->settings.greatest_lifetime = 0;
+    it->settings.window = 0;
+}
+static void bounded(turn_making *it) { it->settings.policy.min_hmac_length = 16; }
+
+static const struct {
+    const char *name;
+    void (*change)(turn_making *it);
+    uint32_t code;
+    uint64_t expected, actual;
+} makings[] = {
+    {"another integrity algorithm", no_policy, STUN_TYPES_BAD_ARGUMENT, 0, 0},
+    {"an HMAC of 17 bytes", no_hmac_length, STUN_TYPES_BAD_ARGUMENT, 0, 0},
+    {"a spare word of the policy", policy_reserved, STUN_TYPES_BAD_ARGUMENT, 0, 0},
+    {"another sum of features", four_features, STUN_TYPES_BAD_ARGUMENT, 0, 0},
+    {"a spare word", settings_reserved, STUN_TYPES_BAD_ARGUMENT, 0, 0},
+    {"the high bit of a spare word", settings_reserved_high, STUN_TYPES_BAD_ARGUMENT, 0, 0},
+    {"a prefix of 33 bits", denied_33, STUN_TYPES_BAD_ARGUMENT, 0, 0},
+    {"a prefix of 129 bits", denied_129, STUN_TYPES_BAD_ARGUMENT, 0, 0},
+    {"a prefix of 264 bits", denied_264, STUN_TYPES_BAD_ARGUMENT, 0, 0},
+    {"a prefix of another family", denied_family, STUN_TYPES_BAD_ARGUMENT, 0, 0},
+    {"an allowed prefix of 33 bits", allowed_33, STUN_TYPES_BAD_ARGUMENT, 0, 0},
+    {"an allowed prefix of 129 bits", allowed_129, STUN_TYPES_BAD_ARGUMENT, 0, 0},
+    {"an allowed prefix of no family", allowed_family, STUN_TYPES_BAD_ARGUMENT, 0, 0},
+    {"an address of another family", listening_family, STUN_TYPES_BAD_ARGUMENT, 0, 0},
+    {"a second address of another family", second_listening, STUN_TYPES_BAD_ARGUMENT, 0, 0},
+    {"no secret", no_secret, STUN_TYPES_NO_KEY, 0, 0},
+    {"a realm that isn't UTF-8", realm_bytes, STUN_TYPES_INVALID_DATA, 0, 0},
+    {"a software that isn't UTF-8", software_bytes, STUN_TYPES_INVALID_DATA, 0, 0},
+    {"a realm of 764 bytes", realm_764, STUN_TYPES_TOO_LARGE, LONGEST_TEXT, 764},
+    {"a software of 764 bytes", software_764, STUN_TYPES_TOO_LARGE, LONGEST_TEXT, 764},
+    {"a prefix with other bits", denied_bits, STUN_TYPES_BAD_ARGUMENT, 0, 0},
+    {"an allowed prefix with other bits", allowed_bits, STUN_TYPES_BAD_ARGUMENT, 0, 0},
+    {"a spare word, and no secret", settings_and_no_secret, STUN_TYPES_BAD_ARGUMENT, 0, 0},
+    {"a long realm, and a software that isn't UTF-8", both_texts, STUN_TYPES_TOO_LARGE,
+     LONGEST_TEXT, 764},
+    {"a prefix, and no secret", prefix_and_no_secret, STUN_TYPES_NO_KEY, 0, 0},
+    {"a prefix, and a realm that isn't UTF-8", prefix_and_realm, STUN_TYPES_INVALID_DATA, 0, 0},
+    {"no secret, and a realm that isn't UTF-8", no_secret_and_realm, STUN_TYPES_NO_KEY, 0, 0},
+    {"prefixes of whole addresses", whole_prefixes, STUN_TYPES_OK, 0, 0},
+    {"prefixes of no bit", all_addresses, STUN_TYPES_OK, 0, 0},
+    {"texts of 763 bytes", long_texts, STUN_TYPES_OK, 0, 0},
+    {"no listening address", no_listening, STUN_TYPES_OK, 0, 0},
+    {"no features", no_features, STUN_TYPES_OK, 0, 0},
+    {"no allocation, no lifetime and no window", nothing, STUN_TYPES_OK, 0, 0},
+    {"an HMAC of 16 bytes", bounded, STUN_TYPES_OK, 0, 0},
+};
+
+/* A call that is refused leaves the struct, whether it holds a server or none. */
+static void test_making(void) {
+    size_t i;
+    for (i = 0; i < COUNT(makings); i++) {
+        stun_types_turn *fresh, before;
+        turn_making it;
+        site_begin(makings[i].name);
+        it = site_making();
+        makings[i].change(&it);
+        before = *site.server;
+        CHECK(site_allocate(0, 1) == 0);
+        fresh = NEW(stun_types_turn);
+        *fresh = site_none;
+        ANSWERS(site_make(fresh, &it),
+                LENGTHS(makings[i].code, makings[i].expected, makings[i].actual));
+        if (makings[i].code != STUN_TYPES_OK) {
+            CHECK(memcmp(fresh, &site_none, sizeof site_none) == 0);
+            ANSWERS(site_make(site.server, &it),
+                    LENGTHS(makings[i].code, makings[i].expected, makings[i].actual));
+            CHECK(memcmp(site.server, &before, sizeof before) == 0 && site_refresh(0, 600) == 0);
+        }
+        stun_types_turn_free(fresh);
+        site_end();
+    }
+}
+
+static void test_secrets(void) {
+    size_t length;
+    for (length = 15; length <= 16; length++) {
+        stun_types_key *secret;
+        turn_making it;
+        site_begin_alone("a secret of 15 bytes, and of 16");
+        secret = bytes_key(front_of(text("sixteen bytes..."), length), STUN_TYPES_INTEGRITY_ANY);
+        heap_allow(true);
+        it = site_making();
+        it.secret = secret;
+        ANSWERS(site_make(site.server, &it),
+                PLAIN(length < 16 ? STUN_TYPES_BAD_ARGUMENT : STUN_TYPES_OK));
+        stun_types_key_free(secret);
+        site_end();
+    }
+}
+
+/* The server that was there before is freed; and one is freed twice. */
+static void test_lives(void) {
+    turn_making it;
+    long held;
+    site_begin("made again, and freed twice");
+    CHECK(site_allocate(0, 1) == 0);
+    held = heap_held();
+    it = site_making();
+    ANSWERS(site_make(site.server, &it), OK_ANSWER);
+    CHECK(heap_held() == held && site_refresh(0, 600) == 437 && site_allocate(0, 2) == 0);
+    stun_types_turn_free(site.server);
+    CHECK(memcmp(site.server, &site_none, sizeof site_none) == 0);
+    held = heap_held();
+    stun_types_turn_free(site.server);
+    CHECK(memcmp(site.server, &site_none, sizeof site_none) == 0 && heap_held() == held);
+    site_end();
+}
+
+/* The server keeps nothing of what it is made by: all of it is overwritten, and the secret freed. */
+static void test_copied(void) {
+    stun_types_turn_settings settings = site_settings;
+    stun_types_key secret = STUN_TYPES_KEY_INIT;
+    stun_types_prefix denied = {{{198, 51, 100, 8}, 0, 4}, 32};
+    stun_types_address second = site_own;
+    slice value = {NULL, 0}, all;
+    uint8_t *realm, *software;
+    site_begin_alone("what a server is made by is copied");
+    realm = copy(turn_realm, strlen(turn_realm));
+    software = copy("a server", 8);
+    ANSWERS(stun_types_key_copy(&secret, &site.nonces.secret), OK_ANSWER);
+    ANSWERS(stun_types_turn_new(site.server, &settings, realm, strlen(turn_realm), software, 8,
+                                &secret, &denied, 1, NULL, 0, &second, 1),
+            OK_ANSWER);
+    stun_types_key_free(&secret);
+    memset(realm, FILL, strlen(turn_realm));
+    memset(software, FILL, 8);
+    memset(&settings, FILL, sizeof settings);
+    memset(&denied, FILL, sizeof denied);
+    memset(&second, FILL, sizeof second);
+    CHECK(site_allocate(0, 1) == 0 && site_lifetime() == 600);
+    all = site_response();
+    CHECK(turn_find(all.bytes, all.length, STUN_TYPES_ATTRIBUTE_SOFTWARE, &value));
+    CHECK_BYTES(value.bytes, value.length, text("a server"));
+    CHECK(site_permit(0, &site_peer) == 0 && site_permit(0, &site_other_peer) == 403);
+    CHECK(site_bind(0, 0x4000, &site_own) == 403);
+    site_end();
+}
+
+/* No block that is given back holds the secret or the user's key, nor what an HMAC makes of them. */
+static void test_overwritten(void) {
+    uint8_t bytes[32];
+    size_t length = 0;
+    stun_types_integrity algorithm;
+    int i;
+    site_begin("secrets are overwritten");
+    heap_forget_secrets();
+    for (i = 0; i < 2; i++) {
+        ANSWERS(stun_types_key_bytes(i == 0 ? &site.nonces.secret : &site.alice.md5, bytes,
+                                     sizeof bytes, &length, &algorithm),
+                OK_ANSWER);
+        secrets_of(bytes, length, heap_add_secret);
+    }
+    CHECK(length == 16);
+    site_write_allocate(2);
+    site_take(0, site_datagram());
+    CHECK(site.action->code == 401);
+    CHECK(site_allocate(0, 1) == 0 && site_permit(0, &site_peer) == 0 && site_refresh(0, 600) == 0);
+    site_end();
+    CHECK(heap_faults() == 0);
+    heap_forget_secrets();
+}
+
+/* Zeros of the greatest lifetime, and of an allocation's window. */
+static void test_lifetimes(void) {
+    static const struct {
+        const char *name;
+        uint32_t greatest, asked, granted;
+    } lifetimes[] = {
+        {"a greatest lifetime of 0", 0, 3600, 600},
+        {"of 599", 599, 3600, 600},
+        {"of the greatest number", UINT32_MAX, UINT32_MAX, UINT32_MAX},
+    };
+    size_t i;
+    for (i = 0; i < COUNT(lifetimes); i++) {
+        turn_making it;
+        site_begin_alone(lifetimes[i].name);
+        it = site_making();
+        it.settings.greatest_lifetime = lifetimes[i].greatest;
+        site_begin_by(&it);
+        CHECK(site_allocate(0, 1) == 0 && site_lifetime() == 600);
+        CHECK(site_refresh(0, lifetimes[i].asked) == 0 && site_lifetime() == lifetimes[i].granted);
+        site_end();
+    }
+}
+
+/* ---- which peers are allowed */
+
+static const struct {
+    const char *name;
+    stun_types_prefix denied, allowed;
+    stun_types_address peer;
+    uint32_t code;
+} prefixes[] = {
+    {"a denied prefix",
+     {{{198, 51, 100}, 0, 4}, 24},
+     {{{0}, 0, 4}, 0},
+     {{198, 51, 100, 7}, 1, 4},
+     403},
+    {"the last address of a denied prefix",
+     {{{198, 51, 100, 4}, 0, 4}, 30},
+     {{{0}, 0, 4}, 0},
+     {{198, 51, 100, 7}, 1, 4},
+     403},
+    {"the address after it",
+     {{{198, 51, 100, 4}, 9, 4}, 30},
+     {{{0}, 0, 4}, 0},
+     {{198, 51, 100, 8}, 1, 4},
+     0},
+    {"a longer one is allowed",
+     {{{198, 51, 100}, 0, 4}, 24},
+     {{{198, 51, 100, 7}, 0, 4}, 32},
+     {{198, 51, 100, 7}, 1, 4},
+     0},
+    {"a longer one is denied",
+     {{{198, 51, 100, 7}, 0, 4}, 32},
+     {{{198, 51, 100}, 0, 4}, 24},
+     {{198, 51, 100, 7}, 1, 4},
+     403},
+    {"both are the same",
+     {{{198, 51, 100}, 0, 4}, 24},
+     {{{198, 51, 100}, 0, 4}, 24},
+     {{198, 51, 100, 7}, 1, 4},
+     403},
+    {"a default is allowed", {{{0}, 0, 4}, 0}, {{{10}, 0, 4}, 8}, {{10, 1, 2, 3}, 1, 4}, 0},
+    {"a shorter one than the default",
+     {{{198}, 0, 4}, 8},
+     {{{10}, 0, 4}, 7},
+     {{10, 1, 2, 3}, 1, 4},
+     403},
+    {"another family's prefix", {{{0}, 0, 6}, 0}, {{{0}, 0, 6}, 0}, {{198, 51, 100, 7}, 1, 4}, 0},
+};
+
+static void test_prefixes(void) {
+    size_t i;
+    for (i = 0; i < COUNT(prefixes); i++) {
+        turn_making it;
+        site_begin_alone(prefixes[i].name);
+        it = site_making();
+        it.denied[0] = prefixes[i].denied;
+        it.allowed[0] = prefixes[i].allowed;
+        it.denied_count = it.allowed_count = 1;
+        site_begin_by(&it);
+        CHECK(site_allocate(0, 1) == 0);
+        CHECK(site_permit(0, &prefixes[i].peer) == prefixes[i].code);
+        CHECK(site_sends_to(0, &prefixes[i].peer) == (prefixes[i].code == 0));
+        site_end();
+    }
+}
+
+/* Each listening address is denied, by its port. */
+static void test_listening(void) {
+    turn_making it;
+    stun_types_address second = site_own, third = site_own;
+    site_begin_alone("two listening addresses");
+    it = site_making();
+    second.port = 5349;
+    third.port = 5350;
+    it.listening[1] = second;
+    it.listening_count = 2;
+    site_begin_by(&it);
+    CHECK(site_allocate(0, 1) == 0 && site_permit(0, &site_own) == 0);
+    CHECK(!site_sends_to(0, &site_own) && !site_sends_to(0, &second) && site_sends_to(0, &third));
+    CHECK(site_bind(0, 0x4000, &site_own) == 403 && site_bind(0, 0x4000, &second) == 403);
+    CHECK(site_bind(0, 0x4000, &third) == 0);
+    site_end();
+}
+
+void test_turn(void) {
+    test_no_server();
+    test_making();
+    test_secrets();
+    test_lives();
+    test_copied();
+    test_overwritten();
+    test_lifetimes();
+    test_prefixes();
+    test_listening();
+}

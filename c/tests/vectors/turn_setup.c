@@ -1,0 +1,439 @@
+/* What the rows of a TURN server share: its setup, 5-tuples, sockets, and the words of data and
+   polls. */
+#include "turn.h"
+
+#include <stdlib.h>
+#include <string.h>
+
+#include "../heap.h"
+
+/* How many permissions and channels an allocation has in C, and in the rows; how many peers and
+   channels of the runner's own fill the difference. */
+enum { PERMISSIONS = 16, CHANNELS = 16, ROW_PERMISSIONS = 4, ROW_CHANNELS = 3 };
+enum { FILL_PEERS = PERMISSIONS - ROW_PERMISSIONS, FILL_CHANNELS = CHANNELS - ROW_CHANNELS };
+
+/* How many sockets are asked for by one poll. */
+enum { POLLED = 2 };
+
+static const struct {
+    const char *name;
+    stun_types_address client;
+    uint8_t server;
+    uint16_t stream;
+} tuples[TURN_TUPLES] = {
+    {"1", {{192, 0, 2, 1}, 5001, 4}, 1, 0},
+    {"2", {{192, 0, 2, 1}, 5002, 4}, 1, 0},
+    {"3", {{192, 0, 2, 2}, 5001, 4}, 1, 0},
+    {"4", {{192, 0, 2, 1}, 5001, 4}, 2, 0},
+    {"5", {{192, 0, 2, 1}, 5001, 4}, 1, 1},
+    {"6", {{0x20, 1, 0x0D, 0xB8, 0, 0, 0, 0, 0, 0, 0, 0, 0, 0, 0, 6}, 5001, 6}, 1, 0},
+    {"7", {{0x20, 2, 0xC0, 0, 2, 1, 0, 0, 0, 0, 0, 0, 0, 0, 0, 7}, 5001, 6}, 1, 0},
+    {"8", {{0x20, 1, 0, 0, 0xC0, 0, 2, 1, 0, 0, 0, 0, 0, 0, 0, 8}, 5001, 6}, 1, 0},
+};
+
+/* ---- words */
+
+size_t turn_tuple_of(const char *name) {
+    size_t at;
+    for (at = 0; at < TURN_TUPLES; at++)
+        if (name != NULL && strcmp(tuples[at].name, name) == 0) return at;
+    answer_unknown();
+    return 0;
+}
+
+stun_types_five_tuple turn_tuple(size_t number) {
+    static const stun_types_address server = {{203, 0, 113, 0}, 3478, 4};
+    stun_types_five_tuple tuple;
+    memset(&tuple, 0, sizeof tuple);
+    tuple.client = tuples[number].client;
+    tuple.server = server;
+    tuple.server.octets[3] = tuples[number].server;
+    tuple.stream = tuples[number].stream;
+    return tuple;
+}
+
+const char *turn_name_of(const stun_types_five_tuple *tuple) {
+    size_t at;
+    for (at = 0; at < TURN_TUPLES; at++) {
+        stun_types_five_tuple one = turn_tuple(at);
+        if (turn_is_same_address(&one.client, &tuple->client)
+            && turn_is_same_address(&one.server, &tuple->server) && one.stream == tuple->stream)
+            return tuples[at].name;
+    }
+    fail("a delivery to a 5-tuple that is none of the row's");
+    return "?";
+}
+
+static const struct {
+    const char *name, *password;
+} known_users[TURN_USERS] = {{"alice", "wonderland"}, {"bob", "builder"}};
+
+size_t turn_user_of(const char *name) {
+    size_t at;
+    for (at = 0; at < TURN_USERS; at++)
+        if (name != NULL && strcmp(known_users[at].name, name) == 0) return at;
+    return TURN_USERS;
+}
+
+stun_types_address turn_endpoint(char *word) {
+    stun_types_address address;
+    slice octets;
+    char *digits = next_part(&word, ':');
+    memset(&address, 0, sizeof address);
+    octets = octets_of(digits == NULL ? "-" : digits);
+    if (octets.length != 4 && octets.length != 16) {
+        answer_unknown();
+        return address;
+    }
+    memcpy(address.octets, octets.bytes, octets.length);
+    address.family = octets.length == 4 ? 4 : 6;
+    address.port = word == NULL ? 0 : (uint16_t)strtoul(word, NULL, 10);
+    return address;
+}
+
+uint64_t turn_moment(char *word) {
+    char digits[10] = "000000000", *part = word;
+    const char *seconds = next_part(&part, '.');
+    size_t length = part == NULL ? 0 : strlen(part);
+    if (seconds == NULL || length > 9) {
+        answer_unknown();
+        return 0;
+    }
+    if (length != 0) memcpy(digits, part, length);
+    return strtoull(seconds, NULL, 10) * 1000000000 + strtoull(digits, NULL, 10);
+}
+
+/* ---- the server */
+
+/* The settings of a SETUP, and which sockets there are. */
+static stun_types_turn_settings settings_of(turn_row *it, char *word, uint64_t window) {
+    stun_types_turn_settings settings;
+    uint32_t *const numbers[] = {&settings.allocations, &settings.of_user,
+                                 &settings.greatest_lifetime};
+    size_t at;
+    memset(&settings, 0, sizeof settings);
+    settings.window = window;
+    settings.seed[0] = 1;
+    settings.seed[1] = 2;
+    settings.features =
+        STUN_TYPES_FEATURE_PASSWORD_ALGORITHMS | STUN_TYPES_FEATURE_USERNAME_ANONYMITY;
+    it->has_ipv6 = it->has_sockets = true;
+    for (at = 0; at < COUNT(numbers); at++) {
+        const char *part = next_part(&word, ':');
+        if (part == NULL) answer_unknown();
+        *numbers[at] = part == NULL ? 1 : (uint32_t)strtoul(part, NULL, 10);
+    }
+    while (word != NULL) {
+        const char *part = next_part(&word, ':');
+        if (strcmp(part, "channel-permits") == 0) settings.channel_permits = 1;
+        else if (strcmp(part, "old-channels") == 0) settings.old_channels = 1;
+        else if (strcmp(part, "ipv4-only") == 0) it->has_ipv6 = false;
+        else if (strcmp(part, "no-sockets") == 0) it->has_sockets = false;
+        else answer_unknown();
+    }
+    return settings;
+}
+
+/* (the table takes more at once than what the call is given) */
+static stun_types_answer make_server(turn_row *it, const stun_types_turn_settings *settings) {
+    const stun_types_five_tuple own = turn_tuple(0);
+    slice listening = given(&own.server, sizeof own.server);
+    slice limits = given(settings, sizeof *settings);
+    slice realm = text(turn_realm), software = text("a server");
+    stun_types_answer answer;
+    heap_measure(false);
+    answer = stun_types_turn_new(it->server, (const void *)limits.bytes, realm.bytes, realm.length,
+                                 software.bytes, software.length, &it->nonces.secret, NULL, 0, NULL,
+                                 0, (const void *)listening.bytes, 1);
+    heap_measure(true);
+    return answer;
+}
+
+bool turn_begin_row(turn_row *it, char *setup, uint64_t window) {
+    static const stun_types_turn none = STUN_TYPES_TURN_INIT;
+    stun_types_turn_settings settings;
+    stun_types_answer answer;
+    size_t at;
+    memset(it, 0, sizeof *it);
+    settings = settings_of(it, setup, window);
+    keep_secret(turn_nonces_make(&it->nonces, settings.features, window));
+    for (at = 0; at < TURN_USERS; at++) {
+        keep_secret(text(known_users[at].password));
+        turn_user_make(&it->users[at], known_users[at].name, known_users[at].password);
+    }
+    for (at = 0; at < TURN_TUPLES; at++) it->owners[at] = TURN_USERS;
+    it->from = NEW(stun_types_five_tuple);
+    it->ready = NEW(stun_types_turn_ready);
+    it->action = NEW(stun_types_turn_action);
+    it->room = room(TURN_ROOM);
+    it->head = room(STUN_TYPES_TURN_HEAD);
+    it->server = NEW(stun_types_turn);
+    *it->server = none;
+    answer = make_server(it, &settings);
+    if (answer.code == STUN_TYPES_OK) return true;
+    CHECK(it->server->at == NULL && it->server->held == 0);
+    is_taken(answer);
+    turn_end_row(it);
+    return false;
+}
+
+void turn_end_row(turn_row *it) {
+    size_t at;
+    stun_types_turn_free(it->server);
+    CHECK(it->server->at == NULL && it->server->held == 0);
+    for (at = 0; at < TURN_USERS; at++) turn_user_free(&it->users[at]);
+    turn_nonces_free(&it->nonces);
+}
+
+/* ---- sockets */
+
+/* The address of the socket of a family with a number. */
+static stun_types_address socket_address(uint16_t family, size_t number) {
+    static const stun_types_address ipv4 = {{203, 0, 113, 1}, 50000, 4};
+    static const stun_types_address ipv6 = {
+        {0x20, 1, 0x0D, 0xB8, 0, 0, 0, 0, 0, 0, 0, 0, 0, 0, 0, 1}, 50000, 6};
+    stun_types_address address = family == 4 ? ipv4 : ipv6;
+    address.port = (uint16_t)(address.port + 2 * number);
+    return address;
+}
+
+size_t turn_socket_of(const stun_types_address *address) {
+    size_t number;
+    for (number = 1; number <= TURN_SOCKETS; number++) {
+        stun_types_address one = socket_address(address->family, number);
+        if (turn_is_same_address(&one, address)) return number;
+    }
+    fail("a relayed address that no socket has");
+    return 0;
+}
+
+stun_types_turn_ready turn_ready(const turn_row *it, bool are_there) {
+    stun_types_turn_ready ready;
+    memset(&ready, 0, sizeof ready);
+    ready.ipv4 = 1;
+    ready.ipv6 = it->has_ipv6;
+    if (!are_there || !it->has_sockets) return ready;
+    ready.any_ipv4 = ready.even_ipv4 = socket_address(4, it->sockets + 1);
+    if (it->has_ipv6) ready.any_ipv6 = ready.even_ipv6 = socket_address(6, it->sockets + 1);
+    return ready;
+}
+
+/* Gives the socket that an allocation took its number. */
+static void take_socket(turn_row *it) {
+    const stun_types_address *address = &it->action->peer;
+    size_t at;
+    if (it->sockets == TURN_SOCKETS) abort();
+    CHECK(it->action->kind == STUN_TYPES_TURN_RESPONSE && it->action->code == 0);
+    CHECK(turn_socket_of(address) == it->sockets + 1);
+    for (at = 0; at < it->sockets; at++) CHECK(it->relays[at] != it->action->relay);
+    it->relays[it->sockets++] = it->action->relay;
+}
+
+/* The number of the socket that the server knows by this one. */
+static size_t number_of(const turn_row *it, uint64_t relay) {
+    size_t at;
+    for (at = 0; at < it->sockets; at++)
+        if (it->relays[at] == relay) return at + 1;
+    fail("a socket that no allocation took");
+    return 0;
+}
+
+/* ---- calls */
+
+turn_nonce turn_nonce_now(const turn_row *it, size_t tuple) {
+    return turn_nonce_at(&it->nonces, it->now / 1000000000, &tuples[tuple].client);
+}
+
+bool turn_ask(turn_row *it, size_t tuple, slice datagram, size_t user, bool has_sockets) {
+    turn_call call;
+    *it->from = turn_tuple(tuple);
+    *it->ready = turn_ready(it, has_sockets);
+    call.server = it->server;
+    call.from = it->from;
+    call.ready = it->ready;
+    call.room = it->room;
+    call.size = TURN_ROOM;
+    call.action = it->action;
+    if (!is_taken(turn_take(&call, it->now, datagram, user < TURN_USERS ? &it->users[user] : NULL)))
+        return false;
+    CHECK(it->action->took <= 1);
+    if (it->action->took == 1) take_socket(it);
+    return true;
+}
+
+/* The address of a peer of the runner's own. */
+static stun_types_address fill_peer(uint16_t family, size_t number) {
+    static const stun_types_address ipv4 = {{192, 0, 2, 200}, 7000, 4};
+    static const stun_types_address ipv6 = {
+        {0x20, 1, 0x0D, 0xB8, 0xFF, 0xFF, 0, 0, 0, 0, 0, 0, 0, 0, 0, 200}, 7000, 6};
+    stun_types_address peer = family == 4 ? ipv4 : ipv6;
+    uint8_t *last = &peer.octets[family == 4 ? 3 : 15];
+    *last = (uint8_t)(*last + number % FILL_PEERS);
+    peer.port = (uint16_t)(peer.port + number);
+    return peer;
+}
+
+/* Binds a channel to a peer of the runner's own, which permits the peer too. */
+static void fill_one(turn_row *it, size_t tuple, size_t number) {
+    static turn_message message;
+    const turn_nonce nonce = turn_nonce_now(it, tuple);
+    const stun_types_address peer = fill_peer(it->families[tuple], number);
+    slice datagram;
+    turn_begin(&message, STUN_TYPES_CLASS_REQUEST, STUN_TYPES_METHOD_CHANNEL_BIND,
+               1000000000 + it->requests++);
+    turn_add_channel(&message, (uint16_t)(0x4800 + number));
+    turn_add_peer(&message, &peer);
+    turn_sign(&message, &it->users[it->owners[tuple]], STUN_TYPES_PASSWORD_MD5, &nonce);
+    datagram.bytes = message.bytes;
+    datagram.length = message.length;
+    heap_own(true);
+    CHECK(turn_ask(it, tuple, datagram, it->owners[tuple], true));
+    heap_own(false);
+    CHECK(it->action->kind == STUN_TYPES_TURN_RESPONSE);
+    CHECK(it->action->code == 0 || it->action->code == STUN_TYPES_CODE_ALLOCATION_MISMATCH);
+    if (it->action->code != 0) it->owners[tuple] = TURN_USERS;
+}
+
+void turn_expect(turn_row *it, size_t peers, size_t channels) {
+    it->is_filled = peers > ROW_PERMISSIONS || channels > ROW_CHANNELS;
+}
+
+/* (memory is refused in the row's calls alone) */
+void turn_fill(turn_row *it) {
+    size_t tuple, number;
+    for (tuple = 0; tuple < TURN_TUPLES && it->is_filled; tuple++) {
+        if (it->filled_at[tuple] == it->now + 1) continue;
+        for (number = 0; number < FILL_CHANNELS && it->owners[tuple] < TURN_USERS; number++)
+            fill_one(it, tuple, number);
+        it->filled_at[tuple] = it->now + 1;
+    }
+}
+
+/* ---- responses and data */
+
+slice turn_response(const turn_row *it) {
+    slice response;
+    response.bytes = it->room;
+    response.length = it->action->length;
+    return response;
+}
+
+uint32_t turn_code(slice response) {
+    stun_types_attribute attribute;
+    uint16_t code = 0;
+    size_t at, length;
+    if (header_of(response).message_class == STUN_TYPES_CLASS_SUCCESS) return 0;
+    if (!stun_types_find(response.bytes, response.length, STUN_TYPES_ATTRIBUTE_ERROR_CODE,
+                         &attribute)) {
+        fail("an error response without an ERROR-CODE");
+        return 0;
+    }
+    ANSWERS(stun_types_read_error(response.bytes, response.length, &attribute, &code, &at, &length),
+            OK_ANSWER);
+    return code;
+}
+
+/* The most octets of data that a UDP datagram takes to an address. */
+static size_t greatest_datagram(const stun_types_address *to) {
+    return to->family == 4 ? 65507 : 65527;
+}
+
+/* Appends `:ADDRESS:PORT:DATA`. */
+static void answer_data_of(const stun_types_address *peer, slice data) {
+    answer_text(":");
+    answer_octets(peer->octets, peer->family == 4 ? 4 : 16);
+    answer_text(":%u:", (unsigned)peer->port);
+    answer_octets(data.bytes, data.length);
+}
+
+void answer_to_peer(const turn_row *it, slice datagram) {
+    const stun_types_turn_action *action = it->action;
+    slice data;
+    CHECK(action->took == 0 && action->code == 0);
+    CHECK(action->at <= datagram.length && action->length <= datagram.length - action->at);
+    if (action->length > greatest_datagram(&action->peer)) {
+        answer_text("dropped");
+        return;
+    }
+    data.bytes = datagram.bytes + action->at;
+    data.length = action->length;
+    answer_text("to-peer:%zu", number_of(it, action->relay));
+    answer_data_of(&action->peer, data);
+}
+
+/* The octets that go to the client: the end of the head, the data and zeros. */
+static slice sent(const turn_row *it, const stun_types_turn_delivery *delivery, slice data) {
+    static uint8_t octets[STUN_TYPES_TURN_HEAD + 70000];
+    size_t head = delivery->head_length;
+    slice all;
+    CHECK((head == 4 || head == 36 || head == 48) && delivery->padding < 4);
+    CHECK(is_untouched(it->head, STUN_TYPES_TURN_HEAD - head));
+    memcpy(octets, it->head + STUN_TYPES_TURN_HEAD - head, head);
+    if (data.length != 0) memcpy(octets + head, data.bytes, data.length);
+    memset(octets + head + data.length, 0, delivery->padding);
+    all.bytes = octets;
+    all.length = head + data.length + delivery->padding;
+    if (head != 4 || delivery->to.stream) CHECK(all.length % 4 == 0);
+    else CHECK(delivery->padding == 0);
+    return all;
+}
+
+turn_arrived turn_arrive(turn_row *it) {
+    const stun_types_id id = turn_id(7);
+    uint64_t number = call_count();
+    stun_types_address peer = turn_endpoint(call_word());
+    slice data = call_octets(), peer_given = given(&peer, sizeof peer),
+          id_given = given(&id, sizeof id);
+    stun_types_turn_delivery *delivery = NEW(stun_types_turn_delivery);
+    turn_arrived arrived;
+    uint64_t relay = number >= 1 && number <= it->sockets ? it->relays[number - 1] : UINT64_MAX;
+    memset(it->head, FILL, STUN_TYPES_TURN_HEAD);
+    ANSWERS(turn_from_peer(it->server, it->now, relay, (const void *)peer_given.bytes, data.length,
+                           (const void *)id_given.bytes, it->head, STUN_TYPES_TURN_HEAD, delivery),
+            OK_ANSWER);
+    arrived.delivery = *delivery;
+    arrived.is_sent = delivery->sends != 0;
+    arrived.octets = data;
+    CHECK(delivery->sends <= 1);
+    if (arrived.is_sent) arrived.octets = sent(it, delivery, data);
+    else CHECK(is_untouched(it->head, STUN_TYPES_TURN_HEAD));
+    return arrived;
+}
+
+void answer_data(const turn_arrived *arrived) {
+    slice octets = arrived->octets, data = {NULL, 0};
+    const stun_types_header header = header_of(octets);
+    const stun_types_id id = turn_id(7);
+    stun_types_address peer;
+    ANSWERS(stun_types_parse(octets.bytes, octets.length), OK_ANSWER);
+    CHECK(header.message_class == STUN_TYPES_CLASS_INDICATION
+          && header.method == STUN_TYPES_METHOD_DATA
+          && memcmp(header.id.bytes, id.bytes, sizeof id.bytes) == 0);
+    peer = turn_address(octets.bytes, octets.length, STUN_TYPES_ATTRIBUTE_XOR_PEER_ADDRESS);
+    CHECK(turn_find(octets.bytes, octets.length, STUN_TYPES_ATTRIBUTE_DATA, &data));
+    answer_text("data:%s", turn_name_of(&arrived->delivery.to));
+    answer_data_of(&peer, data);
+}
+
+/* ---- polls */
+
+void answer_poll(turn_row *it) {
+    bool is_closed[TURN_SOCKETS + 1] = {false};
+    size_t count, number, all = 0;
+    do {
+        uint64_t *ended = (uint64_t *)(void *)room(POLLED * sizeof *ended);
+        size_t at;
+        count = stun_types_turn_poll(it->server, it->now, ended, POLLED);
+        CHECK(count <= POLLED);
+        for (at = 0; at < count && at < POLLED; at++) {
+            number = number_of(it, ended[at]);
+            CHECK(!is_closed[number]);
+            is_closed[number] = true;
+            all++;
+        }
+        for (; at < POLLED; at++) CHECK(is_untouched(&ended[at], sizeof *ended));
+    } while (count == POLLED);
+    answer_text("closed:%s", all == 0 ? "-" : "");
+    for (number = 1; number <= TURN_SOCKETS; number++)
+        if (is_closed[number]) answer_text("%zu%s", number, --all == 0 ? "" : ",");
+}
