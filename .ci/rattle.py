@@ -109,8 +109,8 @@ class Item:
                 end = at
                 if line.endswith(("{", "(")):
                     end = next(it for it in range(at + 1, len(self.body)) if re.match(r"    [})]", self.body[it]))
-                text = " ".join(it.strip() for it in self.body[at : end + 1]).removeprefix("pub ")
-                text = re.sub(r"///.*?(?=\w+: )", "", text).rstrip(",").replace("( ", "(")
+                lines = (it.strip() for it in self.body[at : end + 1] if not DOC.match(it))
+                text = " ".join(lines).removeprefix("pub ").rstrip(",").replace("( ", "(")
                 part = Item(self.path, self.body, at, "part", found[1])
                 part.signature = re.sub(r"\s+", " ", text).replace(", }", " }").replace(",)", ")")
                 yield part
@@ -137,8 +137,8 @@ def implemented(it):
 
 
 def items_below(crate):
-    """Of a crate and those that it depends on: the items by name and crate, and by the name of a type
-    its public members and its traits.
+    """Of a crate and those that it depends on: the items by name and crate, and by the name of a type and
+    its crate its public members and its traits.
 
     An `impl` for a type that is none of these crates', as `From<DataSlice<'a>> for &'a [u8]`, is by
     the name of the type that its trait is of.
@@ -148,15 +148,17 @@ def items_below(crate):
     for name, it in every:
         if it.kind != "impl":
             items.setdefault(it.name, {}).setdefault(name, it)
-    for it in (it for _, it in every if it.kind == "impl"):
+    for owner, it in ((owner, it) for owner, it in every if it.kind == "impl"):
         trait, name = implemented(it)
         of = re.match(r"\w+<(.*)>$", trait)
-        if not trait:
-            members.setdefault(base(name), []).extend(it.members())
-        elif base(name) in items or not of:
-            traits.setdefault(base(name), []).append(trait)
+        if trait and of and base(name) not in items:
+            trait, name = f"{trait} for {name}", of[1]
+        its = items.get(base(name), {})
+        place = (base(name), owner if owner in its else next(iter(its), None))
+        if trait:
+            traits.setdefault(place, []).append(trait)
         else:
-            traits.setdefault(base(of[1]), []).append(f"{trait} for {name}")
+            members.setdefault(place, []).extend(it.members())
     return items, members, traits
 
 
