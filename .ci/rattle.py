@@ -37,14 +37,14 @@ DEMAND = re.compile(r"requires (?:\w+ )?\{ ?(.*?) ?\}$")
 # What a summary leaves out: asides, and what is added to a sentence, but for when a result is `None`.
 NOT_IN_CODE = r"(?=(?:[^`]*`[^`]*`)*[^`]*$)"
 ASIDE = re.compile(rf" \([^()]*\){NOT_IN_CODE}")
-ADDED = r"[:;] |, (?:which|whose) (?=[^,]*$)|, (?:so that|so|since|as in|for a caller that|for the caller to) "
-ADDED = re.compile(rf"(?:{ADDED}){NOT_IN_CODE}")
+ADDED = r"[:;]|, (?:which|whose)(?= [^,]*$)|, (?:so that|so|since|as in|for a caller that|for the caller to)"
+ADDED = re.compile(rf"(?:{ADDED}) {NOT_IN_CODE}")
 NOTHING = re.compile(r"[,;] (?:and |or )?`None` .*")
 # The clauses of the sections on errors and requirements, and what is left out of them.
 COLON, CLAUSE = re.compile(f": {NOT_IN_CODE}"), re.compile(f"[.;] {NOT_IN_CODE}")
 RFC = re.compile(r" \((?:RFC \d+|section)[^()]*\)")
 OF_ERRORS = re.compile(r"`[A-Z]\w+\b(?!::)|^(?:As|Only|Those|That)\b|\berrors of|^Each impl|`fmt::Error`")
-BY_ALLOC = re.compile(r"(?:,? and |^)(?:Only )?(?:`OutOfMemory`(?: alone)?,?|[Oo]nly)(?: if an allocation failed)?$")
+BY_ALLOC = r"(?:,? and |^)(?:Only )?(?:`OutOfMemory`(?: alone)?,?|Only)(?: if an allocation failed)?$"
 FIELDS = re.compile(r"(?<=\w) \{ (?:\w+: )?\w+(?:, \w+)* \}")
 TESTED = re.compile(r",(?: which| as) [^,]* tests?\b|, which may be 0|, as [^,]* is of [^,]*")
 Entry = collections.namedtuple("Entry", "item modules parts traits")
@@ -126,7 +126,7 @@ class Item:
         found = []
         for clause in self.clauses_of("Errors"):
             text = next(filter(OF_ERRORS.search, COLON.split(clause)), "")
-            text = BY_ALLOC.sub("", text) if "alloc: " in self.signature else text
+            text = re.sub(BY_ALLOC, "", text) if "alloc: " in self.signature else text
             found += [FIELDS.sub("", text[0].lower() + text[1:])] if text else []
         return "; ".join(found)
 
@@ -157,7 +157,8 @@ class Item:
             if found and (self.kind == "enum" or line.startswith("    pub ")):
                 end = at
                 if line.endswith(("{", "(")):
-                    end = next(it for it in range(at + 1, len(self.body)) if re.match(r"    [})]", self.body[it]))
+                    after = range(at + 1, len(self.body))
+                    end = next(it for it in after if re.match(r"    [})]", self.body[it]))
                 lines = (it.strip() for it in self.body[at : end + 1] if not DOC.match(it))
                 text = " ".join(lines).removeprefix("pub ").rstrip(",").replace("( ", "(")
                 part = Item(self.path, self.body, at, "part", found[1])
@@ -235,7 +236,7 @@ def exports(crate):
 
 @functools.cache
 def entries(crate):
-    """The public items of a crate, but for laws, each with its modules, the nearest first, and its members."""
+    """The public items of a crate, but for laws, each with its modules, the nearest first, and members."""
     items, members, traits = items_below(crate)
     found = []
     for name, (modules, owner) in exports(crate).items():
