@@ -60,6 +60,16 @@ def links_gone(text):
     return re.sub(r"\[(`[^`]*`)\](?:\([^)]*\))?", r"\1", text)
 
 
+def shortened(sentence):
+    """A sentence without asides and without what is added to it, unless that is at its start."""
+    text = ASIDE.sub("", sentence)
+    added = next((it.start() for it in ADDED.finditer(text) if text.count(" ", 0, it.start()) > 2), None)
+    if not added:
+        return text
+    nothing = NOTHING.search(text, added)
+    return text[:added] + (nothing[0] if nothing else ".")
+
+
 def base(text):
     """The name of a type without its arguments and its path."""
     return re.sub(r"^&(?:'\w+ )?", "", re.split(r"[<\s]", text)[0]).split("::")[-1]
@@ -108,13 +118,8 @@ class Item:
         return links_gone(" ".join(it.strip().removeprefix("- ") for it in lines))
 
     def summary(self):
-        """The first sentence without asides and what is added to it, unless that is at its start."""
-        text = re.sub(r"^Returns (\w)", lambda it: it[1].upper(), ASIDE.sub("", self.sentence()))
-        added = next((it.start() for it in ADDED.finditer(text) if text.count(" ", 0, it.start()) > 2), None)
-        if not added:
-            return text
-        nothing = NOTHING.search(text, added)
-        return text[:added] + (nothing[0] if nothing else ".")
+        """The first sentence, shortened."""
+        return shortened(re.sub(r"^Returns (\w)", lambda it: it[1].upper(), self.sentence()))
 
     def clauses_of(self, title):
         """The clauses of a section."""
