@@ -2,11 +2,12 @@
 
 An item begins at the left edge, a member of one four spaces to the right.
 """
+import collections
 import functools
 import itertools
 import re
 
-from common import TOP, Markdown, crates, sources
+from common import TOP, Markdown, crates, fail, sources
 
 # The crates that a user lists, each with what it has.
 PUBLIC = {
@@ -33,6 +34,20 @@ ABOVE = re.compile(r"\s*(?:///|#\[|[\w:, ;<>']*\)\])")
 # The last line of a head: not a clause whose braces begin there.
 HEAD_ENDS = re.compile(r"(?!\s*(?:requires|ensures)\b.*\{$).*(?:;|\{\}|(?<![=→] )\{)$")
 DEMAND = re.compile(r"requires (?:\w+ )?\{ ?(.*?) ?\}$")
+# What a summary leaves out: asides, and what is added to a sentence, but for when a result is `None`.
+NOT_IN_CODE = r"(?=(?:[^`]*`[^`]*`)*[^`]*$)"
+ASIDE = re.compile(rf" \([^()]*\){NOT_IN_CODE}")
+ADDED = r"[:;]|, (?:which|whose)(?= [^,]*$)|, (?:so that|so|since|as in|for a caller that|for the caller to)"
+ADDED = re.compile(rf"(?:{ADDED}) {NOT_IN_CODE}")
+NOTHING = re.compile(r"[,;] (?:and |or )?`None` .*")
+# The clauses of the sections on errors and requirements, and what is left out of them.
+COLON, CLAUSE = re.compile(f": {NOT_IN_CODE}"), re.compile(f"[.;] {NOT_IN_CODE}")
+RFC = re.compile(r" \((?:RFC \d+|section)[^()]*\)")
+OF_ERRORS = re.compile(r"`[A-Z]\w+\b(?!::)|^(?:As|Only|Those|That)\b|\berrors of|^Each impl|`fmt::Error`")
+BY_ALLOC = r"(?:,? and |^)(?:Only )?(?:`OutOfMemory`(?: alone)?,?|Only)(?: if an allocation failed)?$"
+FIELDS = re.compile(r"(?<=\w) \{ (?:\w+: )?\w+(?:, \w+)* \}")
+TESTED = re.compile(r",(?: which| as) [^,]* tests?\b|, which may be 0|, as [^,]* is of [^,]*")
+Entry = collections.namedtuple("Entry", "item modules parts traits")
 
 
 def doc_lines(text):
@@ -43,6 +58,16 @@ def doc_lines(text):
 def links_gone(text):
     """A text with the names of its links alone."""
     return re.sub(r"\[(`[^`]*`)\](?:\([^)]*\))?", r"\1", text)
+
+
+def shortened(sentence):
+    """A sentence without asides and without what is added to it, unless that is at its start."""
+    text = ASIDE.sub("", sentence)
+    added = next((it.start() for it in ADDED.finditer(text) if text.count(" ", 0, it.start()) > 2), None)
+    if not added:
+        return text
+    nothing = NOTHING.search(text, added)
+    return text[:added] + (nothing[0] if nothing else ".")
 
 
 def base(text):
@@ -92,6 +117,35 @@ class Item:
         lines = (it for it in self.doc.section(title) if it and not DEFINITION.match(it))
         return links_gone(" ".join(it.strip().removeprefix("- ") for it in lines))
 
+    def summary(self):
+        """The first sentence, shortened."""
+        return shortened(re.sub(r"^Returns (\w)", lambda it: it[1].upper(), self.sentence()))
+
+    def clauses_of(self, title):
+        """The clauses of a section."""
+        text = RFC.sub("", self.section(title)).removesuffix(".")
+        return CLAUSE.split(text) if text else []
+
+    def errors(self):
+        """The errors that a call returns, each with its reason, but for `OutOfMemory` of one with `alloc`."""
+        found = []
+        for clause in self.clauses_of("Errors"):
+            text = next(filter(OF_ERRORS.search, COLON.split(clause)), "")
+            text = re.sub(BY_ALLOC, "", text) if "alloc: " in self.signature else text
+            found += [FIELDS.sub("", text[0].lower() + text[1:])] if text else []
+        return "; ".join(found)
+
+    def requirement(self):
+        """What a call requires."""
+        found = (COLON.split(TESTED.sub("", it))[0] for it in self.clauses_of("Require"))
+        found = [it for it in found if not re.match("(?:An?|One) ", it)]
+        return "; ".join(found) or " and ".join(f"`{clause}`" for clause in self.clauses)
+
+    def is_law(self):
+        """Whether it is a function that does nothing, whose contract is a law or a fact."""
+        is_alone = re.fullmatch(r"fn \w+(?:<.*>)?\(\)", self.signature)
+        return self.kind == "fn" and bool(is_alone or self.path.name.endswith("laws.rt"))
+
     def members(self):
         """The functions and constants of a block: of a trait all, of an `impl` the public ones."""
         for at, line in enumerate(self.body):
@@ -108,9 +162,10 @@ class Item:
             if found and (self.kind == "enum" or line.startswith("    pub ")):
                 end = at
                 if line.endswith(("{", "(")):
-                    end = next(it for it in range(at + 1, len(self.body)) if re.match(r"    [})]", self.body[it]))
-                text = " ".join(it.strip() for it in self.body[at : end + 1]).removeprefix("pub ")
-                text = re.sub(r"///.*?(?=\w+: )", "", text).rstrip(",").replace("( ", "(")
+                    after = range(at + 1, len(self.body))
+                    end = next(it for it in after if re.match(r"    [})]", self.body[it]))
+                lines = (it.strip() for it in self.body[at : end + 1] if not DOC.match(it))
+                text = " ".join(lines).removeprefix("pub ").rstrip(",").replace("( ", "(")
                 part = Item(self.path, self.body, at, "part", found[1])
                 part.signature = re.sub(r"\s+", " ", text).replace(", }", " }").replace(",)", ")")
                 yield part
@@ -137,8 +192,8 @@ def implemented(it):
 
 
 def items_below(crate):
-    """Of a crate and those that it depends on: the items by name and crate, and by the name of a type
-    its public members and its traits.
+    """Of a crate and those that it depends on: the items by name and crate, and by the name of a type and
+    its crate its public members and its traits.
 
     An `impl` for a type that is none of these crates', as `From<DataSlice<'a>> for &'a [u8]`, is by
     the name of the type that its trait is of.
@@ -148,15 +203,17 @@ def items_below(crate):
     for name, it in every:
         if it.kind != "impl":
             items.setdefault(it.name, {}).setdefault(name, it)
-    for it in (it for _, it in every if it.kind == "impl"):
+    for owner, it in ((owner, it) for owner, it in every if it.kind == "impl"):
         trait, name = implemented(it)
         of = re.match(r"\w+<(.*)>$", trait)
-        if not trait:
-            members.setdefault(base(name), []).extend(it.members())
-        elif base(name) in items or not of:
-            traits.setdefault(base(name), []).append(trait)
+        if trait and of and base(name) not in items:
+            trait, name = f"{trait} for {name}", of[1]
+        its = items.get(base(name), {})
+        place = (base(name), owner if owner in its else next(iter(its), None))
+        if trait:
+            traits.setdefault(place, []).append(trait)
         else:
-            traits.setdefault(base(of[1]), []).append(f"{trait} for {name}")
+            members.setdefault(place, []).extend(it.members())
     return items, members, traits
 
 
@@ -180,3 +237,26 @@ def exports(crate):
             its = f"{module}::{name}" if is_public and module is not None else None
             waiting.append((folder / f"{name}.rt", its))
     return found
+
+
+@functools.cache
+def entries(crate):
+    """The public items of a crate, but for laws, each with its modules, the nearest first, and members."""
+    items, members, traits = items_below(crate)
+    found = []
+    for name, (modules, owner) in exports(crate).items():
+        if name not in items:
+            fail(f"{crate}::{name}: no public item of this name was found")
+        place = (name, owner if owner in items[name] else next(iter(items[name])))
+        it = items[name][place[1]]
+        modules = sorted({*modules}, key=lambda it: (it.count("::"), it == "::prelude", it))
+        parts = [*it.parts(), *members.get(place, [])]
+        found.append(Entry(it, modules, parts, {*it.derives, *traits.get(place, [])}))
+    return sorted((it for it in found if not it.item.is_law()), key=lambda it: it.item.name.lower())
+
+
+@functools.cache
+def words_of_errors(crate):
+    """The words of all sections on errors of a crate."""
+    its = (it for each in entries(crate) for it in [each.item, *each.parts])
+    return set(re.findall(r"\w+", " ".join(it.section("Errors") for it in its)))
