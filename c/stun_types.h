@@ -1279,7 +1279,7 @@ typedef struct {
    STUN_TYPES_TURN_HEAD. So receive at buffer + 48, and pass buffer as head. id: random; the transaction ID of
    a Data indication. It is dropped if the socket is no live allocation's, if there is no permission for the
    peer, or if the message is longer than the transport to the client takes: 65,507 bytes over UDP and IPv4,
-   65,527 over UDP and IPv6, and 65,555 on a stream.
+   65,527 over UDP and IPv6, and 65,552 on a stream.
    BAD_ARGUMENT: there is no server, or a family that is neither 4 nor 6. TOO_SMALL: head is shorter. */
 STUN_TYPES_NODISCARD STUN_TYPES_NONNULL((1, 3, 6, 9))
 stun_types_answer stun_types_turn_peer(stun_types_turn *server, uint64_t now,

@@ -32,6 +32,7 @@ pub mod StatelessNonces
 pub mod ManyTransactions
 pub mod Versions
 pub mod TurnTimes
+pub mod TurnMarks
 pub mod TurnHandles
 pub mod TurnServers
 pub mod TurnAddresses

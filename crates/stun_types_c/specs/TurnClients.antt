@@ -1,5 +1,5 @@
 -- What a TURN server does for a client's datagram, as C sees it.
-use Rattle.std.specs.Prelude.{◌≡◌, ◌⊎◌, ℕ, Bool, true, false, not, ◌&&◌, List, length, slice_index, Option, None, Some, MatchOption, nat_le, ◌==◌, if◌then◌else◌}
+use Rattle.std.specs.Prelude.{◌≡◌, ◌⊎◌, ℕ, Bool, true, false, not, ◌&&◌, List, length, slice_index, Option, None, Some, MatchOption, IsSomeAnd, nat_le, ◌==◌, if◌then◌else◌}
 use Rattle.std.specs.Option.{option_zip}
 use Rattle.std.specs.declared.net.socket_addr.SocketAddr.{SocketAddr}
 use Rattle.stun_attributes.specs.Texts.{text_bytes}
@@ -150,7 +150,7 @@ pub record ActsInC (core : TurnCore) (now : ℕ) (client : SocketAddr) (tuple : 
   pub done : CTurnAction
   pub done_is : IsDone action d done
   pub written : ℕ
-  pub responds : Responds core now client d action result
+  pub responds : Responds new now client d action result
       (record { slice = slice; count = 0 }) (record { slice = new_slice; count = written })
   pub out_is : out ≡ with_response (response_code action) written done
 
@@ -174,8 +174,8 @@ abbrev pub ActsOn : TurnCore → (now : ℕ) → (client : SocketAddr) → FiveT
     → Type 0
 ActsOn core now client tuple d keys sockets result old new =
     ((asks_for_key core now client d ≡ true) × Refuses (plain OUT_OF_MEMORY) result old new)
-    ⊎ ((kept : TurnCore) × ((new.core ≡ Some kept)
-    × ActsInC core now client tuple d keys sockets result old.slice kept new.slice new.action))
+    ⊎ IsSomeAnd new.core (λ kept.
+    ActsInC core now client tuple d keys sockets result old.slice kept new.slice new.action)
 
 -- if a key is needed that wasn't looked up, nothing changes, and C is told so
 abbrev pub Takes : (is_missing : Bool) → TurnCore → (now : ℕ) → (client : SocketAddr) → FiveTuple

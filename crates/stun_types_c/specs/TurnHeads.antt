@@ -2,18 +2,18 @@
 -- 12.7).
 use Rattle.std.specs.Prelude.{◌≡◌, ℕ, ◌-◌, ◌≤◌, Bool, true, false, not, ◌&&◌, List, ◌++◌, length, take, drop, replicate, Option, None, Some, is_some, IsSomeAnd, ◌==◌, if◌then◌else◌}
 use Rattle.std.specs.declared.net.socket_addr.SocketAddr.{SocketAddr}
-use Rattle.stun_grammar.specs.Writing.{greatest_length}
 use Rattle.stun_framing.specs.declared.channel_range.ChannelRange.TheVariants.{Rfc5766}
 use Rattle.turn_attrs.specs.Channels.{is_channel_in}
 use Rattle.turn_attrs.specs.ChannelMessages.{channel_message}
 use Rattle.turn_attrs.specs.Heads.{padded_message, data_indication, channel_head_fault, data_head_fault}
 use Rattle.turn_table.specs.declared.endpoints.FiveTuple.{FiveTuple}
 
--- the length of the greatest message that the transport to a client takes
+-- the length of the greatest message that the transport to a client takes. On a stream it is that of the
+-- greatest message: 20 bytes and the greatest multiple of 4 that a length field can state
 abbrev pub greatest_to : FiveTuple → ℕ
 greatest_to tuple =
     if tuple.transport == 17 then (if tuple.client.ip.family == 1 then 65507 else 65527)
-    else greatest_length
+    else 65552
 
 -- a ChannelData message, which only a stream pads
 abbrev pub message_on : FiveTuple → (channel : ℕ) → List ℕ → List ℕ

@@ -1,5 +1,5 @@
 -- What a TURN server does for a peer's datagram, as C sees it (RFC 8656, sections 11.3 and 12.7).
-use Rattle.std.specs.Prelude.{◌≡◌, ℕ, ◌-◌, ◌≤◌, Bool, true, false, not, ◌&&◌, List, ◌++◌, length, take, drop, replicate, Option, None, Some, is_some, MatchOption, nat_lt, ◌==◌, if◌then◌else◌}
+use Rattle.std.specs.Prelude.{◌≡◌, ℕ, ◌-◌, ◌≤◌, Bool, true, false, not, ◌&&◌, List, ◌++◌, length, take, drop, replicate, Option, None, Some, is_some, MatchOption, IsSomeAnd, nat_lt, ◌==◌, if◌then◌else◌}
 use Rattle.std.specs.declared.net.socket_addr.SocketAddr.{SocketAddr}
 use Rattle.stun_grammar.specs.Numbers.{number}
 use Rattle.turn_table.specs.declared.reply.ToClient.{ToClient}
@@ -80,23 +80,29 @@ pub record PeerLeft : Type 0 where
 abbrev pub head_answer : (room : ℕ) → Option CResult
 head_answer room = if nat_lt room head_max then Some (counted TOO_SMALL head_max room) else None
 
+abbrev pub ReceivesIn : TurnCore → (now relay n id : ℕ) → SocketAddr → CResult → PeerLeft → PeerLeft
+    → Type 0
+ReceivesIn core now relay n id peer result old new =
+    MatchOption (head_answer (length old.delivered.slice))
+    ((result ≡ plain OK) × IsSomeAnd new.core (λ kept.
+    Receives core now relay n id peer kept old.delivered new.delivered))
+    (λ answer. Refuses answer result old new)
+
 abbrev pub TakesPeer : (now : ℕ) → Address → (relay n : ℕ) → Id → CResult → PeerLeft → PeerLeft → Type 0
 TakesPeer now address relay n id result old new =
     MatchOption (socket_named address)
     (Refuses (plain BAD_ARGUMENT) result old new)
     (λ peer. MatchOption old.core
     (Refuses (plain BAD_ARGUMENT) result old new)
-    (λ core. MatchOption (head_answer (length old.delivered.slice))
-    ((result ≡ plain OK) × ((kept : TurnCore) × ((new.core ≡ Some kept)
-    × Receives core now relay n (number id.bytes) peer kept old.delivered new.delivered)))
-    (λ answer. Refuses answer result old new)))
+    (λ core. ReceivesIn core now relay n (number id.bytes) peer result old new))
 
 -- ---- Time
 
 -- what a poll of C closes: without a server nothing
 abbrev pub PollsInC : (now : ℕ) → (before : List ℕ) → (count : ℕ) → (after : List ℕ)
     → (old new : Option TurnCore) → Type 0
-PollsInC now before count after None new = (count ≡ 0) × ((after ≡ before) × (new ≡ None))
-PollsInC now before count after (Some core) new =
-    (kept : TurnCore) × ((new ≡ Some kept) × (IsSameServer core kept
+PollsInC now before count after old new =
+    MatchOption old
+    ((count ≡ 0) × ((after ≡ before) × (new ≡ None)))
+    (λ core. IsSomeAnd new (λ kept. IsSameServer core kept
     × Polls core.server.state now before count after kept.server.state))

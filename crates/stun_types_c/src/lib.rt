@@ -43,6 +43,7 @@ mod turn_peer;
 mod turn_place;
 mod turn_responses;
 mod turn_settings;
+mod turn_store;
 mod type_list;
 mod usages;
 mod validating;

@@ -9,7 +9,7 @@ ghost use Rattle.turn_server.specs.Actions.{Acts};
 ghost use Rattle.turn_server.specs.Addresses.{endpoint_of};
 ghost use Rattle.turn_server.specs.Judgments.{IsOfClass};
 ghost use Rattle.stun_types_c.specs.KeyHandles.{shared_key};
-ghost use Rattle.stun_types_c.specs.TurnClients.{of_kind, nothing, data_at, IsDone, with_response, answer_code, response_code, IsAnswerable, Responds, IsSameServer, ActsOn, asks_for_key, Takes, TakesDatagram};
+ghost use Rattle.stun_types_c.specs.TurnClients.{of_kind, nothing, data_at, IsDone, with_response, answer_code, response_code, IsAnswerable, Responds, IsSameServer, ActsOn, asks_for_key, Takes, keys_in_c, TakesDatagram};
 ghost use Rattle.stun_types_c.specs.TurnHandles.{held_turn};
 ghost use Rattle.stun_types_c.specs.TurnServers.{setup_in, site_in};
 ghost use Rattle.stun_types_c.specs.Users.{keys_of};
@@ -25,14 +25,15 @@ use crate::turn_addresses::{
     CFiveTuple, CTurnReady, NOWHERE, address_of, sockets_of, tuple_of,
 };
 use crate::turn_core::TurnCore;
-use crate::turn_handle::{CTurn, put, take};
+use crate::turn_handle::CTurn;
+use crate::turn_store::{put, take};
 use crate::turn_responses::{answer, refuse, refuse_types};
 use std::alloc::{AllocError, Global};
 use std::net::SocketAddr;
 use stun_types::attribute::ErrorCode;
 use stun_types::message::Message;
 use turn_attrs::attribute_types::DATA;
-use turn_server::{Action, Answer, Site, Sockets};
+use turn_server::{Action, Answer, Site, Sockets, judgments_are_so};
 use turn_table::FiveTuple;
 
 /// What C does for a client's datagram.
@@ -238,12 +239,13 @@ fn take_datagram<'d>(
     ensures memory { asks_for_key core.old now client datagram.now ≡ false → IsOk result }
     ensures err { OnErr result (core.new ≡ core.old) }
 {
+    let access = &core.access;
     let site = Site {
-        policy: core.access.policy,
-        realm: core.access.realm.realm(),
+        policy: access.policy,
+        realm: access.realm.realm(),
         sockets,
     };
-    let nonces = core.access.nonces(now, client);
+    let nonces = access.nonces(now, client);
     let peers = core.rules.peers();
     core.server
         .on_client_datagram(alloc, now, tuple, datagram, &site, &nonces, keys, &peers)
@@ -267,6 +269,7 @@ fn act(
         (record { core = Some core.old; slice = room.old; action = out.old })
         (record { core = Some core.new; slice = room.new; action = out.new }) }
 {
+    judgments_are_so();
     let action = match take_datagram(alloc, core, now, client, tuple, datagram, sockets, keys) {
         Ok(action) => action,
         Err(AllocError) => return plain(codes::OUT_OF_MEMORY),
@@ -316,6 +319,17 @@ fn take_known(
     )
 }
 
+/// The keys that C looked up.
+fn user_of<'k>(md5_key: &'k SharedKey, sha256_key: &'k SharedKey) -> OneUser<'k>
+    ensures { keys_of result
+        ≡ keys_in_c (shared_key md5_key.now) (shared_key sha256_key.now) }
+{
+    OneUser {
+        md5: key_in(md5_key),
+        sha256: key_in(sha256_key),
+    }
+}
+
 /// Takes a client's datagram.
 #[unsafe(no_mangle)]
 pub extern "C" fn stun_types_turn_client(
@@ -340,13 +354,10 @@ pub extern "C" fn stun_types_turn_client(
     let (Some((client, tuple)), Some(sockets)) = (tuple_of(from), sockets_of(ready)) else {
         return plain(codes::BAD_ARGUMENT);
     };
-    let keys = OneUser {
-        md5: key_in(md5_key),
-        sha256: key_in(sha256_key),
-    };
     let Some(mut core) = take(server, alloc) else {
         return plain(codes::BAD_ARGUMENT);
     };
+    let keys = user_of(md5_key, sha256_key);
     let result = take_known(
         alloc, &mut core, now, client, &tuple, datagram, sockets, looked_up, &keys, room, action,
     );

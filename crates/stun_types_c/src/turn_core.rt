@@ -60,13 +60,14 @@ const OFFERED: [PasswordAlgorithmValue; 2] =
     [PasswordAlgorithmValue::SHA256, PasswordAlgorithmValue::MD5];
 
 impl Access {
-    ghost use Rattle.std.specs.Prelude.{◌≡◌};
+    ghost use Rattle.std.specs.Prelude.{◌≡◌, ◌≤◌, length};
     ghost use Rattle.stun_authentication.specs.Nonces.{minting_of, state_of};
     ghost use Rattle.stun_types_c.specs.TurnServers.{offered, nonces_of};
 
     /// The password algorithms that are sent with each nonce.
     pub(crate) fn algorithms(&self) -> &[PasswordAlgorithmValue]
-        ensures { result.now ≡ offered (minting_of self.now.maker).features }
+        ensures algorithms { result.now ≡ offered (minting_of self.now.maker).features }
+        ensures few { length result.now ≤ 2 }
     {
         if self.features.password_algorithms {
             &OFFERED

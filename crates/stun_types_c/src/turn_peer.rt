@@ -1,6 +1,6 @@
 //! What a TURN server does for a peer's datagram, and for the time.
 
-ghost use Rattle.std.specs.Prelude.{◌≡◌, ℕ, List, length};
+ghost use Rattle.std.specs.Prelude.{◌≡◌, ℕ, List, length, Some};
 ghost use Rattle.turn_attrs.specs.Heads.{data_indication};
 ghost use Rattle.turn_table.specs.Events.{arrives};
 ghost use Rattle.turn_table.specs.Outputs.{receiving};
@@ -10,7 +10,7 @@ ghost use Rattle.turn_server.specs.Addresses.{endpoint_of};
 ghost use Rattle.stun_types_c.specs.TurnClients.{IsSameServer};
 ghost use Rattle.stun_types_c.specs.TurnHandles.{held_turn};
 ghost use Rattle.stun_types_c.specs.TurnHeads.{greatest_to, message_on, message_by, has_channel_head, has_data_head, has_head, WritesHead};
-ghost use Rattle.stun_types_c.specs.TurnPeers.{dropped, DeliversTo, TakesPeer, PollsInC};
+ghost use Rattle.stun_types_c.specs.TurnPeers.{dropped, DeliversTo, Receives, ReceivesIn, TakesPeer, PollsInC};
 ghost use Rattle.stun_types_c.specs.TurnServers.{setup_in};
 
 use crate::address::{Address, socket_of};
@@ -19,7 +19,8 @@ use crate::codes;
 use crate::reading::Id;
 use crate::turn_addresses::{CFiveTuple, NOWHERE, UDP, tuple_in_c};
 use crate::turn_core::TurnCore;
-use crate::turn_handle::{CTurn, put, take};
+use crate::turn_handle::CTurn;
+use crate::turn_store::{put, take};
 use std::alloc::Global;
 use std::net::SocketAddr;
 use stun_framing::ChannelRange;
@@ -166,6 +167,53 @@ fn take_data(core: &mut TurnCore, now: u64, relay: u64, peer: SocketAddr) -> Opt
     core.server.on_peer_datagram(now, relay, endpoint_of(peer))
 }
 
+/// Takes a peer's datagram, and writes what comes before its data.
+fn receive(
+    core: &mut TurnCore,
+    now: u64,
+    relay: u64,
+    peer: SocketAddr,
+    data_length: usize,
+    id: TransactionId,
+    head: &mut [u8],
+    delivery: &mut CDelivery,
+)
+    ensures { Receives core.old now relay data_length id peer core.new
+        (record { slice = head.old; delivery = delivery.old })
+        (record { slice = head.new; delivery = delivery.new }) }
+{
+    let to = take_data(core, now, relay, peer);
+    deliver_to(to, id, peer, data_length, head, delivery);
+}
+
+/// The same, if there is room for any head.
+fn receive_in(
+    core: &mut TurnCore,
+    now: u64,
+    relay: u64,
+    peer: SocketAddr,
+    data_length: usize,
+    id: TransactionId,
+    head: &mut [u8],
+    delivery: &mut CDelivery,
+) -> CResult
+    ensures { ReceivesIn core.old now relay data_length id peer result
+        (record {
+          core = Some core.old;
+          delivered = record { slice = head.old; delivery = delivery.old };
+        })
+        (record {
+          core = Some core.new;
+          delivered = record { slice = head.new; delivery = delivery.new };
+        }) }
+{
+    if head.len() < HEAD {
+        return counted(codes::TOO_SMALL, HEAD, head.len());
+    }
+    receive(core, now, relay, peer, data_length, id, head, delivery);
+    plain(codes::OK)
+}
+
 /// Takes a peer's datagram.
 #[unsafe(no_mangle)]
 pub extern "C" fn stun_types_turn_peer(
@@ -190,15 +238,19 @@ pub extern "C" fn stun_types_turn_peer(
     let Some(mut core) = take(server, alloc) else {
         return plain(codes::BAD_ARGUMENT);
     };
-    if head.len() < HEAD {
-        put(server, core);
-        return counted(codes::TOO_SMALL, HEAD, head.len());
-    }
-    let to = take_data(&mut core, now, relay, peer);
-    put(server, core);
     let id = TransactionId::from_bytes(&id.bytes);
-    deliver_to(to, id, peer, data_length, head, delivery);
-    plain(codes::OK)
+    let result = receive_in(
+        &mut core,
+        now,
+        relay,
+        peer,
+        data_length,
+        id,
+        head,
+        delivery,
+    );
+    put(server, core);
+    result
 }
 
 /// Ends allocations whose time is over.

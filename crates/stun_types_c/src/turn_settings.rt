@@ -23,7 +23,8 @@ use crate::refusals::{features_of, realm_of};
 use crate::shared_key::SharedKey;
 use crate::stateless_nonces::maker_of;
 use crate::turn_core::{Access, PeerRules, TurnCore};
-use crate::turn_handle::{CTurn, put};
+use crate::turn_handle::CTurn;
+use crate::turn_store::put;
 use crate::values::text_in;
 use crate::versions::NoKey;
 use std::alloc::{AllocError, Global};
@@ -167,12 +168,12 @@ fn software_of(alloc: Global, bytes: &[u8]) -> Result<Option<Software>, CResult>
         × (option_map text_bytes software ≡ software_named bytes.now))
         (λ answer. (text_answer bytes.now ≡ Some answer) ⊎ (answer ≡ plain OUT_OF_MEMORY)) }
 {
-    if bytes.is_empty() {
-        return Ok(None);
-    }
     let Some(text) = text_in(bytes) else {
         return Err(plain(codes::INVALID_DATA));
     };
+    if bytes.is_empty() {
+        return Ok(None);
+    }
     match Software::new(alloc, text) {
         Ok(software) => Ok(Some(software)),
         Err(error) => Err(write_result(error)),
