@@ -29,7 +29,7 @@ use turn_attrs::{Channel, write_channel_head, write_data_head};
 use turn_server::endpoint_of;
 use turn_table::{FiveTuple, ToClient};
 
-/// Where the data of a peer goes.
+/// The client that the data of a peer goes to, and what comes around it.
 #[repr(C)]
 #[derive(Clone, Copy, Drop)]
 pub struct CDelivery {

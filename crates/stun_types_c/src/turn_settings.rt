@@ -111,8 +111,9 @@ fn prefixes_of(alloc: Global, named: &[CPrefix]) -> Result<Vec<Prefix>, CResult>
         let Some(prefix) = prefix_of(&named[i]) else {
             return Err(plain(codes::BAD_ARGUMENT));
         };
-        if prefixes.push(prefix).is_err() {
-            return Err(plain(codes::OUT_OF_MEMORY));
+        match prefixes.push(prefix) {
+            Ok(()) => {}
+            Err(AllocError) => return Err(plain(codes::OUT_OF_MEMORY)),
         }
     }
     Ok(prefixes)
@@ -131,8 +132,9 @@ fn addresses_of(alloc: Global, named: &[Address]) -> Result<Vec<SocketAddr>, CRe
         let Some(address) = socket_of(&named[i]) else {
             return Err(plain(codes::BAD_ARGUMENT));
         };
-        if addresses.push(address).is_err() {
-            return Err(plain(codes::OUT_OF_MEMORY));
+        match addresses.push(address) {
+            Ok(()) => {}
+            Err(AllocError) => return Err(plain(codes::OUT_OF_MEMORY)),
         }
     }
     Ok(addresses)
