@@ -37,7 +37,7 @@ pub(crate) struct PeerRules {
 
 /// A TURN server, with what C sets once.
 #[derive(Drop)]
-pub(crate) struct TurnCore {
+pub struct TurnCore {
     /// The allocations.
     pub(crate) server: TurnServer<16, 16>,
     /// How it authenticates.

@@ -1,6 +1,8 @@
 //! TURN servers in handles: taken out and put in.
 ghost use Rattle.std.specs.Prelude.{◌≡◌, Some, None, option_map, box_value};
 ghost use Rattle.stun_types_c.specs.TurnHandles.{held_turn};
+ghost use Rattle.stun_types_c.specs.contracts.turn_handle.CTurn.{the_row};
+ghost use denote.Param.Send.{IsSend};
 
 use crate::turn_core::TurnCore;
 use crate::turn_handle::CTurn;
@@ -21,3 +23,8 @@ pub(crate) fn put(handle: &mut CTurn, core: Box<TurnCore>)
 {
     *handle = CTurn::of(core);
 }
+
+/// A law: a handle may go to another thread, if a lock or a join orders what the two do with it.
+pub fn server_may_go_to_another_thread()
+    ensures { IsSend the_row }
+{}
