@@ -29,7 +29,7 @@ use turn_attrs::{Channel, write_channel_head, write_data_head};
 use turn_server::endpoint_of;
 use turn_table::{FiveTuple, ToClient};
 
-/// Where the data of a peer goes.
+/// What C does with the data of a peer.
 #[repr(C)]
 #[derive(Clone, Copy, Drop)]
 pub struct CDelivery {
@@ -43,7 +43,7 @@ pub struct CDelivery {
     pub padding: u16,
 }
 
-/// Where data goes that is dropped.
+/// It is dropped.
 fn dropped() -> CDelivery
     ensures { result ≡ dropped }
 {
