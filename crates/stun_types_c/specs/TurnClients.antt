@@ -22,7 +22,7 @@ use Rattle.turn_server.specs.Endpoints.{socket_of}
 use Rattle.turn_server.specs.Judging.{needs_key}
 use Rattle.turn_server.specs.Judgments.{IsOfClass}
 use Rattle.turn_server.specs.declared.action.Action.{Action}
-use Rattle.turn_server.specs.declared.action.Action.TheVariants.{Dropped, Binding, Refused, Unknown, Answered, ToPeer}
+use Rattle.turn_server.specs.declared.action.Action.TheVariants.{Binding, Refused, Unknown, Answered, ToPeer}
 use Rattle.turn_server.specs.declared.answer.Answer.{Answer}
 use Rattle.turn_server.specs.declared.answer.Answer.TheVariants.{Allocated, Refused as NotDone}
 use Rattle.turn_server.specs.declared.sockets.Sockets.{Sockets}

@@ -22,8 +22,8 @@ ghost use Rattle.turn_server.specs.Requests.{permitting, wanted_by};
 ghost use Rattle.turn_server.specs.Sites.{site_of};
 ghost use Rattle.turn_server.specs.Wanted.{request_with};
 
-use crate::peer_list::collected;
 use crate::judging::needs_key;
+use crate::peer_list::collected;
 use crate::{Action, Answer, Judged, PeerAddresses, Request, Site, judge};
 use std::alloc::{AllocError, Global};
 use std::marker::Model;
