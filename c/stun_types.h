@@ -1264,7 +1264,7 @@ stun_types_answer stun_types_turn_client(stun_types_turn *server, uint64_t now,
                                          const stun_types_key *sha256_key,
                                          uint8_t *room, size_t size, stun_types_turn_action *action);
 
-/* The client that the data of a peer goes to, and what comes around it. */
+/* What to do with the data of a peer. */
 typedef struct {
     stun_types_five_tuple to;
     uint16_t sends;       /* 1: head[size - head_length .. size), the data, padding zeros; 0: it is dropped */

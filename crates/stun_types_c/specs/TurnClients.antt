@@ -22,7 +22,7 @@ use Rattle.turn_server.specs.Endpoints.{socket_of}
 use Rattle.turn_server.specs.Judging.{needs_key}
 use Rattle.turn_server.specs.Judgments.{IsOfClass}
 use Rattle.turn_server.specs.declared.action.Action.{Action}
-use Rattle.turn_server.specs.declared.action.Action.TheVariants.{Dropped, Binding, Refused, Unknown, Answered, ToPeer}
+use Rattle.turn_server.specs.declared.action.Action.TheVariants.{Binding, Refused, Unknown, Answered, ToPeer}
 use Rattle.turn_server.specs.declared.answer.Answer.{Answer}
 use Rattle.turn_server.specs.declared.answer.Answer.TheVariants.{Allocated, Refused as NotDone}
 use Rattle.turn_server.specs.declared.sockets.Sockets.{Sockets}
@@ -52,7 +52,7 @@ of_kind kind = record { relay = 0; at = 0; length = 0; peer = nowhere; kind = ki
 abbrev pub nothing : CTurnAction
 nothing = of_kind 0
 
--- the data in d begins after four bytes on a channel, and otherwise as the value of DATA
+-- where data in d begins: on a channel after four bytes, otherwise as the value of DATA
 abbrev pub data_at : List ℕ → ℕ
 data_at d = if nat_le 0x40 (slice_index d 0) then 4 else value_at DATA d
 
@@ -177,7 +177,7 @@ ActsOn core now client tuple d keys sockets result old new =
     ⊎ IsSomeAnd new.core (λ kept.
     ActsInC core now client tuple d keys sockets result old.slice kept new.slice new.action)
 
--- if a key is needed that wasn't looked up, nothing changes, and C has to look for it
+-- if a key is needed that wasn't looked up, nothing changes, and the call says so
 abbrev pub Takes : (is_missing : Bool) → TurnCore → (now : ℕ) → (client : SocketAddr) → FiveTuple
     → List ℕ → (keys : Who → List ℕ → PasswordAlgorithmValue → Option UserKey) → Sockets → CResult
     → Left → Left → Type 0

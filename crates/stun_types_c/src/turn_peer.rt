@@ -29,7 +29,7 @@ use turn_attrs::{Channel, write_channel_head, write_data_head};
 use turn_server::endpoint_of;
 use turn_table::{FiveTuple, ToClient};
 
-/// The client that the data of a peer goes to, and what comes around it.
+/// What C does with the data of a peer.
 #[repr(C)]
 #[derive(Clone, Copy, Drop)]
 pub struct CDelivery {
@@ -43,7 +43,7 @@ pub struct CDelivery {
     pub padding: u16,
 }
 
-/// Where data goes that is dropped.
+/// It is dropped.
 fn dropped() -> CDelivery
     ensures { result ≡ dropped }
 {
@@ -239,16 +239,7 @@ pub extern "C" fn stun_types_turn_peer(
         return plain(codes::BAD_ARGUMENT);
     };
     let id = TransactionId::from_bytes(&id.bytes);
-    let result = receive_in(
-        &mut core,
-        now,
-        relay,
-        peer,
-        data_length,
-        id,
-        head,
-        delivery,
-    );
+    let result = receive_in(&mut core, now, relay, peer, data_length, id, head, delivery);
     put(server, core);
     result
 }

@@ -169,12 +169,7 @@ fn judge_message<'d, N: Nonces, K: LongTermKeys>(
 }
 
 /// Whether it depends on the key of its user what comes of a request of this method.
-fn request_needs_key<N: Nonces>(
-    datagram: &[u8],
-    method: Method,
-    policy: Policy,
-    nonces: &N,
-) -> bool
+fn request_needs_key<N: Nonces>(datagram: &[u8], method: Method, policy: Policy, nonces: &N) -> bool
     ensures { result ≡ (not (is_some (parse_fault datagram.now))
         && request_needs_key policy (N.state_of nonces.now) method datagram.now) }
 {

@@ -39,7 +39,7 @@ pub use laws::{
     requests_are_authentic, strangers_change_nothing,
 };
 pub use peer_list::PEERS;
-pub use peers::Peers;
+pub use peers::PeerAddresses;
 pub use request::Request;
 pub use server::TurnServer;
 pub use site::Site;

@@ -4,7 +4,7 @@ ghost use Rattle.std.specs.Prelude.{◌≡◌, ◌≤◌, ◌<◌, MatchOption, 
 ghost use Rattle.turn_server.specs.PeersLeft.{peers_left};
 ghost use Rattle.turn_server.specs.Requests.{peers_max};
 
-use crate::Peers;
+use crate::PeerAddresses;
 use arrayvec::ArrayVec;
 use turn_table::Endpoint;
 
@@ -12,7 +12,7 @@ use turn_table::Endpoint;
 pub const PEERS: usize = 64;
 
 /// The peers that are left. `None` if there are more than [`PEERS`].
-pub(crate) fn collected(peers: &mut Peers<'_>) -> Option<ArrayVec<Endpoint, PEERS>>
+pub(crate) fn collected(peers: &mut PeerAddresses<'_>) -> Option<ArrayVec<Endpoint, PEERS>>
     ensures { MatchOption result (peers_max < length (peers_left peers.old))
         (λ all. (all.items ≡ peers_left peers.old) × (length all.items ≤ peers_max)) }
 {

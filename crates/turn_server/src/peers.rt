@@ -17,7 +17,7 @@ use turn_table::Endpoint;
 /// names them: at least one. It borrows the datagram, and takes no memory. After its first `None` it
 /// returns `None` forever.
 #[derive(Debug, Drop)]
-pub struct Peers<'d> {
+pub struct PeerAddresses<'d> {
     attributes: MessageAttributesIter<'d>,
     id: TransactionId,
     ghost sound: { list_all is_address (peer_items (items_left attributes)) ≡ true },
@@ -40,14 +40,14 @@ fn names_peers(request: &Message<'_>) -> bool
     found
 }
 
-impl<'d> Peers<'d> {
+impl<'d> PeerAddresses<'d> {
     ghost use Rattle.std.specs.Prelude.{◌≡◌, true, false, MatchOption};
     ghost use Rattle.stun_types.specs.Message.{message_bytes};
     ghost use Rattle.turn_server.specs.Peers.{names_peers, peers_of};
     ghost use Rattle.turn_server.specs.PeersLeft.{peers_left};
 
     /// The peers that a request names. `None` if it names none, or one by a malformed value.
-    pub(crate) fn named_by(request: &Message<'d>) -> Option<Peers<'d>>
+    pub(crate) fn named_by(request: &Message<'d>) -> Option<PeerAddresses<'d>>
         ensures { let d = message_bytes request.now in
             MatchOption result (names_peers d ≡ false)
             (λ peers. (names_peers d ≡ true) × (peers_left peers ≡ peers_of d)) }
@@ -55,14 +55,14 @@ impl<'d> Peers<'d> {
         if !names_peers(request) {
             return None;
         }
-        Some(Peers {
+        Some(PeerAddresses {
             attributes: request.iter_attributes(),
             id: request.transaction_id(),
         })
     }
 }
 
-impl Iterator for Peers<'_> {
+impl Iterator for PeerAddresses<'_> {
     ghost use Rattle.std.specs.Iterator.{YieldsFirst, item_count};
     ghost use Rattle.turn_server.specs.PeersLeft.{peers_left};
 

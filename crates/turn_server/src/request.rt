@@ -12,7 +12,7 @@ ghost use Rattle.turn_server.specs.Requests.{refresh_of, permit_of, channel_of, 
 use crate::addresses::peer_of;
 use crate::allocate::read_wish;
 use crate::values::{byte_in, number_in, value_of};
-use crate::{Peers, Sockets};
+use crate::{PeerAddresses, Sockets};
 use byteorder::{BigEndian, ByteOrder};
 use stun_types::attribute::ErrorCode;
 use stun_types::message::{Message, Method, TransactionId};
@@ -39,7 +39,7 @@ pub enum Request<'d> {
     },
     /// CreatePermission for these peers (RFC 8656, section 10.2). If there are more than
     /// [`PEERS`](crate::PEERS), the server refuses it with 508.
-    Permit(Peers<'d>),
+    Permit(PeerAddresses<'d>),
     /// ChannelBind: the channel, by any number of 16 bits, and the peer (RFC 8656, section 12.2).
     Bind {
         channel: u16,
@@ -100,7 +100,7 @@ fn read_refresh<'d>(request: &Message<'d>) -> Request<'d>
 fn read_permit<'d>(request: &Message<'d>) -> Request<'d>
     ensures { wanted_by result ≡ other (permit_of (message_bytes request.now)) }
 {
-    match Peers::named_by(request) {
+    match PeerAddresses::named_by(request) {
         Some(peers) => Request::Permit(peers),
         None => Request::Unfit(ErrorCode::BAD_REQUEST),
     }

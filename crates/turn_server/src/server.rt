@@ -22,9 +22,9 @@ ghost use Rattle.turn_server.specs.Requests.{permitting, wanted_by};
 ghost use Rattle.turn_server.specs.Sites.{site_of};
 ghost use Rattle.turn_server.specs.Wanted.{request_with};
 
-use crate::peer_list::collected;
 use crate::judging::needs_key;
-use crate::{Action, Answer, Judged, Peers, Request, Site, judge};
+use crate::peer_list::collected;
+use crate::{Action, Answer, Judged, PeerAddresses, Request, Site, judge};
 use std::alloc::{AllocError, Global};
 use std::marker::Model;
 use stun_authentication::{LongTermKeys, Nonces, Policy};
@@ -208,7 +208,7 @@ impl<const P: usize, const C: usize> TurnServer<P, C> {
         now: u64,
         from: &FiveTuple,
         user: UserId,
-        peers: &mut Peers<'_>,
+        peers: &mut PeerAddresses<'_>,
         policy: &A,
     ) -> (Answer, Option<u64>)
         ensures answer { let setup = setup_of self.old.limits P C (A.allows_address policy.now)

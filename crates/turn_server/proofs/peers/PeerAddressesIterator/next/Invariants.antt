@@ -1,7 +1,7 @@
 use Rattle.std.proofs.Common.{◌≡◌, length}
 use Rattle.stun_types.specs.Iterating.{items_left}
 use Rattle.turn_server.specs.PeersLeft.{peers_left}
-use Rattle.turn_server.proofs.peers.PeersIterator.next.Given as goal
+use Rattle.turn_server.proofs.peers.PeerAddressesIterator.next.Given as goal
 
 -- those so far name no peer
 abbrev pub invariant-walk : goal.invariant-walk

@@ -4,7 +4,7 @@ use Rattle.stun_grammar.specs.Showing.{shown}
 use Rattle.stun_types.specs.Message.{message_bytes}
 use Rattle.turn_server.specs.Peers.{names_peers}
 use Rattle.turn_server.proofs.PeersLemmas.{all_sound, all_left}
-use Rattle.turn_server.proofs.peers.Peers.named_by.Goals as goal
+use Rattle.turn_server.proofs.peers.PeerAddresses.named_by.Goals as goal
 
 pub invariant_of-result : goal.invariant_of-result
 invariant_of-result c =

@@ -1,6 +1,6 @@
 use Rattle.std.proofs.Common.{rules}
 use Rattle.turn_server.proofs.PeersLemmas.{yields}
-use Rattle.turn_server.proofs.peers.PeersIterator.next.Goals as goal
+use Rattle.turn_server.proofs.peers.PeerAddressesIterator.next.Goals as goal
 
 pub returns-then-value-eq-XOR_PEER_ADDRESS-clause-steps :
     goal.returns-then-value-eq-XOR_PEER_ADDRESS-clause-steps
