@@ -66,7 +66,7 @@ def ask_for_all(bench, server, settings, six, allowed, forbidden):
 
 def denied(bench):
     """A client asks in all ways for data to go to denied addresses: it gets 403, and tshark sees none of
-    the data. It does see data to allowed addresses, and what the server's host itself sends to denied ones."""
+    the data. It does see data to allowed addresses, and what the server's host sends to denied ones."""
     settings, forbidden = Settings(), forbidden_addresses()
     allowed = list(map(ipaddress.ip_address, RIGHT))
     with bench.server(settings) as server, Capture(bench.hosts.server) as capture:

@@ -2,23 +2,24 @@
 import pathlib
 import re
 import select
+import shutil
 import subprocess
+import sys
 
 from hosts import SERVER
 from steps import Skipped, build, c_compiler, check, run
 from turn_servers import Settings
 
 SIDES = pathlib.Path(__file__).resolve().parent / "sides"
-SYSTEM_PYTHON = "/usr/bin/python3"  # Debian's packages are of this one
 PATIENCE = 60
 
 
 def python_side(module):
-    """The command of a side in Python."""
-    status, _, told = run([SYSTEM_PYTHON, "-c", f"import {module}"])
-    if status != 0:
-        raise Skipped(f"it needs {module} for {SYSTEM_PYTHON}: {told.strip().splitlines()[-1:]}")
-    return [SYSTEM_PYTHON, "-B", str(SIDES / f"with_{module}.py")]
+    """The command of a side in Python, by a Python that has the module."""
+    for python in (sys.executable, "/usr/bin/python3"):
+        if shutil.which(python) and run([python, "-c", f"import {module}"])[0] == 0:
+            return [python, "-B", str(SIDES / f"with_{module}.py")]
+    raise Skipped(f"it needs {module}, a package of Python")
 
 
 def aioice(bench, **how):
@@ -35,11 +36,9 @@ def refreshed(_, refreshes, channels):
 
 
 def libnice(bench, **how):
-    try:
-        status, flags, _ = run(["pkg-config", "--cflags", "--libs", "nice"])
-    except FileNotFoundError:
-        status = 1
-    if status != 0 or not c_compiler():
+    missing = not c_compiler() or not shutil.which("pkg-config")
+    status, flags, _ = (1, "", "") if missing else run(["pkg-config", "--cflags", "--libs", "nice"])
+    if status != 0:
         raise Skipped("it needs libnice with its headers (libnice-dev), pkg-config and a C compiler")
     program = bench.new_folder() / "with_libnice"
     build(c_compiler(), "-Wall", "-Wextra", SIDES / "with_libnice.c", "-o", program, *flags.split())
@@ -70,6 +69,7 @@ def talk(bench, command, *given):
         for host, role in [(bench.hosts.left, "offers"), (bench.hosts.right, "answers")]:
             with host.inside():
                 both.append(subprocess.Popen([*command, role, *map(str, given)], text=True, **pipes))
+        bench.sides.extend(both)
         for one, other in [both, both[::-1]]:
             other.stdin.write(line_of(one))
             other.stdin.flush()

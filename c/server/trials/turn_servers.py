@@ -13,9 +13,10 @@ import subprocess
 import time
 import types
 
-from harness import Server, free_port
+from harness import free_port
 from hosts import SERVER
 from steps import REQUEST, Skipped, TOP, check, wait_until
+from turn import ended, turn_server
 
 REALM = "example.org"
 USER, PASSWORD = "alice", "wonderland"
@@ -49,10 +50,10 @@ def denied_prefixes():
     return found
 
 
-def answers(address, port):
-    """Whether a server answers binding requests."""
+def answers(address, port, kind):
+    """Whether a server answers binding requests by a kind of sockets."""
     family = socket.AF_INET6 if ":" in address else socket.AF_INET
-    with socket.socket(family, socket.SOCK_DGRAM) as asking, contextlib.suppress(OSError):
+    with socket.socket(family, kind) as asking, contextlib.suppress(OSError):
         asking.settimeout(0.2)
         asking.connect((address, int(port)))
         asking.send(REQUEST + bytes(12))
@@ -84,7 +85,8 @@ def coturn(host, folder, settings):
     try:
         with host.inside():
             for address in SERVER:
-                wait_until(lambda: answers(address, port), "coturn doesn't answer")
+                for kind in (socket.SOCK_DGRAM, socket.SOCK_STREAM):
+                    wait_until(lambda: answers(address, port, kind), "coturn doesn't answer")
         yield types.SimpleNamespace(port=port)
         check(ran.poll() is None, f"coturn ended with status {ran.returncode}")
     finally:
@@ -93,17 +95,14 @@ def coturn(host, folder, settings):
 
 
 @contextlib.contextmanager
-def this_server(program, host, folder, settings):
+def this_server(program, host, _, settings):
     """Starts this server. Yields something with its port."""
-    (folder / "users").write_text(f"{USER} {PASSWORD}\n")
-    (folder / "secret").write_text(f"{SECRET}\n")
-    options = [f"realm={REALM}", f"old-channels={int(settings.old_channels)}",
-               f"channel-permits={int(settings.channel_permits)}", "user-allocations=100"]
-    options += [f"secret={folder}/secret" if settings.timed else f"users={folder}/users"]
-    options += [f"relay-address={address}" for address in SERVER]
-    with host.inside():
-        server = Server(program, "-t", "--turn", *(word for it in options for word in ("-o", it)), at=SERVER)
-    with server:
+    options = ["-o", f"old-channels={int(settings.old_channels)}", "-o", "user-allocations=100",
+               "-o", f"channel-permits={int(settings.channel_permits)}"]
+    known = {"users": None, "secret": f"{SECRET}\n"} if settings.timed else {"users": f"{USER} {PASSWORD}\n"}
+    with contextlib.ExitStack() as all_of:
+        with host.inside():
+            server = all_of.enter_context(turn_server({"server": program}, "-t", *options, at=SERVER,
+                                                      allowing=False, **known))
         yield server
-        counted = server.end()
-        check(counted["workers_died"] == counted["workers_hung"] == 0, f"the server counted {counted}")
+        ended(server)

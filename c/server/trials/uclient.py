@@ -36,6 +36,8 @@ def expect_echoes(ran):
     total = str(CLIENTS * MESSAGES)
     sums = re.findall(r"tot_send_msgs=(\d+), tot_recv_msgs=(\d+)", said)
     lost = re.findall(r"Total lost packets (\d+).*, total send dropped (\d+)", said)
+    complaints = re.findall(r".*(?:ERROR|[Ww]rong).*", said)
+    check(not complaints, f"it complains: {complaints[:3]}")
     right = ran.returncode == 0 and sums and sums[-1] == (total, total) and lost == [("0", "0")]
     check(right, f"status {ran.returncode}, of {total} messages: {said[-1000:]}")
 
